@@ -1,0 +1,6 @@
+use Rattle.std.proofs.Common.{◌≡◌, map, take}
+use Rattle.paths.proofs.reading.Place.begin.Given as goal
+
+-- what is kept so far are the components so far
+abbrev pub invariant-loop-part : goal.invariant-loop-part
+invariant-loop-part l = map (λ part. part.now) l.kept.items ≡ take l.part-index l.start

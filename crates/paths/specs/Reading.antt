@@ -1,0 +1,42 @@
+-- How a text is read as a path, against the path of the directory that a relative text begins at. It is what Dockerfiles do
+-- with a destination, a working directory and a mount's target: the rule is that of Go's `path.Clean`, after a
+-- relative text was put behind the base.
+use Rattle.std.specs.Prelude.{◌≡◌, ◌==◌, ℕ, Bool, false, Option, Some, None, Result, Ok, Err, List, [], ◌∷◌, ◌++◌, if◌then◌else◌, length, nat_lt}
+use Rattle.std.specs.List.{slice_split}
+use Rattle.paths.specs.Path.{is_idle, is_up, fits, climbed}
+use Rattle.paths.specs.declared.fault.PathFault.{PathFault}
+use Rattle.paths.specs.declared.fault.PathFault.TheVariants.{TooDeep, TooLong, Memory}
+
+-- the pieces of a text between its slashes, one more than there are slashes
+abbrev pub pieces : List ℕ → List (List ℕ)
+pieces text = slice_split (λ b. b == 47) text
+
+-- where one piece leads from p: nowhere, one up (at the root: nowhere), or to what it names
+abbrev pub stepped : List (List ℕ) → List ℕ → List (List ℕ)
+stepped p piece = if is_idle piece then p else if is_up piece then climbed p else p ++ piece ∷ []
+
+-- where the pieces lead from p, one after another
+abbrev pub walked : List (List ℕ) → List (List ℕ) → List (List ℕ)
+walked p [] = p
+walked p (piece ∷ rest) = walked (stepped p piece) rest
+
+-- a text that begins with `/`
+abbrev pub is_absolute : List ℕ → Bool
+is_absolute [] = false
+is_absolute (b ∷ bs) = b == 47
+
+-- the path that a text leads to: an absolute text from the root, any other from the base
+abbrev pub read_from : List ℕ → List (List ℕ) → List (List ℕ)
+read_from text base = walked (if is_absolute text then [] else base) (pieces text)
+
+-- the limit that a path breaks, if any; where it breaks both, it is the depth that is told
+abbrev pub limit_of : List (List ℕ) → Option PathFault
+limit_of p = if nat_lt 64 (length p) then Some TooDeep else if fits p then None else Some TooLong
+
+-- what a reading answers whose text leads to p: p within the limits, or the limit that it breaks, or that there was no memory,
+-- which says nothing of p
+abbrev pub IsRead : List (List ℕ) → Result (List (List ℕ)) PathFault → Type 0
+IsRead p (Ok q) = (q ≡ p) × (limit_of p ≡ None)
+IsRead p (Err TooDeep) = limit_of p ≡ Some TooDeep
+IsRead p (Err TooLong) = limit_of p ≡ Some TooLong
+IsRead p (Err Memory) = Unit {0}

@@ -1,0 +1,187 @@
+ghost use Rattle.std.specs.Prelude.{◌≡◌, ◌↔◌, [], ◌∷◌, ◌++◌, length, IsTrue, IfOk, MatchOption};
+ghost use Rattle.paths.specs.Path.{IsClean, climbed, parent_of, is_at_or_under, text_of, rooted};
+
+use plain::{Exact, Items, Memory, Text};
+use std::alloc::Global;
+use std::cmp::Ordering;
+use std::marker::Model;
+
+/// An absolute, clean path: at most 64 components of 1 to 255 bytes of UTF-8 each, none of them `.` or `..`
+/// and none with a `/`. The root has no component.
+///
+/// Contracts see the list of its components, each as its bytes. Paths are ordered component by component, by bytes.
+#[derive(Debug, Drop)]
+pub struct Path {
+    parts: Items<Text>,
+}
+
+impl Model for Path {
+    ghost use Rattle.std.specs.Prelude.{List, ℕ};
+    ghost use Rattle.std.specs.Coded.{coded_list, coded_ℕ};
+    ghost use Rattle.paths.specs.Path.{IsClean};
+
+    ghost Value = { List (List ℕ) };
+
+    ghost coded = { coded_list (coded_list coded_ℕ) };
+
+    ghost view = { λ p. p.parts };
+
+    ghost invariant = { λ p. IsClean p.parts };
+}
+
+impl Path {
+    /// The root, `/`. It takes no memory.
+    pub fn root(alloc: Global) -> Path
+        ensures { result ≡ [] }
+    {
+        Path {
+            parts: Items::new(alloc),
+        }
+    }
+
+    /// The path of these components. It takes no memory.
+    pub(crate) fn from_parts(parts: Vec<Text>) -> Path
+        requires { IsClean parts.items }
+        ensures { result ≡ parts.items }
+    {
+        Path {
+            parts: Items::from_vec(parts),
+        }
+    }
+
+    /// The components, from the root down, lent.
+    pub fn as_slice(&self) -> &[Text]
+        ensures value { result.now ≡ self.now }
+        ensures clean { IsClean self.now }
+    {
+        self.parts.as_slice()
+    }
+
+    /// How many components the path has: 0 for the root.
+    pub fn depth(&self) -> usize
+        ensures { result ≡ length self.now }
+    {
+        self.parts.len()
+    }
+
+    /// Whether it is the root.
+    pub fn is_root(&self) -> bool
+        ensures { IsTrue result ↔ (self.now ≡ []) }
+    {
+        self.parts.is_empty()
+    }
+
+    /// The last component, or none for the root.
+    pub fn name(&self) -> Option<&Text>
+        ensures { MatchOption result (self.now ≡ []) (λ name. self.now ≡ climbed self.now ++ name.now ∷ []) }
+    {
+        match self.as_slice() {
+            [] => None,
+            [.., name] => Some(name),
+        }
+    }
+
+    /// The directory that the path stands in: the path without its last component, or none for the root.
+    pub fn parent(&self, alloc: Global) -> Result<Option<Path>, Memory>
+        ensures { IfOk result (λ parent. parent ≡ parent_of self.now) }
+    {
+        match self.as_slice() {
+            [] => Ok(None),
+            [front @ .., _] => Ok(Some(Path::from_parts(copied(alloc, front)?))),
+        }
+    }
+
+    /// Whether the path is `top` or lies below it: every path is at or under the root, and `/ab` isn't at or
+    /// under `/a`.
+    pub fn is_at_or_under(&self, top: &Path) -> bool
+        ensures { result ≡ is_at_or_under self.now top.now }
+    {
+        self.as_slice().starts_with(top.as_slice())
+    }
+
+    /// The path as a text: `/` for the root, else a `/` before each component. Reading it gives the path back.
+    pub fn text(&self, alloc: Global) -> Result<Text, Memory>
+        ensures { IfOk result (λ text. text ≡ text_of self.now) }
+    {
+        if self.is_root() {
+            return Text::read(alloc, "/");
+        }
+        let mut text = String::new(alloc);
+        for part in self.as_slice() {
+            text.push('/')?;
+            text.push_str(part.as_str())?;
+        }
+        Ok(Text::from_string(text))
+    }
+}
+
+/// A copy of each component, in order.
+fn copied(alloc: Global, parts: &[Text]) -> Result<Vec<Text>, Memory>
+    ensures { IfOk result (λ copied. copied.items ≡ parts.now) }
+{
+    let mut copied = Vec::with_capacity(alloc, parts.len())?;
+    for part in parts {
+        copied.push(part.copy(alloc)?)?;
+    }
+    Ok(copied)
+}
+
+impl Exact for Path {
+    fn same(&self, other: &Path) -> bool {
+        self.parts.same(&other.parts)
+    }
+
+    fn copy(&self, alloc: Global) -> Result<Path, Memory> {
+        let parts = self.parts.copy(alloc)?;
+        Ok(Path { parts })
+    }
+}
+
+impl PartialEq for Path {
+    ghost use Rattle.std.specs.Cmp.{partial_equiv_from_equiv};
+    ghost use Rattle.paths.specs.Order.{path_eq, path_eq_equiv};
+
+    ghost eq = { path_eq };
+
+    ghost laws = { partial_equiv_from_equiv path_eq_equiv };
+
+    fn eq(&self, other: &Path) -> bool {
+        self.as_slice() == other.as_slice()
+    }
+}
+
+impl Eq for Path {
+    ghost use Rattle.paths.specs.Order.{path_eq_equiv};
+
+    ghost laws = { path_eq_equiv };
+}
+
+impl PartialOrd for Path {
+    ghost use Rattle.std.specs.Prelude.{Some};
+    ghost use Rattle.paths.specs.Order.{path_cmp, path_po};
+
+    ghost partial_cmp = { λ p q. Some (path_cmp p q) };
+
+    ghost laws = { path_po };
+
+    fn partial_cmp(&self, other: &Path) -> Option<Ordering> {
+        Some(self.cmp(other))
+    }
+}
+
+impl Ord for Path {
+    ghost use Rattle.std.specs.Prelude.{refl};
+    ghost use Rattle.paths.specs.Order.{path_cmp, path_cmp_total, path_ties};
+
+    ghost cmp = { path_cmp };
+
+    ghost total = { path_cmp_total };
+
+    ghost matches_partial_cmp = { λ p q. refl };
+
+    ghost matches_eq = { path_ties };
+
+    fn cmp(&self, other: &Path) -> Ordering {
+        self.as_slice().cmp(other.as_slice())
+    }
+}

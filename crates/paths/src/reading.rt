@@ -1,0 +1,175 @@
+ghost use Rattle.std.specs.Prelude.{◌≡◌, ◌≤◌, ◌<◌, ◌+◌, ◌^◌, ℕ, true, List, [], ◌∷◌, ◌++◌, if◌then◌else◌, length, map, IfOk, OnOk, vec_len};
+ghost use Rattle.std.specs.List.{list_all};
+ghost use Rattle.paths.specs.Path.{IsClean, is_idle, is_up, is_name, fits, climbed};
+ghost use Rattle.paths.specs.Reading.{IsRead, read_from, is_absolute, stepped, pieces, walked};
+ghost use Rattle.paths.specs.Place.{IsPlace};
+
+use crate::{Path, PathFault};
+use plain::{Memory, Text};
+use std::alloc::Global;
+
+/// The most components that a path has.
+pub const MOST_COMPONENTS: usize = 64;
+
+/// The most bytes that a component of a path has.
+pub const MOST_COMPONENT_BYTES: usize = 255;
+
+/// Where a reading has come to. However many pieces a text has, it keeps no more than the first 64 components of the
+/// path so far: of the others it only has to know how many there are, since a path that ends with any of them is too deep.
+#[derive(Drop)]
+struct Place<'a> {
+    kept: Vec<&'a str>,
+    beyond: usize,
+}
+
+impl<'a> Place<'a> {
+    /// The place at a path.
+    fn begin(alloc: Global, start: &'a [Text]) -> Result<Place<'a>, Memory>
+        requires { length start.now ≤ 64 }
+        ensures { IfOk result (λ place. IsPlace (map (λ part. part.now) place.kept.items) place.beyond start.now) }
+    {
+        let mut kept = Vec::with_capacity(alloc, start.len())?;
+        for part in start {
+            kept.push(part.as_str())?;
+        }
+        Ok(Place { kept, beyond: 0 })
+    }
+
+    /// Goes where one piece of a text leads.
+    fn step(&mut self, piece: &'a str) -> Result<(), Memory>
+        requires { self.old.beyond + 1 < 2 ^ 64 }
+        ensures { OnOk result ((p : List (List ℕ))
+            → IsPlace (map (λ part. part.now) self.old.kept.items) self.old.beyond p
+            → IsPlace (map (λ part. part.now) self.new.kept.items) self.new.beyond (stepped p piece.entry.now)) }
+    {
+        if is_idle(piece) {
+            return Ok(());
+        }
+        if is_up(piece) {
+            self.climb();
+            return Ok(());
+        }
+        self.enter(piece)
+    }
+
+    /// Goes up to the parent; at the root it stays.
+    fn climb(&mut self)
+        ensures { (p : List (List ℕ))
+            → IsPlace (map (λ part. part.now) self.old.kept.items) self.old.beyond p
+            → IsPlace (map (λ part. part.now) self.new.kept.items) self.new.beyond (climbed p) }
+    {
+        if self.beyond > 0 {
+            self.beyond -= 1;
+        } else {
+            self.kept.pop();
+        }
+    }
+
+    /// Goes down to a name.
+    fn enter(&mut self, name: &'a str) -> Result<(), Memory>
+        requires { self.old.beyond + 1 < 2 ^ 64 }
+        ensures { OnOk result ((p : List (List ℕ))
+            → IsPlace (map (λ part. part.now) self.old.kept.items) self.old.beyond p
+            → IsPlace (map (λ part. part.now) self.new.kept.items) self.new.beyond (p ++ name.entry.now ∷ [])) }
+    {
+        if self.kept.len() < MOST_COMPONENTS {
+            self.kept.push(name)?;
+        } else {
+            self.beyond += 1;
+        }
+        Ok(())
+    }
+
+    /// The path to the place, or the limit that it breaks.
+    fn path(&self, alloc: Global) -> Result<Path, PathFault>
+        requires names { list_all is_name (map (λ part. part.now) self.now.kept.items) ≡ true }
+        requires few { vec_len self.now.kept ≤ 64 }
+        ensures { (p : List (List ℕ))
+            → IsPlace (map (λ part. part.now) self.now.kept.items) self.now.beyond p → IsRead p result }
+    {
+        if self.beyond > 0 {
+            return Err(PathFault::TooDeep);
+        }
+        if !are_short(&self.kept) {
+            return Err(PathFault::TooLong);
+        }
+        Ok(Path::from_parts(texts(alloc, &self.kept)?))
+    }
+}
+
+/// Whether a piece leads nowhere: it is empty or `.`.
+fn is_idle(piece: &str) -> bool
+    ensures { result ≡ is_idle piece.now }
+{
+    matches!(piece.as_bytes(), [] | [b'.'])
+}
+
+/// Whether a piece leads up: it is `..`.
+fn is_up(piece: &str) -> bool
+    ensures { result ≡ is_up piece.now }
+{
+    matches!(piece.as_bytes(), [b'.', b'.'])
+}
+
+/// Whether no component is too long.
+fn are_short(parts: &[&str]) -> bool
+    ensures { result ≡ fits (map (λ part. part.now) parts.now) }
+{
+    parts.iter().all(|part| part.len() <= MOST_COMPONENT_BYTES)
+}
+
+/// A copy of each component, in order.
+fn texts(alloc: Global, parts: &[&str]) -> Result<Vec<Text>, Memory>
+    ensures { IfOk result (λ copied. copied.items ≡ map (λ part. part.now) parts.now) }
+{
+    let mut copied = Vec::with_capacity(alloc, parts.len())?;
+    for part in parts {
+        copied.push(Text::read(alloc, part)?)?;
+    }
+    Ok(copied)
+}
+
+/// The components that a text is read from: those of the base, and none for an absolute text.
+fn start<'a>(text: &str, base: &'a Path) -> &'a [Text]
+    ensures value { result.now ≡ (if is_absolute text.now then [] else base.now) }
+    ensures clean { IsClean result.now }
+{
+    match text.as_bytes() {
+        [b'/', ..] => &[],
+        _ => base.as_slice(),
+    }
+}
+
+/// The place that a text leads to from there.
+fn walk<'a>(alloc: Global, text: &'a str, start: &'a [Text]) -> Result<Place<'a>, Memory>
+    requires { length start.now ≤ 64 }
+    ensures { IfOk result (λ place. IsPlace (map (λ part. part.now) place.kept.items) place.beyond (walked start.now (pieces text.now))) }
+{
+    let mut place = Place::begin(alloc, start)?;
+    for piece in text.split('/') {
+        place.step(piece)?;
+    }
+    Ok(place)
+}
+
+impl Path {
+    /// The path that a text leads to: from the root where the text begins with `/`, else from the base. Empty
+    /// components and `.` lead nowhere, `..` leads one up, and from the root to the root.
+    ///
+    /// The limits count for the path that the text leads to, so 65 components and `/..` are fine: it is `TooDeep` where it
+    /// has more than 64 components, else `TooLong` where one of them has more than 255 bytes.
+    pub fn read(alloc: Global, text: &str, base: &Path) -> Result<Path, PathFault>
+        ensures { IsRead (read_from text.now base.now) result }
+    {
+        let place = walk(alloc, text, start(text, base))?;
+        place.path(alloc)
+    }
+
+    /// The path that a text leads to from this one: an absolute text replaces it. It is `Path::read` with this path as
+    /// the base.
+    pub fn join(&self, alloc: Global, text: &str) -> Result<Path, PathFault>
+        ensures { IsRead (read_from text.now self.now) result }
+    {
+        Path::read(alloc, text, self)
+    }
+}
