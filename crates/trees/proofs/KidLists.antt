@@ -1,0 +1,150 @@
+-- The children of a node as the list of their names and maps, in the order of the names.
+use Rattle.std.specs.Prelude.{◌≡◌, ℕ, Bool, true, false, ◌&&◌, cond, T, Option, Some, None, ◌↔◌, List, [], ◌∷◌, ◌++◌, map, is_some, option_and_then, option_map}
+use Rattle.std.proofs.Common.{sym, ap, refl, ◌∙◌, subst, true≢false, append_assoc, unwrap_or}
+use Rattle.std.specs.Ordering.{eq_by_cmp, is_lt, ordering_reverse, match_ordering}
+use Rattle.std.specs.declared.cmp.Ordering.{Ordering}
+use Rattle.std.specs.declared.cmp.Ordering.TheVariants.{Less, Equal, Greater}
+use Rattle.std.specs.Cmp.Lexicographic.{nat_list_cmp_total}
+use Rattle.std.specs.List.{AllByRecursion}
+use Rattle.std.specs.List.Sorted.{IsStrictlySortedBy}
+use Rattle.std.specs.Map.{keys_of}
+use Rattle.std.specs.BTreeMap.{insert_entry}
+use Rattle.std.specs.FinMap.{get, find, insert, slice_cmp-IsAntisymmetric, nat_cmp-IsAntisymmetric}
+use Rattle.std.specs.FinMap.Entries.{is_sorted, below_all, same_entries}
+use Rattle.trees.specs.declared.entry.Entry.{Entry}
+use Rattle.trees.specs.TreeMap.{TreeMap, name_cmp}
+use Rattle.trees.specs.NodeValue.{NodeValue, map_of, joined}
+use Rattle.trees.specs.TreeLaws.{same_tree}
+use Rattle.trees.specs.FrontLaws.{both_hold, both_first, both_second}
+use Rattle.trees.proofs.NodeSteps.{node_of}
+use Rattle.trees.proofs.NodeLaws.{get-map_of_root, get-map_of_cons, get-joined, get-joined_root}
+
+-- the names and maps of children
+abbrev pub kid_map : List ℕ × NodeValue → List ℕ × TreeMap
+kid_map kid = (kid.0, map_of kid.1)
+
+abbrev pub kid_maps : List (List ℕ × NodeValue) → List (List ℕ × TreeMap)
+kid_maps kids = map kid_map kids
+
+find-kid_maps : (q : List ℕ) (kids : List (List ℕ × NodeValue)) → find name_cmp q (kid_maps kids) ≡ option_map map_of (find name_cmp q kids)
+find-kid_maps q [] = refl
+find-kid_maps q (kid ∷ kids) = ap (cond (eq_by_cmp name_cmp q kid.0) (Some (map_of kid.1))) (find-kid_maps q kids) ∙ pushed (eq_by_cmp name_cmp q kid.0) kid.1 (find name_cmp q kids)
+  where
+    pushed : (b : Bool) (v : NodeValue) (o : Option NodeValue) → cond b (Some (map_of v)) (option_map map_of o) ≡ option_map map_of (cond b (Some v) o)
+    pushed true v o = refl
+    pushed false v o = refl
+
+-- what stands below a node, by its children's maps
+seen : List (List ℕ × TreeMap) → List (List ℕ) → Option Entry
+seen maps [] = None
+seen maps (c ∷ cs) = option_and_then (λ m. get m cs) (find name_cmp c maps)
+
+seen-joined : (kids : List (List ℕ × NodeValue)) (q : List (List ℕ)) → get (joined kids) q ≡ seen (kid_maps kids) q
+unfolding seen
+seen-joined kids [] = get-joined_root kids
+seen-joined kids (c ∷ cs) = get-joined kids c cs ∙ through (find name_cmp c kids) ∙ ap (option_and_then (λ m. get m cs)) (sym (find-kid_maps c kids))
+  where
+    through : (o : Option NodeValue) → option_and_then (λ v. get (map_of v) cs) o ≡ option_and_then (λ m. get m cs) (option_map map_of o)
+    through None = refl
+    through (Some v) = refl
+
+-- children that are the same stand for the same map
+pub joined-from_same : (kids others : List (List ℕ × NodeValue)) → kid_maps kids ≡ kid_maps others → joined kids ≡ joined others
+joined-from_same kids others same = same_tree _ _ (λ q. seen-joined kids q ∙ ap (λ maps. seen maps q) same ∙ sym (seen-joined others q))
+
+kid-same : (a b : Option NodeValue) → ((cs : List (List ℕ)) → option_and_then (λ v. get (map_of v) cs) a ≡ option_and_then (λ v. get (map_of v) cs) b) → option_map map_of a ≡ option_map map_of b
+kid-same None None at = refl
+kid-same (Some v) None at = absurd (true≢false (ap is_some (sym (get-map_of_root v) ∙ at [])))
+kid-same None (Some w) at = absurd (true≢false (ap is_some (sym (get-map_of_root w) ∙ sym (at []))))
+kid-same (Some v) (Some w) at = ap Some (same_tree _ _ at)
+
+is_sorted-kid_maps : (kids : List (List ℕ × NodeValue)) → is_sorted name_cmp (kid_maps kids) ≡ is_sorted name_cmp kids
+is_sorted-kid_maps [] = refl
+is_sorted-kid_maps (kid ∷ kids) = λ i. below kid.0 kids i && is_sorted-kid_maps kids i
+  where
+    below : (c : List ℕ) (ks : List (List ℕ × NodeValue)) → below_all name_cmp c (kid_maps ks) ≡ below_all name_cmp c ks
+    below c [] = refl
+    below c (k ∷ ks) = ap (λ b. is_lt (name_cmp c k.0) && b) (below c ks)
+
+-- and the same map has the same children
+pub same-from_joined : (kids others : List (List ℕ × NodeValue)) → is_sorted name_cmp kids ≡ true → is_sorted name_cmp others ≡ true → joined kids ≡ joined others → kid_maps kids ≡ kid_maps others
+same-from_joined kids others s t same =
+    same_entries name_cmp nat_list_cmp_total (slice_cmp-IsAntisymmetric nat_cmp-IsAntisymmetric) (kid_maps kids) (kid_maps others)
+    (holds _ (is_sorted-kid_maps kids ∙ s)) (holds _ (is_sorted-kid_maps others ∙ t))
+    (λ q. find-kid_maps q kids ∙ kid-same (find name_cmp q kids) (find name_cmp q others) (λ cs. sym (get-joined kids q cs) ∙ ap (λ m. get m (q ∷ cs)) same ∙ get-joined others q cs) ∙ sym (find-kid_maps q others))
+  where
+    holds : (b : Bool) → b ≡ true → T b
+    holds b e = subst T (sym e) tt
+
+-- ---- keys in order
+
+below-from_all : (c : List ℕ) (ks : List (List ℕ × NodeValue)) → AllByRecursion (λ y. name_cmp c y ≡ Less) (keys_of ks) → below_all name_cmp c ks ≡ true
+below-from_all c [] h = refl
+below-from_all c (k ∷ ks) h = both_hold _ _ (ap is_lt h.0) (below-from_all c ks h.1)
+
+-- the keys of a map of children strictly rise
+pub sorted-from_keys : (ks : List (List ℕ × NodeValue)) → IsStrictlySortedBy name_cmp (keys_of ks) → is_sorted name_cmp ks ≡ true
+unfolding IsStrictlySortedBy
+sorted-from_keys [] h = refl
+sorted-from_keys (k ∷ ks) h = both_hold _ _ (below-from_all k.0 ks h.0) (sorted-from_keys ks h.1)
+
+-- ---- the same node
+
+own-same : (a b : Entry) → Some a ≡ Some b → a ≡ b
+own-same a b e = ap (λ o. unwrap_or o a) e
+
+-- nodes with the same entry stand for the same map where their children are the same
+pub node-same : (v w : NodeValue) (top top' : Entry) (kids others : List (List ℕ × NodeValue)) → node_of top kids ≡ v → node_of top' others ≡ w → top ≡ top' → IsStrictlySortedBy name_cmp (keys_of kids) → IsStrictlySortedBy name_cmp (keys_of others)
+    → (map_of v ≡ map_of w) ↔ (kid_maps kids ≡ kid_maps others)
+node-same v w top top' kids others v-is w-is tops s t = (
+  λ same. same-from_joined kids others (sorted-from_keys kids s) (sorted-from_keys others t) (same_tree _ _ (λ q. below_same q ((λ i. map_of (v-is i)) ∙ same ∙ (λ i. map_of (sym w-is i))))),
+  λ maps. (λ i. map_of (sym v-is i)) ∙ (λ i. insert (joined-from_same kids others maps i) [] (tops i)) ∙ (λ i. map_of (w-is i)),
+)
+  where
+    below_same : (q : List (List ℕ)) → map_of (node_of top kids) ≡ map_of (node_of top' others) → get (joined kids) q ≡ get (joined others) q
+    below_same [] same = get-joined_root kids ∙ sym (get-joined_root others)
+    below_same (c ∷ cs) same = sym (get-map_of_cons (node_of top kids) c cs) ∙ ap (λ m. get m (c ∷ cs)) same ∙ get-map_of_cons (node_of top' others) c cs
+
+-- and with different entries they stand for different maps
+pub node-apart : (v w : NodeValue) (top top' : Entry) (kids others : List (List ℕ × NodeValue)) → node_of top kids ≡ v → node_of top' others ≡ w → map_of v ≡ map_of w → top ≡ top'
+node-apart v w top top' kids others v-is w-is same =
+    own-same top top' (sym (get-map_of_root (node_of top kids)) ∙ (λ i. get (map_of (v-is i)) []) ∙ ap (λ m. get m []) same ∙ (λ i. get (map_of (sym w-is i)) []) ∙ get-map_of_root (node_of top' others))
+
+-- ---- one child more
+
+first_below : (k c : List ℕ) (v : NodeValue) (es rest : List (List ℕ × NodeValue)) → below_all name_cmp c (es ++ (k, v) ∷ rest) ≡ true → name_cmp c k ≡ Less
+first_below k c v [] rest h = less (name_cmp c k) (both_first _ _ h)
+  where
+    less : (o : Ordering) → is_lt o ≡ true → o ≡ Less
+    less Less e = refl
+    less Equal e = absurd (true≢false (sym e))
+    less Greater e = absurd (true≢false (sym e))
+first_below k c v (e ∷ es) rest h = first_below k c v es rest (both_second (is_lt (name_cmp c e.0)) _ h)
+
+-- a child whose name is above all others comes last
+pub insert-last : (es : List (List ℕ × NodeValue)) (k : List ℕ) (v : NodeValue) (rest : List (List ℕ × NodeValue)) → is_sorted name_cmp (es ++ (k, v) ∷ rest) ≡ true → insert_entry name_cmp es k v ≡ es ++ (k, v) ∷ []
+insert-last [] k v rest h = refl
+insert-last (e ∷ es) k v rest h =
+    let above : name_cmp k e.0 ≡ Greater = nat_list_cmp_total.antisymm k e.0 ∙ ap ordering_reverse (first_below k e.0 v es rest (both_first _ _ h)) in
+    ap (λ o. match_ordering o ((k, v) ∷ e ∷ es) ((e.0, v) ∷ es) (e ∷ insert_entry name_cmp es k v)) above
+    ∙ ap (λ xs. e ∷ xs) (insert-last es k v rest (both_second (below_all name_cmp e.0 (es ++ (k, v) ∷ rest)) _ h))
+
+-- a step of a copy: the children copied so far and those that are left are all of them
+pub copy-step : (es its rest all es' : List (List ℕ × NodeValue)) (key name : List ℕ) (v kid : NodeValue) → es ++ its ≡ all → IsStrictlySortedBy name_cmp (keys_of all) → its ≡ (name, kid) ∷ rest → es' ≡ insert_entry name_cmp es key v → key ≡ name → v ≡ kid → es' ++ rest ≡ all
+copy-step es its rest all es' key name v kid so_far ordered next done same_key same_kid =
+    let whole : es ++ (name, kid) ∷ rest ≡ all = ap (λ xs. es ++ xs) (sym next) ∙ so_far in
+    let sorted : is_sorted name_cmp (es ++ (name, kid) ∷ rest) ≡ true = ap (is_sorted name_cmp) whole ∙ sorted-from_keys all ordered in
+    ap (λ xs. xs ++ rest) (done ∙ (λ i. insert_entry name_cmp es (same_key i) (same_kid i)) ∙ insert-last es name kid rest sorted)
+    ∙ append_assoc es ((name, kid) ∷ []) rest ∙ whole
+
+-- ---- a step of a comparison
+
+pub heads-same : (a b : List ℕ) (m n : TreeMap) (xs ys : List (List ℕ × TreeMap)) → a ≡ b → m ≡ n → ((a, m) ∷ xs ≡ (b, n) ∷ ys) ↔ (xs ≡ ys)
+heads-same a b m n xs ys p q = (λ e. cc, λ e i. (p i, q i) ∷ e i)
+
+-- the start of a comparison, its and js being the children as they were lent
+pub same-start : (v w : NodeValue) (top top' : Entry) (kids others its js : List (List ℕ × NodeValue)) → node_of top kids ≡ v → node_of top' others ≡ w → top ≡ top' → IsStrictlySortedBy name_cmp (keys_of kids) → IsStrictlySortedBy name_cmp (keys_of others) → its ≡ kids → js ≡ others
+    → (map_of v ≡ map_of w) ↔ (kid_maps its ≡ kid_maps js)
+same-start v w top top' kids others its js v-is w-is tops s t lent other_lent =
+    let h = node-same v w top top' kids others v-is w-is tops s t in
+    (λ e. ap kid_maps lent ∙ h.0 e ∙ ap kid_maps (sym other_lent), λ e. h.1 (ap kid_maps (sym lent) ∙ e ∙ ap kid_maps other_lent))

@@ -1,0 +1,5 @@
+pub mod NodeLaws
+pub mod NodeSteps
+pub mod KidLists
+pub mod TreeSteps
+pub mod RowLists

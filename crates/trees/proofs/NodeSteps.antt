@@ -1,0 +1,228 @@
+-- One step down a path, as the code of a node takes it: the path's first name, the child of that name, and the rest of the path.
+use Rattle.std.specs.Prelude.{◌≡◌, ℕ, max, ◌+◌, ◌-◌, ◌<◌, ◌≤◌, Bool, true, false, not, cond, ◌||◌, ◌&&◌, Option, Some, None, List, [], ◌∷◌, length, get_or, take, drop, option_and_then}
+use Rattle.std.proofs.Common.{sym, ap, refl, ◌∙◌, subst, true≢false, arith}
+use Rattle.std.proofs.lemmas.Grind.{common_steps}
+use Rattle.std.proofs.lemmas.Option.{same_Some, none-some}
+use Rattle.std.specs.Map.{lookup}
+use Rattle.std.specs.BTreeMap.{is_at}
+use Rattle.std.specs.Ordering.{eq_by_cmp}
+use Rattle.std.specs.Option.{option_or}
+use Rattle.std.specs.Cmp.{eq_by_cmp_equiv}
+use Rattle.std.specs.Cmp.Lexicographic.{nat_list_cmp_total}
+use Rattle.std.specs.FinMap.{get, find, empty, get-empty}
+use Rattle.paths.specs.Order.{path_cmp}
+use Rattle.trees.specs.declared.meta.Meta.{Meta}
+use Rattle.trees.specs.declared.entry.Entry.TheVariants.{Directory, File}
+use Rattle.trees.specs.declared.entry.Entry.{Entry}
+use Rattle.trees.specs.TreeMap.{name_cmp, is_front, is_blocked, is_file, is_directory}
+use Rattle.trees.specs.NodeValue.{NodeValue, map_of, joined, height_of, IsPlanted}
+use Rattle.trees.specs.Put.{planted}
+use Rattle.trees.specs.FrontLaws.{is_blocked-cons, open-from_fronts, name_same, path_eq-cons}
+use Rattle.trees.specs.TreeLaws.{same_tree}
+use Rattle.trees.proofs.NodeLaws.{get-map_of_root, get-map_of_cons, get-joined, lookup-find}
+
+-- the value of a node with this entry and these children
+abbrev pub node_of : Entry → List (List ℕ × NodeValue) → NodeValue
+node_of top kids = record { top = top; below = joined kids; height = height_of kids }
+
+whole_rest : {A : Type 0} (x : A) (xs : List A) → take (length (x ∷ xs) - 1) (drop 1 (x ∷ xs)) ≡ xs
+whole_rest x xs = grind (arith, common_steps)
+
+-- a path that isn't the root is its first name and the rest
+pub path-parts : (path : List (List ℕ)) (name : List ℕ) → 1 ≤ length path → name ≡ get_or path 0 name → path ≡ name ∷ take (length path - 1) (drop 1 path)
+path-parts [] name more is = absurd (omega arith)
+path-parts (c ∷ cs) name more is = λ i. sym is i ∷ sym (whole_rest c cs) i
+
+pub empty-path : (path : List (List ℕ)) → length path < 1 → path ≡ []
+empty-path [] less = refl
+empty-path (c ∷ cs) less = absurd (omega arith)
+
+-- at the root stands the node's own entry
+pub get-own : (value : NodeValue) (top : Entry) (kids : List (List ℕ × NodeValue)) (path : List (List ℕ)) → node_of top kids ≡ value → length path < 1 → Some top ≡ get (map_of value) path
+get-own value top kids path is less = sym ((λ i. get (map_of (sym is i)) (empty-path path less i)) ∙ get-map_of_root (node_of top kids))
+
+-- below it stands what the child of the first name has
+pub get-kid : (value : NodeValue) (top : Entry) (kids : List (List ℕ × NodeValue)) (path : List (List ℕ)) (name : List ℕ) (kid : Option NodeValue) → node_of top kids ≡ value → 1 ≤ length path → name ≡ get_or path 0 name → kid ≡ lookup (is_at (name_cmp name)) kids
+    → get (map_of value) path ≡ option_and_then (λ v. get (map_of v) (take (length path - 1) (drop 1 path))) kid
+get-kid value top kids path name kid is more first found =
+    let rest = take (length path - 1) (drop 1 path) in
+    (λ i. get (map_of (sym is i)) (path-parts path name more first i))
+    ∙ get-map_of_cons (node_of top kids) name rest ∙ get-joined kids name rest
+    ∙ ap (option_and_then (λ v. get (map_of v) rest)) (sym (found ∙ lookup-find name kids))
+
+-- ---- whether a file stands on the way
+
+-- what a test of one part says of both
+pub or-then : (a b x : Bool) → a ≡ b → a ≡ true → a ≡ (b || x)
+or-then true true x e t = refl
+or-then true false x e t = absurd (true≢false e)
+or-then false b x e t = absurd (true≢false (sym t))
+
+pub or-else : (a b x : Bool) → a ≡ b → a ≡ false → x ≡ (b || x)
+or-else a true x e f = absurd (true≢false (sym e ∙ f))
+or-else a false x e f = refl
+
+pub or-nothing : (a b : Bool) → a ≡ b → a ≡ (b || false)
+or-nothing a true e = e
+or-nothing a false e = e
+
+file_top : (top : Entry) → is_file (Some top) ≡ not (is_directory (Some top))
+file_top (Directory m) = refl
+file_top (File m c) = refl
+
+-- whether a file stands on the way in a child, if there is one
+abbrev pub blocked_in : Option NodeValue → List (List ℕ) → Bool
+blocked_in None rest = false
+blocked_in (Some kid) rest = is_blocked (get (map_of kid)) rest
+
+blocked-in_kid : (kid : Option NodeValue) (rest : List (List ℕ)) → is_blocked (λ p. option_and_then (λ v. get (map_of v) p) kid) rest ≡ blocked_in kid rest
+blocked-in_kid None rest = open-from_fronts (λ _. None) rest (λ f g. refl)
+blocked-in_kid (Some kid) rest = refl
+
+module _ (value : NodeValue) (top : Entry) (kids : List (List ℕ × NodeValue)) (path : List (List ℕ)) (name : List ℕ) (is : node_of top kids ≡ value) (more : 1 ≤ length path) (first : name ≡ get_or path 0 name) where
+  -- what stands below the path's first name
+  below_first : (kid : Option NodeValue) → kid ≡ lookup (is_at (name_cmp name)) kids → (p : List (List ℕ)) → get (map_of value) (name ∷ p) ≡ option_and_then (λ v. get (map_of v) p) kid
+  below_first kid found p =
+      (λ i. get (map_of (sym is i)) (name ∷ p)) ∙ get-map_of_cons (node_of top kids) name p ∙ get-joined kids name p
+      ∙ ap (option_and_then (λ v. get (map_of v) p)) (sym (found ∙ lookup-find name kids))
+
+  pub blocked-step : (kid : Option NodeValue) → kid ≡ lookup (is_at (name_cmp name)) kids → is_blocked (get (map_of value)) path ≡ (not (is_directory (Some top)) || blocked_in kid (take (length path - 1) (drop 1 path)))
+  blocked-step kid found =
+      let rest = take (length path - 1) (drop 1 path) in
+      (λ i. is_blocked (get (map_of value)) (path-parts path name more first i))
+      ∙ is_blocked-cons (get (map_of value)) name rest
+      ∙ (λ i. is_file (get (map_of (sym is i)) []) || is_blocked (λ p. below_first kid found p i) rest)
+      ∙ (λ i. is_file (get-map_of_root (node_of top kids) i) || blocked-in_kid kid rest i)
+      ∙ ap (λ b. b || blocked_in kid rest) (file_top top)
+
+-- ---- an entry is put at a path
+
+or_none : (o : Option Entry) → o ≡ option_or o None
+or_none None = refl
+or_none (Some e) = refl
+
+pub leaf-planted : (leaf : NodeValue) (path : List (List ℕ)) (parent : Meta) (entry : Entry) → leaf.top ≡ entry → leaf.below ≡ empty → length path < 1 → IsPlanted (λ _. None) (map_of leaf) path parent entry
+leaf-planted leaf (c ∷ cs) parent entry t b less = absurd (omega arith)
+leaf-planted leaf [] parent entry t b less = record { at = leaf_at leaf parent entry t b }
+  where
+    leaf_at : (leaf : NodeValue) (parent : Meta) (entry : Entry) → leaf.top ≡ entry → leaf.below ≡ empty → (q : List (List ℕ)) → get (map_of leaf) q ≡ planted (λ _. None) [] parent entry q
+    leaf_at leaf parent entry t b [] = get-map_of_root leaf ∙ ap Some t
+    leaf_at leaf parent entry t b (c ∷ cs) = get-map_of_cons leaf c cs ∙ ap (λ m. get m (c ∷ cs)) b ∙ get-empty path_cmp (c ∷ cs)
+
+pub own-planted : (value : NodeValue) (top : Entry) (kids : List (List ℕ × NodeValue)) (path : List (List ℕ)) (parent : Meta) (entry : Entry) → node_of top kids ≡ value → length path < 1 → IsPlanted (get (map_of value)) (map_of (node_of entry kids)) path parent entry
+own-planted value top kids (c ∷ cs) parent entry is less = absurd (omega arith)
+own-planted value top kids [] parent entry is less = record { at = own_at value top kids parent entry is }
+  where
+    own_at : (value : NodeValue) (top : Entry) (kids : List (List ℕ × NodeValue)) (parent : Meta) (entry : Entry) → node_of top kids ≡ value → (q : List (List ℕ)) → get (map_of (node_of entry kids)) q ≡ planted (get (map_of value)) [] parent entry q
+    own_at value top kids parent entry is [] = get-map_of_root (node_of entry kids)
+    own_at value top kids parent entry is (c ∷ cs) =
+        get-map_of_cons (node_of entry kids) c cs ∙ sym (get-map_of_cons (node_of top kids) c cs) ∙ (λ i. get (map_of (is i)) (c ∷ cs)) ∙ or_none (get (map_of value) (c ∷ cs))
+
+-- of the children, the one of this name is another, and all others are the same
+pub record IsKid (old new : List (List ℕ × NodeValue)) (name : List ℕ) (kid : NodeValue) : Type 0 where
+  pub at : (q : List ℕ) → lookup (is_at (name_cmp q)) new ≡ cond (is_at (name_cmp name) q) (Some kid) (lookup (is_at (name_cmp q)) old)
+
+pub kid-under : (old new : List (List ℕ × NodeValue)) (key name : List ℕ) (kid : NodeValue) → key ≡ name → ((q : List ℕ) → lookup (is_at (name_cmp q)) new ≡ cond (is_at (name_cmp key) q) (Some kid) (lookup (is_at (name_cmp q)) old)) → IsKid old new name kid
+kid-under old new key name kid same at = record { at = λ q. at q ∙ (λ i. cond (is_at (name_cmp (same i)) q) (Some kid) (lookup (is_at (name_cmp q)) old)) }
+
+pub kid-from : (old old' new : List (List ℕ × NodeValue)) (name : List ℕ) (kid : NodeValue) → old ≡ old' → IsKid old new name kid → IsKid old' new name kid
+kid-from old old' new name kid same h = subst (λ (o : List (List ℕ × NodeValue)). IsKid o new name kid) same h
+
+-- what stands in a child, if there is one
+abbrev pub at_kid : Option NodeValue → List (List ℕ) → Option Entry
+at_kid kid p = option_and_then (λ v. get (map_of v) p) kid
+
+-- what stands at d and ds below a node, old being what stood below d, and kid what is below the name now
+one_name : (tie same front : Bool) (old now : Option Entry) (d e : Entry) → (tie ≡ true → now ≡ cond same (Some e) (option_or old (cond front (Some d) None)))
+    → cond tie now old ≡ cond (tie && same) (Some e) (option_or old (cond (tie && front) (Some d) None))
+one_name true same front old now d e h = h refl
+one_name false same front old now d e h = or_none old
+
+find_changed : (old_kids kids : List (List ℕ × NodeValue)) (name : List ℕ) (kid : NodeValue) → IsKid old_kids kids name kid → (d : List ℕ) → find name_cmp d kids ≡ cond (eq_by_cmp name_cmp d name) (Some kid) (find name_cmp d old_kids)
+find_changed old_kids kids name kid changed d =
+    sym (lookup-find d kids) ∙ changed.at d ∙ (λ i. cond ((eq_by_cmp_equiv nat_list_cmp_total).symm name d i) (Some kid) (lookup-find d old_kids i))
+
+kept_kid : (tie : Bool) (f : NodeValue → Option Entry) (kid : NodeValue) (o : Option NodeValue) → (tie ≡ true → f kid ≡ option_and_then f o) → option_and_then f (cond tie (Some kid) o) ≡ option_and_then f o
+kept_kid true f kid o h = h refl
+kept_kid false f kid o h = refl
+
+module _ (old_kids kids : List (List ℕ × NodeValue)) (name : List ℕ) (rest : List (List ℕ)) (parent : Meta) (entry : Entry) (kid : NodeValue) (found : Option NodeValue)
+    (has : find name_cmp name old_kids ≡ found) (changed : IsKid old_kids kids name kid) (laid : IsPlanted (at_kid found) (map_of kid) rest parent entry) where
+  pulled : (b : Bool) (f : NodeValue → Option Entry) (o : Option NodeValue) → option_and_then f (cond b (Some kid) o) ≡ cond b (f kid) (option_and_then f o)
+  pulled true f o = refl
+  pulled false f o = refl
+
+  pub kids-planted : (d : List ℕ) (ds : List (List ℕ)) → get (joined kids) (d ∷ ds) ≡ planted (get (joined old_kids)) (name ∷ rest) parent entry (d ∷ ds)
+  kids-planted d ds =
+      let before : Option Entry = at_kid (find name_cmp d old_kids) ds in
+      get-joined kids d ds
+      ∙ ap (λ o. at_kid o ds) (find_changed old_kids kids name kid changed d)
+      ∙ pulled (eq_by_cmp name_cmp d name) (λ v. get (map_of v) ds) (find name_cmp d old_kids)
+      ∙ one_name (eq_by_cmp name_cmp d name) (eq_by_cmp path_cmp ds rest) (is_front ds rest) before (get (map_of kid) ds) (Directory parent) entry
+      (λ tie. laid.at ds ∙ ap (λ o. cond (eq_by_cmp path_cmp ds rest) (Some entry) (option_or (at_kid o ds) (cond (is_front ds rest) (Some (Directory parent)) None))) (sym (ap (λ c. find name_cmp c old_kids) (name_same d name tie) ∙ has)))
+      ∙ (λ i. cond (sym (path_eq-cons d name ds rest) i) (Some entry) (option_or (sym (get-joined old_kids d ds) i) (cond (is_front (d ∷ ds) (name ∷ rest)) (Some (Directory parent)) None)))
+
+kept_top : (o d : Option Entry) (top : Entry) → o ≡ Some top → Some top ≡ option_or o d
+kept_top o d top e = sym (ap (λ x. option_or x d) e)
+
+-- a child in which an entry was put makes a node in which it was put
+module _ (value : NodeValue) (top : Entry) (old_kids kids : List (List ℕ × NodeValue)) (path : List (List ℕ)) (name : List ℕ) (parent : Meta) (entry : Entry) (kid : NodeValue) (found : Option NodeValue)
+    (is : node_of top old_kids ≡ value) (more : 1 ≤ length path) (first : name ≡ get_or path 0 name) (has : found ≡ lookup (is_at (name_cmp name)) old_kids) (changed : IsKid old_kids kids name kid) where
+  here : find name_cmp name old_kids ≡ found
+  here = sym (has ∙ lookup-find name old_kids)
+
+  under : (d : List ℕ) (ds : List (List ℕ)) → get (joined old_kids) (d ∷ ds) ≡ get (map_of value) (d ∷ ds)
+  under d ds = sym (get-map_of_cons (node_of top old_kids) d ds) ∙ (λ i. get (map_of (is i)) (d ∷ ds))
+
+  own : get (map_of value) [] ≡ Some top
+  own = (λ i. get (map_of (sym is i)) []) ∙ get-map_of_root (node_of top old_kids)
+
+  step_at : (rest : List (List ℕ)) → IsPlanted (at_kid found) (map_of kid) rest parent entry → (q : List (List ℕ)) → get (map_of (node_of top kids)) q ≡ planted (get (map_of value)) (name ∷ rest) parent entry q
+  step_at rest laid [] = get-map_of_root (node_of top kids) ∙ kept_top (get (map_of value) []) (Some (Directory parent)) top own
+  step_at rest laid (d ∷ ds) =
+      get-map_of_cons (node_of top kids) d ds
+      ∙ kids-planted old_kids kids name rest parent entry kid found here changed laid d ds
+      ∙ ap (λ o. cond (eq_by_cmp path_cmp (d ∷ ds) (name ∷ rest)) (Some entry) (option_or o (cond (is_front (d ∷ ds) (name ∷ rest)) (Some (Directory parent)) None))) (under d ds)
+
+  pub plant-step : IsPlanted (at_kid found) (map_of kid) (take (length path - 1) (drop 1 path)) parent entry → IsPlanted (get (map_of value)) (map_of (node_of top kids)) path parent entry
+  plant-step laid = record { at = λ q. step_at (take (length path - 1) (drop 1 path)) laid q ∙ (λ i. planted (get (map_of value)) (sym (path-parts path name more first) i) parent entry q) }
+
+  kept_at : (before : NodeValue) → found ≡ Some before → map_of kid ≡ map_of before → (q : List (List ℕ)) → get (map_of (node_of top kids)) q ≡ get (map_of value) q
+  kept_at before was same [] = get-map_of_root (node_of top kids) ∙ sym own
+  kept_at before was same (d ∷ ds) =
+      get-map_of_cons (node_of top kids) d ds ∙ get-joined kids d ds
+      ∙ ap (λ o. at_kid o ds) (find_changed old_kids kids name kid changed d)
+      ∙ kept_kid (eq_by_cmp name_cmp d name) (λ v. get (map_of v) ds) kid (find name_cmp d old_kids)
+      (λ tie. ap (λ m. get m ds) same ∙ sym (ap (λ o. at_kid o ds) (ap (λ c. find name_cmp c old_kids) (name_same d name tie) ∙ here ∙ was)))
+      ∙ sym (get-joined old_kids d ds) ∙ under d ds
+
+  -- and one that stands for the same map makes one that does
+  pub keep-step : (before : NodeValue) → found ≡ Some before → map_of kid ≡ map_of before → map_of (node_of top kids) ≡ map_of value
+  keep-step before was same = same_tree _ _ (kept_at before was same)
+
+pub chain-step : (none kids : List (List ℕ × NodeValue)) (path : List (List ℕ)) (name : List ℕ) (parent : Meta) (entry : Entry) (kid : NodeValue) → 1 ≤ length path → name ≡ get_or path 0 name → none ≡ [] → IsKid none kids name kid
+    → IsPlanted (λ _. None) (map_of kid) (take (length path - 1) (drop 1 path)) parent entry → IsPlanted (λ _. None) (map_of (node_of (Directory parent) kids)) path parent entry
+chain-step none kids path name parent entry kid more first empty' changed laid =
+    record { at = λ q. chain_at kids name (take (length path - 1) (drop 1 path)) parent entry kid (subst (λ (o : List (List ℕ × NodeValue)). IsKid o kids name kid) empty' changed) laid q ∙ (λ i. planted (λ _. None) (sym (path-parts path name more first) i) parent entry q) }
+  where
+    chain_at : (kids : List (List ℕ × NodeValue)) (name : List ℕ) (rest : List (List ℕ)) (parent : Meta) (entry : Entry) (kid : NodeValue) → IsKid [] kids name kid → IsPlanted (λ _. None) (map_of kid) rest parent entry
+        → (q : List (List ℕ)) → get (map_of (node_of (Directory parent) kids)) q ≡ planted (λ _. None) (name ∷ rest) parent entry q
+    chain_at kids name rest parent entry kid changed laid [] = get-map_of_root (node_of (Directory parent) kids)
+    chain_at kids name rest parent entry kid changed laid (d ∷ ds) =
+        get-map_of_cons (node_of (Directory parent) kids) d ds
+        ∙ kids-planted [] kids name rest parent entry kid None refl changed laid d ds
+        ∙ ap (λ o. cond (eq_by_cmp path_cmp (d ∷ ds) (name ∷ rest)) (Some entry) (option_or o (cond (is_front (d ∷ ds) (name ∷ rest)) (Some (Directory parent)) None))) (get-empty path_cmp (d ∷ ds))
+
+-- a child is less high than its node
+pub kid-lower : (kids : List (List ℕ × NodeValue)) (name : List ℕ) (kid : NodeValue) → lookup (is_at (name_cmp name)) kids ≡ Some kid → kid.height + 1 ≤ height_of kids
+kid-lower [] name kid has = absurd (none-some kid has)
+kid-lower (k ∷ ks) name kid has = by_name (is_at (name_cmp name) k.0) k.1 (lookup (is_at (name_cmp name)) ks) (height_of ks) kid has (kid-lower ks name kid)
+  where
+    by_name : (b : Bool) (v : NodeValue) (r : Option NodeValue) (h : ℕ) (kid : NodeValue) → cond b (Some v) r ≡ Some kid → (r ≡ Some kid → kid.height + 1 ≤ h) → kid.height + 1 ≤ max (v.height + 1) h
+    by_name true v r h kid e rest = let same : v.height ≡ kid.height = ap (λ n. n.height) (same_Some v kid e) in omega arith
+    by_name false v r h kid e rest = let low : kid.height + 1 ≤ h = rest e in omega arith
+
+pub kid-falls : (value : NodeValue) (top : Entry) (kids : List (List ℕ × NodeValue)) (name : List ℕ) (kid : NodeValue) → node_of top kids ≡ value → lookup (is_at (name_cmp name)) kids ≡ Some kid → kid.height < value.height
+kid-falls value top kids name kid is has =
+    let low : kid.height + 1 ≤ height_of kids = kid-lower kids name kid has in
+    let same : height_of kids ≡ value.height = ap (λ n. n.height) is in omega arith

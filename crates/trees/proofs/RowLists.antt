@@ -1,0 +1,198 @@
+-- The rows of a node are its own and then those of its children, in the order of their names.
+use Rattle.std.specs.Prelude.{◌≡◌, ℕ, Bool, true, false, ◌&&◌, ◌==◌, not, cond, T, Option, Some, None, List, [], ◌∷◌, ◌++◌, is_some, option_and_then, if◌then◌else◌}
+use Rattle.std.proofs.Common.{sym, ap, refl, ◌∙◌, subst, true≢false, append_assoc, append-nil, Bor}
+use Rattle.std.specs.Option.{option_or}
+use Rattle.std.specs.Ordering.{eq_by_cmp, is_lt, is_eq, ordering_then}
+use Rattle.std.specs.declared.cmp.Ordering.{Ordering}
+use Rattle.std.specs.declared.cmp.Ordering.TheVariants.{Less, Equal, Greater}
+use Rattle.std.specs.Cmp.{tied_itself}
+use Rattle.std.specs.Cmp.Lexicographic.{nat_list_cmp_total}
+use Rattle.std.specs.List.{list_all}
+use Rattle.std.specs.List.Sorted.{IsStrictlySortedBy}
+use Rattle.std.specs.Map.{keys_of, lookup}
+use Rattle.std.specs.BTreeMap.{is_at}
+use Rattle.std.specs.FinMap.{get, entries, entries_sorted, get-entries, find}
+use Rattle.std.specs.FinMap.Entries.{is_sorted, below_all, same_entries}
+use Rattle.std.proofs.lemmas.List.Folds.{list_all-append}
+use Rattle.paths.specs.Order.{path_cmp, path_cmp_total, path_cmp-IsAntisymmetric}
+use Rattle.paths.specs.Path.{IsClean, is_name, is_naming, is_whole}
+use Rattle.paths.specs.Reading.{walked, is_absolute, read_from}
+use Rattle.paths.specs.ReadingLaws.{pieces-join, walked-names}
+use Rattle.trees.specs.declared.entry.Entry.{Entry}
+use Rattle.trees.specs.TreeMap.{name_cmp}
+use Rattle.trees.specs.NodeValue.{NodeValue, map_of, below_name}
+use Rattle.trees.specs.Rows.{shown, under}
+use Rattle.trees.specs.FrontLaws.{both_hold, both_first, both_second, name_same}
+use Rattle.trees.proofs.NodeLaws.{get-map_of_root, get-map_of_cons, get-joined, find-below_name, lookup-find}
+use Rattle.trees.proofs.NodeSteps.{node_of, at_kid}
+use Rattle.trees.proofs.KidLists.{sorted-from_keys}
+
+-- the rows of children, one child after another
+abbrev pub rows_of : List (List ℕ × NodeValue) → List (List (List ℕ) × Entry)
+rows_of [] = []
+rows_of (kid ∷ kids) = below_name kid.0 (entries (map_of kid.1)) ++ rows_of kids
+
+less : (o : Ordering) → is_lt o ≡ true → o ≡ Less
+less Less e = refl
+less Equal e = absurd (true≢false (sym e))
+less Greater e = absurd (true≢false (sym e))
+
+-- ---- what is found in them
+
+find-joined_lists : (q : List (List ℕ)) (xs ys : List (List (List ℕ) × Entry)) → find path_cmp q (xs ++ ys) ≡ option_or (find path_cmp q xs) (find path_cmp q ys)
+find-joined_lists q [] ys = refl
+find-joined_lists q (x ∷ xs) ys = ap (cond (eq_by_cmp path_cmp q x.0) (Some x.1)) (find-joined_lists q xs ys) ∙ out (eq_by_cmp path_cmp q x.0) x.1 (find path_cmp q xs) (find path_cmp q ys)
+  where
+    out : (b : Bool) (e : Entry) (o r : Option Entry) → cond b (Some e) (option_or o r) ≡ option_or (cond b (Some e) o) r
+    out true e o r = refl
+    out false e o r = refl
+
+find-none : (c : List ℕ) (ks : List (List ℕ × NodeValue)) → below_all name_cmp c ks ≡ true → find name_cmp c ks ≡ None
+find-none c [] h = refl
+find-none c (k ∷ ks) h = ap (λ o. cond (is_eq o) (Some k.1) (find name_cmp c ks)) (less (name_cmp c k.0) (both_first _ _ h)) ∙ find-none c ks (both_second (is_lt (name_cmp c k.0)) _ h)
+
+kid_or_rest : (tie : Bool) (mine rest : Option Entry) (f : NodeValue → Option Entry) (v : NodeValue) (r : Option NodeValue) → mine ≡ f v → rest ≡ option_and_then f r → (tie ≡ true → r ≡ None) → option_or (cond tie mine None) rest ≡ option_and_then f (cond tie (Some v) r)
+kid_or_rest false mine rest f v r m e none = e
+kid_or_rest true mine rest f v r m e none = ap (option_or mine) (e ∙ ap (option_and_then f) (none refl)) ∙ or_none mine ∙ m
+  where
+    or_none : (o : Option Entry) → option_or o None ≡ o
+    or_none None = refl
+    or_none (Some x) = refl
+
+find-rows : (kids : List (List ℕ × NodeValue)) → is_sorted name_cmp kids ≡ true → (c : List ℕ) (cs : List (List ℕ)) → find path_cmp (c ∷ cs) (rows_of kids) ≡ at_kid (find name_cmp c kids) cs
+find-rows [] s c cs = refl
+find-rows (k ∷ ks) s c cs =
+    find-joined_lists (c ∷ cs) (below_name k.0 (entries (map_of k.1))) (rows_of ks)
+    ∙ ap (λ o. option_or o (find path_cmp (c ∷ cs) (rows_of ks))) (find-below_name k.0 c cs (entries (map_of k.1)))
+    ∙ kid_or_rest (eq_by_cmp name_cmp c k.0) (find path_cmp cs (entries (map_of k.1))) (find path_cmp (c ∷ cs) (rows_of ks)) (λ v. get (map_of v) cs) k.1 (find name_cmp c ks)
+    (sym (get-entries (map_of k.1) cs)) (find-rows ks (both_second (below_all name_cmp k.0 ks) _ s) c cs)
+    (λ tie. find-none c ks (ap (λ x. below_all name_cmp x ks) (name_same c k.0 tie) ∙ both_first _ _ s))
+
+-- ---- their order
+
+below-child : (k : List ℕ) (p : List (List ℕ)) (rows : List (List (List ℕ) × Entry)) → below_all path_cmp (k ∷ p) (below_name k rows) ≡ below_all path_cmp p rows
+below-child k p [] = refl
+below-child k p (row ∷ rows) = λ i. is_lt (ordering_then (tied_itself nat_list_cmp_total k i) (path_cmp p row.0)) && below-child k p rows i
+
+sorted-child : (k : List ℕ) (rows : List (List (List ℕ) × Entry)) → is_sorted path_cmp (below_name k rows) ≡ is_sorted path_cmp rows
+sorted-child k [] = refl
+sorted-child k (row ∷ rows) = λ i. below-child k row.0 rows i && sorted-child k rows i
+
+below-other : (c k : List ℕ) (p : List (List ℕ)) (rows : List (List (List ℕ) × Entry)) → name_cmp c k ≡ Less → below_all path_cmp (c ∷ p) (below_name k rows) ≡ true
+below-other c k p [] l = refl
+below-other c k p (row ∷ rows) l = both_hold _ _ (ap (λ o. is_lt (ordering_then o (path_cmp p row.0))) l) (below-other c k p rows l)
+
+below-append : (q : List (List ℕ)) (xs ys : List (List (List ℕ) × Entry)) → below_all path_cmp q xs ≡ true → below_all path_cmp q ys ≡ true → below_all path_cmp q (xs ++ ys) ≡ true
+below-append q [] ys h g = g
+below-append q (x ∷ xs) ys h g = both_hold _ _ (both_first _ _ h) (below-append q xs ys (both_second (is_lt (path_cmp q x.0)) _ h) g)
+
+below-rows : (c : List ℕ) (p : List (List ℕ)) (ks : List (List ℕ × NodeValue)) → below_all name_cmp c ks ≡ true → below_all path_cmp (c ∷ p) (rows_of ks) ≡ true
+below-rows c p [] h = refl
+below-rows c p (k ∷ ks) h =
+    below-append (c ∷ p) (below_name k.0 (entries (map_of k.1))) (rows_of ks) (below-other c k.0 p (entries (map_of k.1)) (less _ (both_first _ _ h))) (below-rows c p ks (both_second (is_lt (name_cmp c k.0)) _ h))
+
+sorted-append : (k : List ℕ) (xs ys : List (List (List ℕ) × Entry)) → is_sorted path_cmp (below_name k xs) ≡ true → is_sorted path_cmp ys ≡ true → ((p : List (List ℕ)) → below_all path_cmp (k ∷ p) ys ≡ true) → is_sorted path_cmp (below_name k xs ++ ys) ≡ true
+sorted-append k [] ys s t low = t
+sorted-append k (x ∷ xs) ys s t low =
+    both_hold _ _ (below-append (k ∷ x.0) (below_name k xs) ys (both_first _ _ s) (low x.0)) (sorted-append k xs ys (both_second (below_all path_cmp (k ∷ x.0) (below_name k xs)) _ s) t low)
+
+is-true : (b : Bool) → T b → b ≡ true
+is-true true h = refl
+is-true false h = absurd h
+
+holds : (b : Bool) → b ≡ true → T b
+holds b e = subst T (sym e) tt
+
+sorted-rows : (kids : List (List ℕ × NodeValue)) → is_sorted name_cmp kids ≡ true → is_sorted path_cmp (rows_of kids) ≡ true
+sorted-rows [] s = refl
+sorted-rows (k ∷ ks) s =
+    sorted-append k.0 (entries (map_of k.1)) (rows_of ks) (sorted-child k.0 (entries (map_of k.1)) ∙ is-true _ (entries_sorted (map_of k.1))) (sorted-rows ks (both_second (below_all name_cmp k.0 ks) _ s)) (λ p. below-rows k.0 p ks (both_first _ _ s))
+
+root-first : (ks : List (List ℕ × NodeValue)) → below_all path_cmp [] (rows_of ks) ≡ true
+root-first [] = refl
+root-first (k ∷ ks) = below-append [] (below_name k.0 (entries (map_of k.1))) (rows_of ks) (above k.0 (entries (map_of k.1))) (root-first ks)
+  where
+    above : (c : List ℕ) (rows : List (List (List ℕ) × Entry)) → below_all path_cmp [] (below_name c rows) ≡ true
+    above c [] = refl
+    above c (row ∷ rows) = above c rows
+
+-- the entries of a node are its own and those of its children
+pub entries-node : (value : NodeValue) (top : Entry) (kids : List (List ℕ × NodeValue)) → node_of top kids ≡ value → IsStrictlySortedBy name_cmp (keys_of kids) → entries (map_of value) ≡ ([], top) ∷ rows_of kids
+entries-node value top kids is ordered =
+    ap (λ v. entries (map_of v)) (sym is)
+    ∙ same_entries path_cmp path_cmp_total path_cmp-IsAntisymmetric (entries (map_of (node_of top kids))) (([], top) ∷ rows_of kids) (entries_sorted (map_of (node_of top kids)))
+    (holds _ (both_hold _ _ (root-first kids) (sorted-rows kids (sorted-from_keys kids ordered)))) found
+  where
+    found : (q : List (List ℕ)) → find path_cmp q (entries (map_of (node_of top kids))) ≡ find path_cmp q (([], top) ∷ rows_of kids)
+    found [] = sym (get-entries (map_of (node_of top kids)) []) ∙ get-map_of_root (node_of top kids)
+    found (c ∷ cs) = sym (get-entries (map_of (node_of top kids)) (c ∷ cs)) ∙ get-map_of_cons (node_of top kids) c cs ∙ get-joined kids c cs ∙ sym (find-rows kids (sorted-from_keys kids ordered) c cs)
+
+-- ---- the steps of the code
+
+not_true : (b : Bool) → not b ≡ true → b ≡ false
+not_true true e = sym e
+not_true false e = refl
+
+-- reading one name below a directory gives the path of that name
+pub read-name : (p : List (List ℕ)) (name text : List ℕ) → text ≡ name → IsClean (p ++ name ∷ []) → read_from text p ≡ p ++ name ∷ []
+read-name p name text same clean =
+    let named : (is_naming name && is_whole name) ≡ true = both_first _ _ (both_second (list_all is_name p) (list_all is_name (name ∷ [])) (sym (list_all-append is_name p (name ∷ [])) ∙ clean.names)) in
+    let whole : is_whole name ≡ true = both_second (is_naming name) _ named in
+    (λ i. read_from (same i) p)
+    ∙ (λ i. walked (if relative name whole i then [] else p) (pieces-join name [] whole refl i))
+    ∙ walked-names p (name ∷ []) (both_hold _ _ (both_first _ _ named) refl)
+  where
+    relative : (name : List ℕ) → is_whole name ≡ true → is_absolute name ≡ false
+    relative [] w = refl
+    relative (b ∷ bs) w = not_true (b == 47) (both_first _ _ w)
+
+-- what stands below a name is what its child has
+pub kid-there : (value : NodeValue) (top : Entry) (kids : List (List ℕ × NodeValue)) (name : List ℕ) (kid : NodeValue) → node_of top kids ≡ value → lookup (is_at (name_cmp name)) kids ≡ Some kid → (q : List (List ℕ)) → get (map_of value) (name ∷ q) ≡ get (map_of kid) q
+kid-there value top kids name kid is has q =
+    (λ i. get (map_of (sym is i)) (name ∷ q)) ∙ get-map_of_cons (node_of top kids) name q ∙ get-joined kids name q ∙ ap (λ o. at_kid o q) (sym (lookup-find name kids) ∙ has)
+
+-- so the path of each child is clean where the paths of the node are
+pub child-clean : (value : NodeValue) (top : Entry) (kids : List (List ℕ × NodeValue)) (name : List ℕ) (kid : NodeValue) (at : List (List ℕ)) → node_of top kids ≡ value → lookup (is_at (name_cmp name)) kids ≡ Some kid
+    → ((q : List (List ℕ)) → is_some (get (map_of value) q) ≡ true → IsClean (at ++ q)) → IsClean (at ++ name ∷ [])
+child-clean value top kids name kid at is has clean = clean (name ∷ []) (ap is_some (kid-there value top kids name kid is has [] ∙ get-map_of_root kid))
+
+-- and all paths below it
+pub below-clean : (value : NodeValue) (top : Entry) (kids : List (List ℕ × NodeValue)) (name : List ℕ) (kid : NodeValue) (at below : List (List ℕ)) → node_of top kids ≡ value → lookup (is_at (name_cmp name)) kids ≡ Some kid → below ≡ at ++ name ∷ []
+    → ((q : List (List ℕ)) → is_some (get (map_of value) q) ≡ true → IsClean (at ++ q)) → (q : List (List ℕ)) → is_some (get (map_of kid) q) ≡ true → IsClean (below ++ q)
+below-clean value top kids name kid at below is has same clean q s =
+    subst IsClean (sym (append_assoc at (name ∷ []) q) ∙ ap (λ x. x ++ q) (sym same)) (clean (name ∷ q) (ap is_some (kid-there value top kids name kid is has q) ∙ s))
+
+under-append : (at : List (List ℕ)) (xs ys : List (List (List ℕ) × Entry)) → under at (xs ++ ys) ≡ under at xs ++ under at ys
+under-append at [] ys = refl
+under-append at (x ∷ xs) ys = ap (λ r. (at ++ x.0, x.1) ∷ r) (under-append at xs ys)
+
+under-child : (at : List (List ℕ)) (name : List ℕ) (rows : List (List (List ℕ) × Entry)) → under at (below_name name rows) ≡ under (at ++ name ∷ []) rows
+under-child at name [] = refl
+under-child at name (row ∷ rows) = λ i. (sym (append_assoc at (name ∷ []) row.0) i, row.1) ∷ under-child at name rows i
+
+-- one child's rows more
+pub rows-step : (at below : List (List ℕ)) (name : List ℕ) (kid : NodeValue) (its rest : List (List ℕ × NodeValue)) (before after all : List (List (List ℕ) × Entry)) → before ++ under at (rows_of its) ≡ all → its ≡ (name, kid) ∷ rest → below ≡ at ++ name ∷ [] → after ≡ before ++ under below (entries (map_of kid)) → after ++ under at (rows_of rest) ≡ all
+rows-step at below name kid its rest before after all so_far next same more =
+    ap (λ r. r ++ under at (rows_of rest)) (more ∙ ap (λ b. before ++ under b (entries (map_of kid))) same ∙ ap (λ r. before ++ r) (sym (under-child at name (entries (map_of kid)))))
+    ∙ append_assoc before (under at (below_name name (entries (map_of kid)))) (under at (rows_of rest))
+    ∙ ap (λ r. before ++ r) (sym (under-append at (below_name name (entries (map_of kid))) (rows_of rest)) ∙ ap (λ ks. under at (rows_of ks)) (sym next))
+    ∙ so_far
+
+shown-append : (xs ys : List (List (List ℕ) × Bor Entry)) → shown (xs ++ ys) ≡ shown xs ++ shown ys
+shown-append [] ys = refl
+shown-append (x ∷ xs) ys = ap (λ r. (x.0, x.1.now) ∷ r) (shown-append xs ys)
+
+-- all rows of a node
+pub rows-all : (value : NodeValue) (top : Entry) (kids its : List (List ℕ × NodeValue)) (at own : List (List ℕ)) (entry : Bor Entry) (old first : List (List (List ℕ) × Bor Entry)) (rows : List (List (List ℕ) × Entry)) → node_of top kids ≡ value → IsStrictlySortedBy name_cmp (keys_of kids)
+    → entry.now ≡ top → own ≡ at → first ≡ old ++ (own, entry) ∷ [] → its ≡ kids → rows ++ under at (rows_of []) ≡ shown first ++ under at (rows_of its) → rows ≡ shown old ++ under at (entries (map_of value))
+rows-all value top kids its at own entry old first rows is ordered e o f lent done =
+    sym (append-nil rows) ∙ done
+    ∙ (λ i. shown (f i) ++ under at (rows_of (lent i)))
+    ∙ ap (λ r. r ++ under at (rows_of kids)) (shown-append old ((own, entry) ∷ []))
+    ∙ append_assoc (shown old) ((own, entry.now) ∷ []) (under at (rows_of kids))
+    ∙ (λ i. shown old ++ ((o ∙ sym (append-nil at)) i, e i) ∷ under at (rows_of kids))
+    ∙ ap (λ r. shown old ++ under at r) (sym (entries-node value top kids is ordered))
+
+pub under-root : (rows : List (List (List ℕ) × Entry)) → under [] rows ≡ rows
+under-root [] = refl
+under-root (row ∷ rows) = ap (λ r. row ∷ r) (under-root rows)

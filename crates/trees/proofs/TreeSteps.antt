@@ -1,0 +1,49 @@
+-- From the steps of a tree's code to what its calls promise.
+use Rattle.std.specs.Prelude.{◌≡◌, ℕ, true, Option, Some, None, List, []}
+use Rattle.std.proofs.Common.{sym, ap, refl, ◌∙◌, subst, true≢false}
+use Rattle.std.specs.FinMap.{get, empty, insert}
+use Rattle.paths.specs.Path.{IsClean}
+use Rattle.trees.specs.declared.meta.Meta.{Meta}
+use Rattle.trees.specs.declared.entry.Entry.{Entry}
+use Rattle.trees.specs.declared.entry.Entry.TheVariants.{Directory, File}
+use Rattle.trees.specs.declared.fault.Cause.{Cause}
+use Rattle.trees.specs.TreeMap.{TreeMap, IsTree, is_directory, meta_of, empty_tree, directory_meta}
+use Rattle.trees.specs.Put.{placed, cause_at, put_cause, put_into}
+use Rattle.trees.specs.NodeValue.{NodeValue, map_of, IsPlanted}
+use Rattle.trees.specs.TreeLaws.{same_tree, get-placed, free-from_cause, placed-IsTree, empty-IsTree}
+use Rattle.trees.proofs.NodeLaws.{get-map_of_root}
+
+-- where an entry was put stands the tree after a placement
+pub placed-from_planted : (old new : TreeMap) (path : List (List ℕ)) (parent : Meta) (entry : Entry) → IsPlanted (get old) new path parent entry → new ≡ placed parent old path entry
+placed-from_planted old new path parent entry h = same_tree _ _ (λ q. h.at q ∙ sym (get-placed parent old path entry q))
+
+IsTree-planted : (old new : TreeMap) (path : List (List ℕ)) (parent : Meta) (entry : Entry) → IsTree old → IsClean path → cause_at (get old) path entry ≡ None → IsPlanted (get old) new path parent entry → IsTree new
+IsTree-planted old new path parent entry tree clean none h =
+    subst IsTree (sym (placed-from_planted old new path parent entry h)) (placed-IsTree parent old path entry tree clean (free-from_cause (get old) path entry none))
+
+-- a placement for which no cause was told, a and b being the path as it was lent twice
+pub put-kept : (old new : TreeMap) (a b : List (List ℕ)) (parent : Meta) (entry : Entry) (told : Option Cause) → a ≡ b → IsTree old → IsClean b → told ≡ cause_at (get old) a entry → told ≡ None → IsPlanted (get old) new b parent entry → IsTree new
+put-kept old new a b parent entry told same tree clean is none h = IsTree-planted old new b parent entry tree clean (ap (λ p. cause_at (get old) p entry) (sym same) ∙ sym is ∙ none) h
+
+pub put-done : (old new value : TreeMap) (path a b : List (List ℕ)) (parent : Meta) (entry : Entry) (told : Option Cause) → old ≡ value → a ≡ path → b ≡ path → parent ≡ directory_meta → told ≡ cause_at (get old) a entry → told ≡ None → IsPlanted (get old) new b parent entry
+    → (put_cause value path entry ≡ None) × (new ≡ put_into value path entry)
+put-done old new value path a b parent entry told view first second meta is none h = (
+  (λ i. cause_at (get (sym view i)) (sym first i) entry) ∙ sym is ∙ none,
+  placed-from_planted old new b parent entry h ∙ (λ i. placed (meta i) (view i) (second i) entry),
+)
+
+-- a leaf that is a plain directory stands for the empty tree
+pub leaf-empty : (leaf : NodeValue) → leaf.top ≡ Directory directory_meta → leaf.below ≡ empty → map_of leaf ≡ empty_tree
+leaf-empty leaf t b = λ i. insert (b i) [] (t i)
+
+pub IsTree-leaf : (leaf : NodeValue) → leaf.top ≡ Directory directory_meta → leaf.below ≡ empty → IsTree (map_of leaf)
+IsTree-leaf leaf t b = subst IsTree (sym (leaf-empty leaf t b)) empty-IsTree
+
+directory-meta : (top : Entry) → is_directory (Some top) ≡ true → Some top ≡ Some (Directory (meta_of top))
+directory-meta (Directory m) d = refl
+directory-meta (File m c) d = absurd (true≢false (sym d))
+
+-- the root's entry is a directory with the root's meta
+pub root-directory : (root : NodeValue) (meta : Meta) → IsTree (map_of root) → meta ≡ meta_of root.top → get (map_of root) [] ≡ Some (Directory meta)
+root-directory root meta tree is =
+    get-map_of_root root ∙ directory-meta root.top (ap is_directory (sym (get-map_of_root root)) ∙ tree.root) ∙ ap (λ m. Some (Directory m)) (sym is)

@@ -1,0 +1,9 @@
+pub mod TreeMap
+pub mod Put
+pub mod Over
+pub mod NodeValue
+pub mod Run
+pub mod FrontLaws
+pub mod TreeLaws
+pub mod RunLaws
+pub mod Rows

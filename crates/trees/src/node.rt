@@ -1,0 +1,196 @@
+ghost use Rattle.std.specs.Prelude.{◌≡◌, ◌↔◌, ℕ, true, List, [], ◌∷◌, ◌++◌, is_some, IsTrue, IfOk, OnOk, OnErr, option_copied};
+ghost use Rattle.std.specs.FinMap.{get, empty, entries};
+ghost use Rattle.paths.specs.Path.{IsClean};
+ghost use Rattle.trees.specs.Rows.{shown, under};
+ghost use Rattle.trees.specs.NodeValue.{map_of, IsPlanted};
+ghost use Rattle.trees.specs.TreeMap.{is_blocked, meta_of};
+
+use crate::{Entry, Meta};
+use paths::Path;
+use plain::{Exact, Memory, Text};
+use std::alloc::Global;
+use std::collections::BTreeMap;
+use std::marker::Model;
+
+/// An entry, with all that stands below it by the names of its directory. A file has no children.
+///
+/// A missing branch is built aside and hung in by one insertion, so that nothing has to be undone where there is no memory.
+#[derive(Drop)]
+pub(crate) struct Node {
+    entry: Entry,
+    kids: BTreeMap<Text, Node>,
+}
+
+impl Model for Node {
+    ghost use Rattle.trees.specs.NodeValue.{NodeValue, node_code, joined, height_of, height_falls};
+    ghost use Rattle.std.proofs.Common.{arith};
+
+    ghost Value = { NodeValue };
+
+    ghost coded = { node_code };
+
+    ghost view = { λ n. record { top = n.entry; below = joined n.kids.entries; height = height_of n.kids.entries } };
+
+    ghost size = { λ v. v.height };
+
+    ghost size_decreases = { λ a h. omega (arith, height_falls a.kids.entries) };
+}
+
+impl Node {
+    /// An entry with nothing below it. It takes no memory.
+    pub(crate) fn leaf(alloc: Global, entry: Entry) -> Node
+        ensures top { result.top ≡ entry }
+        ensures below { result.below ≡ empty }
+    {
+        Node {
+            entry,
+            kids: BTreeMap::new(alloc),
+        }
+    }
+
+    /// The mode and owner of this node's entry.
+    pub(crate) fn meta(&self) -> Meta
+        ensures { result ≡ meta_of self.now.top }
+    {
+        self.entry.meta()
+    }
+
+    /// The entry at a path below this node.
+    pub(crate) fn find(&self, path: &[Text]) -> Option<&Entry>
+        ensures { option_copied result ≡ get (map_of self.now) path.now }
+    {
+        match path {
+            [] => Some(&self.entry),
+            [name, rest @ ..] => match self.kids.get(name) {
+                Some(kid) => kid.find(rest),
+                None => None,
+            },
+        }
+    }
+
+    /// Whether a file stands on the way to a path below this node, this node's own entry included.
+    pub(crate) fn is_blocked(&self, path: &[Text]) -> bool
+        ensures { result ≡ is_blocked (get (map_of self.now)) path.now }
+    {
+        match path {
+            [] => false,
+            [name, rest @ ..] => match self.kids.get(name) {
+                Some(kid) => !self.entry.is_directory() || kid.is_blocked(rest),
+                None => !self.entry.is_directory(),
+            },
+        }
+    }
+
+    /// Directories down a path, each with the meta of a parent, that end in an entry.
+    fn chain(alloc: Global, path: &[Text], parent: Meta, entry: Entry) -> Result<Node, Memory>
+        ensures { IfOk result (λ n. IsPlanted (λ _. None) (map_of n) path.now parent entry) }
+    {
+        match path {
+            [] => Ok(Node::leaf(alloc, entry)),
+            [name, rest @ ..] => {
+                let kid = Node::chain(alloc, rest, parent, entry)?;
+                let mut kids = BTreeMap::new(alloc);
+                kids.insert(name.copy(alloc)?, kid)?;
+                Ok(Node {
+                    entry: Entry::Directory(parent),
+                    kids,
+                })
+            }
+        }
+    }
+
+    /// Puts an entry at a path below this node. Missing parents are made; a directory that stands at the path keeps what is
+    /// below it.
+    pub(crate) fn plant(
+        &mut self,
+        alloc: Global,
+        path: &[Text],
+        parent: Meta,
+        entry: Entry,
+    ) -> Result<(), Memory>
+        ensures ok { OnOk result (IsPlanted (get (map_of self.old)) (map_of self.new) path.now parent entry) }
+        ensures err { OnErr result (map_of self.new ≡ map_of self.old) }
+    {
+        match path {
+            [] => {
+                self.entry = entry;
+                Ok(())
+            }
+            [name, rest @ ..] => match self.kids.get_mut(name) {
+                Some(kid) => kid.plant(alloc, rest, parent, entry),
+                None => {
+                    let kid = Node::chain(alloc, rest, parent, entry)?;
+                    self.kids.insert(name.copy(alloc)?, kid)?;
+                    Ok(())
+                }
+            },
+        }
+    }
+}
+
+impl Node {
+    /// Whether the two stand for the same map.
+    pub(crate) fn same(&self, other: &Node) -> bool
+        ensures { IsTrue result ↔ (map_of self.now ≡ map_of other.now) }
+    {
+        if !self.entry.same(&other.entry) {
+            return false;
+        }
+        let mut others = other.kids.iter();
+        for (name, kid) in self.kids.iter() {
+            match others.next() {
+                Some((other_name, other_kid)) => {
+                    if !(name.same(other_name) && kid.same(other_kid)) {
+                        return false;
+                    }
+                }
+                None => return false,
+            }
+        }
+        others.next().is_none()
+    }
+
+    /// A node of its own that stands for the same map.
+    pub(crate) fn copy(&self, alloc: Global) -> Result<Node, Memory>
+        ensures { IfOk result (λ n. n ≡ self.now) }
+    {
+        let mut kids = BTreeMap::new(alloc);
+        for (name, kid) in self.kids.iter() {
+            kids.insert(name.copy(alloc)?, kid.copy(alloc)?)?;
+        }
+        Ok(Node {
+            entry: self.entry.copy(alloc)?,
+            kids,
+        })
+    }
+
+    /// Adds a row for each entry, in path order, this node's own path being `at`.
+    pub(crate) fn push_rows<'a>(
+        &'a self,
+        alloc: Global,
+        at: &Path,
+        rows: &mut Vec<(Path, &'a Entry)>,
+    ) -> Result<(), Memory>
+        requires { (q : List (List ℕ)) → is_some (get (map_of self.now) q) ≡ true → IsClean (at.now ++ q) }
+        ensures { OnOk result (shown rows.new.items ≡ shown rows.old.items ++ under at.now (entries (map_of self.now))) }
+    {
+        rows.push((at.copy(alloc)?, &self.entry))?;
+        for (name, kid) in self.kids.iter() {
+            let below = child(alloc, at, name)?;
+            kid.push_rows(alloc, &below, rows)?;
+        }
+        Ok(())
+    }
+}
+
+/// The path of an entry of this name in a directory. Paths of a tree are clean, so no limit is broken and the name is read as
+/// itself.
+fn child(alloc: Global, directory: &Path, name: &Text) -> Result<Path, Memory>
+    requires { IsClean (directory.now ++ name.now ∷ []) }
+    ensures { IfOk result (λ path. path ≡ directory.now ++ name.now ∷ []) }
+{
+    match directory.join(alloc, name.as_str()) {
+        Ok(path) => Ok(path),
+        Err(_) => Err(Memory),
+    }
+}
