@@ -1,0 +1,83 @@
+-- The texts that a build answers (own): one line of compact JSON, the keys of each object in the order of their bytes.
+use Rattle.std.specs.Prelude.{ℕ, ◌+◌, ◌/◌, ◌%◌, List, [], ◌∷◌, ◌++◌, map, true, codes}
+use Rattle.std.specs.Fmt.{decimal}
+use Rattle.hex.specs.Hex.{encode_lower}
+use Rattle.serde_json.specs.Data.{Data, boolean, number, unsigned, string, array, object, Items, no_items, item, no_members, member}
+use Rattle.serde_json.specs.Written.{compact_text}
+use Rattle.paths.specs.Path.{text_of}
+use Rattle.trees.specs.declared.meta.Meta.{Meta}
+use Rattle.trees.specs.declared.entry.Entry.{Entry}
+use Rattle.trees.specs.declared.entry.Entry.TheVariants.{Directory, File}
+use Rattle.trees.specs.declared.fault.Cause.{Cause}
+use Rattle.trees.specs.declared.fault.Cause.TheVariants.{F1, F2, F3, F4, F5, Exit}
+
+-- a mode as four octal digits
+abbrev pub mode_text : ℕ → List ℕ
+mode_text mode = (48 + mode / 512) ∷ ((48 + mode / 64 % 8) ∷ ((48 + mode / 8 % 8) ∷ ((48 + mode % 8) ∷ [])))
+
+-- a list of values
+abbrev pub items_of : List Data → Items
+items_of [] = no_items
+items_of (d ∷ ds) = item d (items_of ds)
+
+-- a directory, whose mode and path are given as texts
+abbrev pub directory_data : Meta → List ℕ → List ℕ → Data
+directory_data meta mode path = object (member (codes "dir") (boolean true)
+    (member (codes "gid") (number (unsigned meta.gid))
+    (member (codes "mode") (string mode)
+    (member (codes "path") (string path)
+    (member (codes "uid") (number (unsigned meta.uid)) no_members)))))
+
+-- a file, whose bytes are given in hexadecimal
+abbrev pub file_data : Meta → List ℕ → List ℕ → List ℕ → Data
+file_data meta hex mode path = object (member (codes "gid") (number (unsigned meta.gid))
+    (member (codes "hex") (string hex)
+    (member (codes "mode") (string mode)
+    (member (codes "path") (string path)
+    (member (codes "uid") (number (unsigned meta.uid)) no_members)))))
+
+-- an entry: a directory has `dir`, and a file its bytes in hexadecimal
+abbrev pub entry_data : List (List ℕ) → Entry → Data
+entry_data path (Directory meta) = directory_data meta (mode_text meta.mode) (text_of path)
+entry_data path (File meta content) = file_data meta (encode_lower content) (mode_text meta.mode) (text_of path)
+
+-- all entries of a tree, in the order that they are given in
+abbrev pub tree_data : List (List (List ℕ) × Entry) → Data
+tree_data entries = array (items_of (map (λ placed. entry_data placed.0 placed.1) entries))
+
+-- the plain configuration (OCI image specification): that of a stage in which nothing was configured
+unfoldable pub plain_config : Data
+plain_config = object (member (codes "architecture") (string (codes "amd64"))
+    (member (codes "config") (object no_members)
+    (member (codes "os") (string (codes "linux"))
+    (member (codes "rootfs") (object (member (codes "diff_ids") (array no_items)
+    (member (codes "type") (string (codes "layers")) no_members))) no_members))))
+
+-- the answer of a build that gave a tree
+unfoldable pub built_data : List (List (List ℕ) × Entry) → Data
+built_data entries = object (member (codes "config") plain_config
+    (member (codes "result") (string (codes "built"))
+    (member (codes "tree") (tree_data entries) no_members)))
+
+-- the name of a cause
+abbrev pub cause_text : Cause → List ℕ
+cause_text F1 = codes "F1"
+cause_text F2 = codes "F2"
+cause_text F3 = codes "F3"
+cause_text F4 = codes "F4"
+cause_text F5 = codes "F5"
+cause_text (Exit status) = codes "exit " ++ decimal status
+
+-- the answer of a build in which the instruction on a line failed
+unfoldable pub failed_data : ℕ → Cause → Data
+failed_data line cause = object (member (codes "cause") (string (cause_text cause))
+    (member (codes "line") (number (unsigned line))
+    (member (codes "result") (string (codes "failed")) no_members)))
+
+-- the text of the answer of a build that gave a tree of these entries
+abbrev pub built_text : List (List (List ℕ) × Entry) → List ℕ
+built_text entries = compact_text (built_data entries)
+
+-- the text of the answer of a build in which the instruction on a line failed
+abbrev pub failed_text : ℕ → Cause → List ℕ
+failed_text line cause = compact_text (failed_data line cause)

@@ -1,0 +1,162 @@
+ghost use Rattle.std.specs.Prelude.{◌≡◌, ◌<◌, IfOk, map};
+ghost use Rattle.std.specs.Prelude.{◌+◌};
+ghost use Rattle.std.specs.String.{string_bytes};
+ghost use Rattle.serde_json.specs.View.{view};
+ghost use Rattle.trees.specs.declared.entry.Entry.TheVariants.{Directory, File};
+ghost use Rattle.bundle.specs.Answer.{mode_text, directory_data, file_data, entry_data, tree_data, plain_config, built_data, cause_text, failed_data, built_text, failed_text};
+
+use paths::Path;
+use plain::{Memory, Text};
+use serde_json::{Value, json};
+use std::alloc::{AllocError, Global};
+use trees::{Cause, Entry, Meta, Mode};
+
+/// The answer of a build that gave a tree of these entries and the plain configuration: one line of compact
+/// JSON, without the LF that ends it.
+pub fn built_answer(alloc: Global, entries: &[(Path, &Entry)]) -> Result<Text, Memory>
+    ensures { IfOk result (λ text. text ≡ built_text (map (λ placed. (placed.0, placed.1.now)) entries.now)) }
+{
+    let answer = built_value(alloc, entries)?;
+    let text = answer.to_string(alloc)?;
+    Ok(Text::from_string(text))
+}
+
+/// The answer of a build in which the instruction on this line failed with this cause.
+pub fn failed_answer(alloc: Global, line: u32, cause: Cause) -> Result<Text, Memory>
+    ensures { IfOk result (λ text. text ≡ failed_text line cause) }
+{
+    let answer = failed_value(alloc, line, cause)?;
+    let text = answer.to_string(alloc)?;
+    Ok(Text::from_string(text))
+}
+
+#[tactic(auto, unfolding(crate::specs::Answer::built_data))]
+fn built_value(alloc: Global, entries: &[(Path, &Entry)]) -> Result<Value, Memory>
+    ensures { IfOk result (λ v. view v ≡ built_data (map (λ placed. (placed.0, placed.1.now)) entries.now)) }
+{
+    let tree = tree_value(alloc, entries)?;
+    let config = plain_config_value(alloc)?;
+    Ok(json!(in alloc; {"config": config, "result": "built", "tree": tree})?)
+}
+
+#[tactic(auto, unfolding(crate::specs::Answer::plain_config))]
+fn plain_config_value(alloc: Global) -> Result<Value, Memory>
+    ensures { IfOk result (λ v. view v ≡ plain_config) }
+{
+    Ok(json!(in alloc; {
+        "architecture": "amd64",
+        "config": {},
+        "os": "linux",
+        "rootfs": {"diff_ids": [], "type": "layers"}
+    })?)
+}
+
+fn tree_value(alloc: Global, entries: &[(Path, &Entry)]) -> Result<Value, Memory>
+    ensures { IfOk result (λ v. view v ≡ tree_data (map (λ placed. (placed.0, placed.1.now)) entries.now)) }
+{
+    let mut values = Vec::with_capacity(alloc, entries.len())?;
+    for placed in entries {
+        values.push(entry_value(alloc, &placed.0, placed.1)?)?;
+    }
+    Ok(Value::Array(values))
+}
+
+#[tactic(auto, unfolding(crate::specs::Answer::entry_data))]
+fn entry_value(alloc: Global, path: &Path, entry: &Entry) -> Result<Value, Memory>
+    ensures { IfOk result (λ v. view v ≡ entry_data path.now entry.now) }
+{
+    match entry {
+        Entry::Directory(meta) => directory_value(alloc, path, *meta),
+        Entry::File(meta, content) => file_value(alloc, path, *meta, content.as_slice()),
+    }
+}
+
+fn directory_value(alloc: Global, path: &Path, meta: Meta) -> Result<Value, Memory>
+    ensures { IfOk result (λ v. view v ≡ entry_data path.now (Directory meta)) }
+{
+    let path = path.text(alloc)?.into_string();
+    let mode = mode_text(alloc, meta.mode)?;
+    let value = directory_object(alloc, meta, mode, path)?;
+    Ok(value)
+}
+
+fn directory_object(
+    alloc: Global,
+    meta: Meta,
+    mode: String,
+    path: String,
+) -> Result<Value, AllocError>
+    ensures { IfOk result (λ v. view v ≡ directory_data meta (string_bytes mode) (string_bytes path)) }
+{
+    let gid = u64::from(meta.gid);
+    let uid = u64::from(meta.uid);
+    json!(in alloc; {"dir": true, "gid": gid, "mode": mode, "path": path, "uid": uid})
+}
+
+fn file_value(alloc: Global, path: &Path, meta: Meta, bytes: &[u8]) -> Result<Value, Memory>
+    ensures { IfOk result (λ v. view v ≡ entry_data path.now (File meta bytes.now)) }
+{
+    let path = path.text(alloc)?.into_string();
+    let mode = mode_text(alloc, meta.mode)?;
+    let hex = hex::encode(alloc, bytes)?;
+    let value = file_object(alloc, meta, hex, mode, path)?;
+    Ok(value)
+}
+
+fn file_object(
+    alloc: Global,
+    meta: Meta,
+    hex: String,
+    mode: String,
+    path: String,
+) -> Result<Value, AllocError>
+    ensures { IfOk result (λ v. view v ≡ file_data meta (string_bytes hex) (string_bytes mode) (string_bytes path)) }
+{
+    let gid = u64::from(meta.gid);
+    let uid = u64::from(meta.uid);
+    json!(in alloc; {"gid": gid, "hex": hex, "mode": mode, "path": path, "uid": uid})
+}
+
+/// A mode as four octal digits.
+fn mode_text(alloc: Global, mode: Mode) -> Result<String, Memory>
+    ensures { IfOk result (λ text. string_bytes text ≡ mode_text mode) }
+{
+    let bits = mode.bits();
+    let mut text = String::new(alloc);
+    text.push(octal_digit(bits / 512))?;
+    text.push(octal_digit(bits / 64 % 8))?;
+    text.push(octal_digit(bits / 8 % 8))?;
+    text.push(octal_digit(bits % 8))?;
+    Ok(text)
+}
+
+fn octal_digit(digit: u16) -> char
+    requires { digit < 8 }
+    ensures value { result ≡ 48 + digit }
+    ensures ascii { result < 128 }
+{
+    char::from(b'0' + digit as u8)
+}
+
+#[tactic(auto, unfolding(crate::specs::Answer::failed_data))]
+fn failed_value(alloc: Global, line: u32, cause: Cause) -> Result<Value, Memory>
+    ensures { IfOk result (λ v. view v ≡ failed_data line cause) }
+{
+    let line = u64::from(line);
+    let name = cause_text(alloc, cause)?;
+    Ok(json!(in alloc; {"cause": name, "line": line, "result": "failed"})?)
+}
+
+fn cause_text(alloc: Global, cause: Cause) -> Result<String, Memory>
+    ensures { IfOk result (λ text. string_bytes text ≡ cause_text cause) }
+{
+    let text = match cause {
+        Cause::F1 => String::from_str(alloc, "F1")?,
+        Cause::F2 => String::from_str(alloc, "F2")?,
+        Cause::F3 => String::from_str(alloc, "F3")?,
+        Cause::F4 => String::from_str(alloc, "F4")?,
+        Cause::F5 => String::from_str(alloc, "F5")?,
+        Cause::Exit(status) => format!(in alloc; "exit {status}")?,
+    };
+    Ok(text)
+}

@@ -1,0 +1,135 @@
+-- Words in which clap's parse finds no fault ask for a task.
+use Rattle.std.proofs.Common.{◌≡◌, ◌≤◌, ℕ, Bool, true, false, cond, List, [], ◌∷◌, Option, Some, None, refl, sym, ap, subst, codes, is_some, pos, true≢false, ◌∙◌, arith}
+use Rattle.std.proofs.lemmas.Slice.Eq.{bytes_eq-Decides}
+use Rattle.std.proofs.lemmas.Int.{ints}
+use Rattle.std.specs.Str.Parse.{IsNumeral, digits_value, starts_with_minus, without_leading_plus}
+use Rattle.clap.specs.Words.{App, Row, Shape, Text, fault_of, is_simple, is_simple_and_free, subcommand_of}
+use Rattle.clap.proofs.OnLiterals.{clap_on_literals}
+use Rattle.clap.specs.Simple.{argument_words, entered, label_of, new_shape, rows_at}
+use Rattle.clap.specs.Kinds.{or_else}
+use Rattle.clap.specs.Faults.{check_fault, defaults_fault, entered_fault, level_fault, settle_fault, walk_fault}
+use Rattle.std.specs.Option.{option_map_or}
+use Rattle.std.specs.Prelude.{option_map, unwrap_or, slice_index_or, ◌||◌, ◌==◌}
+use Rattle.clap.specs.Lexer.{without_minus}
+use Rattle.clap.specs.Values.{IsSignedIn}
+use Rattle.clap.specs.Walk.{answers_to, finished, nothing_held, settled, walk, walk_from}
+use Rattle.clap.specs.declared.builder.value_parser.ValueParser.TheVariants as vp
+use Rattle.clap.proofs.ValueTestLemmas.{accepts-Accepts}
+use Rattle.command.specs.CommandLine.{least_workers, most_workers, whole_command}
+use Rattle.command.specs.Tasks.{IsTaskOf, IsWorkers}
+use Rattle.command.specs.declared.task.Task.{Task}
+use Rattle.command.specs.declared.task.Task.TheVariants.{Build}
+use Rattle.command.proofs.BuildWalk.{leaf, leaf_ok}
+use Rattle.command.proofs.Kept.{or_else-left, or_else-right, some_kind}
+use Rattle.command.proofs.Rows.{HasFine, one_of-fine}
+use Rattle.command.proofs.TopWalk.{NotHelp, app, names, top_ok}
+
+-- the text that `get_one` reads is a number within the range
+record NumberAt (text : Text) : Type 0 where
+  numeral : IsNumeral 10 (without_leading_plus text)
+  least : least_workers ≤ digits_value 10 (without_leading_plus text)
+  most : digits_value 10 (without_leading_plus text) ≤ most_workers
+
+without_minus-kept : (text : Text) → starts_with_minus text ≡ false → without_minus text ≡ text
+without_minus-kept [] e = refl
+without_minus-kept (c ∷ text) e = go (c == 45) e
+  where
+    go : (b : Bool) → b ≡ false → unwrap_or (cond b (Some text) None) (c ∷ text) ≡ c ∷ text
+    go true bad = absurd (true≢false bad)
+    go false ok = refl
+
+number_at : (text : Text) (b : Bool) → starts_with_minus text ≡ b → IsSignedIn (pos least_workers) (pos most_workers) text
+    → NumberAt (without_minus text)
+number_at text true minus passed = let low = rw minus at passed.2 in absurd (omega (arith, ints))
+number_at text false minus passed =
+    let low = rw minus at passed.2 in
+    let high = rw minus at passed.3 in
+    let here : NumberAt text = record { numeral = rw minus at passed.0; least = omega (arith, ints); most = omega (arith, ints) } in
+    subst NumberAt (sym (without_minus-kept text minus)) here
+
+workers_of : (rows : List Row) → HasFine rows → (n : ℕ) × IsWorkers rows n
+workers_of rows has =
+    let signed = accepts-Accepts false (vp.Signed (pos least_workers) (pos most_workers)) has.fine.text has.fine.passes in
+    let number = number_at has.fine.text (starts_with_minus has.fine.text) refl signed in (
+      digits_value 10 (without_leading_plus (without_minus has.fine.text)),
+      record {
+        text = without_minus has.fine.text;
+        given = one_of-fine rows has;
+        numeral = number.numeral;
+        is = refl;
+        least = number.least;
+        most = number.most;
+      },
+    )
+
+-- `help` as clap builds it
+abbrev help_leaf : Shape
+help_leaf = slice_index_or app.subs 1 (new_shape [])
+
+or_false : (b : Bool) → (b || false) ≡ true → b ≡ true
+or_false true e = refl
+or_false false e = e
+
+met_at : (p : Text × List Text) (x y : Bool) → answers_to p.0 (label_of help_leaf) ≡ y → NotHelp (Some p)
+    → is_some (option_map (λ s. rows_at s p.1) (cond x (Some leaf) (cond y (Some help_leaf) None))) ≡ true
+    → option_map_or (λ s. level_fault s [] nothing_held p.1 false []) (cond x (Some leaf) (cond y (Some help_leaf) None)) [] ≡ []
+    → (task : Task) × IsTaskOf (option_map (λ s. rows_at s p.1) (cond x (Some leaf) (cond y (Some help_leaf) None))) task
+met_at p true y help not_help some e =
+    let found = workers_of _ (leaf_ok p.1 e) in
+    (Build found.0, (refl, found.1))
+met_at p false true help not_help some e =
+    let same = (bytes_eq-Decides (codes "help") p.0).0 (or_false _ help) in
+    absurd (true≢false (sym ((bytes_eq-Decides p.0 (codes "help")).1 (sym same)) ∙ not_help))
+met_at p false false help not_help some e = absurd (true≢false (sym some))
+
+stopped_at : (stop : Option (Text × List Text)) → NotHelp stop → is_some (entered app stop) ≡ true → entered_fault app stop ≡ []
+    → (task : Task) × IsTaskOf (entered app stop) task
+stopped_at None not_help some e = absurd (true≢false (sym some))
+stopped_at (Some p) not_help some e =
+    met_at p (answers_to p.0 (label_of leaf)) (answers_to p.0 (label_of help_leaf)) refl not_help some e
+
+-- a subcommand is wanted
+has_command : (has : Bool) (rows : List Row) → check_fault app.top rows has ≡ [] → has ≡ true
+has_command true rows e = refl
+has_command false rows e = absurd (some_kind _ _ e)
+
+pub accepted : (words : List Text) → fault_of whole_command words ≡ [] → (task : Task) × IsTaskOf (subcommand_of whole_command words) task
+accepted words e =
+    let given = argument_words whole_command words in
+    let end = walk app.top.rules names nothing_held given in
+    let walking = walk_fault app.top names (walk_from nothing_held) given in
+    let below = entered_fault app end.stopped in
+    let settling = settle_fault app.top.rules app.top.args_override_self end.held in
+    let filling = defaults_fault (settled app.top.rules end.held).rows app.top.rules in
+    let checking = check_fault app.top (finished app.top.rules end.held) (is_some (entered app end.stopped)) in
+    let from_filling = or_else filling checking in
+    let from_settling = or_else settling from_filling in
+    let from_below = or_else below from_settling in
+    let no_walking = or_else-left walking from_below e in
+    let no_below = or_else-right walking from_below e in
+    let no_settling = or_else-right below from_settling no_below in
+    let no_checking = or_else-right filling checking (or_else-right settling from_filling no_settling) in
+    stopped_at end.stopped (top_ok given (walk_from nothing_held) no_walking tt)
+    (has_command _ (finished app.top.rules end.held) no_checking) (or_else-left below from_settling no_below)
+
+simple_and_free : is_simple_and_free whole_command ≡ true
+unfolding clap_on_literals
+simple_and_free = refl
+
+simple : is_simple whole_command ≡ true
+unfolding clap_on_literals
+simple = refl
+
+-- a parse by the whole command that took the words found no fault in them
+pub no_fault : (a : App) (words : List Text) → a ≡ whole_command → (is_simple_and_free a ≡ true → fault_of a words ≡ [])
+    → fault_of whole_command words ≡ []
+no_fault a words is parsed = ap (λ x. fault_of x words) (sym is) ∙ parsed (ap is_simple_and_free is ∙ simple_and_free)
+
+-- and its matches hold a task
+pub some_task : (a : App) (words : List Text) (found : Option (Text × List Row)) (rows : Type 0) → a ≡ whole_command
+    → (is_simple_and_free a ≡ true → fault_of a words ≡ []) → (is_simple a ≡ true → rows × (found ≡ subcommand_of a words))
+    → ((task : Task) → IsTaskOf found task → ⊥) → ⊥
+some_task a words found rows is parsed matched none =
+    let task = accepted words (no_fault a words is parsed) in
+    let same : found ≡ subcommand_of whole_command words = (matched (ap is_simple is ∙ simple)).1 ∙ ap (λ x. subcommand_of x words) is in
+    none task.0 (subst (λ f. IsTaskOf f task.0) (sym same) task.1)

@@ -1,0 +1,29 @@
+use Rattle.std.specs.Prelude.{ℕ, [], ◌∷◌, Some, true, codes, pos}
+use Rattle.clap.specs.Words.{App, Rule, new_app, new_rule, with_rule, with_subcommand}
+use Rattle.clap.specs.Simple.{on_top}
+use Rattle.clap.specs.declared.builder.value_parser.ValueParser.TheVariants as vp
+
+-- how many workers a build may have (own)
+abbrev pub least_workers : ℕ
+least_workers = 1
+
+abbrev pub most_workers : ℕ
+most_workers = 1
+
+-- `--workers N`, where N is 1 if it isn't given (own)
+abbrev pub workers_option : Rule
+workers_option = record (new_rule (codes "workers")) {
+  long = Some (codes "workers");
+  value_names = 1;
+  parser = Some (vp.Signed (pos least_workers) (pos most_workers));
+  defaults = codes "1" ∷ [];
+}
+
+-- `build [--workers N]` (own)
+abbrev pub build_command : App
+build_command = with_rule (new_app (codes "build")) workers_option
+
+-- `dfsolve COMMAND`, where a command has to be given (own)
+abbrev pub whole_command : App
+whole_command =
+    with_subcommand (on_top (λ top. record top { subcommand_required = true }) (new_app (codes "dfsolve"))) build_command.top

@@ -1,0 +1,20 @@
+use Rattle.std.specs.Prelude.{◌≡◌, ◌≤◌, ℕ, List, Option, Some, None, codes}
+use Rattle.std.specs.Str.Parse.{IsNumeral, digits_value, without_leading_plus}
+use Rattle.clap.specs.Words.{Row, Text, one_of}
+use Rattle.command.specs.CommandLine.{least_workers, most_workers}
+use Rattle.command.specs.declared.task.Task.{Task}
+use Rattle.command.specs.declared.task.Task.TheVariants.{Build}
+
+-- the number that the value of `--workers` says, in decimal digits, within its range (own)
+pub record IsWorkers (rows : List Row) (workers : ℕ) : Type 0 where
+  pub text : Text
+  pub given : one_of (codes "workers") rows ≡ Some text
+  pub numeral : IsNumeral 10 (without_leading_plus text)
+  pub is : workers ≡ digits_value 10 (without_leading_plus text)
+  pub least : least_workers ≤ workers
+  pub most : workers ≤ most_workers
+
+-- the task that a subcommand, by its name and its matches, asks for (own)
+abbrev pub IsTaskOf : Option (Text × List Row) → Task → Type 0
+IsTaskOf None task = ⊥
+IsTaskOf (Some found) (Build workers) = (found.0 ≡ codes "build") × IsWorkers found.1 workers

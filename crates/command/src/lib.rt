@@ -1,0 +1,26 @@
+// The command line of the program: which task its words ask for.
+//
+// `read_command` is clap's parse of the words by one fixed command, `whole_command`, and gives the task
+// that clap's matches hold. It prints nothing and ends nothing: help and every fault of the words are
+// clap's `Error`, which the program prints.
+//
+// It knows nothing of what a task does. The central definitions are `whole_command`, the words that are
+// taken, and `IsTaskOf`, what they ask for.
+//
+// ```
+// match read_command(alloc, ["dfsolve", "build"].as_slice()) {
+//     Ok(task) => ..,                    // Task::Build(1)
+//     Err(error) => error.print(rt)?,
+// }
+// ```
+#![tactic(auto)]
+
+mod commands;
+mod reading;
+mod task;
+
+pub use reading::read_command;
+pub use task::Task;
+
+#[cfg(test)]
+mod tests;

@@ -1,0 +1,28 @@
+use Rattle.std.specs.Prelude.{◌≡◌, ℕ, ◌+◌, List, ◌++◌, take, drop, Option, Some, None, Result, Ok, Err, ⊤}
+use Rattle.std.specs.Io.KnownBytes.{Appends, Consumes}
+use Rattle.counted.specs.declared.fault.EdgeFault.{EdgeFault}
+use Rattle.counted.specs.declared.fault.EdgeFault.TheVariants.{Memory, Device}
+
+-- a text is a beginning of another, the empty one and the whole one included
+abbrev pub IsBeginning : List ℕ → List ℕ → Type 0
+IsBeginning front all = (rest : List ℕ) × (all ≡ front ++ rest)
+
+-- known bytes grow by a beginning of a text
+abbrev pub AppendsBeginning : Option (List ℕ) → Option (List ℕ) → List ℕ → Type 0
+AppendsBeginning old new text = (front : List ℕ) × IsBeginning front text × Appends old new front
+
+-- known bytes lose a beginning of theirs
+abbrev pub LosesBeginning : Option (List ℕ) → Option (List ℕ) → Type 0
+LosesBeginning old new = (front : List ℕ) × Consumes old new front
+
+-- what was read are the first bytes, `limit` of them or all where there are fewer, and what follows is left;
+-- nothing is said where the bytes that were left aren't known
+abbrev pub ReadsFirst : ℕ → Option (List ℕ) → Option (List ℕ) → List ℕ → Type 0
+ReadsFirst limit None new bytes = ⊤
+ReadsFirst limit (Some all) new bytes = (bytes ≡ take limit all) × (new ≡ Some (drop limit all))
+
+-- the call met a failed call of its device exactly where it says so, and just the one at which it ended
+abbrev pub CountsFault : {T : Type 0} → ℕ → ℕ → Result T EdgeFault → Type 0
+CountsFault old new (Ok _) = new ≡ old
+CountsFault old new (Err Memory) = new ≡ old
+CountsFault old new (Err Device) = new ≡ old + 1
