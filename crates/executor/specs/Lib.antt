@@ -1,0 +1,6 @@
+pub mod Ends
+pub mod Fixture
+pub mod FixtureLaws
+pub mod Number
+pub mod Script
+pub mod ScriptLaws

@@ -1,0 +1,44 @@
+-- How the words of a run become commands: a script is cut into lines, and a line into words.
+use Rattle.std.specs.Prelude.{ℕ, Bool, true, false, ◌||◌, ◌==◌, List, [], ◌∷◌, map, filter, codes, nat_eq, if◌then◌else◌, Option, Some, None}
+use Rattle.std.specs.List.{slice_split}
+use Rattle.std.specs.Cmp.Lexicographic.{pointwise}
+use Rattle.executor.specs.declared.script.Cut.{Cut}
+use Rattle.executor.specs.declared.script.Cut.TheVariants.{AtBlank, AtLineFeed}
+
+-- at which bytes a text is cut: into words at a space or a tab, into lines at a line feed
+abbrev pub ends : Cut → ℕ → Bool
+ends AtBlank byte = (byte == 32) || (byte == 9)
+ends AtLineFeed byte = byte == 10
+
+-- whether a list has an element
+abbrev pub is_filled : {X : Type 0} → List X → Bool
+is_filled [] = false
+is_filled (x ∷ xs) = true
+
+-- the words of a line: the longest runs of bytes that are no blanks
+abbrev pub words : List ℕ → List (List ℕ)
+words line = filter is_filled (slice_split (ends AtBlank) line)
+
+-- the commands of a script, each as its words: one for each line that has a word
+abbrev pub commands : List ℕ → List (List (List ℕ))
+commands script = filter is_filled (map words (slice_split (ends AtLineFeed) script))
+
+-- whether two texts have the same bytes
+abbrev pub is_text : List ℕ → List ℕ → Bool
+is_text = pointwise nat_eq
+
+-- the script that a run's words hold, if they do: the last word, where the last word but one is `-c`, as a shell takes it
+abbrev pub script_of : List (List ℕ) → Option (List ℕ)
+script_of [] = None
+script_of (word ∷ []) = None
+script_of (flag ∷ script ∷ []) = if is_text flag (codes "-c") then Some script else None
+script_of (first ∷ flag ∷ script ∷ rest) = script_of (flag ∷ script ∷ rest)
+
+-- the commands that a script gives, or where there is none the words as one command
+abbrev pub commands_or : Option (List ℕ) → List (List ℕ) → List (List (List ℕ))
+commands_or None words = words ∷ []
+commands_or (Some script) words = commands script
+
+-- the commands that a run's words hold, in order
+abbrev pub commands_of : List (List ℕ) → List (List (List ℕ))
+commands_of words = commands_or (script_of words) words

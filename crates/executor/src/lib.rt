@@ -1,0 +1,29 @@
+// What runs a command of a build, and the executor that this program has.
+//
+// The trait `Executor` says what an answer to a request may depend on: the executor and the request, never what a cache
+// holds. It says nothing of how a command runs. `Fixture` is an executor of a few commands of its own that works on trees
+// alone: no process is started and no file of the machine is touched. Its central definition is `fixture_out`
+// (specs/Fixture.antt): the commands of the request's words, one after another, each on the tree that the last one left.
+//
+// ```
+// let outcome = Fixture.run(alloc, &request, &mut caches)?;   // Done(tree) or Exit(status)
+// ```
+#![tactic(auto)]
+
+mod command;
+mod executor;
+mod fixture;
+mod laws;
+mod number;
+mod script;
+mod stop;
+
+pub use executor::Executor;
+pub use fixture::Fixture;
+pub use laws::{
+    exit_is_a_status, fixture_runs_line_by_line, last_but_one_tells_script, line_feed_parts_scripts,
+};
+pub use trees::{RunOutcome as Outcome, RunRequest as Request};
+
+#[cfg(test)]
+mod tests;
