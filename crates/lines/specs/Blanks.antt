@@ -1,0 +1,69 @@
+use Rattle.std.specs.Prelude.{ℕ, ◌-◌, Bool, false, List, [], ◌∷◌, ◌++◌, ◌==◌, ◌||◌, ◌&&◌, not, if◌then◌else◌, length, take, slice_index, Option, Some, None}
+
+-- a blank is a space or a tab (own)
+abbrev pub is_blank : ℕ → Bool
+is_blank c = (c == 32) || (c == 9)
+
+-- a text without its leading blanks
+abbrev pub after_blanks : List ℕ → List ℕ
+after_blanks [] = []
+after_blanks (c ∷ cs) = if is_blank c then after_blanks cs else c ∷ cs
+
+-- a character before a text that doesn't end in a blank: a blank goes where nothing follows it
+abbrev pub unless_trailing : ℕ → List ℕ → List ℕ
+unless_trailing c [] = if is_blank c then [] else c ∷ []
+unless_trailing c (d ∷ ds) = c ∷ d ∷ ds
+
+-- a text without its trailing blanks
+abbrev pub before_blanks : List ℕ → List ℕ
+before_blanks [] = []
+before_blanks (c ∷ cs) = unless_trailing c (before_blanks cs)
+
+-- a text without its leading and trailing blanks
+abbrev pub trimmed : List ℕ → List ℕ
+trimmed text = before_blanks (after_blanks text)
+
+-- a text without its leading tabs
+abbrev pub after_tabs : List ℕ → List ℕ
+after_tabs [] = []
+after_tabs (c ∷ cs) = if c == 9 then after_tabs cs else c ∷ cs
+
+-- whether a text begins with a character
+abbrev pub starts_with : ℕ → List ℕ → Bool
+starts_with c [] = false
+starts_with c (d ∷ ds) = d == c
+
+-- whether a text ends with a character
+abbrev pub ends_with : ℕ → List ℕ → Bool
+ends_with c text = if length text == 0 then false else slice_index text (length text - 1) == c
+
+-- what a line adds where it continues: its last character that isn't blank is the escape character, the
+-- character before that isn't one, and what stands before that escape character is added (Dockerfile
+-- reference, continuation; that a doubled escape character continues nothing: own)
+abbrev pub part_before : ℕ → List ℕ → Option (List ℕ)
+part_before e text = if ends_with e text && not (ends_with e (take (length text - 1) text)) then Some (take (length text - 1) text) else None
+
+abbrev pub continued_part : ℕ → List ℕ → Option (List ℕ)
+continued_part e line = part_before e (before_blanks line)
+
+-- a line of blanks alone
+abbrev pub is_blank_line : List ℕ → Bool
+is_blank_line line = length (after_blanks line) == 0
+
+-- a line whose first character that isn't blank is `#`
+abbrev pub is_comment : List ℕ → Bool
+is_comment line = starts_with 35 (after_blanks line)
+
+-- `some` before the pieces that follow, unless it is empty
+abbrev pub if_any : List ℕ → List (List ℕ)
+if_any [] = []
+if_any (c ∷ cs) = (c ∷ cs) ∷ []
+
+-- the pieces of a text of which `part` was read since the last blank
+abbrev pub pieces_from : List ℕ → List ℕ → List (List ℕ)
+pieces_from part [] = if_any part
+pieces_from part (c ∷ cs) = if is_blank c then if_any part ++ pieces_from [] cs else pieces_from (part ++ c ∷ []) cs
+
+-- a text's pieces: its maximal runs of characters that aren't blank
+abbrev pub pieces : List ℕ → List (List ℕ)
+pieces text = pieces_from [] text

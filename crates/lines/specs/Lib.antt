@@ -1,0 +1,14 @@
+pub mod Blanks
+pub mod Escapes
+pub mod Directives
+pub mod Marks
+pub mod Joining
+pub mod Steps
+pub mod Labels
+pub mod LabelLaws
+pub mod Faults
+pub mod FaultLaws
+pub mod Text
+pub mod Holds
+pub mod StepLaws
+pub mod TextLaws

@@ -1,0 +1,49 @@
+use plain::{Memory, Refusal};
+use std::alloc::AllocError;
+use std::error::Error;
+use std::fmt;
+
+/// Why a text gives no logical lines.
+#[derive(Clone, Copy, Debug, PartialEq, Eq)]
+pub enum LineFault {
+    /// The text is refused: it has more than 1,048,576 bytes, is not UTF-8, has a directive twice, an escape
+    /// directive with a bad value, an unclosed heredoc, or more than 4,096 logical lines.
+    Refused(Refusal),
+    /// There was no memory for the lines. Nothing is said of the text.
+    Memory,
+}
+
+impl fmt::Display for LineFault {
+    fn fmt<W: fmt::Write>(&self, f: &mut fmt::Formatter<W>) -> fmt::Result {
+        match self {
+            LineFault::Refused(refusal) => {
+                write!(f, "R{:02} at line {}", refusal.code.number(), refusal.line)
+            }
+            LineFault::Memory => write!(f, "out of memory"),
+        }
+    }
+}
+
+impl Error for LineFault {}
+
+impl From<Memory> for LineFault {
+    ghost use Rattle.std.specs.Prelude.{◌≡◌};
+    ghost use Rattle.lines.specs.declared.fault.LineFault.TheVariants.{Memory as want};
+
+    ghost from_gives = { λ _ fault. fault ≡ want };
+
+    fn from(_memory: Memory) -> LineFault {
+        LineFault::Memory
+    }
+}
+
+impl From<AllocError> for LineFault {
+    ghost use Rattle.std.specs.Prelude.{◌≡◌};
+    ghost use Rattle.lines.specs.declared.fault.LineFault.TheVariants.{Memory as want};
+
+    ghost from_gives = { λ _ fault. fault ≡ want };
+
+    fn from(_error: AllocError) -> LineFault {
+        LineFault::Memory
+    }
+}

@@ -1,0 +1,3 @@
+pub mod FormedSteps
+pub mod GraphKept
+pub mod MapViews

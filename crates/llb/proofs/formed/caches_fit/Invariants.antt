@@ -1,0 +1,10 @@
+use Rattle.std.proofs.Common.{◌≡◌, map, length}
+use Rattle.trees.specs.Run.{mounts_fit}
+use Rattle.trees.specs.declared.run.CacheUse.{CacheUse}
+use Rattle.llb.proofs.formed.caches_fit.Given as goal
+
+abbrev pub invariant-loop-rest : goal.invariant-loop-rest
+invariant-loop-rest l = mounts_fit (map (λ (cache : CacheUse). cache.target) l.caches) ≡ mounts_fit (map (λ (cache : CacheUse). cache.target) l.rest)
+
+abbrev pub decreases-loop-rest : goal.decreases-loop-rest
+decreases-loop-rest l = length l.rest

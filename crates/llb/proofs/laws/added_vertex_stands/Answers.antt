@@ -1,0 +1,5 @@
+use Rattle.llb.specs.GraphLaws.{added_stands}
+use Rattle.llb.proofs.laws.added_vertex_stands.Goals as goal
+
+pub returns : goal.returns
+returns c = added_stands

@@ -1,0 +1,55 @@
+-- What a graph is: its vertices, each after its inputs and each once, and beside each vertex the lines behind it (own, after
+-- BuildKit's LLB, where an operation names its inputs by digests and so can't stand before them).
+use Rattle.std.specs.Prelude.{◌≡◌, ◌≢◌, ◌<◌, ◌≤◌, ℕ, ◌⊎◌, Option, Some, None, Result, Ok, Err, List, [], ◌∷◌, ◌++◌, IsTrue, length, slice_get}
+use Rattle.std.specs.List.{All}
+use Rattle.llb.specs.declared.vertex.Vertex.{Vertex}
+use Rattle.llb.specs.declared.fault.GraphFault.{GraphFault}
+use Rattle.llb.specs.declared.fault.GraphFault.TheVariants.{Full, Memory}
+use Rattle.llb.specs.declared.graph.TheConstants.{MOST_VERTICES}
+use Rattle.llb.specs.Operation.{is_operation}
+use Rattle.llb.specs.Places.{AreLines, lines_of, places_with}
+
+-- the vertices by their ids, and the lines behind each
+pub record GraphValue : Type 0 where
+  pub vertices : List Vertex
+  pub places : List (List ℕ)
+
+-- a vertex whose inputs have all smaller ids than n
+abbrev pub IsAfterInputs : ℕ → Vertex → Type 0
+IsAfterInputs n vertex = All (λ input. input < n) vertex.inputs
+
+-- no vertex of the list is this one
+abbrev pub IsNew : List Vertex → Vertex → Type 0
+IsNew vertices vertex = (k : ℕ) → slice_get vertices k ≢ Some vertex
+
+-- vertices of a graph: not too many, each once, each after its inputs, each well formed
+pub record AreVertices (vertices : List Vertex) : Type 0 where
+  pub few : length vertices ≤ MOST_VERTICES
+  pub once : (j k : ℕ) (vertex : Vertex) → slice_get vertices j ≡ Some vertex → slice_get vertices k ≡ Some vertex → j ≡ k
+  pub after : (k : ℕ) (vertex : Vertex) → slice_get vertices k ≡ Some vertex → IsAfterInputs k vertex
+  pub formed : (k : ℕ) (vertex : Vertex) → slice_get vertices k ≡ Some vertex → IsTrue (is_operation vertex)
+
+-- a graph: its vertices, and beside each its lines
+pub record IsGraph (graph : GraphValue) : Type 0 where
+  pub vertices : AreVertices graph.vertices
+  pub beside : length graph.places ≡ length graph.vertices
+  pub places : (k : ℕ) (lines : List ℕ) → slice_get graph.places k ≡ Some lines → AreLines lines
+
+-- the vertex stood in the graph under this id, and the instruction's line came to its lines
+pub record IsFound (old new : GraphValue) (vertex : Vertex) (place : Option ℕ) (id : ℕ) : Type 0 where
+  pub stood : slice_get old.vertices id ≡ Some vertex
+  pub added : new ≡ record { vertices = old.vertices; places = places_with place id old.places }
+
+-- the vertex is new, there was room for it, and it stands at the end with the instruction's line
+pub record IsAppended (old new : GraphValue) (vertex : Vertex) (place : Option ℕ) (id : ℕ) : Type 0 where
+  pub fresh : IsNew old.vertices vertex
+  pub room : length old.vertices < MOST_VERTICES
+  pub last : id ≡ length old.vertices
+  pub added : new ≡ record { vertices = old.vertices ++ vertex ∷ []; places = old.places ++ lines_of place ∷ [] }
+
+-- what adding a vertex answers: the id of the equal vertex, or that of the new one; or that the graph is full and the vertex
+-- none of its vertices; or that there was no memory, which says nothing
+abbrev pub Adds : GraphValue → GraphValue → Vertex → Option ℕ → Result ℕ GraphFault → Type 0
+Adds old new vertex place (Ok id) = IsFound old new vertex place id ⊎ IsAppended old new vertex place id
+Adds old new vertex place (Err Full) = (length old.vertices ≡ MOST_VERTICES) × IsNew old.vertices vertex
+Adds old new vertex place (Err Memory) = Unit {0}

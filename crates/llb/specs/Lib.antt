@@ -1,0 +1,11 @@
+pub mod Graph
+pub mod GraphLaws
+pub mod Images
+pub mod Operation
+pub mod Places
+pub mod PlacesLaws
+pub mod Plan
+pub mod Request
+pub mod Sources
+pub mod Value
+pub mod ValueLaws

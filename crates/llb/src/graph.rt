@@ -1,0 +1,166 @@
+ghost use Rattle.std.specs.Prelude.{◌≡◌, ◌↔◌, ◌<◌, ◌≤◌, ◌++◌, ◌∷◌, ℕ, [], Some, length, slice_get, slice_index_or, IsTrue, IfSome, IfNone, OnOk, OnErr, option_copied, vec_len};
+ghost use Rattle.std.specs.Option.{ForSome};
+ghost use Rattle.std.specs.List.{All};
+ghost use Rattle.llb.specs.Graph.{IsAfterInputs, IsNew, IsGraph, Adds};
+ghost use Rattle.llb.specs.Operation.{is_operation};
+ghost use Rattle.llb.specs.Places.{IsLine, least_line};
+
+use crate::{GraphFault, Vertex, VertexId, places};
+use plain::{Exact, Items, Memory};
+use std::alloc::Global;
+use std::marker::Model;
+
+/// How many vertices a graph has at most (own). A Dockerfile within its limits gives fewer.
+pub const MOST_VERTICES: usize = 16_384;
+
+/// The operations of a build, each after its inputs and each once, and beside each the lines of the instructions that it
+/// stands for.
+#[derive(Drop)]
+pub struct Graph {
+    vertices: Vec<Vertex>,
+    places: Vec<Items<u32>>,
+}
+
+impl Model for Graph {
+    ghost use Rattle.llb.specs.Graph.{GraphValue, IsGraph};
+
+    ghost Value = { GraphValue };
+
+    ghost view = { λ g. record { vertices = g.vertices.items; places = g.places.items } };
+
+    ghost invariant = { λ g. IsGraph (record { vertices = g.vertices.items; places = g.places.items }) };
+}
+
+impl Graph {
+    /// The graph without a vertex. It takes no memory.
+    pub fn new(alloc: Global) -> Graph
+        ensures { result ≡ record { vertices = []; places = [] } }
+    {
+        Graph {
+            vertices: Vec::new(alloc),
+            places: Vec::new(alloc),
+        }
+    }
+
+    /// Adds a vertex, and the line of the instruction that it stands for, if it has one. Where an equal vertex is there, it
+    /// gives that one's id and adds the line to its lines; else the new vertex's id, the number of vertices before.
+    ///
+    /// It is `Full` exactly where the vertex is new and there are 16,384. After an error the graph is as it was. Whether a
+    /// vertex may be added, `accepts` tells; a line is from 1 to `MOST_LINE`.
+    pub fn add(
+        &mut self,
+        alloc: Global,
+        vertex: Vertex,
+        place: Option<u32>,
+    ) -> Result<VertexId, GraphFault>
+        requires inputs { IsAfterInputs (length self.old.vertices) vertex }
+        requires formed { IsTrue (is_operation vertex) }
+        requires place { ForSome place IsLine }
+        ensures adds { Adds self.old self.new vertex place result }
+        ensures err { OnErr result (self.new ≡ self.old) }
+    {
+        if let Some(at) = find(self.vertices.as_slice(), &vertex) {
+            places::add_line(alloc, &mut self.places, at, place)?;
+            return Ok(VertexId::new(at as u32));
+        }
+        let at = self.vertices.len();
+        if at == MOST_VERTICES {
+            return Err(GraphFault::Full);
+        }
+        let lines = places::first_line(alloc, place)?;
+        append(&mut self.vertices, &mut self.places, vertex, lines)?;
+        Ok(VertexId::new(at as u32))
+    }
+
+    /// Whether a vertex may be added: it is well formed, and its inputs are in the graph.
+    pub fn accepts(&self, vertex: &Vertex) -> bool
+        ensures { IsTrue result
+            ↔ (IsAfterInputs (length self.now.vertices) vertex.now × IsTrue (is_operation vertex.now)) }
+    {
+        are_below(vertex.inputs.as_slice(), self.vertices.len()) && vertex.is_well_formed()
+    }
+
+    /// How many vertices there are.
+    pub fn len(&self) -> usize
+        ensures { result ≡ length self.now.vertices }
+    {
+        self.vertices.len()
+    }
+
+    /// All vertices, by their ids.
+    pub fn vertices(&self) -> &[Vertex]
+        ensures value { result.now ≡ self.now.vertices }
+        ensures graph { IsGraph self.now }
+    {
+        self.vertices.as_slice()
+    }
+
+    /// The vertex of an id; `None` where the graph has none.
+    pub fn vertex(&self, id: VertexId) -> Option<&Vertex>
+        ensures { option_copied result ≡ slice_get self.now.vertices id }
+    {
+        self.vertices.get(id.index())
+    }
+
+    /// The inputs of a vertex, in the order that its operation counts them.
+    pub fn inputs(&self, id: VertexId) -> &[VertexId]
+        requires { id < length self.now.vertices }
+        ensures { IfSome (slice_get self.now.vertices id) (λ vertex. result.now ≡ vertex.inputs) }
+    {
+        self.vertices[id.index()].inputs.as_slice()
+    }
+
+    /// The lines of the instructions behind a vertex, in ascending order.
+    pub fn places(&self, id: VertexId) -> &[u32]
+        requires { id < length self.now.vertices }
+        ensures { slice_get self.now.places id ≡ Some result.now }
+    {
+        self.places[id.index()].as_slice()
+    }
+
+    /// The least of the lines behind a vertex; 0 where there is none.
+    pub fn least_place(&self, id: VertexId) -> u32
+        requires { id < length self.now.vertices }
+        ensures { result ≡ least_line (slice_index_or self.now.places id []) }
+    {
+        places::least_line(self.places[id.index()].as_slice())
+    }
+}
+
+/// Whether all these ids are smaller than the number.
+fn are_below(ids: &[VertexId], number: usize) -> bool
+    ensures { IsTrue result ↔ All (λ id. id < number) ids.now }
+{
+    ids.iter().all(|id| id.index() < number)
+}
+
+/// The number of the vertex that is equal to this one; `None` where there is none.
+fn find(vertices: &[Vertex], vertex: &Vertex) -> Option<usize>
+    ensures found { IfSome result (λ at. slice_get vertices.now at ≡ Some vertex.now) }
+    ensures fresh { IfNone result (IsNew vertices.now vertex.now) }
+{
+    for (at, other) in vertices.iter().enumerate() {
+        if other.same(vertex) {
+            return Some(at);
+        }
+    }
+    None
+}
+
+/// Adds a vertex and its lines at the end. After `Memory` nothing has changed.
+fn append(
+    vertices: &mut Vec<Vertex>,
+    places: &mut Vec<Items<u32>>,
+    vertex: Vertex,
+    lines: Items<u32>,
+) -> Result<(), Memory>
+    ensures vertices { OnOk result (vertices.new.items ≡ vertices.old.items ++ vertex ∷ []) }
+    ensures places { OnOk result (places.new.items ≡ places.old.items ++ lines ∷ []) }
+    ensures same_vertices { OnErr result (vertices.new.items ≡ vertices.old.items) }
+    ensures same_places { OnErr result (places.new.items ≡ places.old.items) }
+{
+    vertices.reserve(1)?;
+    places.push(lines)?;
+    vertices.push(vertex).unwrap();
+    Ok(())
+}

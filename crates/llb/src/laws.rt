@@ -1,0 +1,31 @@
+// The laws of graphs and values, claimed: each function's contract is one law, and its body is empty.
+ghost use Rattle.std.specs.Prelude.{◌≡◌, ◌<◌, ◌++◌, ℕ, List, Option, Some, Ok, length, slice_get};
+ghost use Rattle.llb.specs.declared.vertex.Vertex.{Vertex as VertexValue};
+ghost use Rattle.llb.specs.Graph.{GraphValue, AreVertices, Adds};
+ghost use Rattle.llb.specs.Sources.{SourcesValue};
+ghost use Rattle.llb.specs.Value.{Out, value_in, values_of, value_of};
+
+/// A vertex that was added stands under the id that was answered.
+pub fn added_vertex_stands()
+    ensures { (old new : GraphValue) (vertex : VertexValue) (place : Option ℕ) (id : ℕ)
+        → Adds old new vertex place (Ok id) → slice_get new.vertices id ≡ Some vertex }
+{}
+
+/// The vertices of a graph keep their ids when one is added: they are the first ones of the new graph.
+pub fn vertices_stay()
+    ensures { (old new : GraphValue) (vertex : VertexValue) (place : Option ℕ) (id : ℕ)
+        → Adds old new vertex place (Ok id) → (more : List VertexValue) × (new.vertices ≡ old.vertices ++ more) }
+{}
+
+/// Under every executor, what a vertex is worth is what its operation gives on what its inputs are worth.
+pub fn value_is_local()
+    ensures { (out : Out) (sources : SourcesValue) (vertices : List VertexValue) (id : ℕ) (vertex : VertexValue)
+        → AreVertices vertices → slice_get vertices id ≡ Some vertex
+        → value_of out sources vertices id ≡ value_in out sources (values_of out sources vertices) vertex }
+{}
+
+/// Under every executor, vertices that are added later change nothing of what those before are worth.
+pub fn value_stays()
+    ensures { (out : Out) (sources : SourcesValue) (vertices more : List VertexValue) (id : ℕ)
+        → id < length vertices → value_of out sources (vertices ++ more) id ≡ value_of out sources vertices id }
+{}
