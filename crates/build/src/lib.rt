@@ -1,0 +1,5 @@
+#![tactic(auto)]
+
+mod served;
+
+pub use served::served_command;
