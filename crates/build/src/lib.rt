@@ -1,5 +1,0 @@
-#![tactic(auto)]
-
-mod served;
-
-pub use served::served_command;
