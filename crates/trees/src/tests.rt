@@ -226,39 +226,65 @@ fn a_copy_is_the_same_tree(rt: HostRuntime) -> Result<(), Fail> {
     Ok(())
 }
 
-#[test]
-fn a_request_is_copied_whole(rt: HostRuntime) -> Result<(), Fail> {
+fn bind(rt: &HostRuntime) -> Result<RunBind, Fail> {
+    let target = path(rt, "/m")?;
+    Ok(RunBind {
+        target,
+        tree: Tree::empty(rt.alloc()),
+        rw: true,
+    })
+}
+
+fn cache(rt: &HostRuntime) -> Result<CacheUse, Fail> {
+    let target = path(rt, "/c")?;
+    let id = Text::read(rt.alloc(), "k")?;
+    Ok(CacheUse {
+        id,
+        sharing: Sharing::Locked,
+        target,
+    })
+}
+
+fn variable(rt: &HostRuntime) -> Result<Variable, Fail> {
+    let name = Text::read(rt.alloc(), "A")?;
+    let value = Text::read(rt.alloc(), "1")?;
+    Ok(Variable { name, value })
+}
+
+fn command(rt: &HostRuntime) -> Result<RunRequest, Fail> {
     let alloc = rt.alloc();
-    let mut request = RunRequest {
-        root: sample(&rt)?,
+    let root = sample(rt)?;
+    let dir = path(rt, "/d")?;
+    let user = Text::read(alloc, "app")?;
+    Ok(RunRequest {
+        root,
         binds: Items::new(alloc),
         caches: Items::new(alloc),
         env: Items::new(alloc),
-        dir: path(&rt, "/d")?,
-        user: Text::read(alloc, "app")?,
+        dir,
+        user,
         words: Items::new(alloc),
-    };
-    request.binds.push(RunBind {
-        target: path(&rt, "/m")?,
-        tree: Tree::empty(alloc),
-        rw: true,
-    })?;
-    request.caches.push(CacheUse {
-        id: Text::read(alloc, "k")?,
-        sharing: Sharing::Locked,
-        target: path(&rt, "/c")?,
-    })?;
-    request.env.push(Variable {
-        name: Text::read(alloc, "A")?,
-        value: Text::read(alloc, "1")?,
-    })?;
-    request.words.push(Text::read(alloc, "true")?)?;
+    })
+}
+
+#[test]
+fn a_request_is_copied_whole(rt: HostRuntime) -> Result<(), Fail> {
+    let alloc = rt.alloc();
+    let mut request = command(&rt)?;
+    request.binds.push(bind(&rt)?)?;
+    request.caches.push(cache(&rt)?)?;
+    request.env.push(variable(&rt)?)?;
     let mut twin = request.copy(alloc)?;
     assert!(rt; request.same(&twin));
     twin.words.push(Text::read(alloc, "-v")?)?;
     assert!(rt; !request.same(&twin));
+    Ok(())
+}
+
+#[test]
+fn outcomes_are_copied_whole(rt: HostRuntime) -> Result<(), Fail> {
     let done = RunOutcome::Done(sample(&rt)?);
-    assert!(rt; done.same(&done.copy(alloc)?));
+    assert!(rt; done.same(&done.copy(rt.alloc())?));
     assert!(rt; !done.same(&RunOutcome::Exit(1)));
     assert!(rt; !RunOutcome::Exit(2).same(&RunOutcome::Exit(1)));
     Ok(())
