@@ -1,11 +1,10 @@
 -- The text of a value in which no number is a float.
-use Rattle.std.proofs.Common.{◌≡◌, ℕ, Bool, true, false, cond, ◌||◌, List, [], ◌∷◌, ◌++◌, map, refl, sym, ◌∙◌, ap, Result, Ok, Err}
-use Rattle.serde_json.specs.Data.{Data, Items}
-use Rattle.serde_json.specs.Written.{compact_text, has_float, items_have_float}
+use Rattle.std.proofs.Common.{◌≡◌, ℕ, false, List, [], ◌∷◌, map, refl}
+use Rattle.serde_json.specs.Written.{has_float, items_have_float}
 use Rattle.trees.specs.declared.entry.Entry.{Entry}
 use Rattle.trees.specs.declared.entry.Entry.TheVariants.{Directory, File}
 use Rattle.trees.specs.declared.fault.Cause.{Cause}
-use Rattle.bundle.specs.Answer.{entry_data, items_of, tree_data, plain_config, built_data, failed_data}
+use Rattle.bundle.specs.Answer.{entry_data, items_of, plain_config, built_data, failed_data}
 
 entry_is_plain : (path : List (List ℕ)) (entry : Entry) → has_float (entry_data path entry) ≡ false
 entry_is_plain path (Directory meta) = refl

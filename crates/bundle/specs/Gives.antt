@@ -1,7 +1,7 @@
--- What a reader tells of a value that it reads, in both directions.
+-- What a reader tells of a value that it reads, in both directions (own).
 use Rattle.std.specs.Prelude.{◌≡◌, Option, Some, None, Result, Ok, Err}
-use Rattle.bundle.specs.declared.reading.BundleFault.{BundleFault}
-use Rattle.bundle.specs.declared.reading.BundleFault.TheVariants.{NotYet, Memory}
+use Rattle.bundle.specs.declared.fault.BundleFault.{BundleFault}
+use Rattle.bundle.specs.declared.fault.BundleFault.TheVariants.{NotYet, Memory}
 
 infixl 10 ◌>>=◌
 -- what the next step gives of what a step gave

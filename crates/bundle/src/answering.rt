@@ -1,5 +1,4 @@
-ghost use Rattle.std.specs.Prelude.{◌≡◌, ◌<◌, IfOk, map};
-ghost use Rattle.std.specs.Prelude.{◌+◌};
+ghost use Rattle.std.specs.Prelude.{◌≡◌, ◌<◌, ◌+◌, IfOk, map};
 ghost use Rattle.std.specs.String.{string_bytes};
 ghost use Rattle.serde_json.specs.View.{view};
 ghost use Rattle.trees.specs.declared.entry.Entry.TheVariants.{Directory, File};
@@ -30,6 +29,7 @@ pub fn failed_answer(alloc: Global, line: u32, cause: Cause) -> Result<Text, Mem
     Ok(Text::from_string(text))
 }
 
+/// The answer of a build that gave a tree, as JSON.
 #[tactic(auto, unfolding(crate::specs::Answer::built_data))]
 fn built_value(alloc: Global, entries: &[(Path, &Entry)]) -> Result<Value, Memory>
     ensures { IfOk result (λ v. view v ≡ built_data (map (λ placed. (placed.0, placed.1.now)) entries.now)) }
@@ -39,6 +39,7 @@ fn built_value(alloc: Global, entries: &[(Path, &Entry)]) -> Result<Value, Memor
     Ok(json!(in alloc; {"config": config, "result": "built", "tree": tree})?)
 }
 
+/// The configuration of a stage in which nothing was configured.
 #[tactic(auto, unfolding(crate::specs::Answer::plain_config))]
 fn plain_config_value(alloc: Global) -> Result<Value, Memory>
     ensures { IfOk result (λ v. view v ≡ plain_config) }
@@ -51,6 +52,7 @@ fn plain_config_value(alloc: Global) -> Result<Value, Memory>
     })?)
 }
 
+/// The entries of a tree, in the order that they are given in.
 fn tree_value(alloc: Global, entries: &[(Path, &Entry)]) -> Result<Value, Memory>
     ensures { IfOk result (λ v. view v ≡ tree_data (map (λ placed. (placed.0, placed.1.now)) entries.now)) }
 {
@@ -61,6 +63,7 @@ fn tree_value(alloc: Global, entries: &[(Path, &Entry)]) -> Result<Value, Memory
     Ok(Value::Array(values))
 }
 
+/// An entry with its path.
 #[tactic(auto, unfolding(crate::specs::Answer::entry_data))]
 fn entry_value(alloc: Global, path: &Path, entry: &Entry) -> Result<Value, Memory>
     ensures { IfOk result (λ v. view v ≡ entry_data path.now entry.now) }
@@ -71,6 +74,7 @@ fn entry_value(alloc: Global, path: &Path, entry: &Entry) -> Result<Value, Memor
     }
 }
 
+/// A directory with its path.
 fn directory_value(alloc: Global, path: &Path, meta: Meta) -> Result<Value, Memory>
     ensures { IfOk result (λ v. view v ≡ entry_data path.now (Directory meta)) }
 {
@@ -80,6 +84,7 @@ fn directory_value(alloc: Global, path: &Path, meta: Meta) -> Result<Value, Memo
     Ok(value)
 }
 
+/// The object of a directory, whose mode and path are given as texts.
 fn directory_object(
     alloc: Global,
     meta: Meta,
@@ -93,6 +98,7 @@ fn directory_object(
     json!(in alloc; {"dir": true, "gid": gid, "mode": mode, "path": path, "uid": uid})
 }
 
+/// A file with its path.
 fn file_value(alloc: Global, path: &Path, meta: Meta, bytes: &[u8]) -> Result<Value, Memory>
     ensures { IfOk result (λ v. view v ≡ entry_data path.now (File meta bytes.now)) }
 {
@@ -103,6 +109,7 @@ fn file_value(alloc: Global, path: &Path, meta: Meta, bytes: &[u8]) -> Result<Va
     Ok(value)
 }
 
+/// The object of a file, whose bytes are given in hexadecimal, and its mode and path as texts.
 fn file_object(
     alloc: Global,
     meta: Meta,
@@ -130,6 +137,7 @@ fn mode_text(alloc: Global, mode: Mode) -> Result<String, Memory>
     Ok(text)
 }
 
+/// The character of an octal digit.
 fn octal_digit(digit: u16) -> char
     requires { digit < 8 }
     ensures value { result ≡ 48 + digit }
@@ -138,6 +146,7 @@ fn octal_digit(digit: u16) -> char
     char::from(b'0' + digit as u8)
 }
 
+/// The answer of a build in which an instruction failed, as JSON.
 #[tactic(auto, unfolding(crate::specs::Answer::failed_data))]
 fn failed_value(alloc: Global, line: u32, cause: Cause) -> Result<Value, Memory>
     ensures { IfOk result (λ v. view v ≡ failed_data line cause) }
@@ -147,6 +156,7 @@ fn failed_value(alloc: Global, line: u32, cause: Cause) -> Result<Value, Memory>
     Ok(json!(in alloc; {"cause": name, "line": line, "result": "failed"})?)
 }
 
+/// The name of a cause.
 fn cause_text(alloc: Global, cause: Cause) -> Result<String, Memory>
     ensures { IfOk result (λ text. string_bytes text ≡ cause_text cause) }
 {

@@ -7,17 +7,20 @@
 // `failed_text`, the texts of the answers.
 //
 // ```
-// let bundle = read_bundle(alloc, bytes)?;          // of {"dockerfile":{"text":"FROM scratch\nRUN true\n"}}
+// let most = 1_048_576;                             // bytes of a bundle
+// let bundle = read_bundle(alloc, most, bytes)?;    // of {"dockerfile":{"text":"FROM scratch\nRUN true\n"}}
 // ```
 #![tactic(auto)]
 
 mod answering;
-mod json;
+mod bundle;
+mod fault;
 mod reading;
 
 pub use answering::{built_answer, failed_answer};
-pub use json::read_bundle;
-pub use reading::{Bundle, BundleFault};
+pub use bundle::Bundle;
+pub use fault::BundleFault;
+pub use reading::read_bundle;
 
 #[cfg(test)]
 mod tests;

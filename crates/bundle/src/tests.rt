@@ -55,6 +55,17 @@ fn other_bundles_are_not_served_yet(rt: HostRuntime) -> Result<(), Fail> {
 }
 
 #[test]
+fn faults_tell_themselves(rt: HostRuntime) -> Result<(), Fail> {
+    for (fault, want) in [
+        (BundleFault::NotYet, "no bundle that is served yet"),
+        (BundleFault::Memory, "out of memory"),
+    ] {
+        assert_eq!(rt; fault.to_string(rt.alloc())?.as_str(), want);
+    }
+    Ok(())
+}
+
+#[test]
 fn answers_are_compact_text(rt: HostRuntime) -> Result<(), Fail> {
     let alloc = rt.alloc();
     let root = Path::root(alloc);
@@ -64,7 +75,10 @@ fn answers_are_compact_text(rt: HostRuntime) -> Result<(), Fail> {
         uid: 4294967295,
         gid: 7,
     });
-    let file = Entry::File(Meta::file(), Content::new(Bytes::read(alloc, &[0, 255])?));
+    let file = Entry::File(
+        Meta::file(),
+        Content::new(Bytes::from_slice(alloc, &[0, 255])?),
+    );
     let text = built_answer(alloc, [(root, &directory), (path, &file)].as_slice())?;
     let config =
         r#""config":{"architecture":"amd64","config":{},"os":"linux","rootfs":{"diff_ids":[],"type":"layers"}}"#;

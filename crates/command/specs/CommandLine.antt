@@ -1,12 +1,14 @@
+-- The words that the program takes, as a command of the crate `clap` (own).
 use Rattle.std.specs.Prelude.{ℕ, [], ◌∷◌, Some, true, codes, pos}
 use Rattle.clap.specs.Words.{App, Rule, new_app, new_rule, with_rule, with_subcommand}
 use Rattle.clap.specs.Simple.{on_top}
 use Rattle.clap.specs.declared.builder.value_parser.ValueParser.TheVariants as vp
 
--- how many workers a build may have (own)
+-- the least number of workers of a build, and the default (own)
 abbrev pub least_workers : ℕ
 least_workers = 1
 
+-- the most workers that a build may have (own)
 abbrev pub most_workers : ℕ
 most_workers = 1
 

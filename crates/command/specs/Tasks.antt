@@ -1,3 +1,4 @@
+-- What the words that were found ask for (own).
 use Rattle.std.specs.Prelude.{◌≡◌, ◌≤◌, ℕ, List, Option, Some, None, codes}
 use Rattle.std.specs.Str.Parse.{IsNumeral, digits_value, without_leading_plus}
 use Rattle.clap.specs.Words.{Row, Text, one_of}
@@ -5,7 +6,8 @@ use Rattle.command.specs.CommandLine.{least_workers, most_workers}
 use Rattle.command.specs.declared.task.Task.{Task}
 use Rattle.command.specs.declared.task.Task.TheVariants.{Build}
 
--- the number that the value of `--workers` says, in decimal digits, within its range (own)
+-- the number that the value of `--workers` says, within its range: decimal digits, of which a `+` may stand in front, which is how
+-- clap reads a number (own)
 pub record IsWorkers (rows : List Row) (workers : ℕ) : Type 0 where
   pub text : Text
   pub given : one_of (codes "workers") rows ≡ Some text

@@ -1,3 +1,4 @@
+-- Which calls of a device are counted as failed (own).
 use Rattle.std.specs.Prelude.{◌≡◌, ℕ, ◌+◌, ◌<◌, Result, MatchResult}
 
 -- a read that failed is counted, and no other (own)

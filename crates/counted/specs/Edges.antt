@@ -1,4 +1,5 @@
-use Rattle.std.specs.Prelude.{◌≡◌, ℕ, ◌+◌, List, ◌++◌, take, drop, Option, Some, None, Result, Ok, Err, ⊤}
+-- What reading all and writing all do, whatever their device does (own).
+use Rattle.std.specs.Prelude.{◌≡◌, ◌≤◌, ℕ, ◌+◌, List, ◌++◌, length, take, drop, Option, Some, None, Result, Ok, Err, ⊤}
 use Rattle.std.specs.Io.KnownBytes.{Appends, Consumes}
 use Rattle.counted.specs.declared.fault.EdgeFault.{EdgeFault}
 use Rattle.counted.specs.declared.fault.EdgeFault.TheVariants.{Memory, Device}
@@ -11,9 +12,9 @@ IsBeginning front all = (rest : List ℕ) × (all ≡ front ++ rest)
 abbrev pub AppendsBeginning : Option (List ℕ) → Option (List ℕ) → List ℕ → Type 0
 AppendsBeginning old new text = (front : List ℕ) × IsBeginning front text × Appends old new front
 
--- known bytes lose a beginning of theirs
-abbrev pub LosesBeginning : Option (List ℕ) → Option (List ℕ) → Type 0
-LosesBeginning old new = (front : List ℕ) × Consumes old new front
+-- known bytes lose a beginning of theirs, of no more bytes than these many
+abbrev pub LosesBeginning : ℕ → Option (List ℕ) → Option (List ℕ) → Type 0
+LosesBeginning limit old new = (front : List ℕ) × (length front ≤ limit) × Consumes old new front
 
 -- what was read are the first bytes, `limit` of them or all where there are fewer, and what follows is left;
 -- nothing is said where the bytes that were left aren't known

@@ -8,10 +8,11 @@ use std::alloc::Global;
 /// How many bytes one read asks for, at most.
 const PIECE: usize = 65536;
 
-/// Reads up to the end, or up to `limit` bytes, whichever comes first.
+/// Reads up to the end, or up to `limit` bytes, whichever comes first. At `limit` bytes nothing is said of the end: who has to know
+/// whether there is more asks for one byte more than it takes.
 ///
 /// It answers `Device` at the first read that fails, and tries none again. It answers `Memory` where there
-/// was no memory for what was read. After either of them what was read is lost.
+/// was no memory for what was read. After either of them what was read, `limit` bytes at most, is lost.
 pub fn read_all<R: CountedRead>(
     alloc: Global,
     input: &mut R,
@@ -21,7 +22,7 @@ pub fn read_all<R: CountedRead>(
     ensures bytes { IfOk result (λ bytes.
         ReadsFirst limit (R.remaining input.old) (R.remaining input.new) bytes.items) }
     ensures short { IfOk result (λ bytes. vec_len bytes ≤ limit) }
-    ensures lost { OnErr result (LosesBeginning (R.remaining input.old) (R.remaining input.new)) }
+    ensures lost { OnErr result (LosesBeginning limit (R.remaining input.old) (R.remaining input.new)) }
     ensures count { CountsFault (R.failures input.old) (R.failures input.new) result }
 {
     let mut bytes = Vec::new(alloc);

@@ -6,7 +6,8 @@
 //
 // `read_all` reads everything up to a limit, and `write_all` writes everything, in order. Each ends at
 // the first call that fails: nothing is tried again, since a write that was refused once may have been
-// written in part. They keep no buffer behind the device's back, so there is nothing to flush.
+// written in part. They keep no buffer of their own, so with a device that keeps nothing back there is nothing to flush; one that
+// does, as std's `BufWriter`, is flushed by its owner.
 //
 // It is no buffered reader or writer, and it knows nothing of what the bytes mean. The central
 // definitions are `ReadsFirst`, `AppendsBeginning` and `CountsFault`.

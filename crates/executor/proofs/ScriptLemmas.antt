@@ -5,7 +5,7 @@ use Rattle.trees.specs.TreeMap.{TreeMap}
 use Rattle.trees.specs.declared.run.RunOutcome.{RunOutcome}
 use Rattle.trees.specs.declared.run.RunOutcome.TheVariants.{Done, Exit}
 use Rattle.executor.specs.declared.script.Cut.TheVariants.{AtLineFeed}
-use Rattle.executor.specs.Script.{ends, is_filled, is_text, words, commands, script_of}
+use Rattle.executor.specs.Script.{is_cut_at, is_filled, is_text, words, commands, script_of}
 use Rattle.executor.specs.Fixture.{and_then, after_command, after_commands, after_line}
 
 and_then-Done : (o : RunOutcome) → and_then o Done ≡ o
@@ -17,21 +17,21 @@ lines-cons : (dir : List (List ℕ)) (first : List (List ℕ)) (rest : List (Lis
 lines-cons dir first rest true e tree = refl
 lines-cons dir first rest false e tree = refl
 
-pub commands-line : (dir : List (List ℕ)) (script line tail : List ℕ) (tree : TreeMap) → slice_split (ends AtLineFeed) script ≡ line ∷ slice_split (ends AtLineFeed) tail → after_commands dir (commands script) tree ≡ and_then (after_line dir line tree) (after_commands dir (commands tail))
+pub commands-line : (dir : List (List ℕ)) (script line tail : List ℕ) (tree : TreeMap) → slice_split (is_cut_at AtLineFeed) script ≡ line ∷ slice_split (is_cut_at AtLineFeed) tail → after_commands dir (commands script) tree ≡ and_then (after_line dir line tree) (after_commands dir (commands tail))
 commands-line dir script line tail tree e =
-    ap (λ lines. after_commands dir (filter is_filled (map words lines)) tree) e ∙ lines-cons dir (words line) (map words (slice_split (ends AtLineFeed) tail)) (is_filled (words line)) refl tree
+    ap (λ lines. after_commands dir (filter is_filled (map words lines)) tree) e ∙ lines-cons dir (words line) (map words (slice_split (is_cut_at AtLineFeed) tail)) (is_filled (words line)) refl tree
 
-pub commands-last : (dir : List (List ℕ)) (script : List ℕ) (tree : TreeMap) → slice_split (ends AtLineFeed) script ≡ script ∷ [] → after_commands dir (commands script) tree ≡ after_line dir script tree
+pub commands-last : (dir : List (List ℕ)) (script : List ℕ) (tree : TreeMap) → slice_split (is_cut_at AtLineFeed) script ≡ script ∷ [] → after_commands dir (commands script) tree ≡ after_line dir script tree
 commands-last dir script tree e =
     ap (λ lines. after_commands dir (filter is_filled (map words lines)) tree) e ∙ lines-cons dir (words script) [] (is_filled (words script)) refl tree ∙ and_then-Done (after_line dir script tree)
 
 -- after a line that went well, the rest of the script is what is left to run
-pub commands-went : (dir : List (List ℕ)) (script line tail : List ℕ) (tree left : TreeMap) → slice_split (ends AtLineFeed) script ≡ line ∷ slice_split (ends AtLineFeed) tail → after_line dir line tree ≡ Done left → after_commands dir (commands script) tree ≡ after_commands dir (commands tail) left
+pub commands-went : (dir : List (List ℕ)) (script line tail : List ℕ) (tree left : TreeMap) → slice_split (is_cut_at AtLineFeed) script ≡ line ∷ slice_split (is_cut_at AtLineFeed) tail → after_line dir line tree ≡ Done left → after_commands dir (commands script) tree ≡ after_commands dir (commands tail) left
 commands-went dir script line tail tree left e went =
     commands-line dir script line tail tree e ∙ ap (λ o. and_then o (after_commands dir (commands tail))) went
 
 -- a line that ends with a status ends the script
-pub commands-stopped : (dir : List (List ℕ)) (script line tail : List ℕ) (tree : TreeMap) (status : ℕ) → slice_split (ends AtLineFeed) script ≡ line ∷ slice_split (ends AtLineFeed) tail → after_line dir line tree ≡ Exit status → after_commands dir (commands script) tree ≡ Exit status
+pub commands-stopped : (dir : List (List ℕ)) (script line tail : List ℕ) (tree : TreeMap) (status : ℕ) → slice_split (is_cut_at AtLineFeed) script ≡ line ∷ slice_split (is_cut_at AtLineFeed) tail → after_line dir line tree ≡ Exit status → after_commands dir (commands script) tree ≡ Exit status
 commands-stopped dir script line tail tree status e stopped =
     commands-line dir script line tail tree e ∙ ap (λ o. and_then o (after_commands dir (commands tail))) stopped
 

@@ -12,68 +12,68 @@ use Rattle.trees.specs.declared.run.RunOutcome.TheVariants.{Done, Exit}
 use Rattle.executor.specs.declared.command.Command.{Command}
 use Rattle.executor.specs.declared.command.Command.TheVariants.{Put, True, Fail}
 use Rattle.executor.specs.Number.{decimal, is_status}
-use Rattle.executor.specs.Script.{commands, commands_of, commands_or}
+use Rattle.executor.specs.Script.{commands, commands_of, commands_or, with_script}
 use Rattle.executor.specs.ScriptLaws.{commands-append, script_of-append}
 use Rattle.executor.specs.Fixture.{command_of, file_at, written, written_at, after_put, after_true, fail_status, after_known, after_command, and_then, after_commands, fixture_out}
 
 -- a status is from 1 to 255
-abbrev pub IsFair : RunOutcome → Type 0
-IsFair (Done tree) = Unit {0}
-IsFair (Exit status) = (0 < status) × (status < 256)
+abbrev pub HasStatus : RunOutcome → Type 0
+HasStatus (Done tree) = Unit {0}
+HasStatus (Exit status) = (0 < status) × (status < 256)
 
-fair-choice : (b : Bool) (o p : RunOutcome) → IsFair o → IsFair p → IsFair (cond b o p)
-fair-choice true o p f g = f
-fair-choice false o p f g = g
+HasStatus-choice : (b : Bool) (o p : RunOutcome) → HasStatus o → HasStatus p → HasStatus (cond b o p)
+HasStatus-choice true o p f g = f
+HasStatus-choice false o p f g = g
 
-fair-written : (path : List (List ℕ)) (bytes : List ℕ) (tree : TreeMap) → IsFair (written path bytes tree)
-fair-written path bytes tree =
-    fair-choice (is_some (put_cause tree path (file_at tree path bytes))) _ _ (omega arith, omega arith) tt
+HasStatus-written : (path : List (List ℕ)) (bytes : List ℕ) (tree : TreeMap) → HasStatus (written path bytes tree)
+HasStatus-written path bytes tree =
+    HasStatus-choice (is_some (put_cause tree path (file_at tree path bytes))) _ _ (omega arith, omega arith) tt
 
-fair-written_at : (dir : List (List ℕ)) (name bytes : List ℕ) (tree : TreeMap) → IsFair (written_at dir name bytes tree)
-fair-written_at dir name bytes tree =
-    fair-choice (is_some (limit_of (read_from name dir))) _ _ (omega arith, omega arith) (fair-written (read_from name dir) bytes tree)
+HasStatus-written_at : (dir : List (List ℕ)) (name bytes : List ℕ) (tree : TreeMap) → HasStatus (written_at dir name bytes tree)
+HasStatus-written_at dir name bytes tree =
+    HasStatus-choice (is_some (limit_of (read_from name dir))) _ _ (omega arith, omega arith) (HasStatus-written (read_from name dir) bytes tree)
 
-fair-put : (dir operands : List (List ℕ)) (tree : TreeMap) → IsFair (after_put dir operands tree)
-fair-put dir [] tree = (omega arith, omega arith)
-fair-put dir (name ∷ words) tree = fair-written_at dir name (join_with_byte 32 words) tree
+HasStatus-put : (dir operands : List (List ℕ)) (tree : TreeMap) → HasStatus (after_put dir operands tree)
+HasStatus-put dir [] tree = (omega arith, omega arith)
+HasStatus-put dir (name ∷ words) tree = HasStatus-written_at dir name (join_with_byte 32 words) tree
 
-fair-true : (operands : List (List ℕ)) (tree : TreeMap) → IsFair (after_true operands tree)
-fair-true [] tree = tt
-fair-true (word ∷ words) tree = (omega arith, omega arith)
+HasStatus-true : (operands : List (List ℕ)) (tree : TreeMap) → HasStatus (after_true operands tree)
+HasStatus-true [] tree = tt
+HasStatus-true (word ∷ words) tree = (omega arith, omega arith)
 
 -- a number that is a status is one from 1 to 255
-fair-number : (text : List ℕ) (b : Bool) → is_status text ≡ b → IsFair (Exit (unwrap_or (cond b (Some (decimal text)) None) 2))
-fair-number text true e = grind (arith, nat_tests)
-fair-number text false e = (omega arith, omega arith)
+HasStatus-number : (text : List ℕ) (b : Bool) → is_status text ≡ b → HasStatus (Exit (unwrap_or (cond b (Some (decimal text)) None) 2))
+HasStatus-number text true e = grind (arith, nat_tests)
+HasStatus-number text false e = (omega arith, omega arith)
 
-fair-fail : (operands : List (List ℕ)) → IsFair (Exit (fail_status operands))
-fair-fail [] = (omega arith, omega arith)
-fair-fail (number ∷ []) = fair-number number (is_status number) refl
-fair-fail (number ∷ word ∷ words) = (omega arith, omega arith)
+HasStatus-fail : (operands : List (List ℕ)) → HasStatus (Exit (fail_status operands))
+HasStatus-fail [] = (omega arith, omega arith)
+HasStatus-fail (number ∷ []) = HasStatus-number number (is_status number) refl
+HasStatus-fail (number ∷ word ∷ words) = (omega arith, omega arith)
 
-fair-known : (dir : List (List ℕ)) (command : Option Command) (operands : List (List ℕ)) (tree : TreeMap) → IsFair (after_known dir command operands tree)
-fair-known dir None operands tree = (omega arith, omega arith)
-fair-known dir (Some Put) operands tree = fair-put dir operands tree
-fair-known dir (Some True) operands tree = fair-true operands tree
-fair-known dir (Some Fail) operands tree = fair-fail operands
+HasStatus-known : (dir : List (List ℕ)) (command : Option Command) (operands : List (List ℕ)) (tree : TreeMap) → HasStatus (after_known dir command operands tree)
+HasStatus-known dir None operands tree = (omega arith, omega arith)
+HasStatus-known dir (Some Put) operands tree = HasStatus-put dir operands tree
+HasStatus-known dir (Some True) operands tree = HasStatus-true operands tree
+HasStatus-known dir (Some Fail) operands tree = HasStatus-fail operands
 
-fair-command : (dir command : List (List ℕ)) (tree : TreeMap) → IsFair (after_command dir command tree)
-fair-command dir [] tree = (omega arith, omega arith)
-fair-command dir (name ∷ operands) tree = fair-known dir (command_of name) operands tree
+HasStatus-command : (dir command : List (List ℕ)) (tree : TreeMap) → HasStatus (after_command dir command tree)
+HasStatus-command dir [] tree = (omega arith, omega arith)
+HasStatus-command dir (name ∷ operands) tree = HasStatus-known dir (command_of name) operands tree
 
-fair-and_then : (o : RunOutcome) (next : TreeMap → RunOutcome) → IsFair o → ((tree : TreeMap) → IsFair (next tree)) → IsFair (and_then o next)
-fair-and_then (Done tree) next f g = g tree
-fair-and_then (Exit status) next f g = f
+HasStatus-and_then : (o : RunOutcome) (next : TreeMap → RunOutcome) → HasStatus o → ((tree : TreeMap) → HasStatus (next tree)) → HasStatus (and_then o next)
+HasStatus-and_then (Done tree) next f g = g tree
+HasStatus-and_then (Exit status) next f g = f
 
-fair-commands : (dir : List (List ℕ)) (commands : List (List (List ℕ))) (tree : TreeMap) → IsFair (after_commands dir commands tree)
-fair-commands dir [] tree = tt
-fair-commands dir (command ∷ commands) tree =
-    fair-and_then (after_command dir command tree) (after_commands dir commands) (fair-command dir command tree) (fair-commands dir commands)
+HasStatus-commands : (dir : List (List ℕ)) (commands : List (List (List ℕ))) (tree : TreeMap) → HasStatus (after_commands dir commands tree)
+HasStatus-commands dir [] tree = tt
+HasStatus-commands dir (command ∷ commands) tree =
+    HasStatus-and_then (after_command dir command tree) (after_commands dir commands) (HasStatus-command dir command tree) (HasStatus-commands dir commands)
 
 -- each status that the fixture tells is from 1 to 255
 pub fixture_out-exits : (request : RunRequest) (status : ℕ) → fixture_out request ≡ Exit status → (0 < status) × (status < 256)
 fixture_out-exits request status e =
-    subst IsFair e (fair-commands request.dir (commands_of request.words) request.root)
+    subst HasStatus e (HasStatus-commands request.dir (commands_of request.words) request.root)
 
 and_then-assoc : (o : RunOutcome) (next last : TreeMap → RunOutcome) → and_then (and_then o next) last ≡ and_then o (λ tree. and_then (next tree) last)
 and_then-assoc (Done tree) next last = refl
@@ -90,11 +90,7 @@ after_commands-append dir [] second tree = refl
 after_commands-append dir (command ∷ first) second tree =
     and_then-same (after_command dir command tree) _ _ (after_commands-append dir first second) ∙ sym (and_then-assoc (after_command dir command tree) (after_commands dir first) (after_commands dir second))
 
--- the request with the words of a shell that is handed a script
-abbrev pub with_script : RunRequest → List (List ℕ) → List ℕ → RunRequest
-with_script request front script = record request { words = front ++ codes "-c" ∷ script ∷ [] }
-
--- what the fixture answers then
+-- what the fixture answers to a shell that is handed a script
 fixture_out-script : (request : RunRequest) (front : List (List ℕ)) (script : List ℕ) → fixture_out (with_script request front script) ≡ after_commands request.dir (commands script) request.root
 fixture_out-script request front script =
     ap (λ found. after_commands request.dir (commands_or found (front ++ codes "-c" ∷ script ∷ [])) request.root) (script_of-append front (codes "-c") script)

@@ -1,4 +1,4 @@
-pub mod Ends
+pub mod Tells
 pub mod Fixture
 pub mod FixtureLaws
 pub mod Number

@@ -1,14 +1,15 @@
--- How the words of a run become commands: a script is cut into lines, and a line into words.
-use Rattle.std.specs.Prelude.{ℕ, Bool, true, false, ◌||◌, ◌==◌, List, [], ◌∷◌, map, filter, codes, nat_eq, if◌then◌else◌, Option, Some, None}
+-- How the words of a run become commands (own): a script is cut into lines, and a line into words.
+use Rattle.std.specs.Prelude.{ℕ, Bool, true, false, ◌||◌, ◌==◌, List, [], ◌∷◌, ◌++◌, map, filter, codes, nat_eq, if◌then◌else◌, Option, Some, None}
 use Rattle.std.specs.List.{slice_split}
 use Rattle.std.specs.Cmp.Lexicographic.{pointwise}
+use Rattle.trees.specs.declared.run.RunRequest.{RunRequest}
 use Rattle.executor.specs.declared.script.Cut.{Cut}
 use Rattle.executor.specs.declared.script.Cut.TheVariants.{AtBlank, AtLineFeed}
 
 -- at which bytes a text is cut: into words at a space or a tab, into lines at a line feed
-abbrev pub ends : Cut → ℕ → Bool
-ends AtBlank byte = (byte == 32) || (byte == 9)
-ends AtLineFeed byte = byte == 10
+abbrev pub is_cut_at : Cut → ℕ → Bool
+is_cut_at AtBlank byte = (byte == 32) || (byte == 9)
+is_cut_at AtLineFeed byte = byte == 10
 
 -- whether a list has an element
 abbrev pub is_filled : {X : Type 0} → List X → Bool
@@ -17,11 +18,11 @@ is_filled (x ∷ xs) = true
 
 -- the words of a line: the longest runs of bytes that are no blanks
 abbrev pub words : List ℕ → List (List ℕ)
-words line = filter is_filled (slice_split (ends AtBlank) line)
+words line = filter is_filled (slice_split (is_cut_at AtBlank) line)
 
 -- the commands of a script, each as its words: one for each line that has a word
 abbrev pub commands : List ℕ → List (List (List ℕ))
-commands script = filter is_filled (map words (slice_split (ends AtLineFeed) script))
+commands script = filter is_filled (map words (slice_split (is_cut_at AtLineFeed) script))
 
 -- whether two texts have the same bytes
 abbrev pub is_text : List ℕ → List ℕ → Bool
@@ -42,3 +43,7 @@ commands_or (Some script) words = commands script
 -- the commands that a run's words hold, in order
 abbrev pub commands_of : List (List ℕ) → List (List (List ℕ))
 commands_of words = commands_or (script_of words) words
+
+-- the request with the words of a shell that is handed a script
+abbrev pub with_script : RunRequest → List (List ℕ) → List ℕ → RunRequest
+with_script request front script = record request { words = front ++ codes "-c" ∷ script ∷ [] }

@@ -5,7 +5,7 @@ use Rattle.std.proofs.Common.{refl, sym, ap, ◌∙◌}
 use Rattle.std.proofs.lemmas.List.{map-append}
 use Rattle.std.proofs.lemmas.List.Elements.{filter-append}
 use Rattle.executor.specs.declared.script.Cut.TheVariants.{AtLineFeed}
-use Rattle.executor.specs.Script.{ends, is_filled, is_text, words, commands, script_of}
+use Rattle.executor.specs.Script.{is_cut_at, is_filled, is_text, words, commands, script_of}
 
 -- lists that begin with one, with others behind them
 record HasFirst (parts : List (List ℕ)) : Type 0 where
@@ -42,7 +42,7 @@ slice_split-append p y e (x ∷ xs) ys =
 
 pub commands-append : (first second : List ℕ) → commands (first ++ 10 ∷ second) ≡ commands first ++ commands second
 commands-append first second =
-    ap (λ lines. filter is_filled (map words lines)) (slice_split-append (ends AtLineFeed) 10 refl first second) ∙ ap (filter is_filled) (map-append words (slice_split (ends AtLineFeed) first) (slice_split (ends AtLineFeed) second)) ∙ filter-append is_filled (map words (slice_split (ends AtLineFeed) first)) (map words (slice_split (ends AtLineFeed) second))
+    ap (λ lines. filter is_filled (map words lines)) (slice_split-append (is_cut_at AtLineFeed) 10 refl first second) ∙ ap (filter is_filled) (map-append words (slice_split (is_cut_at AtLineFeed) first) (slice_split (is_cut_at AtLineFeed) second)) ∙ filter-append is_filled (map words (slice_split (is_cut_at AtLineFeed) first)) (map words (slice_split (is_cut_at AtLineFeed) second))
 
 pub script_of-append : (front : List (List ℕ)) (flag script : List ℕ) → script_of (front ++ flag ∷ script ∷ []) ≡ cond (is_text flag (codes "-c")) (Some script) None
 script_of-append [] flag script = refl

@@ -4,7 +4,7 @@ ghost use Rattle.std.specs.FinMap.{get};
 ghost use Rattle.trees.specs.TreeMap.{TreeMap};
 ghost use Rattle.paths.specs.Reading.{read_from};
 ghost use Rattle.executor.specs.Fixture.{command_of, kept_meta, written, after_put, after_true, fail_status, after_known, after_command};
-ghost use Rattle.executor.specs.Ends.{Ends, IsPathOrOne};
+ghost use Rattle.executor.specs.Tells.{Tells, TellsPath};
 
 use crate::number::status_of;
 use crate::stop::Stop;
@@ -50,7 +50,7 @@ fn command_of(name: &str) -> Option<Command>
 
 /// Runs one command on a tree, from its words.
 pub fn run_command(alloc: Global, tree: &mut Tree, dir: &Path, words: &[&str]) -> Result<(), Stop>
-    ensures { Ends tree.new result
+    ensures { Tells tree.new result
         (after_command dir.now (map (λ word. word.now) words.now) tree.old) }
 {
     let [name, operands @ ..] = words else {
@@ -67,7 +67,7 @@ fn run_known(
     command: Option<Command>,
     operands: &[&str],
 ) -> Result<(), Stop>
-    ensures { Ends tree.new result
+    ensures { Tells tree.new result
         (after_known dir.now command (map (λ word. word.now) operands.now) tree.old) }
 {
     match command {
@@ -80,7 +80,7 @@ fn run_known(
 
 /// `put P w..`: the file P holds the words, a space between each two.
 fn put(alloc: Global, tree: &mut Tree, dir: &Path, operands: &[&str]) -> Result<(), Stop>
-    ensures { Ends tree.new result
+    ensures { Tells tree.new result
         (after_put dir.now (map (λ word. word.now) operands.now) tree.old) }
 {
     let [name, words @ ..] = operands else {
@@ -109,7 +109,7 @@ fn joined(alloc: Global, words: &[&str]) -> Result<Bytes, Memory>
 
 /// The path that a command's word leads to from the directory; one that leads past a limit is refused.
 fn path_at(alloc: Global, name: &str, dir: &Path) -> Result<Path, Stop>
-    ensures { IsPathOrOne (read_from name.now dir.now) result }
+    ensures { TellsPath (read_from name.now dir.now) result }
 {
     match Path::read(alloc, name, dir) {
         Ok(path) => Ok(path),
@@ -120,7 +120,7 @@ fn path_at(alloc: Global, name: &str, dir: &Path) -> Result<Path, Stop>
 
 /// Writes a file. One that stands there keeps its mode and owner.
 fn write(alloc: Global, tree: &mut Tree, path: &Path, bytes: Bytes) -> Result<(), Stop>
-    ensures { Ends tree.new result (written path.now bytes tree.old) }
+    ensures { Tells tree.new result (written path.now bytes tree.old) }
 {
     let meta = kept_meta(tree, path);
     match tree.put(alloc, path, Entry::File(meta, Content::new(bytes))) {
@@ -143,7 +143,7 @@ fn kept_meta(tree: &Tree, path: &Path) -> Meta
 /// `true`: nothing.
 fn run_true(operands: &[&str]) -> Result<(), Stop>
     ensures { (tree : TreeMap)
-        → Ends tree result (after_true (map (λ word. word.now) operands.now) tree) }
+        → Tells tree result (after_true (map (λ word. word.now) operands.now) tree) }
 {
     if operands.is_empty() {
         Ok(())

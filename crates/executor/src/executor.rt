@@ -19,8 +19,12 @@ pub trait Executor: Sync {
     // What a run of a request gives: a function of the executor and the request alone, so never of what a cache holds.
     ghost out: { Self → RunRequest → RunOutcome };
 
-    /// Runs the command of a request. The tree of each cache that the request uses is lent beside it, in the same order, and
-    /// comes back as the command left it. `Memory` says only that a growth was refused; the lent trees may then be any.
+    /// Runs the command of a request. The tree of each cache that the request uses is lent beside it, in the same order. On
+    /// `Ok` as many trees come back as were lent; nothing is said of what they hold. `Memory` says only that a growth was
+    /// refused; the lent trees may then be any, and any number of them.
+    ///
+    /// The mounts of the request have to fit (`fits_request`). That is the rule for the mounts of a RUN: `Vertex::is_well_formed`
+    /// of the crate `llb` tests it, before a request is made of the vertex.
     fn run(
         &self,
         alloc: Global,

@@ -1,5 +1,5 @@
 ghost use Rattle.std.specs.Prelude.{◌≡◌, map, IfOk, option_copied};
-ghost use Rattle.executor.specs.Ends.{Ends};
+ghost use Rattle.executor.specs.Tells.{Tells};
 ghost use Rattle.executor.specs.Script.{commands, commands_of, script_of};
 ghost use Rattle.executor.specs.Fixture.{after_commands, after_line};
 
@@ -25,8 +25,8 @@ use trees::Tree;
 /// - `fail N` ends with the status N, decimal digits from 1 to 255; status 2 where N is anything else.
 ///
 /// A wrong number of words is status 2, and an unknown command 127, the empty word and no word at all among them. The user
-/// counts for nothing. Binds and caches aren't served yet: nothing is read or written there, and the caches that are lent
-/// come back as they were.
+/// counts for nothing. Binds and caches aren't served yet: the answer is that of a request without them. Of the caches that are
+/// lent the contract says no more than that on `Ok` as many come back.
 #[derive(Clone, Copy, Debug, PartialEq, Eq)]
 pub struct Fixture;
 
@@ -55,7 +55,7 @@ impl Executor for Fixture {
 
 /// Runs the commands that a run's words hold.
 fn run_words(alloc: Global, tree: &mut Tree, dir: &Path, words: &[Text]) -> Result<(), Stop>
-    ensures { Ends tree.new result (after_commands dir.now (commands_of words.now) tree.old) }
+    ensures { Tells tree.new result (after_commands dir.now (commands_of words.now) tree.old) }
 {
     match script_of(words) {
         Some(script) => run_script(alloc, tree, dir, script),
@@ -93,7 +93,7 @@ fn texts_of(alloc: Global, words: &[Text]) -> Result<Vec<&str>, Memory>
 
 /// Runs the commands of a script, one for each line that has a word.
 fn run_script(alloc: Global, tree: &mut Tree, dir: &Path, script: &str) -> Result<(), Stop>
-    ensures { Ends tree.new result (after_commands dir.now (commands script.now) tree.old) }
+    ensures { Tells tree.new result (after_commands dir.now (commands script.now) tree.old) }
 {
     let mut rest = script;
     while let Some((line, tail)) = first_cut(Cut::AtLineFeed, rest) {
@@ -105,7 +105,7 @@ fn run_script(alloc: Global, tree: &mut Tree, dir: &Path, script: &str) -> Resul
 
 /// Runs the command of a line; a line with no word holds none.
 fn run_line(alloc: Global, tree: &mut Tree, dir: &Path, line: &str) -> Result<(), Stop>
-    ensures { Ends tree.new result (after_line dir.now line.now tree.old) }
+    ensures { Tells tree.new result (after_line dir.now line.now tree.old) }
 {
     let words = words(alloc, line)?;
     if words.is_empty() {

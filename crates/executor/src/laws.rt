@@ -1,9 +1,10 @@
+// What is proved of the definitions alone. The functions do nothing: their contracts are laws.
+
 ghost use Rattle.std.specs.Prelude.{◌≡◌, ◌<◌, ◌∷◌, [], ◌++◌, List, ℕ, Some, None, codes, if◌then◌else◌};
 ghost use Rattle.trees.specs.declared.run.RunRequest.{RunRequest};
 ghost use Rattle.trees.specs.declared.run.RunOutcome.TheVariants.{Exit};
-ghost use Rattle.executor.specs.Script.{is_text, script_of, commands};
+ghost use Rattle.executor.specs.Script.{is_text, script_of, commands, with_script};
 ghost use Rattle.executor.specs.Fixture.{and_then, fixture_out};
-ghost use Rattle.executor.specs.FixtureLaws.{with_script};
 
 use crate::Executor;
 
@@ -15,6 +16,8 @@ pub fn exit_is_a_status<E: Executor>()
 
 /// Where nothing is mounted, the lines of a script are run one after another: what follows a line feed goes on from the
 /// tree that the lines before it left, and isn't begun where they ended with a status.
+//
+// That nothing is mounted isn't needed yet, since the fixture serves no mounts: it is kept for when it does.
 pub fn fixture_runs_line_by_line()
     ensures { (request : RunRequest) (front : List (List ℕ)) (first second : List ℕ)
         → request.binds ≡ [] → request.caches ≡ []

@@ -13,16 +13,13 @@
 mod command;
 mod executor;
 mod fixture;
-mod laws;
+pub mod laws;
 mod number;
 mod script;
 mod stop;
 
 pub use executor::Executor;
 pub use fixture::Fixture;
-pub use laws::{
-    exit_is_a_status, fixture_runs_line_by_line, last_but_one_tells_script, line_feed_parts_scripts,
-};
 pub use trees::{RunOutcome as Outcome, RunRequest as Request};
 
 #[cfg(test)]

@@ -16,6 +16,7 @@ pub fn status_of(text: &str) -> Option<u8>
     }
 }
 
+/// Whether a text has decimal digits alone.
 fn is_digits(text: &[u8]) -> bool
     ensures { result ≡ all_ascii_digits text.now }
 {

@@ -1,6 +1,6 @@
 ghost use Rattle.std.specs.Prelude.{◌≡◌, ◌<◌, [], ◌∷◌, ◌++◌, length, map, filter, IfOk, OnOk, MatchOption};
 ghost use Rattle.std.specs.List.{slice_split, position_or_len};
-ghost use Rattle.executor.specs.Script.{ends, is_filled, words};
+ghost use Rattle.executor.specs.Script.{is_cut_at, is_filled, words};
 
 use plain::Memory;
 use std::alloc::Global;
@@ -15,8 +15,8 @@ pub enum Cut {
 }
 
 /// Whether a byte is one at which the text is cut.
-fn ends(cut: Cut, byte: u8) -> bool
-    ensures { result ≡ ends cut byte }
+fn is_cut_at(cut: Cut, byte: u8) -> bool
+    ensures { result ≡ is_cut_at cut byte }
 {
     match cut {
         Cut::AtBlank => byte == b' ' || byte == b'\t',
@@ -26,10 +26,10 @@ fn ends(cut: Cut, byte: u8) -> bool
 
 /// How long the first piece of a text is.
 fn first_len(cut: Cut, text: &[u8]) -> usize
-    ensures { result ≡ position_or_len (ends cut) text.now }
+    ensures { result ≡ position_or_len (is_cut_at cut) text.now }
 {
     for (index, byte) in text.iter().enumerate() {
-        if ends(cut, *byte) {
+        if is_cut_at(cut, *byte) {
             return index;
         }
     }
@@ -38,8 +38,8 @@ fn first_len(cut: Cut, text: &[u8]) -> usize
 
 /// The first piece of a text and what follows its end, or nothing where the text is one piece.
 pub fn first_cut(cut: Cut, text: &str) -> Option<(&str, &str)>
-    ensures { MatchOption result (slice_split (ends cut) text.now ≡ text.now ∷ [])
-        (λ parts. (slice_split (ends cut) text.now ≡ parts.0.now ∷ slice_split (ends cut) parts.1.now) × (length parts.1.now < length text.now)) }
+    ensures { MatchOption result (slice_split (is_cut_at cut) text.now ≡ text.now ∷ [])
+        (λ parts. (slice_split (is_cut_at cut) text.now ≡ parts.0.now ∷ slice_split (is_cut_at cut) parts.1.now) × (length parts.1.now < length text.now)) }
 {
     let length = first_len(cut, text.as_bytes());
     if length == text.len() {

@@ -16,9 +16,9 @@ fn request(alloc: Global, root: Tree, dir: Path, words: &[&str]) -> Result<Reque
 {
     let mut texts = Vec::new(alloc);
     for word in words {
-        texts.push(Text::read(alloc, word)?)?;
+        texts.push(Text::from_str(alloc, word)?)?;
     }
-    let user = Text::read(alloc, "nobody")?;
+    let user = Text::from_str(alloc, "nobody")?;
     Ok(Request {
         root,
         binds: Items::new(alloc),
@@ -64,7 +64,7 @@ fn small_tree(alloc: Global) -> Result<Tree, Fail> {
         uid: 7,
         gid: 8,
     };
-    let bytes = Bytes::read(alloc, "old".as_bytes())?;
+    let bytes = Bytes::from_slice(alloc, "old".as_bytes())?;
     tree.put(alloc, &path, Entry::File(meta, Content::new(bytes)))?;
     Ok(tree)
 }

@@ -1,3 +1,5 @@
 pub mod BlankLemmas
+pub mod ContinuedLemmas
 pub mod NameLemmas
+pub mod NumberLemmas
 pub mod TextLemmas

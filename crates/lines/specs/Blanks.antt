@@ -1,3 +1,4 @@
+-- What blanks are, and what a line is without them: trimmed, in pieces, a comment, or continued.
 use Rattle.std.specs.Prelude.{ℕ, ◌-◌, Bool, false, List, [], ◌∷◌, ◌++◌, ◌==◌, ◌||◌, ◌&&◌, not, if◌then◌else◌, length, take, slice_index, Option, Some, None}
 
 -- a blank is a space or a tab (own)
@@ -37,24 +38,25 @@ starts_with c (d ∷ ds) = d == c
 abbrev pub ends_with : ℕ → List ℕ → Bool
 ends_with c text = if length text == 0 then false else slice_index text (length text - 1) == c
 
--- what a line adds where it continues: its last character that isn't blank is the escape character, the
--- character before that isn't one, and what stands before that escape character is added (Dockerfile
--- reference, continuation; that a doubled escape character continues nothing: own)
+-- what a text that ends with the escape character adds to its logical line: what stands before that character. It adds nothing
+-- where it ends otherwise, or where the character before that is one too (BuildKit's parser, `lineContinuationRegex`)
 abbrev pub part_before : ℕ → List ℕ → Option (List ℕ)
 part_before e text = if ends_with e text && not (ends_with e (take (length text - 1) text)) then Some (take (length text - 1) text) else None
 
+-- what a line adds where it continues: its last character that isn't blank is the escape character (Dockerfile reference, `escape`;
+-- that blanks may follow it is of BuildKit's parser, `lineContinuationRegex`)
 abbrev pub continued_part : ℕ → List ℕ → Option (List ℕ)
 continued_part e line = part_before e (before_blanks line)
 
--- a line of blanks alone
+-- a line of blanks alone (own)
 abbrev pub is_blank_line : List ℕ → Bool
 is_blank_line line = length (after_blanks line) == 0
 
--- a line whose first character that isn't blank is `#`
+-- a line whose first character that isn't blank is `#` (Dockerfile reference, comments)
 abbrev pub is_comment : List ℕ → Bool
 is_comment line = starts_with 35 (after_blanks line)
 
--- `some` before the pieces that follow, unless it is empty
+-- a piece alone, or nothing where it is empty
 abbrev pub if_any : List ℕ → List (List ℕ)
 if_any [] = []
 if_any (c ∷ cs) = (c ∷ cs) ∷ []
@@ -64,6 +66,6 @@ abbrev pub pieces_from : List ℕ → List ℕ → List (List ℕ)
 pieces_from part [] = if_any part
 pieces_from part (c ∷ cs) = if is_blank c then if_any part ++ pieces_from [] cs else pieces_from (part ++ c ∷ []) cs
 
--- a text's pieces: its maximal runs of characters that aren't blank
+-- a text's pieces: its maximal runs of characters that aren't blank (own)
 abbrev pub pieces : List ℕ → List (List ℕ)
 pieces text = pieces_from [] text

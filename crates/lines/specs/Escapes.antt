@@ -1,3 +1,4 @@
+-- The escape characters, and their bytes.
 use Rattle.std.specs.Prelude.{ℕ, List, [], ◌∷◌, Option, Some, None, bytes_eq, if◌then◌else◌}
 use Rattle.lines.specs.declared.line.Escape.{Escape}
 use Rattle.lines.specs.declared.line.Escape.TheVariants.{Backslash, Backtick}

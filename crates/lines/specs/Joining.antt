@@ -1,3 +1,5 @@
+-- What each kind of line adds to what the lines before it have given (own, but where a definition names its source). The rules by
+-- which lines are labelled, and the program's steps, both speak in these words.
 use Rattle.std.specs.Prelude.{ℕ, ◌+◌, Bool, true, false, List, [], ◌∷◌, ◌++◌, ◌==◌, ◌||◌, if◌then◌else◌, length, slice_get, Option, Some, None, bytes_eq}
 use Rattle.plain.specs.declared.refusal.Code.{Code}
 use Rattle.plain.specs.declared.refusal.Code.TheVariants.{R02, R03, R08, R18}
@@ -7,123 +9,125 @@ use Rattle.lines.specs.Marks.{marks_of}
 use Rattle.lines.specs.declared.line.Escape.TheVariants.{Backslash}
 use Rattle.lines.specs.declared.line.Mark.{Mark}
 use Rattle.lines.specs.declared.line.Heredoc.{Heredoc}
-use Rattle.lines.specs.declared.reading.Directive.{Directive}
-use Rattle.lines.specs.declared.reading.Directive.TheVariants.{Escape, Syntax, Check}
-use Rattle.lines.specs.declared.reading.Seen.{Seen}
-use Rattle.lines.specs.declared.reading.Unclosed.{Unclosed}
-use Rattle.lines.specs.declared.reading.Stage.{Stage}
-use Rattle.lines.specs.declared.reading.Stage.TheVariants.{Top, Between, Within, Bodies}
-use Rattle.lines.specs.declared.reading.Reading.{Reading}
+use Rattle.lines.specs.declared.state.Directive.{Directive}
+use Rattle.lines.specs.declared.state.Directive.TheVariants.{Escape, Syntax, Check}
+use Rattle.lines.specs.declared.state.Seen.{Seen}
+use Rattle.lines.specs.declared.state.Unclosed.{Unclosed}
+use Rattle.lines.specs.declared.state.Stage.{Stage}
+use Rattle.lines.specs.declared.state.Stage.TheVariants.{Top, Between, Within, Bodies}
+use Rattle.lines.specs.declared.state.Reading.{Reading}
+use Rattle.lines.specs.declared.steps.TheConstants.{MAX_LINES}
 
--- before the first line
-abbrev pub opening : Reading
-opening = record { escape = Backslash; count = 0; stage = Top (record { escape = false; syntax = false; check = false }); lines = []; faults = [] }
+-- before the first line: the escape character is a backslash (Dockerfile reference, `escape`)
+abbrev pub initial : Reading
+initial = record { escape = Backslash; count = 0; stage = Top (record { escape = false; syntax = false; check = false }); lines = []; faults = [] }
 
+-- the same with the next line at another stage
 abbrev pub at_stage : Reading → Stage → Reading
-at_stage r s = record r { stage = s }
+at_stage reading stage = record reading { stage = stage }
 
 -- the line is counted; the stage is taken out before it is looked at
 abbrev pub counted : Reading → Reading
-counted r = record r { count = r.count + 1; stage = Between }
+counted reading = record reading { count = reading.count + 1; stage = Between }
 
 -- one more thing that is wrong, at a line
 abbrev pub noted : Reading → Code → ℕ → Reading
-noted r c n = record r { faults = r.faults ++ (record { code = c; line = n }) ∷ [] }
+noted reading code number = record reading { faults = reading.faults ++ (record { code = code; line = number }) ∷ [] }
 
 -- whether the directive's key has stood before
 abbrev pub has_stood : Seen → Directive → Bool
-has_stood s (Escape e) = s.escape
-has_stood s Syntax = s.syntax
-has_stood s Check = s.check
+has_stood seen (Escape value) = seen.escape
+has_stood seen Syntax = seen.syntax
+has_stood seen Check = seen.check
 
+-- the keys that have stood, with the directive's
 abbrev pub with_seen : Seen → Directive → Seen
-with_seen s (Escape e) = record s { escape = true }
-with_seen s Syntax = record s { syntax = true }
-with_seen s Check = record s { check = true }
+with_seen seen (Escape value) = record seen { escape = true }
+with_seen seen Syntax = record seen { syntax = true }
+with_seen seen Check = record seen { check = true }
 
--- `escape` sets the escape character, and a value that names none is refused
+-- `escape` sets the escape character, and a value that names none is refused (Dockerfile reference, `escape`)
 abbrev pub with_value : Reading → Directive → Reading
-with_value r (Escape (Some e)) = record r { escape = e }
-with_value r (Escape None) = noted r R03 r.count
-with_value r Syntax = r
-with_value r Check = r
+with_value reading (Escape (Some value)) = record reading { escape = value }
+with_value reading (Escape None) = noted reading R03 reading.count
+with_value reading Syntax = reading
+with_value reading Check = reading
 
 -- a directive whose key has stood before is refused (Dockerfile reference, parser directives)
 abbrev pub told_twice : Reading → Seen → Directive → Reading
-told_twice r s d = if has_stood s d then noted r R02 r.count else r
+told_twice reading seen directive = if has_stood seen directive then noted reading R02 reading.count else reading
 
 -- a directive stands on the line just counted
 abbrev pub directed : Reading → Seen → Directive → Reading
-directed r s d = at_stage (with_value (told_twice r s d) d) (Top (with_seen s d))
+directed reading seen directive = at_stage (with_value (told_twice reading seen directive) directive) (Top (with_seen seen directive))
 
 -- a logical line behind 4,096 others is refused, the first such one (own)
 abbrev pub limited : Reading → ℕ → Reading
-limited r n = if length r.lines == 4096 then noted r R18 n else r
+limited reading number = if length reading.lines == MAX_LINES then noted reading R18 number else reading
 
 -- a logical line is complete
 abbrev pub completed : Reading → ℕ → List ℕ → List Heredoc → Reading
-completed r n text heredocs = record r { stage = Between; lines = r.lines ++ (record { number = n; text = text; heredocs = heredocs; escape = r.escape }) ∷ [] }
+completed reading number text heredocs = record reading { stage = Between; lines = reading.lines ++ (record { number = number; text = text; heredocs = heredocs; escape = reading.escape }) ∷ [] }
 
--- a logical line's text is complete, and its heredocs' bodies follow, if it has marks
+-- a logical line's text is complete, and its heredocs' bodies follow, if it has marks (Dockerfile reference, here-documents)
 abbrev pub opened : Reading → ℕ → List ℕ → List Mark → Reading
-opened r n text [] = completed r n text []
-opened r n text (m ∷ ms) = at_stage r (Bodies (record { number = n; text = text; marks = m ∷ ms; heredocs = []; mark = m; body = [] }))
+opened reading number text [] = completed reading number text []
+opened reading number text (mark ∷ marks) = at_stage reading (Bodies (record { number = number; text = text; marks = mark ∷ marks; heredocs = []; mark = mark; body = [] }))
 
 -- the lines of a logical line have ended; where they join to an empty text there is none (own)
 abbrev pub closed : Reading → ℕ → List ℕ → Reading
-closed r n [] = at_stage r Between
-closed r n (c ∷ cs) = opened (limited r n) n (c ∷ cs) (marks_of (c ∷ cs))
+closed reading number [] = at_stage reading Between
+closed reading number (c ∷ cs) = opened (limited reading number) number (c ∷ cs) (marks_of (c ∷ cs))
 
+-- a line of a logical line, of which the part before the escape character is added where it continues, and the whole line where it
+-- doesn't; then leading and trailing blanks of what was joined are dropped (own)
 abbrev pub joined_part : Reading → ℕ → List ℕ → List ℕ → Option (List ℕ) → Reading
-joined_part r n before line None = closed r n (trimmed (before ++ line))
-joined_part r n before line (Some part) = at_stage r (Within (record { number = n; text = before ++ part }))
+joined_part reading number before line None = closed reading number (trimmed (before ++ line))
+joined_part reading number before line (Some part) = at_stage reading (Within (record { number = number; text = before ++ part }))
 
--- a line is added to what the lines before it in its logical line have joined to
+-- a line is added to what the lines before it in its logical line have joined to (Dockerfile reference, `escape`)
 abbrev pub joined : Reading → ℕ → List ℕ → List ℕ → Reading
-joined r n before line = joined_part r n before line (continued_part (byte_of r.escape) line)
+joined reading number before line = joined_part reading number before line (continued_part (byte_of reading.escape) line)
 
--- what a line is to a heredoc of this mark: `<<-` drops its leading tabs
+-- what a line is to a heredoc of this mark: `<<-` drops its leading tabs (Dockerfile reference, here-documents)
 abbrev pub body_line : Mark → List ℕ → List ℕ
-body_line m line = if m.strips then after_tabs line else line
+body_line mark line = if mark.strips then after_tabs line else line
 
--- whether a line closes the heredoc of this mark
+-- whether a line closes the heredoc of this mark (Dockerfile reference, here-documents)
 abbrev pub closes : Mark → List ℕ → Bool
-closes m line = bytes_eq (body_line m line) m.name
+closes mark line = bytes_eq (body_line mark line) mark.name
 
 -- the heredoc of the next mark is read, if there is one
 abbrev pub heredoc_next : Reading → Unclosed → List Heredoc → Option Mark → Reading
-heredoc_next r u heredocs None = completed r u.number u.text heredocs
-heredoc_next r u heredocs (Some m) = at_stage r (Bodies (record u { heredocs = heredocs; mark = m; body = [] }))
+heredoc_next reading unclosed heredocs None = completed reading unclosed.number unclosed.text heredocs
+heredoc_next reading unclosed heredocs (Some mark) = at_stage reading (Bodies (record unclosed { heredocs = heredocs; mark = mark; body = [] }))
 
 -- the heredoc that was read is closed
 abbrev pub heredoc_closed : Reading → Unclosed → Reading
-heredoc_closed r u = heredoc_next r u (u.heredocs ++ (record { mark = u.mark; body = u.body }) ∷ []) (slice_get u.marks (length u.heredocs + 1))
+heredoc_closed reading unclosed = heredoc_next reading unclosed (unclosed.heredocs ++ (record { mark = unclosed.mark; body = unclosed.body }) ∷ []) (slice_get unclosed.marks (length unclosed.heredocs + 1))
 
 -- a heredoc's body has one more line, with its LF
 abbrev pub body_grown : Reading → Unclosed → List ℕ → Reading
-body_grown r u line = at_stage r (Bodies (record u { body = u.body ++ (line ++ 10 ∷ []) }))
+body_grown reading unclosed line = at_stage reading (Bodies (record unclosed { body = unclosed.body ++ (line ++ 10 ∷ []) }))
 
--- comments and blank lines
+-- comments and blank lines, which are dropped, also inside a continuation (Dockerfile reference, comments)
 abbrev pub is_skipped : List ℕ → Bool
 is_skipped line = is_blank_line line || is_comment line
 
--- the end of the text ends a continuation (own)
+-- the end of the text ends a continuation (as in BuildKit's parser)
 abbrev pub stopped : Reading → Stage → Reading
-stopped r (Within p) = closed r p.number (trimmed p.text)
-stopped r (Top s) = r
-stopped r Between = r
-stopped r (Bodies u) = r
+stopped reading (Within pending) = closed reading pending.number (trimmed pending.text)
+stopped reading (Top seen) = reading
+stopped reading Between = reading
+stopped reading (Bodies unclosed) = reading
 
--- an unclosed heredoc is refused, at its instruction's line
-abbrev pub unclosed : Reading → Stage → Reading
-unclosed r (Bodies u) = noted r R08 u.number
-unclosed r (Top s) = r
-unclosed r Between = r
-unclosed r (Within p) = r
-
-abbrev pub ended_once : Reading → Reading
-ended_once r = unclosed r r.stage
+-- a heredoc that the end of the text leaves unclosed is refused, at its instruction's line (own; BuildKit refuses it too)
+abbrev pub note_unclosed : Reading → Stage → Reading
+note_unclosed reading (Bodies unclosed) = noted reading R08 unclosed.number
+note_unclosed reading (Top seen) = reading
+note_unclosed reading Between = reading
+note_unclosed reading (Within pending) = reading
 
 -- what a text's lines have given at its end
 abbrev pub ended : Reading → Reading
-ended r = ended_once (stopped r r.stage)
+ended reading = note_unclosed (stopped reading reading.stage) (stopped reading reading.stage).stage

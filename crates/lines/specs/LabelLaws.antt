@@ -6,16 +6,16 @@ use Rattle.std.proofs.lemmas.Bool.{true≢false}
 use Rattle.std.proofs.lemmas.Bool.Decides.{nat_tests}
 use Rattle.lines.specs.Blanks.{after_blanks, starts_with, is_blank_line, is_comment}
 use Rattle.lines.specs.Directives.{directive_of}
-use Rattle.lines.specs.Joining.{opening, counted, is_skipped, closes, ended}
+use Rattle.lines.specs.Joining.{initial, counted, is_skipped, closes, ended}
 use Rattle.lines.specs.Labels.{Label, directive, comment, blank, first, continued, body, closing, IsFree, IsInside, Allowed, added, after, Obeys, joins, IsReadAs}
 use Rattle.lines.specs.Steps.{between_step, top_chosen, top_step, within_step, body_step, stage_step, line_step, after_lines}
-use Rattle.lines.specs.declared.reading.Directive.{Directive}
-use Rattle.lines.specs.declared.reading.Seen.{Seen}
-use Rattle.lines.specs.declared.reading.Pending.{Pending}
-use Rattle.lines.specs.declared.reading.Unclosed.{Unclosed}
-use Rattle.lines.specs.declared.reading.Stage.{Stage}
-use Rattle.lines.specs.declared.reading.Stage.TheVariants.{Top, Between, Within, Bodies}
-use Rattle.lines.specs.declared.reading.Reading.{Reading}
+use Rattle.lines.specs.declared.state.Directive.{Directive}
+use Rattle.lines.specs.declared.state.Seen.{Seen}
+use Rattle.lines.specs.declared.state.Pending.{Pending}
+use Rattle.lines.specs.declared.state.Unclosed.{Unclosed}
+use Rattle.lines.specs.declared.state.Stage.{Stage}
+use Rattle.lines.specs.declared.state.Stage.TheVariants.{Top, Between, Within, Bodies}
+use Rattle.lines.specs.declared.state.Reading.{Reading}
 
 -- the label of a line by its tests
 
@@ -234,11 +234,11 @@ obeys_same r ls ks js h i = obeys_only r ks ls h ∙ sym (obeys_only r js ls i)
 
 -- lines are read as what reading them one by one gives, and as nothing else
 
-pub IsReadAs-is : (ls : List (List ℕ)) → IsReadAs ls (ended (after_lines opening ls))
-IsReadAs-is ls = (labels_of opening ls, obeys_one opening ls, ap ended (sym (joins_is opening (labels_of opening ls) ls (obeys_one opening ls))))
+pub IsReadAs-is : (ls : List (List ℕ)) → IsReadAs ls (ended (after_lines initial ls))
+IsReadAs-is ls = (labels_of initial ls, obeys_one initial ls, ap ended (sym (joins_is initial (labels_of initial ls) ls (obeys_one initial ls))))
 
-pub IsReadAs-only : (ls : List (List ℕ)) (found : Reading) → IsReadAs ls found → found ≡ ended (after_lines opening ls)
-IsReadAs-only ls found h = h.2 ∙ ap ended (joins_is opening h.0 ls h.1)
+pub IsReadAs-only : (ls : List (List ℕ)) (found : Reading) → IsReadAs ls found → found ≡ ended (after_lines initial ls)
+IsReadAs-only ls found h = h.2 ∙ ap ended (joins_is initial h.0 ls h.1)
 
 pub IsReadAs-same : (ls : List (List ℕ)) (a b : Reading) → IsReadAs ls a → IsReadAs ls b → a ≡ b
 IsReadAs-same ls a b h i = IsReadAs-only ls a h ∙ sym (IsReadAs-only ls b i)

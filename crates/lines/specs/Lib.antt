@@ -1,4 +1,5 @@
 pub mod Blanks
+pub mod Continued
 pub mod Escapes
 pub mod Directives
 pub mod Marks

@@ -1,3 +1,4 @@
+-- The marks of heredocs in a logical line, as `<<-"EOF"` (own, but where a definition names its source).
 use Rattle.std.specs.Prelude.{ℕ, ◌-◌, Bool, true, false, List, [], ◌∷◌, ◌==◌, ◌||◌, ◌&&◌, nat_le, if◌then◌else◌, Option, Some, None, length, take, drop, filter_map, codes}
 use Rattle.lines.specs.Blanks.{pieces, starts_with, ends_with}
 use Rattle.lines.specs.Directives.{is_word}
@@ -29,20 +30,22 @@ is_quoted_by q text = (nat_le 2 (length text) && starts_with q text) && ends_wit
 abbrev pub named : Bool → Bool → List ℕ → Option Mark
 named strips quoted name = if is_name name then Some (record { name = name; quoted = quoted; strips = strips }) else None
 
--- the mark of what stands behind `<<` or `<<-`: a name, bare or in a pair of single or double quotes
+-- the mark of what stands behind `<<` or `<<-`: a name, bare or in a pair of single or double quotes (Dockerfile reference,
+-- here-documents)
 abbrev pub mark_from : Bool → List ℕ → Option Mark
 mark_from strips text = if is_quoted_by 34 text || is_quoted_by 39 text then named strips true (take (length text - 2) (drop 1 text)) else named strips false text
 
--- the mark of what stands behind `<<`
+-- the mark of what stands behind `<<`: with a `-` there leading tabs are dropped (Dockerfile reference, here-documents)
 abbrev pub mark_dashed : List ℕ → Option Mark
 mark_dashed rest = if starts_with 45 rest then mark_from true (drop 1 rest) else mark_from false rest
 
--- what stands behind the `<<` with which a text begins
+-- what stands behind the `<<` with which a text begins (Dockerfile reference, here-documents)
 abbrev pub after_two : List ℕ → Option (List ℕ)
 after_two [] = None
 after_two (c ∷ []) = None
 after_two (c ∷ d ∷ rest) = if (c == 60) && (d == 60) then Some rest else None
 
+-- the mark of what stands behind the `<<` with which a piece begins, if it begins so
 abbrev pub mark_after : Option (List ℕ) → Option Mark
 mark_after None = None
 mark_after (Some rest) = mark_dashed rest
@@ -52,7 +55,7 @@ mark_after (Some rest) = mark_dashed rest
 abbrev pub mark_of : List ℕ → Option Mark
 mark_of piece = mark_after (after_two piece)
 
--- a flag begins with `--`
+-- a flag begins with `--` (Dockerfile reference, as `RUN --mount`)
 abbrev pub is_flag : List ℕ → Bool
 is_flag [] = false
 is_flag (c ∷ []) = false
@@ -63,12 +66,13 @@ abbrev pub after_flags : List (List ℕ) → List (List ℕ)
 after_flags [] = []
 after_flags (p ∷ ps) = if is_flag p then after_flags ps else p ∷ ps
 
--- the marks among the pieces behind the flags: none where they begin with `[`, as a list in JSON does
+-- the marks among the pieces behind the flags: none where they begin with `[`, as a list in JSON does (own)
 abbrev pub marks_among : List (List ℕ) → List Mark
 marks_among [] = []
 marks_among (p ∷ ps) = if starts_with 91 p then [] else filter_map mark_of (p ∷ ps)
 
--- the marks among the pieces of an instruction: RUN and COPY alone have heredocs
+-- the marks among the pieces of an instruction: RUN and COPY alone have heredocs (Dockerfile reference, here-documents, which has
+-- ADD too)
 abbrev pub marks_in : List (List ℕ) → List Mark
 marks_in [] = []
 marks_in (name ∷ rest) = if is_word (codes "run") name || is_word (codes "copy") name then marks_among (after_flags rest) else []

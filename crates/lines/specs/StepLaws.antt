@@ -9,15 +9,16 @@ use Rattle.lines.specs.Marks.{marks_of}
 use Rattle.lines.specs.Joining.{at_stage, counted, noted, has_stood, with_value, told_twice, directed, limited, opened, closed, joined_part, joined, closes, body_line, heredoc_next, heredoc_closed, body_grown, is_skipped}
 use Rattle.lines.specs.Steps.{between_step, top_chosen, within_step, body_step, stage_step, line_step}
 use Rattle.lines.specs.declared.line.Mark.{Mark}
+use Rattle.lines.specs.declared.steps.TheConstants.{MAX_LINES}
 use Rattle.lines.specs.declared.line.Heredoc.{Heredoc}
-use Rattle.lines.specs.declared.reading.Directive.{Directive}
-use Rattle.lines.specs.declared.reading.Directive.TheVariants.{Escape, Syntax, Check}
-use Rattle.lines.specs.declared.reading.Seen.{Seen}
-use Rattle.lines.specs.declared.reading.Pending.{Pending}
-use Rattle.lines.specs.declared.reading.Unclosed.{Unclosed}
-use Rattle.lines.specs.declared.reading.Stage.{Stage}
-use Rattle.lines.specs.declared.reading.Stage.TheVariants.{Top, Between, Within, Bodies}
-use Rattle.lines.specs.declared.reading.Reading.{Reading}
+use Rattle.lines.specs.declared.state.Directive.{Directive}
+use Rattle.lines.specs.declared.state.Directive.TheVariants.{Escape, Syntax, Check}
+use Rattle.lines.specs.declared.state.Seen.{Seen}
+use Rattle.lines.specs.declared.state.Pending.{Pending}
+use Rattle.lines.specs.declared.state.Unclosed.{Unclosed}
+use Rattle.lines.specs.declared.state.Stage.{Stage}
+use Rattle.lines.specs.declared.state.Stage.TheVariants.{Top, Between, Within, Bodies}
+use Rattle.lines.specs.declared.state.Reading.{Reading}
 
 -- of two readings with one count, whichever a test chooses has it
 either_count : (n : ℕ) (a b : Reading) (t : Bool) → a.count ≡ n → b.count ≡ n → (if t then a else b).count ≡ n
@@ -25,13 +26,13 @@ either_count n a b true h i = h
 either_count n a b false h i = i
 
 limited-count : (r : Reading) (n : ℕ) → (limited r n).count ≡ r.count
-limited-count r n = either_count r.count (noted r R18 n) r (length r.lines == 4096) refl refl
+limited-count r n = either_count r.count (noted r R18 n) r (length r.lines == MAX_LINES) refl refl
 
 opened-count : (r : Reading) (n : ℕ) (text : List ℕ) (ms : List Mark) → (opened r n text ms).count ≡ r.count
 opened-count r n text [] = refl
 opened-count r n text (m ∷ ms) = refl
 
-closed-count : (r : Reading) (n : ℕ) (text : List ℕ) → (closed r n text).count ≡ r.count
+pub closed-count : (r : Reading) (n : ℕ) (text : List ℕ) → (closed r n text).count ≡ r.count
 closed-count r n [] = refl
 closed-count r n (c ∷ cs) = opened-count (limited r n) n (c ∷ cs) (marks_of (c ∷ cs)) ∙ limited-count r n
 

@@ -9,13 +9,13 @@ use Rattle.plain.specs.declared.refusal.Code.TheVariants.{R01, R18}
 use Rattle.plain.specs.declared.refusal.Refusal.{Refusal}
 use Rattle.lines.specs.Faults.{refusal, IsAmong, IsLeast, least_from}
 use Rattle.lines.specs.FaultLaws.{IsLeast-same, least_from-none, least_from-some}
-use Rattle.lines.specs.Joining.{opening, ended}
+use Rattle.lines.specs.Joining.{initial, ended}
 use Rattle.lines.specs.Labels.{IsReadAs}
 use Rattle.lines.specs.LabelLaws.{IsReadAs-is, IsReadAs-same}
 use Rattle.lines.specs.Steps.{after_lines}
 use Rattle.lines.specs.Text.{IsShort, text_lines, first_bad_line, AreLines, IsRefused}
 use Rattle.lines.specs.declared.line.Line.{Line}
-use Rattle.lines.specs.declared.reading.Reading.{Reading}
+use Rattle.lines.specs.declared.state.Reading.{Reading}
 
 -- a text has one list of logical lines at most
 pub lines_same : (text : List ℕ) (a b : List Line) → AreLines text a → AreLines text b → a ≡ b
@@ -63,7 +63,7 @@ read_answered text end (Some f) s u h e = inr (f, inr (inr (s, u, (end, h, least
 
 short_answered : (text : List ℕ) → IsShort text → (IsUtf8 text) ⊎ (¬ (IsUtf8 text)) → IsAnswered text
 short_answered text s (inl u) =
-    let end = ended (after_lines opening (text_lines text)) in
+    let end = ended (after_lines initial (text_lines text)) in
     read_answered text end (least_from None end.faults) s u (IsReadAs-is (text_lines text)) refl
 short_answered text s (inr n) = inr (refusal R01 (first_bad_line text), inr (inl (s, n, refl)))
 

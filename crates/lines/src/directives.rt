@@ -4,7 +4,7 @@ ghost use Rattle.lines.specs.Escapes.{escape_named};
 
 use crate::Escape;
 use crate::blanks::{starts_with, trimmed};
-use crate::reading::Directive;
+use crate::state::Directive;
 
 /// Whether a text is a word, whatever the case of its ASCII letters.
 pub fn is_word(word: &[u8], text: &[u8]) -> bool

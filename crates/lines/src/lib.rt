@@ -6,7 +6,7 @@
 // The central definition is `AreLines` in specs/Text.antt: each line of the text can be labelled directive, comment,
 // blank, first, continued, body or closing, so that the labels obey the rules of specs/Labels.antt, and the logical
 // lines are what the labelled lines join to. There is just one such labelling. `IsRefused` says beside it which one
-// fault of a text is told, and `Answers` is both: what `Reader::finish` gives, however the text was cut.
+// fault of a text is told, and `Answers` is both: what `Reader::finish` gives, however the text was cut. `laws` says what follows.
 //
 // ```
 // let mut reader = Reader::new(alloc);
@@ -19,16 +19,15 @@ mod blanks;
 mod directives;
 mod fault;
 mod faults;
-mod laws;
+pub mod laws;
 mod line;
 mod marks;
 mod reader;
-mod reading;
+mod state;
 mod steps;
-mod whole;
+mod text;
 
 pub use fault::LineFault;
-pub use laws::{answers_are_unique, labels_are_unique, texts_are_read_or_refused};
 pub use line::{Escape, Heredoc, Line, Mark};
 pub use reader::Reader;
 

@@ -1,5 +1,5 @@
-ghost use Rattle.std.specs.Prelude.{◌≡◌, true, map, option_map, filter_map, IfOk};
-ghost use Rattle.lines.specs.Marks.{begins_name, is_in_name, are_in_name, is_name, is_quoted_by, named, mark_from, after_two, mark_of, is_flag, after_flags, marks_among, marks_in, marks_of};
+ghost use Rattle.std.specs.Prelude.{◌≡◌, true, map, option_map, IfOk};
+ghost use Rattle.lines.specs.Marks.{begins_name, is_in_name, are_in_name, is_name, is_quoted_by, named, mark_from, after_two, mark_of, is_flag, after_flags, marks_among, marks_of};
 
 use crate::Mark;
 use crate::blanks::{ends_with, pieces, starts_with};
@@ -56,7 +56,7 @@ fn name_text(alloc: Global, name: &[u8]) -> Result<Text, Memory>
     ensures { IfOk result (λ text. text ≡ name.now) }
 {
     match str::from_utf8(name) {
-        Ok(name) => Text::read(alloc, name),
+        Ok(name) => Text::from_str(alloc, name),
         Err(_) => unreachable!(),
     }
 }

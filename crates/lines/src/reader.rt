@@ -1,6 +1,6 @@
 ghost use Rattle.std.specs.Prelude.{◌≤◌, ◌^◌, length};
 
-use crate::whole::{MAX_BYTES, lines_of};
+use crate::text::{MAX_BYTES, lines_of};
 use crate::{Line, LineFault};
 use plain::{Code, Memory, Refusal};
 use std::alloc::Global;
@@ -34,7 +34,7 @@ impl Reader {
         }
     }
 
-    /// Takes a piece of the text. After `Memory` the reader is as it was.
+    /// Takes a piece of the text. After `Memory` the reader still holds the same text.
     pub fn feed(&mut self, alloc: Global, piece: &[u8]) -> Result<(), Memory>
         ensures ok { OnOk result ((text : List ℕ) → Holds self.old text → Holds self.new (text ++ piece.now)) }
         ensures err { OnErr result ((text : List ℕ) → Holds self.old text → Holds self.new text) }

@@ -1,11 +1,11 @@
 ghost use Rattle.std.specs.Prelude.{◌≡◌, ◌++◌, ◌<◌, ◌-◌, ◌^◌, IfOk};
-ghost use Rattle.lines.specs.Joining.{opening, at_stage, noted, has_stood, with_seen, with_value, told_twice, directed, limited, completed, opened, closed, joined, body_line, closes, heredoc_closed, body_grown, is_skipped, stopped, ended_once, ended};
+ghost use Rattle.lines.specs.Joining.{initial, at_stage, noted, has_stood, with_seen, with_value, told_twice, directed, limited, completed, opened, closed, joined, body_line, closes, heredoc_closed, body_grown, is_skipped, stopped, note_unclosed, ended};
 ghost use Rattle.lines.specs.Steps.{between_step, top_step, within_step, body_step, line_step};
 
 use crate::blanks::{after_tabs, continued_part, is_blank_line, is_comment, trimmed};
 use crate::directives::directive_of;
 use crate::marks::marks_of;
-use crate::reading::{Directive, Pending, Reading, Seen, Stage, Unclosed};
+use crate::state::{Directive, Pending, Reading, Seen, Stage, Unclosed};
 use crate::{Escape, Heredoc, Line, Mark};
 use plain::{Code, Exact, Items, Memory, Refusal, Text};
 use std::alloc::Global;
@@ -14,8 +14,8 @@ use std::alloc::Global;
 const MAX_LINES: usize = 4096;
 
 /// What no line has given.
-pub fn opening(alloc: Global) -> Reading
-    ensures { result ≡ opening }
+pub fn initial(alloc: Global) -> Reading
+    ensures { result ≡ initial }
 {
     let seen = Seen {
         escape: false,
@@ -175,7 +175,7 @@ fn closed(alloc: Global, reading: Reading, number: u32, text: &str) -> Result<Re
     }
     let reading = limited(reading, number)?;
     let marks = marks_of(alloc, text)?;
-    opened(alloc, reading, number, Text::read(alloc, text)?, marks)
+    opened(alloc, reading, number, Text::from_str(alloc, text)?, marks)
 }
 
 /// A text with another behind it.
@@ -371,7 +371,7 @@ pub fn ended(alloc: Global, reading: Reading) -> Result<Reading, Memory>
     ensures { IfOk result (λ r. r ≡ ended reading) }
 {
     let reading = stopped(alloc, reading)?;
-    unclosed_told(reading)
+    note_unclosed(reading)
 }
 
 /// The end of the text ends a continuation.
@@ -380,15 +380,15 @@ fn stopped(alloc: Global, reading: Reading) -> Result<Reading, Memory>
 {
     if let Stage::Within(pending) = &reading.stage {
         let number = pending.number;
-        let text = Text::read(alloc, trimmed(pending.text.as_str()))?;
+        let text = Text::from_str(alloc, trimmed(pending.text.as_str()))?;
         return closed(alloc, reading, number, text.as_str());
     }
     Ok(reading)
 }
 
 /// Notes a heredoc that the end of the text leaves unclosed.
-fn unclosed_told(reading: Reading) -> Result<Reading, Memory>
-    ensures { IfOk result (λ r. r ≡ ended_once reading) }
+fn note_unclosed(reading: Reading) -> Result<Reading, Memory>
+    ensures { IfOk result (λ r. r ≡ note_unclosed reading reading.stage) }
 {
     if let Stage::Bodies(unclosed) = &reading.stage {
         let number = unclosed.number;

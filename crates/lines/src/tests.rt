@@ -1,5 +1,9 @@
 ghost use Rattle.std.specs.Prelude.{◌<◌};
 
+use crate::laws::{
+    answers_are_unique, continued_lines_join, labels_are_unique, numbers_ascend,
+    texts_are_read_or_refused, texts_are_trimmed,
+};
 use crate::*;
 use plain::{Code, Exact, Memory, Refusal};
 use std::alloc::Global;
@@ -104,7 +108,6 @@ fn directives_stand_at_the_top(rt: HostRuntime) -> Result<(), Fail> {
         ("\u{feff}# escape=`\r\nRUN a `\r\nb", "2:RUN a b"),
         ("# syntax=x\n#check=y\n# escape=`\nRUN a `\nb", "4:RUN a b"),
         // Any other line ends them, a blank one and a comment too.
-        ("# foo=bar\n# escape=`\nRUN a `\nb", "3:RUN a `;4:b"),
         ("\n# escape=`\nRUN a `\nb", "3:RUN a `;4:b"),
         ("#\n# escape=`\nRUN a `\nb", "3:RUN a `;4:b"),
         ("# check=a\n\n# check=b", ""),
@@ -411,5 +414,8 @@ fn lines_are_exact(rt: HostRuntime) -> Result<(), Fail> {
     labels_are_unique();
     texts_are_read_or_refused();
     answers_are_unique();
+    continued_lines_join();
+    numbers_ascend();
+    texts_are_trimmed();
     Ok(())
 }

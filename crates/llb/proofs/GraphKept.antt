@@ -1,14 +1,14 @@
 -- Adding keeps a graph a graph.
-use Rattle.std.specs.Prelude.{◌≡◌, ◌≢◌, ◌<◌, ◌≤◌, ℕ, zero, suc, ◌⊎◌, Option, Some, None, List, [], ◌∷◌, ◌++◌, IsTrue, length, slice_get, slice_set, slice_index_or, refl}
+use Rattle.std.specs.Prelude.{◌≡◌, ◌<◌, ℕ, zero, suc, ◌⊎◌, Option, Some, None, List, [], ◌∷◌, ◌++◌, IsTrue, length, slice_get, slice_set, slice_index_or, refl}
 use Rattle.std.specs.Option.{ForSome}
 use Rattle.std.proofs.Common.{arith, ap, sym, ◌∙◌, subst, inl, inr, length-append, length-set}
 use Rattle.std.proofs.lemmas.Option.{slice_get-get_or, slice_get_within}
 use Rattle.llb.specs.declared.vertex.Vertex.{Vertex}
 use Rattle.llb.specs.declared.graph.TheConstants.{MOST_VERTICES}
 use Rattle.llb.specs.Operation.{is_operation}
-use Rattle.llb.specs.Places.{IsLine, AscendFrom, AreLines, with_line, lines_of, places_with}
+use Rattle.llb.specs.Places.{IsLine, AreLines, with_line, lines_of, places_with}
 use Rattle.llb.specs.PlacesLaws.{AscendFrom-with_line}
-use Rattle.llb.specs.Graph.{GraphValue, IsAfterInputs, IsNew, AreVertices, IsGraph}
+use Rattle.llb.specs.Graph.{IsAfterInputs, IsNew, AreVertices, IsGraph}
 
 -- an element of a list with one more is an old one or the last
 last_cases : {X : Type 0} (xs : List X) (x : X) (k : ℕ) (y : X) → slice_get (xs ++ x ∷ []) k ≡ Some y → (slice_get xs k ≡ Some y) ⊎ ((k ≡ length xs) × (y ≡ x))

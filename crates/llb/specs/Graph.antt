@@ -1,6 +1,6 @@
 -- What a graph is: its vertices, each after its inputs and each once, and beside each vertex the lines behind it (own, after
 -- BuildKit's LLB, where an operation names its inputs by digests and so can't stand before them).
-use Rattle.std.specs.Prelude.{◌≡◌, ◌≢◌, ◌<◌, ◌≤◌, ℕ, ◌⊎◌, Option, Some, None, Result, Ok, Err, List, [], ◌∷◌, ◌++◌, IsTrue, length, slice_get}
+use Rattle.std.specs.Prelude.{◌≡◌, ◌≢◌, ◌<◌, ◌≤◌, ℕ, ◌⊎◌, Option, Some, Result, Ok, Err, List, [], ◌∷◌, ◌++◌, IsTrue, length, slice_get}
 use Rattle.std.specs.List.{All}
 use Rattle.llb.specs.declared.vertex.Vertex.{Vertex}
 use Rattle.llb.specs.declared.fault.GraphFault.{GraphFault}

@@ -6,6 +6,7 @@ pub mod Places
 pub mod PlacesLaws
 pub mod Plan
 pub mod Request
+pub mod RequestLaws
 pub mod Sources
 pub mod Value
 pub mod ValueLaws

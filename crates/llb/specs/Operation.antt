@@ -1,6 +1,6 @@
 -- What a vertex of a graph has to be. A definition with a vertex that isn't so is malformed (own); the rules for mounts are
 -- those of the Dockerfile reference, RUN --mount.
-use Rattle.std.specs.Prelude.{◌≡◌, ◌==◌, ◌+◌, ℕ, Bool, true, false, ◌&&◌, List, [], ◌∷◌, ◌++◌, map, length, not, nat_eq, codes}
+use Rattle.std.specs.Prelude.{IsTrue, ◌==◌, ◌+◌, ℕ, Bool, true, ◌&&◌, List, ◌++◌, map, length, not, nat_eq, codes}
 use Rattle.std.specs.List.{list_all, list_any}
 use Rattle.std.specs.Cmp.Lexicographic.{pointwise}
 use Rattle.trees.specs.Run.{mounts_fit, ids_differ, ids_of}
@@ -54,3 +54,8 @@ is_operation_on (ExecOp exec) inputs = inputs == length exec.binds + 1 && is_exe
 -- whether a vertex is well formed
 abbrev pub is_operation : Vertex → Bool
 is_operation vertex = is_operation_on vertex.op (length vertex.inputs)
+
+-- a command that is well formed, whatever its inputs are; a source is
+abbrev pub IsFormed : Op → Type 0
+IsFormed (SourceOp source) = Unit {0}
+IsFormed (ExecOp exec) = IsTrue (is_exec exec)

@@ -1,6 +1,6 @@
 -- The lines of a Dockerfile that are behind a vertex of a graph: in ascending order, each once (own). Equal instructions on
 -- several lines are one vertex, and it has the lines of all.
-use Rattle.std.specs.Prelude.{◌≡◌, ◌<◌, ◌≤◌, ℕ, Option, Some, None, List, [], ◌∷◌, ◌++◌, min, nat_lt, slice_set, slice_index_or}
+use Rattle.std.specs.Prelude.{◌<◌, ◌≤◌, ℕ, Option, Some, None, List, [], ◌∷◌, ◌++◌, min, nat_lt, slice_set, slice_index_or}
 use Rattle.std.specs.List.{filter}
 use Rattle.llb.specs.declared.places.TheConstants.{MOST_LINE}
 

@@ -1,7 +1,7 @@
 -- What follows about the lines behind a vertex.
-use Rattle.std.specs.Prelude.{◌≡◌, ◌<◌, ◌≤◌, ℕ, Bool, true, false, List, [], ◌∷◌, ◌++◌, min, nat_lt, length, slice_index, refl}
+use Rattle.std.specs.Prelude.{◌≡◌, ◌<◌, ◌≤◌, ℕ, Bool, true, false, List, [], ◌∷◌, nat_lt, length, slice_index, refl}
 use Rattle.std.specs.List.{filter}
-use Rattle.std.proofs.Common.{arith, ap, sym, ◌∙◌, subst}
+use Rattle.std.proofs.Common.{arith, ap, sym, subst}
 use Rattle.std.proofs.lemmas.Bool.{lt-ltb, le-ltb, ltb-true, ltb-false}
 use Rattle.llb.specs.declared.places.TheConstants.{MOST_LINE}
 use Rattle.llb.specs.Places.{AscendFrom, AreLines, with_line, least_line}

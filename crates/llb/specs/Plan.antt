@@ -1,6 +1,6 @@
 -- What a build has to solve: a graph, the vertex whose tree is wanted, the configuration that goes with that tree, and the trees
 -- of the graph's sources.
-use Rattle.std.specs.Prelude.{◌≡◌, ◌<◌, ℕ, Option, Some, Result, List, length, refl}
+use Rattle.std.specs.Prelude.{◌≡◌, ◌<◌, ℕ, Some, Result, List, length, refl}
 use Rattle.std.specs.Coded.{Coded, code_by, coded×, coded_ℕ}
 use Rattle.trees.specs.TreeMap.{TreeMap}
 use Rattle.trees.specs.declared.fault.Cause.{Cause}
@@ -17,6 +17,7 @@ pub record PlanValue (C : Type 0) : Type 0 where
   pub config : C
   pub sources : SourcesValue
 
+-- a plan in plain data, for generic code (own)
 abbrev pub plan_code : {C : Type 0} → Coded C → Coded (PlanValue C)
 plan_code c = code_by (GraphValue × (ℕ × (_ × SourcesValue))) (coded× graph.the_row.coded (coded× coded_ℕ (coded× c sources_code))) (λ p. (p.graph, (p.target, (p.config, p.sources)))) (λ t. record { graph = t.0; target = t.1.0; config = t.1.1.0; sources = t.1.1.1 }) (λ _. refl)
 

@@ -1,6 +1,6 @@
 -- The trees that are there before a build: the empty one, the context, and those of images (the source operations of
 -- BuildKit's LLB).
-use Rattle.std.specs.Prelude.{◌≡◌, ℕ, Option, Some, None, List, IsTrue, is_some, slice_get, refl}
+use Rattle.std.specs.Prelude.{◌≡◌, ℕ, Option, Some, List, IsTrue, is_some, slice_get, refl}
 use Rattle.std.specs.Coded.{Coded, code_by, coded×, coded_list, coded_ℕ}
 use Rattle.std.specs.declared.cmp.Ordering.{Ordering}
 use Rattle.std.specs.Ordering.{nat_cmp}
@@ -23,6 +23,7 @@ pub record SourcesValue : Type 0 where
   pub context : TreeMap
   pub images : FinMap name_cmp TreeMap
 
+-- sources in plain data, for generic code (own)
 abbrev pub sources_code : Coded SourcesValue
 sources_code = code_by (TreeMap × FinMap name_cmp TreeMap) (coded× tree.the_row.coded (code (coded_list coded_ℕ) tree.the_row.coded)) (λ s. (s.context, s.images)) (λ t. record { context = t.0; images = t.1 }) (λ _. refl)
 

@@ -1,6 +1,6 @@
 -- What the vertices of a graph are worth: the tree of each, or the cause of its failure. An executor is known by its answers
 -- alone, so that all that is said here holds for every executor.
-use Rattle.std.specs.Prelude.{◌≡◌, ◌<◌, ℕ, Option, Some, None, Result, Ok, Err, List, [], ◌∷◌, ◌++◌, slice_index_or}
+use Rattle.std.specs.Prelude.{ℕ, Option, Some, None, Result, Ok, Err, List, [], ◌∷◌, ◌++◌, slice_index_or}
 use Rattle.std.specs.Option.{option_map, option_and_then}
 use Rattle.trees.specs.TreeMap.{TreeMap}
 use Rattle.trees.specs.declared.fault.Cause.{Cause}
@@ -8,7 +8,6 @@ use Rattle.trees.specs.declared.fault.Cause.TheVariants.{F1, Exit}
 use Rattle.trees.specs.declared.run.RunRequest.{RunRequest}
 use Rattle.trees.specs.declared.run.RunOutcome.{RunOutcome}
 use Rattle.trees.specs.declared.run.RunOutcome.TheVariants.{Done, Exit as Exited}
-use Rattle.llb.specs.declared.op.Exec.{Exec}
 use Rattle.llb.specs.declared.op.Op.{Op}
 use Rattle.llb.specs.declared.op.Op.TheVariants.{Source as SourceOp, Exec as ExecOp}
 use Rattle.llb.specs.declared.vertex.Vertex.{Vertex}

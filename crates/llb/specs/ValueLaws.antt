@@ -1,14 +1,13 @@
 -- What follows about the values of vertices: a vertex's value is its operation's result on its inputs' values, and vertices
 -- that are added later change none.
-use Rattle.std.specs.Prelude.{◌≡◌, ◌<◌, ◌≤◌, ◌+◌, ℕ, zero, suc, Option, Some, None, List, [], ◌∷◌, ◌++◌, length, slice_get, slice_index_or, refl}
+use Rattle.std.specs.Prelude.{◌≡◌, ◌<◌, ◌+◌, ℕ, zero, suc, Some, None, List, [], ◌∷◌, ◌++◌, length, slice_get, slice_index_or, refl}
 use Rattle.std.specs.Option.{option_and_then}
 use Rattle.std.proofs.Common.{arith, ap, sym, ◌∙◌, subst, length-append}
 use Rattle.std.proofs.lemmas.List.{get_or_append_left, get_or-append-add}
-use Rattle.trees.specs.TreeMap.{TreeMap}
 use Rattle.llb.specs.declared.vertex.Vertex.{Vertex}
 use Rattle.llb.specs.Graph.{IsAfterInputs, AreVertices}
 use Rattle.llb.specs.Sources.{SourcesValue}
-use Rattle.llb.specs.Value.{Out, Value, result_of, tree_of, with_tree, trees_at, value_in, values_from, values_of, value_of}
+use Rattle.llb.specs.Value.{Out, Value, result_of, trees_at, value_in, values_from, values_of, value_of}
 
 -- two lists of values agree below n
 abbrev pub Agree : List Value → List Value → ℕ → Type 0

@@ -83,7 +83,7 @@ fn is_source(source: &Source) -> bool
 }
 
 /// Whether a command has a word, a proper environment, mounts that may stand together, and no cache twice.
-fn is_exec(exec: &Exec) -> bool
+pub(crate) fn is_exec(exec: &Exec) -> bool
     ensures { result ≡ is_exec exec.now }
 {
     let env_fits = is_environment(exec.env.as_slice());

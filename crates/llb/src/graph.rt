@@ -1,4 +1,4 @@
-ghost use Rattle.std.specs.Prelude.{◌≡◌, ◌↔◌, ◌<◌, ◌≤◌, ◌++◌, ◌∷◌, ℕ, [], Some, length, slice_get, slice_index_or, IsTrue, IfSome, IfNone, OnOk, OnErr, option_copied, vec_len};
+ghost use Rattle.std.specs.Prelude.{◌≡◌, ◌↔◌, ◌<◌, ◌≤◌, ◌++◌, ◌∷◌, ℕ, [], Some, length, slice_get, slice_index_or, IsTrue, IfSome, IfNone, MatchOption, OnOk, OnErr, option_copied, vec_len};
 ghost use Rattle.std.specs.Option.{ForSome};
 ghost use Rattle.std.specs.List.{All};
 ghost use Rattle.llb.specs.Graph.{IsAfterInputs, IsNew, IsGraph, Adds};
@@ -102,28 +102,34 @@ impl Graph {
         self.vertices.get(id.index())
     }
 
-    /// The inputs of a vertex, in the order that its operation counts them.
+    /// The inputs of a vertex, in the order that its operation counts them; none where the graph has no such vertex.
     pub fn inputs(&self, id: VertexId) -> &[VertexId]
-        requires { id < length self.now.vertices }
-        ensures { IfSome (slice_get self.now.vertices id) (λ vertex. result.now ≡ vertex.inputs) }
+        ensures { MatchOption (slice_get self.now.vertices id) (result.now ≡ []) (λ vertex. result.now ≡ vertex.inputs) }
     {
-        self.vertices[id.index()].inputs.as_slice()
+        match self.vertices.get(id.index()) {
+            Some(vertex) => vertex.inputs.as_slice(),
+            None => &[],
+        }
     }
 
-    /// The lines of the instructions behind a vertex, in ascending order.
+    /// The lines of the instructions behind a vertex, in ascending order; none where the graph has no such vertex.
     pub fn places(&self, id: VertexId) -> &[u32]
-        requires { id < length self.now.vertices }
-        ensures { slice_get self.now.places id ≡ Some result.now }
+        ensures { result.now ≡ slice_index_or self.now.places id [] }
     {
-        self.places[id.index()].as_slice()
+        match self.places.get(id.index()) {
+            Some(lines) => lines.as_slice(),
+            None => &[],
+        }
     }
 
     /// The least of the lines behind a vertex; 0 where there is none.
     pub fn least_place(&self, id: VertexId) -> u32
-        requires { id < length self.now.vertices }
         ensures { result ≡ least_line (slice_index_or self.now.places id []) }
     {
-        places::least_line(self.places[id.index()].as_slice())
+        match self.places.get(id.index()) {
+            Some(lines) => places::least_line(lines.as_slice()),
+            None => 0,
+        }
     }
 }
 

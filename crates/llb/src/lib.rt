@@ -28,7 +28,7 @@ mod vertex;
 pub use fault::GraphFault;
 pub use graph::{Graph, MOST_VERTICES};
 pub use images::{Image, Images};
-pub use laws::{added_vertex_stands, value_is_local, value_stays, vertices_stay};
+pub use laws::{added_vertex_stands, request_fits, value_is_local, value_stays, vertices_stay};
 pub use op::{Bind, Exec, Op, Source};
 pub use places::MOST_LINE;
 pub use plan::Plan;

@@ -1,3 +1,7 @@
+ghost use Rattle.std.specs.Prelude.{◌↔◌, IsTrue};
+ghost use Rattle.llb.specs.Operation.{IsFormed};
+
+use crate::formed;
 use paths::Path;
 use plain::{Exact, Items, Memory, Text};
 use std::alloc::Global;
@@ -112,6 +116,18 @@ pub enum Op {
     Source(Source),
     /// It runs a command.
     Exec(Exec),
+}
+
+impl Op {
+    /// Whether it is a well-formed command, whatever its inputs are; a source is. The operation of each vertex of a graph is so.
+    pub fn is_formed(&self) -> bool
+        ensures { IsTrue result ↔ IsFormed self.now }
+    {
+        match self {
+            Op::Source(_) => true,
+            Op::Exec(exec) => formed::is_exec(exec),
+        }
+    }
 }
 
 impl Exact for Op {

@@ -67,7 +67,7 @@ impl Sources {
     }
 
     /// Whether the operation is no source, or one that has its tree.
-    fn suffices(&self, op: &Op) -> bool
+    pub fn suffices(&self, op: &Op) -> bool
         ensures { IsTrue result ↔ HasSource self.now op.now }
     {
         match op {

@@ -8,13 +8,13 @@ use trees::{CacheUse, Tree, Variable};
 /// A command of one word, with nothing mounted.
 fn command(alloc: Global, word: &str) -> Result<Exec, Memory> {
     let mut words = Items::new(alloc);
-    words.push(Text::read(alloc, word)?)?;
+    words.push(Text::from_str(alloc, word)?)?;
     Ok(Exec {
         binds: Items::new(alloc),
         caches: Items::new(alloc),
         dir: Path::root(alloc),
         env: Items::new(alloc),
-        user: Text::read(alloc, "")?,
+        user: Text::from_str(alloc, "")?,
         words,
     })
 }
@@ -41,7 +41,7 @@ fn source(alloc: Global, source: Source) -> Vertex {
 
 /// The vertex of an image.
 fn image(alloc: Global, name: &str) -> Result<Vertex, Memory> {
-    Ok(source(alloc, Source::Image(Text::read(alloc, name)?)))
+    Ok(source(alloc, Source::Image(Text::from_str(alloc, name)?)))
 }
 
 /// Adds a vertex with a line, 0 standing for none, and gives its number; `None` where the graph doesn't accept or add it.
@@ -144,7 +144,7 @@ fn are_different(alloc: Global, vertices: &[Vertex]) -> Result<bool, Memory> {
 
 /// A command with a user.
 fn with_user(alloc: Global, user: &str) -> Result<Vertex, Memory> {
-    let user = Text::read(alloc, user)?;
+    let user = Text::from_str(alloc, user)?;
     let mut exec = command(alloc, "true")?;
     exec.user = user;
     run_on(alloc, exec, 0, 1)
@@ -210,14 +210,14 @@ fn path(alloc: Global, text: &str) -> Result<Path, Fail> {
 
 /// A variable with a value that has a `=`.
 fn variable(alloc: Global, name: &str) -> Result<Variable, Memory> {
-    let name = Text::read(alloc, name)?;
-    let value = Text::read(alloc, "=")?;
+    let name = Text::from_str(alloc, name)?;
+    let value = Text::from_str(alloc, "=")?;
     Ok(Variable { name, value })
 }
 
 /// A cache mount.
 fn cache(alloc: Global, id: &str, target: &str) -> Result<CacheUse, Fail> {
-    let id = Text::read(alloc, id)?;
+    let id = Text::from_str(alloc, id)?;
     let target = path(alloc, target)?;
     Ok(CacheUse {
         id,
@@ -380,23 +380,39 @@ fn sources_need_their_images(rt: HostRuntime) -> Result<(), Fail> {
     add(alloc, &mut graph, image(alloc, "base")?, 1);
     let mut sources = Sources::new(alloc, Tree::empty(alloc));
     assert!(rt; !sources.suffice(&graph));
-    sources.add_image(Text::read(alloc, "other")?, Tree::empty(alloc))?;
+    sources.add_image(Text::from_str(alloc, "other")?, Tree::empty(alloc))?;
     assert!(rt; !sources.suffice(&graph));
-    sources.add_image(Text::read(alloc, "base")?, Tree::empty(alloc))?;
+    sources.add_image(Text::from_str(alloc, "base")?, Tree::empty(alloc))?;
     assert!(rt; sources.suffice(&graph));
+    Ok(())
+}
+
+#[test]
+fn an_operation_is_tested_alone(rt: HostRuntime) -> Result<(), Fail> {
+    let alloc = rt.alloc();
+    assert!(rt; Op::Exec(command(alloc, "true")?).is_formed());
+    let mut empty = command(alloc, "true")?;
+    empty.words = Items::new(alloc);
+    assert!(rt; !Op::Exec(empty).is_formed());
+    let base = image(alloc, "base")?.op;
+    assert!(rt; base.is_formed());
+    let sources = Sources::new(alloc, Tree::empty(alloc));
+    assert!(rt; !sources.suffices(&base));
+    assert!(rt; sources.suffices(&Op::Source(Source::Context)));
+    assert!(rt; sources.suffices(&Op::Exec(command(alloc, "true")?)));
     Ok(())
 }
 
 /// Adds an image without an entry, and tells whether there was one of the name.
 fn insert(alloc: Global, images: &mut Images<u8>, name: &str, config: u8) -> Result<bool, Memory> {
     let tree = Tree::empty(alloc);
-    let old = images.insert(Text::read(alloc, name)?, Image { config, tree })?;
+    let old = images.insert(Text::from_str(alloc, name)?, Image { config, tree })?;
     Ok(old.is_some())
 }
 
 /// The configuration of an image.
 fn config(alloc: Global, images: &Images<u8>, name: &str) -> Result<Option<u8>, Memory> {
-    let name = Text::read(alloc, name)?;
+    let name = Text::from_str(alloc, name)?;
     Ok(images.find(&name).map(|image| image.config))
 }
 

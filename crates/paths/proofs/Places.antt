@@ -5,7 +5,7 @@ use Rattle.std.proofs.lemmas.List.{take_all, take-take, take-append-le, take-map
 use Rattle.std.proofs.lemmas.List.Sums.{count_by-le-length}
 use Rattle.std.proofs.lemmas.List.Splits.{length-slice_split}
 use Rattle.std.proofs.lemmas.Bool.{lt-ltb, le-ltb}
-use Rattle.paths.specs.Path.{climbed, IsClean, is_idle, is_up, is_name, fits}
+use Rattle.paths.specs.Path.{climbed, IsClean, is_idle, is_up, is_name, are_short}
 use Rattle.paths.specs.Place.{IsPlace}
 use Rattle.paths.specs.Reading.{pieces, stepped, walked, limit_of}
 use Rattle.paths.specs.declared.fault.PathFault.TheVariants.{TooDeep, TooLong}
@@ -113,21 +113,21 @@ limit_deep kept beyond p some h =
     let deep : nat_lt 64 (length p) ≡ true = lt-ltb 64 (length p) (omega arith) in
     rw deep refl
 
-pub limit_long : (kept : List (List ℕ)) (beyond : ℕ) (p : List (List ℕ)) → beyond ≤ 0 → fits kept ≡ false → IsPlace kept beyond p → limit_of p ≡ Some TooLong
+pub limit_long : (kept : List (List ℕ)) (beyond : ℕ) (p : List (List ℕ)) → beyond ≤ 0 → are_short kept ≡ false → IsPlace kept beyond p → limit_of p ≡ Some TooLong
 limit_long kept beyond p none long h =
     let more = h.more in
     let few : length p ≤ 64 = omega arith in
     let shallow : nat_lt 64 (length p) ≡ false = le-ltb 64 (length p) few in
-    let fit : fits p ≡ false = ap fits (sym (all_kept kept beyond p h few)) ∙ long in
+    let fit : are_short p ≡ false = ap are_short (sym (all_kept kept beyond p h few)) ∙ long in
     rw (shallow, fit) refl
 
-pub no_limit : (kept : List (List ℕ)) (beyond : ℕ) (p : List (List ℕ)) → beyond ≤ 0 → fits kept ≡ true → IsPlace kept beyond p → (kept ≡ p) × (limit_of p ≡ None)
+pub no_limit : (kept : List (List ℕ)) (beyond : ℕ) (p : List (List ℕ)) → beyond ≤ 0 → are_short kept ≡ true → IsPlace kept beyond p → (kept ≡ p) × (limit_of p ≡ None)
 no_limit kept beyond p none short h =
     let more = h.more in
     let few : length p ≤ 64 = omega arith in
     let all = all_kept kept beyond p h few in
     let shallow : nat_lt 64 (length p) ≡ false = le-ltb 64 (length p) few in
-    let fit : fits p ≡ true = ap fits (sym all) ∙ short in
+    let fit : are_short p ≡ true = ap are_short (sym all) ∙ short in
     (all, rw (shallow, fit) refl)
 
 -- what is kept is a front of the path

@@ -1,11 +1,12 @@
 -- What a path is: the list of its components, each as its bytes, from the root down. The root has none.
 --
 -- A component may have any character but `/`, NUL too; `.` and `..` are no components of a path but words of its text. That
--- a component is UTF-8 is kept by its type and not said again here. The two limits are our own, 255 bytes being that of Linux's file systems. Of the bytes below
--- 46 is `.` and 47 is `/`.
+-- a component is UTF-8 is kept by its type and not said again here. The two limits are our own, 255 bytes being that of
+-- Linux's file systems. Of the bytes below 46 is `.` and 47 is `/`.
 use Rattle.std.specs.Prelude.{◌≡◌, ◌≤◌, ◌-◌, ◌==◌, ℕ, Bool, true, false, ◌&&◌, Option, Some, None, List, [], ◌∷◌, ◌++◌, length, take, not, nat_le, nat_eq}
 use Rattle.std.specs.List.{list_all, starts_with}
 use Rattle.std.specs.Cmp.Lexicographic.{pointwise}
+use Rattle.paths.specs.declared.reading.TheConstants.{MOST_COMPONENTS, MOST_COMPONENT_BYTES}
 
 -- a piece of a text that names nothing: empty, or `.`
 abbrev pub is_idle : List ℕ → Bool
@@ -24,23 +25,23 @@ is_up (b ∷ c ∷ d ∷ bs) = false
 abbrev pub is_whole : List ℕ → Bool
 is_whole piece = list_all (λ b. not (b == 47)) piece
 
--- a piece that names something: neither empty nor `.` nor `..`
-abbrev pub is_naming : List ℕ → Bool
-is_naming piece = not (is_idle piece) && not (is_up piece)
+-- a piece that names something, as std's `Component::Normal` does: neither empty nor `.` nor `..`
+abbrev pub is_normal : List ℕ → Bool
+is_normal piece = not (is_idle piece) && not (is_up piece)
 
 -- a component's bytes: a piece that names something, with no `/` among its bytes
 abbrev pub is_name : List ℕ → Bool
-is_name piece = is_naming piece && is_whole piece
+is_name piece = is_normal piece && is_whole piece
 
--- no component is longer than 255 bytes
-abbrev pub fits : List (List ℕ) → Bool
-fits p = list_all (λ c. nat_le (length c) 255) p
+-- no component is longer than 255 bytes (own)
+abbrev pub are_short : List (List ℕ) → Bool
+are_short p = list_all (λ c. nat_le (length c) MOST_COMPONENT_BYTES) p
 
--- a path: names only, within the limits
+-- a path: names only, within the limits of 64 components and of 255 bytes each (own)
 pub record IsClean (p : List (List ℕ)) : Type 0 where
   pub names : list_all is_name p ≡ true
-  pub short : fits p ≡ true
-  pub few : length p ≤ 64
+  pub short : are_short p ≡ true
+  pub few : length p ≤ MOST_COMPONENTS
 
 -- the path without its last component; the root stays the root
 abbrev pub climbed : List (List ℕ) → List (List ℕ)

@@ -1,17 +1,18 @@
 -- How a text is read as a path, against the path of the directory that a relative text begins at. It is what Dockerfiles do
 -- with a destination, a working directory and a mount's target: the rule is that of Go's `path.Clean`, after a
 -- relative text was put behind the base.
-use Rattle.std.specs.Prelude.{◌≡◌, ◌==◌, ℕ, Bool, false, Option, Some, None, Result, Ok, Err, List, [], ◌∷◌, ◌++◌, if◌then◌else◌, length, nat_lt}
-use Rattle.std.specs.List.{slice_split}
-use Rattle.paths.specs.Path.{is_idle, is_up, fits, climbed}
+use Rattle.std.specs.Prelude.{◌≡◌, ◌==◌, ℕ, Bool, false, true, Option, Some, None, Result, Ok, Err, List, [], ◌∷◌, ◌++◌, if◌then◌else◌, length, nat_lt}
+use Rattle.std.specs.List.{list_all, slice_split}
+use Rattle.paths.specs.Path.{is_idle, is_up, is_normal, are_short, climbed}
 use Rattle.paths.specs.declared.fault.PathFault.{PathFault}
 use Rattle.paths.specs.declared.fault.PathFault.TheVariants.{TooDeep, TooLong, Memory}
+use Rattle.paths.specs.declared.reading.TheConstants.{MOST_COMPONENTS}
 
 -- the pieces of a text between its slashes, one more than there are slashes
 abbrev pub pieces : List ℕ → List (List ℕ)
 pieces text = slice_split (λ b. b == 47) text
 
--- where one piece leads from p: nowhere, one up (at the root: nowhere), or to what it names
+-- where one piece leads from p: nowhere, one up (at the root: nowhere), or to what it names (Go's `path.Clean`)
 abbrev pub stepped : List (List ℕ) → List ℕ → List (List ℕ)
 stepped p piece = if is_idle piece then p else if is_up piece then climbed p else p ++ piece ∷ []
 
@@ -19,6 +20,19 @@ stepped p piece = if is_idle piece then p else if is_up piece then climbed p els
 abbrev pub walked : List (List ℕ) → List (List ℕ) → List (List ℕ)
 walked p [] = p
 walked p (piece ∷ rest) = walked (stepped p piece) rest
+
+-- the clean form of a list of pieces: where they lead from the root
+abbrev pub cleaned : List (List ℕ) → List (List ℕ)
+cleaned ps = walked [] ps
+
+-- f gives the clean form of a list of pieces, said with no order of reading (the rules of Go's `path.Clean`): an idle piece may
+-- be dropped wherever it stands, a name and the `..` behind it cancel wherever they stand, a `..` in front of all leads nowhere,
+-- and pieces that are all names stay as they are
+pub record IsCleaning (f : List (List ℕ) → List (List ℕ)) : Type 0 where
+  pub idle : (front back : List (List ℕ)) (piece : List ℕ) → is_idle piece ≡ true → f (front ++ piece ∷ back) ≡ f (front ++ back)
+  pub cancel : (front back : List (List ℕ)) (name up : List ℕ) → is_normal name ≡ true → is_up up ≡ true → f (front ++ name ∷ up ∷ back) ≡ f (front ++ back)
+  pub top : (back : List (List ℕ)) (up : List ℕ) → is_up up ≡ true → f (up ∷ back) ≡ f back
+  pub names : (p : List (List ℕ)) → list_all is_normal p ≡ true → f p ≡ p
 
 -- a text that begins with `/`
 abbrev pub is_absolute : List ℕ → Bool
@@ -29,9 +43,9 @@ is_absolute (b ∷ bs) = b == 47
 abbrev pub read_from : List ℕ → List (List ℕ) → List (List ℕ)
 read_from text base = walked (if is_absolute text then [] else base) (pieces text)
 
--- the limit that a path breaks, if any; where it breaks both, it is the depth that is told
+-- the limit that a path breaks, if any; where it breaks both, it is the depth that is told (own)
 abbrev pub limit_of : List (List ℕ) → Option PathFault
-limit_of p = if nat_lt 64 (length p) then Some TooDeep else if fits p then None else Some TooLong
+limit_of p = if nat_lt MOST_COMPONENTS (length p) then Some TooDeep else if are_short p then None else Some TooLong
 
 -- what a reading answers whose text leads to p: p within the limits, or the limit that it breaks, or that there was no memory,
 -- which says nothing of p

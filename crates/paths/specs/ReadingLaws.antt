@@ -1,5 +1,5 @@
--- Laws of reading. `IsCleaning` says in the words of the rule what the clean form of a list of pieces is, and no other function
--- meets it; the rest is what callers use: texts read back, what is read is clean, and a text may be cut at a slash.
+-- Laws of reading: `cleaned` alone gives clean forms, and what callers use: texts read back, what is read is clean, and a text
+-- may be cut at a slash.
 use Rattle.std.specs.Prelude.{◌≡◌, ◌-◌, ◌<◌, ◌≤◌, ◌==◌, ◌⊎◌, ℕ, Bool, true, false, cond, Some, None, List, [], ◌∷◌, ◌++◌, if◌then◌else◌, length, take, not, nat_lt, refl}
 use Rattle.std.specs.List.{list_all, onto_first, join_with_byte, All}
 use Rattle.std.proofs.Common.{sym, ◌∙◌, ap, inl, inr, append_assoc, arith, suc, zero}
@@ -7,22 +7,10 @@ use Rattle.std.proofs.lemmas.Bool.{and_parts, and_from, not-true, false≢true, 
 use Rattle.std.proofs.lemmas.List.{append-nil}
 use Rattle.std.proofs.lemmas.List.Folds.{list_all-append}
 use Rattle.std.proofs.lemmas.List.Splits.{slice_split_none, slice_split_at, length-slice_split}
-use Rattle.paths.specs.Path.{is_idle, is_up, is_whole, is_naming, is_name, fits, climbed, rooted, text_of, IsClean}
+use Rattle.paths.specs.Path.{is_idle, is_up, is_whole, is_normal, is_name, are_short, climbed, rooted, text_of, IsClean}
 use Rattle.paths.specs.PathLaws.{climbed-append}
-use Rattle.paths.specs.Reading.{pieces, stepped, walked, is_absolute, read_from, limit_of}
+use Rattle.paths.specs.Reading.{pieces, stepped, walked, cleaned, IsCleaning, is_absolute, read_from, limit_of}
 use Rattle.paths.specs.declared.fault.PathFault.TheVariants.{TooDeep, TooLong}
-
--- the clean form of pieces, read from the root
-abbrev pub cleaned : List (List ℕ) → List (List ℕ)
-cleaned ps = walked [] ps
-
--- f gives the clean form of a list of pieces: an idle piece may be dropped wherever it stands, a name and the `..` behind it
--- cancel wherever they stand, a `..` in front of all leads nowhere, and pieces that are all names stay as they are
-pub record IsCleaning (f : List (List ℕ) → List (List ℕ)) : Type 0 where
-  pub idle : (front back : List (List ℕ)) (piece : List ℕ) → is_idle piece ≡ true → f (front ++ piece ∷ back) ≡ f (front ++ back)
-  pub cancel : (front back : List (List ℕ)) (name up : List ℕ) → is_naming name ≡ true → is_up up ≡ true → f (front ++ name ∷ up ∷ back) ≡ f (front ++ back)
-  pub top : (back : List (List ℕ)) (up : List ℕ) → is_up up ≡ true → f (up ∷ back) ≡ f back
-  pub names : (p : List (List ℕ)) → list_all is_naming p ≡ true → f p ≡ p
 
 -- one piece
 
@@ -40,7 +28,7 @@ stepped-up p piece h = rw (up_not_idle piece h, h) refl
 stepped-other : (p : List (List ℕ)) (piece : List ℕ) → is_idle piece ≡ false → is_up piece ≡ false → stepped p piece ≡ p ++ piece ∷ []
 stepped-other p piece i u = rw (i, u) refl
 
-stepped-name : (p : List (List ℕ)) (piece : List ℕ) → is_naming piece ≡ true → stepped p piece ≡ p ++ piece ∷ []
+stepped-name : (p : List (List ℕ)) (piece : List ℕ) → is_normal piece ≡ true → stepped p piece ≡ p ++ piece ∷ []
 stepped-name p piece h =
     let both = and_parts (not (is_idle piece)) (not (is_up piece)) h in
     stepped-other p piece (not-true (is_idle piece) both.0) (not-true (is_up piece) both.1)
@@ -51,17 +39,17 @@ pub walked-append : (p front back : List (List ℕ)) → walked p (front ++ back
 walked-append p [] back = refl
 walked-append p (piece ∷ front) back = walked-append (stepped p piece) front back
 
-pub walked-names : (p names : List (List ℕ)) → list_all is_naming names ≡ true → walked p names ≡ p ++ names
+pub walked-names : (p names : List (List ℕ)) → list_all is_normal names ≡ true → walked p names ≡ p ++ names
 walked-names p [] h = sym (append-nil p)
 walked-names p (name ∷ names) h =
-    let both = and_parts (is_naming name) (list_all is_naming names) h in
+    let both = and_parts (is_normal name) (list_all is_normal names) h in
     ap (λ q. walked q names) (stepped-name p name both.0) ∙ (walked-names (p ++ name ∷ []) names both.1 ∙ append_assoc p (name ∷ []) names)
 
 walked-idle : (p front back : List (List ℕ)) (piece : List ℕ) → is_idle piece ≡ true → walked p (front ++ piece ∷ back) ≡ walked p (front ++ back)
 walked-idle p [] back piece h = ap (λ q. walked q back) (stepped-idle p piece h)
 walked-idle p (f ∷ front) back piece h = walked-idle (stepped p f) front back piece h
 
-walked-cancel : (p front back : List (List ℕ)) (name up : List ℕ) → is_naming name ≡ true → is_up up ≡ true → walked p (front ++ name ∷ up ∷ back) ≡ walked p (front ++ back)
+walked-cancel : (p front back : List (List ℕ)) (name up : List ℕ) → is_normal name ≡ true → is_up up ≡ true → walked p (front ++ name ∷ up ∷ back) ≡ walked p (front ++ back)
 walked-cancel p [] back name up n u =
     ap (λ q. walked (stepped q up) back) (stepped-name p name n) ∙ ap (λ q. walked q back) (stepped-up (p ++ name ∷ []) up u ∙ climbed-append p name)
 walked-cancel p (f ∷ front) back name up n u = walked-cancel (stepped p f) front back name up n u
@@ -80,25 +68,25 @@ ends [] = inl refl
 ends (c ∷ cs) = inr (elim (ends cs) [ inl e ↦ ([], c, ap (λ x. c ∷ x) e) | inr w ↦ (c ∷ w.0, w.1, ap (λ x. c ∷ x) w.2) ])
 
 module _ (f : List (List ℕ) → List (List ℕ)) (o : IsCleaning f) where
-  only_up : (p ps : List (List ℕ)) (up : List ℕ) → is_up up ≡ true → list_all is_naming p ≡ true → ((q : List (List ℕ)) → list_all is_naming q ≡ true → f (q ++ ps) ≡ walked q ps) → ((p ≡ []) ⊎ ((front : List (List ℕ)) × (last : List ℕ) × (p ≡ front ++ last ∷ []))) → f (p ++ up ∷ ps) ≡ walked (climbed p) ps
+  only_up : (p ps : List (List ℕ)) (up : List ℕ) → is_up up ≡ true → list_all is_normal p ≡ true → ((q : List (List ℕ)) → list_all is_normal q ≡ true → f (q ++ ps) ≡ walked q ps) → ((p ≡ []) ⊎ ((front : List (List ℕ)) × (last : List ℕ) × (p ≡ front ++ last ∷ []))) → f (p ++ up ∷ ps) ≡ walked (climbed p) ps
   only_up p ps up u h more (inl e) = rw e (o.top ps up u ∙ more [] refl)
   only_up p ps up u h more (inr w) =
-      let split = list_all-append is_naming w.0 (w.1 ∷ []) in
-      let all = and_parts (list_all is_naming w.0) (list_all is_naming (w.1 ∷ [])) (sym split ∙ (ap (λ x. list_all is_naming x) (sym w.2) ∙ h)) in
-      let last = and_parts (is_naming w.1) true all.1 in
+      let split = list_all-append is_normal w.0 (w.1 ∷ []) in
+      let all = and_parts (list_all is_normal w.0) (list_all is_normal (w.1 ∷ [])) (sym split ∙ (ap (λ x. list_all is_normal x) (sym w.2) ∙ h)) in
+      let last = and_parts (is_normal w.1) true all.1 in
       rw w.2 (ap f (append_assoc w.0 (w.1 ∷ []) (up ∷ ps)) ∙ (o.cancel w.0 ps w.1 up last.0 u ∙ (more w.0 all.0 ∙ ap (λ q. walked q ps) (sym (climbed-append w.0 w.1)))))
 
-  only_more : (p ps : List (List ℕ)) (piece : List ℕ) → list_all is_naming p ≡ true → ((q : List (List ℕ)) → list_all is_naming q ≡ true → f (q ++ ps) ≡ walked q ps) → (i u : Bool) → is_idle piece ≡ i → is_up piece ≡ u → f (p ++ piece ∷ ps) ≡ walked p (piece ∷ ps)
+  only_more : (p ps : List (List ℕ)) (piece : List ℕ) → list_all is_normal p ≡ true → ((q : List (List ℕ)) → list_all is_normal q ≡ true → f (q ++ ps) ≡ walked q ps) → (i u : Bool) → is_idle piece ≡ i → is_up piece ≡ u → f (p ++ piece ∷ ps) ≡ walked p (piece ∷ ps)
   only_more p ps piece h more true u i_is u_is =
       o.idle p ps piece i_is ∙ (more p h ∙ ap (λ q. walked q ps) (sym (stepped-idle p piece i_is)))
   only_more p ps piece h more false true i_is u_is =
       only_up p ps piece u_is h more (ends p) ∙ ap (λ q. walked q ps) (sym (stepped-up p piece u_is))
   only_more p ps piece h more false false i_is u_is =
-      let naming : is_naming piece ≡ true = rw (i_is, u_is) refl in
-      let all : list_all is_naming (p ++ piece ∷ []) ≡ true = rw (list_all-append is_naming p (piece ∷ [])) (and_from _ _ h (and_from _ _ naming refl)) in
+      let naming : is_normal piece ≡ true = rw (i_is, u_is) refl in
+      let all : list_all is_normal (p ++ piece ∷ []) ≡ true = rw (list_all-append is_normal p (piece ∷ [])) (and_from _ _ h (and_from _ _ naming refl)) in
       ap f (sym (append_assoc p (piece ∷ []) ps)) ∙ (more (p ++ piece ∷ []) all ∙ ap (λ q. walked q ps) (sym (stepped-other p piece i_is u_is)))
 
-  pub only_walk : (p ps : List (List ℕ)) → list_all is_naming p ≡ true → f (p ++ ps) ≡ walked p ps
+  pub only_walk : (p ps : List (List ℕ)) → list_all is_normal p ≡ true → f (p ++ ps) ≡ walked p ps
   only_walk p [] h = ap f (append-nil p) ∙ o.names p h
   only_walk p (piece ∷ ps) h = only_more p ps piece h (λ q n. only_walk q ps n) (is_idle piece) (is_up piece) refl refl
 
@@ -108,18 +96,18 @@ only_cleaning f o ps = only_walk f o [] ps refl
 
 -- names
 
-naming_names : (p : List (List ℕ)) → list_all is_name p ≡ true → list_all is_naming p ≡ true
+naming_names : (p : List (List ℕ)) → list_all is_name p ≡ true → list_all is_normal p ≡ true
 naming_names [] h = refl
 naming_names (c ∷ cs) h =
     let both = and_parts (is_name c) (list_all is_name cs) h in
-    let name = and_parts (is_naming c) (is_whole c) both.0 in
-    and_from (is_naming c) (list_all is_naming cs) name.0 (naming_names cs both.1)
+    let name = and_parts (is_normal c) (is_whole c) both.0 in
+    and_from (is_normal c) (list_all is_normal cs) name.0 (naming_names cs both.1)
 
 pub whole_names : (p : List (List ℕ)) → list_all is_name p ≡ true → list_all is_whole p ≡ true
 whole_names [] h = refl
 whole_names (c ∷ cs) h =
     let both = and_parts (is_name c) (list_all is_name cs) h in
-    let name = and_parts (is_naming c) (is_whole c) both.0 in
+    let name = and_parts (is_normal c) (is_whole c) both.0 in
     and_from (is_whole c) (list_all is_whole cs) name.1 (whole_names cs both.1)
 
 pub list_all-take : (test : List ℕ → Bool) (n : ℕ) (p : List (List ℕ)) → list_all test p ≡ true → list_all test (take n p) ≡ true
@@ -199,13 +187,13 @@ pub read_from-text_of : (p base : List (List ℕ)) → list_all is_name p ≡ tr
 read_from-text_of [] base h = refl
 read_from-text_of (c ∷ cs) base h = walked-text_of (c ∷ cs) h
 
-limit-by : (p : List (List ℕ)) (deep short : Bool) → nat_lt 64 (length p) ≡ deep → fits p ≡ short → limit_of p ≡ None → (length p ≤ 64) × (fits p ≡ true)
+limit-by : (p : List (List ℕ)) (deep short : Bool) → nat_lt 64 (length p) ≡ deep → are_short p ≡ short → limit_of p ≡ None → (length p ≤ 64) × (are_short p ≡ true)
 limit-by p true short d s h = let e : Some TooDeep ≡ None = sym (rw d refl) ∙ h in cc
 limit-by p false true d s h = (ltb-false 64 (length p) d, s)
 limit-by p false false d s h = let e : Some TooLong ≡ None = sym (rw (d, s) refl) ∙ h in cc
 
-pub limit_of-none : (p : List (List ℕ)) → limit_of p ≡ None → (length p ≤ 64) × (fits p ≡ true)
-limit_of-none p h = limit-by p (nat_lt 64 (length p)) (fits p) refl refl h
+pub limit_of-none : (p : List (List ℕ)) → limit_of p ≡ None → (length p ≤ 64) × (are_short p ≡ true)
+limit_of-none p h = limit-by p (nat_lt 64 (length p)) (are_short p) refl refl h
 
 pub limit_of-clean : (p : List (List ℕ)) → IsClean p → limit_of p ≡ None
 limit_of-clean p h =

@@ -5,8 +5,7 @@ ghost use Rattle.std.specs.FinMap.{IsAntisymmetric};
 ghost use Rattle.std.specs.Cmp.{IsTotalOrder};
 ghost use Rattle.paths.specs.Path.{IsClean, is_whole, parent_of, is_at_or_under, text_of};
 ghost use Rattle.paths.specs.Order.{path_cmp};
-ghost use Rattle.paths.specs.Reading.{pieces, is_absolute, read_from, limit_of};
-ghost use Rattle.paths.specs.ReadingLaws.{IsCleaning, cleaned};
+ghost use Rattle.paths.specs.Reading.{IsCleaning, cleaned, pieces, is_absolute, read_from, limit_of};
 
 /// The text of a path reads back to the path, whatever the base.
 pub fn text_reads_back()

@@ -1,7 +1,7 @@
 ghost use Rattle.std.specs.Prelude.{◌≡◌, ◌↔◌, [], ◌∷◌, ◌++◌, length, IsTrue, IfOk, MatchOption};
-ghost use Rattle.paths.specs.Path.{IsClean, climbed, parent_of, is_at_or_under, text_of, rooted};
+ghost use Rattle.paths.specs.Path.{IsClean, climbed, parent_of, is_at_or_under, text_of};
 
-use plain::{Exact, Items, Memory, Text};
+use plain::{Exact, Items, Memory, Text, copied_items};
 use std::alloc::Global;
 use std::cmp::Ordering;
 use std::marker::Model;
@@ -50,7 +50,7 @@ impl Path {
     }
 
     /// The components, from the root down, lent.
-    pub fn as_slice(&self) -> &[Text]
+    pub fn components(&self) -> &[Text]
         ensures value { result.now ≡ self.now }
         ensures clean { IsClean self.now }
     {
@@ -75,7 +75,7 @@ impl Path {
     pub fn name(&self) -> Option<&Text>
         ensures { MatchOption result (self.now ≡ []) (λ name. self.now ≡ climbed self.now ++ name.now ∷ []) }
     {
-        match self.as_slice() {
+        match self.components() {
             [] => None,
             [.., name] => Some(name),
         }
@@ -85,9 +85,9 @@ impl Path {
     pub fn parent(&self, alloc: Global) -> Result<Option<Path>, Memory>
         ensures { IfOk result (λ parent. parent ≡ parent_of self.now) }
     {
-        match self.as_slice() {
+        match self.components() {
             [] => Ok(None),
-            [front @ .., _] => Ok(Some(Path::from_parts(copied(alloc, front)?))),
+            [front @ .., _] => Ok(Some(Path::from_parts(copied_items(alloc, front)?))),
         }
     }
 
@@ -96,7 +96,7 @@ impl Path {
     pub fn is_at_or_under(&self, top: &Path) -> bool
         ensures { result ≡ is_at_or_under self.now top.now }
     {
-        self.as_slice().starts_with(top.as_slice())
+        self.components().starts_with(top.components())
     }
 
     /// The path as a text: `/` for the root, else a `/` before each component. Reading it gives the path back.
@@ -104,26 +104,15 @@ impl Path {
         ensures { IfOk result (λ text. text ≡ text_of self.now) }
     {
         if self.is_root() {
-            return Text::read(alloc, "/");
+            return Text::from_str(alloc, "/");
         }
         let mut text = String::new(alloc);
-        for part in self.as_slice() {
+        for part in self.components() {
             text.push('/')?;
             text.push_str(part.as_str())?;
         }
         Ok(Text::from_string(text))
     }
-}
-
-/// A copy of each component, in order.
-fn copied(alloc: Global, parts: &[Text]) -> Result<Vec<Text>, Memory>
-    ensures { IfOk result (λ copied. copied.items ≡ parts.now) }
-{
-    let mut copied = Vec::with_capacity(alloc, parts.len())?;
-    for part in parts {
-        copied.push(part.copy(alloc)?)?;
-    }
-    Ok(copied)
 }
 
 impl Exact for Path {
@@ -146,7 +135,7 @@ impl PartialEq for Path {
     ghost laws = { partial_equiv_from_equiv path_eq_equiv };
 
     fn eq(&self, other: &Path) -> bool {
-        self.as_slice() == other.as_slice()
+        self.components() == other.components()
     }
 }
 
@@ -182,6 +171,6 @@ impl Ord for Path {
     ghost matches_eq = { path_ties };
 
     fn cmp(&self, other: &Path) -> Ordering {
-        self.as_slice().cmp(other.as_slice())
+        self.components().cmp(other.components())
     }
 }

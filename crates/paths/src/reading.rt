@@ -1,6 +1,6 @@
 ghost use Rattle.std.specs.Prelude.{◌≡◌, ◌≤◌, ◌<◌, ◌+◌, ◌^◌, ℕ, true, List, [], ◌∷◌, ◌++◌, if◌then◌else◌, length, map, IfOk, OnOk, vec_len};
 ghost use Rattle.std.specs.List.{list_all};
-ghost use Rattle.paths.specs.Path.{IsClean, is_idle, is_up, is_name, fits, climbed};
+ghost use Rattle.paths.specs.Path.{IsClean, is_idle, is_up, is_name, are_short, climbed};
 ghost use Rattle.paths.specs.Reading.{IsRead, read_from, is_absolute, stepped, pieces, walked};
 ghost use Rattle.paths.specs.Place.{IsPlace};
 
@@ -113,7 +113,7 @@ fn is_up(piece: &str) -> bool
 
 /// Whether no component is too long.
 fn are_short(parts: &[&str]) -> bool
-    ensures { result ≡ fits (map (λ part. part.now) parts.now) }
+    ensures { result ≡ are_short (map (λ part. part.now) parts.now) }
 {
     parts.iter().all(|part| part.len() <= MOST_COMPONENT_BYTES)
 }
@@ -124,7 +124,7 @@ fn texts(alloc: Global, parts: &[&str]) -> Result<Vec<Text>, Memory>
 {
     let mut copied = Vec::with_capacity(alloc, parts.len())?;
     for part in parts {
-        copied.push(Text::read(alloc, part)?)?;
+        copied.push(Text::from_str(alloc, part)?)?;
     }
     Ok(copied)
 }
@@ -136,7 +136,7 @@ fn start<'a>(text: &str, base: &'a Path) -> &'a [Text]
 {
     match text.as_bytes() {
         [b'/', ..] => &[],
-        _ => base.as_slice(),
+        _ => base.components(),
     }
 }
 

@@ -160,12 +160,14 @@ fn a_path_tells_its_components(rt: HostRuntime) -> Result<(), Fail> {
     let path = at(rt.alloc(), "usr/bin")?;
     assert!(rt; !path.is_root());
     assert_eq!(rt; path.depth(), 2);
-    for part in path.as_slice() {
+    for part in path.components() {
         assert_eq!(rt; part.len(), 3);
     }
-    if let Some(name) = path.name() {
-        assert_eq!(rt; name.as_str(), "bin");
-    }
+    let Some(name) = path.name() else {
+        assert!(rt; false, "it is not the root");
+        return Ok(());
+    };
+    assert_eq!(rt; name.as_str(), "bin");
     Ok(())
 }
 

@@ -1,8 +1,9 @@
+-- The codes with which a build's input is refused (own). They are a format: answers name them, as `R07`.
 use Rattle.std.specs.Prelude.{ℕ}
 use Rattle.plain.specs.declared.refusal.Code.{Code}
 use Rattle.plain.specs.declared.refusal.Code.TheVariants.{R01, R02, R03, R04, R05, R06, R07, R08, R09, R10, R11, R12, R13, R14, R15, R16, R17, R18, R19, R20}
 
--- the number of a refusal's code (own)
+-- the number of a refusal's code: that of `R07` is 7 (own)
 abbrev pub number_of : Code → ℕ
 number_of R01 = 1
 number_of R02 = 2

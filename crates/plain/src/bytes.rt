@@ -30,7 +30,7 @@ impl Bytes {
     }
 
     /// A copy of the bytes of a slice.
-    pub fn read(alloc: Global, bytes: &[u8]) -> Result<Bytes, Memory>
+    pub fn from_slice(alloc: Global, bytes: &[u8]) -> Result<Bytes, Memory>
         ensures { IfOk result (λ copied. copied ≡ bytes.now) }
     {
         let items = Vec::from_slice(alloc, bytes)?;
@@ -66,6 +66,6 @@ impl Exact for Bytes {
     }
 
     fn copy(&self, alloc: Global) -> Result<Bytes, Memory> {
-        Bytes::read(alloc, self.as_slice())
+        Bytes::from_slice(alloc, self.as_slice())
     }
 }

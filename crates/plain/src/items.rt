@@ -105,8 +105,8 @@ fn same_items<T: Exact>(these: &[T], those: &[T]) -> bool
     true
 }
 
-/// A copy of each element, in order.
-fn copied_items<T: Exact + Drop>(alloc: Global, items: &[T]) -> Result<Vec<T>, Memory>
+/// A copy of each element of a slice, in order.
+pub fn copied_items<T: Exact + Drop>(alloc: Global, items: &[T]) -> Result<Vec<T>, Memory>
     ensures { IfOk result (λ copied. copied.items ≡ items.now) }
 {
     let mut copied = Vec::with_capacity(alloc, items.len())?;

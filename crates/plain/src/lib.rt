@@ -1,15 +1,16 @@
-// The plain data that every crate above speaks in: lists, bytes, one type of text, and the one error
-// for want of memory.
+// The plain data that every crate above speaks in: lists, bytes, one type of text, the one error for want of memory, and two
+// small enums that several crates share: a refusal's `Code`, and the `Sharing` of a cache mount.
 //
-// Contracts see each of these types as data and nothing else: `Items<T>` as a list, `Bytes` and `Text`
-// as a list of numbers. So a struct or an enum made of them is, in a contract, the very data that a
-// definition speaks of, and "equal" means that nothing tells the two apart.
+// Contracts see a list as a list, and bytes and text as lists of numbers: `Items<T>`, `Bytes` and `Text` show no capacity and no
+// pointer, as std's `Vec` and `String` do. So a struct or an enum made of them is, in a contract, the very data that a definition
+// speaks of, and "equal" means that nothing tells the two apart.
 //
-// It is no collection library: it holds what a field of a type of ours can't be said with std's own
-// type, whose contracts would speak of capacities and pointers as well.
+// It is no library of collections: nothing is searched, sorted or mapped here. What a code or a sharing leads to is told by the
+// crates that use them. Its central definition is the list that each type is seen as (`impl Model`), and `Exact`, the trait of
+// values that are compared and copied exactly.
 //
 // ```
-// let name = Text::read(alloc, "app")?;
+// let name = Text::from_str(alloc, "app")?;
 // let twin = name.copy(alloc)?;
 // name.same(&twin)                       // true
 // ```
@@ -25,7 +26,7 @@ mod text;
 
 pub use bytes::Bytes;
 pub use exact::Exact;
-pub use items::Items;
+pub use items::{Items, copied_items};
 pub use memory::Memory;
 pub use refusal::{Code, Refusal};
 pub use sharing::Sharing;

@@ -1,8 +1,8 @@
 ghost use Rattle.std.specs.Prelude.{◌≡◌};
 ghost use Rattle.plain.specs.Codes.{number_of};
 
-/// Why a build's input is refused. Where an input has several faults, the one that is told is the least by
-/// the phase that finds it, then by line, then by the code's number.
+/// Why a build's input is refused. Where an input has several faults, the one that is told will be the least by
+/// the phase that finds it, then by line, then by the code's number; no contract says so yet.
 #[derive(Clone, Copy, Debug, PartialEq, Eq)]
 pub enum Code {
     /// The text is not UTF-8.

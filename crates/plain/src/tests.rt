@@ -13,6 +13,8 @@ fn items_are_a_list(rt: HostRuntime) -> Result<(), Fail> {
     items.push(5)?;
     assert!(rt; !items.same(&twin));
     assert_eq!(rt; items.as_slice(), [3u8, 5, 5].as_slice());
+    let copied = copied_items(rt.alloc(), items.as_slice())?;
+    assert_eq!(rt; copied.as_slice(), [3u8, 5, 5].as_slice());
     let again = Items::from_vec(twin.into_vec());
     assert_eq!(rt; again.as_slice(), [3u8, 5].as_slice());
     Ok(())
@@ -31,8 +33,8 @@ fn texts_are_ordered_by_their_bytes(rt: HostRuntime) -> Result<(), Fail> {
         ("z", "é"),
         ("ﬀ", "𝒜"),
     ] {
-        let low = Text::read(alloc, low)?;
-        let high = Text::read(alloc, high)?;
+        let low = Text::from_str(alloc, low)?;
+        let high = Text::from_str(alloc, high)?;
         assert!(rt; low < high);
         assert!(rt; !low.same(&high));
         assert!(rt; low.same(&low.copy(alloc)?));
@@ -47,7 +49,7 @@ fn texts_are_ordered_by_their_bytes(rt: HostRuntime) -> Result<(), Fail> {
 #[test]
 fn bytes_need_not_be_text(rt: HostRuntime) -> Result<(), Fail> {
     let alloc = rt.alloc();
-    let bytes = Bytes::read(alloc, &[255, 0])?;
+    let bytes = Bytes::from_slice(alloc, &[255, 0])?;
     let twin = bytes.copy(alloc)?;
     assert!(rt; bytes.same(&twin));
     assert_eq!(rt; twin.len(), 2);

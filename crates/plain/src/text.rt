@@ -35,7 +35,7 @@ impl Text {
     }
 
     /// A copy of a text.
-    pub fn read(alloc: Global, text: &str) -> Result<Text, Memory>
+    pub fn from_str(alloc: Global, text: &str) -> Result<Text, Memory>
         ensures { IfOk result (λ copied. copied ≡ text.now) }
     {
         let text = String::from_str(alloc, text)?;
@@ -71,7 +71,7 @@ impl Exact for Text {
     }
 
     fn copy(&self, alloc: Global) -> Result<Text, Memory> {
-        Text::read(alloc, self.as_str())
+        Text::from_str(alloc, self.as_str())
     }
 }
 

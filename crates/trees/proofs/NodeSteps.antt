@@ -1,6 +1,6 @@
 -- One step down a path, as the code of a node takes it: the path's first name, the child of that name, and the rest of the path.
-use Rattle.std.specs.Prelude.{◌≡◌, ℕ, max, ◌+◌, ◌-◌, ◌<◌, ◌≤◌, Bool, true, false, not, cond, ◌||◌, ◌&&◌, Option, Some, None, List, [], ◌∷◌, length, get_or, take, drop, option_and_then}
-use Rattle.std.proofs.Common.{sym, ap, refl, ◌∙◌, subst, true≢false, arith}
+use Rattle.std.specs.Prelude.{◌≡◌, ℕ, max, ◌+◌, ◌-◌, ◌<◌, ◌≤◌, Bool, true, false, not, cond, ◌||◌, ◌&&◌, Option, Some, None, List, [], ◌∷◌, length, get_or, take, drop, ◌++◌, MatchOption, option_and_then}
+use Rattle.std.proofs.Common.{sym, ap, refl, ◌∙◌, subst, true≢false, arith, Bor}
 use Rattle.std.proofs.lemmas.Grind.{common_steps}
 use Rattle.std.proofs.lemmas.Option.{same_Some, none-some}
 use Rattle.std.specs.Map.{lookup}
@@ -17,6 +17,7 @@ use Rattle.trees.specs.declared.entry.Entry.{Entry}
 use Rattle.trees.specs.TreeMap.{name_cmp, is_front, is_blocked, is_file, is_directory}
 use Rattle.trees.specs.NodeValue.{NodeValue, map_of, joined, height_of, IsPlanted}
 use Rattle.trees.specs.Put.{planted}
+use Rattle.trees.specs.SubtreeLaws.{IsBelow}
 use Rattle.trees.specs.FrontLaws.{is_blocked-cons, open-from_fronts, name_same, path_eq-cons}
 use Rattle.trees.specs.TreeLaws.{same_tree}
 use Rattle.trees.proofs.NodeLaws.{get-map_of_root, get-map_of_cons, get-joined, lookup-find}
@@ -81,7 +82,7 @@ blocked-in_kid (Some kid) rest = refl
 
 module _ (value : NodeValue) (top : Entry) (kids : List (List ℕ × NodeValue)) (path : List (List ℕ)) (name : List ℕ) (is : node_of top kids ≡ value) (more : 1 ≤ length path) (first : name ≡ get_or path 0 name) where
   -- what stands below the path's first name
-  below_first : (kid : Option NodeValue) → kid ≡ lookup (is_at (name_cmp name)) kids → (p : List (List ℕ)) → get (map_of value) (name ∷ p) ≡ option_and_then (λ v. get (map_of v) p) kid
+  pub below_first : (kid : Option NodeValue) → kid ≡ lookup (is_at (name_cmp name)) kids → (p : List (List ℕ)) → get (map_of value) (name ∷ p) ≡ option_and_then (λ v. get (map_of v) p) kid
   below_first kid found p =
       (λ i. get (map_of (sym is i)) (name ∷ p)) ∙ get-map_of_cons (node_of top kids) name p ∙ get-joined kids name p
       ∙ ap (option_and_then (λ v. get (map_of v) p)) (sym (found ∙ lookup-find name kids))
@@ -226,3 +227,16 @@ pub kid-falls : (value : NodeValue) (top : Entry) (kids : List (List ℕ × Node
 kid-falls value top kids name kid is has =
     let low : kid.height + 1 ≤ height_of kids = kid-lower kids name kid has in
     let same : height_of kids ≡ value.height = ap (λ n. n.height) is in omega arith
+
+-- ---- the node at a path
+
+-- what a search for the node at a path finds: none where nothing stands there, else the node of what is below it
+abbrev pub IsFound : NodeValue → List (List ℕ) → Option (Bor NodeValue) → Type 0
+IsFound value path found = MatchOption found (get (map_of value) path ≡ None) (λ node. IsBelow (map_of value) path (map_of node.now))
+
+-- what is found in the child of the first name is found
+pub at-kid : (value : NodeValue) (top : Entry) (kids : List (List ℕ × NodeValue)) (path : List (List ℕ)) (name : List ℕ) (kid : NodeValue) (found : Option (Bor NodeValue)) → node_of top kids ≡ value → 1 ≤ length path → name ≡ get_or path 0 name → Some kid ≡ lookup (is_at (name_cmp name)) kids
+    → IsFound kid (take (length path - 1) (drop 1 path)) found → IsFound value path found
+at-kid value top kids path name kid None is more first has none = get-kid value top kids path name (Some kid) is more first has ∙ none
+at-kid value top kids path name kid (Some node) is more first has lies =
+    record { at = λ q. lies.at q ∙ sym (below_first value top kids path name is more first (Some kid) has (take (length path - 1) (drop 1 path) ++ q)) ∙ (λ i. get (map_of value) (sym (path-parts path name more first) i ++ q)) }

@@ -15,7 +15,7 @@ use Rattle.std.specs.FinMap.{get, entries, entries_sorted, get-entries, find}
 use Rattle.std.specs.FinMap.Entries.{is_sorted, below_all, same_entries}
 use Rattle.std.proofs.lemmas.List.Folds.{list_all-append}
 use Rattle.paths.specs.Order.{path_cmp, path_cmp_total, path_cmp-IsAntisymmetric}
-use Rattle.paths.specs.Path.{IsClean, is_name, is_naming, is_whole}
+use Rattle.paths.specs.Path.{IsClean, is_name, is_normal, is_whole}
 use Rattle.paths.specs.Reading.{walked, is_absolute, read_from}
 use Rattle.paths.specs.ReadingLaws.{pieces-join, walked-names}
 use Rattle.trees.specs.declared.entry.Entry.{Entry}
@@ -136,8 +136,8 @@ not_true false e = refl
 -- reading one name below a directory gives the path of that name
 pub read-name : (p : List (List ℕ)) (name text : List ℕ) → text ≡ name → IsClean (p ++ name ∷ []) → read_from text p ≡ p ++ name ∷ []
 read-name p name text same clean =
-    let named : (is_naming name && is_whole name) ≡ true = both_first _ _ (both_second (list_all is_name p) (list_all is_name (name ∷ [])) (sym (list_all-append is_name p (name ∷ [])) ∙ clean.names)) in
-    let whole : is_whole name ≡ true = both_second (is_naming name) _ named in
+    let named : (is_normal name && is_whole name) ≡ true = both_first _ _ (both_second (list_all is_name p) (list_all is_name (name ∷ [])) (sym (list_all-append is_name p (name ∷ [])) ∙ clean.names)) in
+    let whole : is_whole name ≡ true = both_second (is_normal name) _ named in
     (λ i. read_from (same i) p)
     ∙ (λ i. walked (if relative name whole i then [] else p) (pieces-join name [] whole refl i))
     ∙ walked-names p (name ∷ []) (both_hold _ _ (both_first _ _ named) refl)

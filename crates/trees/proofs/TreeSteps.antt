@@ -1,5 +1,5 @@
 -- From the steps of a tree's code to what its calls promise.
-use Rattle.std.specs.Prelude.{◌≡◌, ℕ, true, Option, Some, None, List, []}
+use Rattle.std.specs.Prelude.{◌≡◌, ℕ, Bool, true, false, Option, Some, None, Ok, Err, List, []}
 use Rattle.std.proofs.Common.{sym, ap, refl, ◌∙◌, subst, true≢false}
 use Rattle.std.specs.FinMap.{get, empty, insert}
 use Rattle.paths.specs.Path.{IsClean}
@@ -7,7 +7,10 @@ use Rattle.trees.specs.declared.meta.Meta.{Meta}
 use Rattle.trees.specs.declared.entry.Entry.{Entry}
 use Rattle.trees.specs.declared.entry.Entry.TheVariants.{Directory, File}
 use Rattle.trees.specs.declared.fault.Cause.{Cause}
-use Rattle.trees.specs.TreeMap.{TreeMap, IsTree, is_directory, meta_of, empty_tree, directory_meta}
+use Rattle.trees.specs.declared.fault.Cause.TheVariants.{F1, F2}
+use Rattle.trees.specs.TreeMap.{TreeMap, IsTree, is_directory, is_file, meta_of, empty_tree, directory_meta}
+use Rattle.trees.specs.Subtree.{subtree}
+use Rattle.trees.specs.SubtreeLaws.{IsBelow, subtree-missing, subtree-file, subtree-directory, own-below, below-IsTree}
 use Rattle.trees.specs.Put.{placed, cause_at, put_cause, put_into}
 use Rattle.trees.specs.NodeValue.{NodeValue, map_of, IsPlanted}
 use Rattle.trees.specs.TreeLaws.{same_tree, get-placed, free-from_cause, placed-IsTree, empty-IsTree}
@@ -47,3 +50,31 @@ directory-meta (File m c) d = absurd (true≢false (sym d))
 pub root-directory : (root : NodeValue) (meta : Meta) → IsTree (map_of root) → meta ≡ meta_of root.top → get (map_of root) [] ≡ Some (Directory meta)
 root-directory root meta tree is =
     get-map_of_root root ∙ directory-meta root.top (ap is_directory (sym (get-map_of_root root)) ∙ tree.root) ∙ ap (λ m. Some (Directory m)) (sym is)
+
+-- ---- what lies under a path
+
+-- nothing stands there
+pub under-none : (tree value : TreeMap) (a path : List (List ℕ)) → tree ≡ value → a ≡ path → get tree a ≡ None → subtree value path ≡ Err F1
+under-none tree value a path view same none = (λ i. subtree (sym view i) (sym same i)) ∙ subtree-missing tree a none
+
+no_directory : (entry : Entry) → is_directory (Some entry) ≡ false → is_file (Some entry) ≡ true
+no_directory (Directory m) d = absurd (true≢false d)
+no_directory (File m c) d = refl
+
+-- what stands at the path of a node is the node's entry
+own-entry : (tree : TreeMap) (a : List (List ℕ)) (node : NodeValue) → IsBelow tree a (map_of node) → get tree a ≡ Some node.top
+own-entry tree a node lies = own-below tree a (map_of node) lies ∙ get-map_of_root node
+
+-- a file stands there
+pub under-file : (tree value : TreeMap) (a path : List (List ℕ)) (node : NodeValue) (directory : Bool) → tree ≡ value → a ≡ path → IsBelow tree a (map_of node) → directory ≡ is_directory (Some node.top) → directory ≡ false → subtree value path ≡ Err F2
+under-file tree value a path node directory view same lies is not_held =
+    (λ i. subtree (sym view i) (sym same i)) ∙ subtree-file tree a (ap is_file (own-entry tree a node lies) ∙ no_directory node.top (sym is ∙ not_held))
+
+-- a directory stands there
+pub under-directory : (tree value : TreeMap) (a path : List (List ℕ)) (node root : NodeValue) (directory : Bool) → tree ≡ value → a ≡ path → IsBelow tree a (map_of node) → directory ≡ is_directory (Some node.top) → directory ≡ true → root ≡ node → subtree value path ≡ Ok (map_of root)
+under-directory tree value a path node root directory view same lies is held copied =
+    (λ i. subtree (sym view i) (sym same i)) ∙ subtree-directory tree a (map_of node) (ap is_directory (own-entry tree a node lies) ∙ sym is ∙ held) lies ∙ (λ i. Ok (map_of (sym copied i)))
+
+pub under-IsTree : (tree : TreeMap) (a : List (List ℕ)) (node root : NodeValue) (directory : Bool) → IsTree tree → IsBelow tree a (map_of node) → directory ≡ is_directory (Some node.top) → directory ≡ true → root ≡ node → IsTree (map_of root)
+under-IsTree tree a node root directory h lies is held copied =
+    subst (λ (n : NodeValue). IsTree (map_of n)) (sym copied) (below-IsTree tree a (map_of node) h (ap is_directory (own-entry tree a node lies) ∙ sym is ∙ held) lies)

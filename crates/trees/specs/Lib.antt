@@ -7,3 +7,5 @@ pub mod FrontLaws
 pub mod TreeLaws
 pub mod RunLaws
 pub mod Rows
+pub mod Subtree
+pub mod SubtreeLaws

@@ -86,7 +86,7 @@ some-from_directory : (o : Option Entry) → is_directory o ≡ true → is_some
 some-from_directory None d = d
 some-from_directory (Some e) d = refl
 
-file-from_directory : (o : Option Entry) → is_directory o ≡ true → is_file o ≡ false
+pub file-from_directory : (o : Option Entry) → is_directory o ≡ true → is_file o ≡ false
 file-from_directory None d = refl
 file-from_directory (Some (Directory m)) d = refl
 file-from_directory (Some (File m c)) d = absurd (true≢false (sym d))

@@ -51,12 +51,12 @@ impl fmt::Display for Cause {
     }
 }
 
-/// Why a tree wasn't changed.
+/// Why a call on a tree failed.
 #[derive(Clone, Copy, Debug, PartialEq, Eq)]
 pub enum TreeFault {
-    /// The change isn't allowed, as putting a file where a directory stands (`F4`).
+    /// What was asked can't be, as putting a file where a directory stands (`F4`).
     Fails(Cause),
-    /// There was no memory for it. Nothing is said of the change.
+    /// There was no memory for it. Nothing else is said.
     Memory,
 }
 

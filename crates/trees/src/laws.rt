@@ -1,6 +1,6 @@
 // Laws of trees and of a command's mounts, each the contract of a function that does nothing.
 
-ghost use Rattle.std.specs.Prelude.{◌≡◌, ◌↔◌, ℕ, true, Some, None, List, [], ◌∷◌, ◌++◌, if◌then◌else◌};
+ghost use Rattle.std.specs.Prelude.{◌≡◌, ◌↔◌, ℕ, true, Some, None, Ok, Err, List, [], ◌∷◌, ◌++◌, if◌then◌else◌};
 ghost use Rattle.std.specs.Option.{option_or};
 ghost use Rattle.std.specs.Ordering.{eq_by_cmp};
 ghost use Rattle.std.specs.List.{AllByRecursion};
@@ -9,9 +9,11 @@ ghost use Rattle.paths.specs.Order.{path_cmp};
 ghost use Rattle.paths.specs.Path.{IsClean};
 ghost use Rattle.trees.specs.declared.entry.Entry.{Entry};
 ghost use Rattle.trees.specs.declared.entry.Entry.TheVariants.{Directory};
+ghost use Rattle.trees.specs.declared.fault.Cause.TheVariants.{F1};
 ghost use Rattle.trees.specs.TreeMap.{TreeMap, IsTree, is_front, is_blocked, empty_tree, directory_meta};
 ghost use Rattle.trees.specs.Put.{planted, put_cause, put_into};
 ghost use Rattle.trees.specs.Over.{over, merged};
+ghost use Rattle.trees.specs.Subtree.{subtree};
 ghost use Rattle.trees.specs.Run.{mounts_fit, ids_differ};
 ghost use Rattle.trees.specs.RunLaws.{MountsFit, IdsDiffer};
 
@@ -47,6 +49,15 @@ pub fn the_upper_tree_wins()
         → get (over lower upper) q ≡ option_or (get upper q) (if is_blocked (get upper) q then None else get lower q) }
     ensures tree { (lower upper : TreeMap) → IsTree lower → IsTree upper → IsTree (over lower upper) }
     ensures merged { (trees : List TreeMap) → AllByRecursion IsTree trees → IsTree (merged trees) }
+{}
+
+/// At each path of a subtree stands what stands below its top in the whole tree; a subtree of a tree is a tree, and that of the
+/// root is the whole tree. Where a file stands on the way to the top, there is none, since nothing stands there.
+pub fn a_subtree_is_what_lies_below()
+    ensures at { (tree below : TreeMap) (top q : List (List ℕ)) → subtree tree top ≡ Ok below → get below q ≡ get tree (top ++ q) }
+    ensures tree { (tree below : TreeMap) (top : List (List ℕ)) → IsTree tree → subtree tree top ≡ Ok below → IsTree below }
+    ensures root { (tree : TreeMap) → IsTree tree → subtree tree [] ≡ Ok tree }
+    ensures blocked { (tree : TreeMap) (top : List (List ℕ)) → IsTree tree → is_blocked (get tree) top ≡ true → subtree tree top ≡ Err F1 }
 {}
 
 /// The tests on a command's mounts say of each two places what has to hold of them.

@@ -1,9 +1,10 @@
-ghost use Rattle.std.specs.Prelude.{◌≡◌, ◌↔◌, ℕ, true, List, [], ◌∷◌, ◌++◌, is_some, IsTrue, IfOk, OnOk, OnErr, option_copied};
+ghost use Rattle.std.specs.Prelude.{◌≡◌, ◌↔◌, ℕ, true, Some, None, List, [], ◌∷◌, ◌++◌, is_some, IsTrue, IfOk, OnOk, OnErr, MatchOption, option_copied};
 ghost use Rattle.std.specs.FinMap.{get, empty, entries};
 ghost use Rattle.paths.specs.Path.{IsClean};
 ghost use Rattle.trees.specs.Rows.{shown, under};
 ghost use Rattle.trees.specs.NodeValue.{map_of, IsPlanted};
-ghost use Rattle.trees.specs.TreeMap.{is_blocked, meta_of};
+ghost use Rattle.trees.specs.SubtreeLaws.{IsBelow};
+ghost use Rattle.trees.specs.TreeMap.{is_blocked, is_directory, meta_of};
 
 use crate::{Entry, Meta};
 use paths::Path;
@@ -55,6 +56,13 @@ impl Node {
         self.entry.meta()
     }
 
+    /// Whether this node's entry is a directory.
+    pub(crate) fn is_directory(&self) -> bool
+        ensures { result ≡ is_directory (Some self.now.top) }
+    {
+        self.entry.is_directory()
+    }
+
     /// The entry at a path below this node.
     pub(crate) fn find(&self, path: &[Text]) -> Option<&Entry>
         ensures { option_copied result ≡ get (map_of self.now) path.now }
@@ -63,6 +71,19 @@ impl Node {
             [] => Some(&self.entry),
             [name, rest @ ..] => match self.kids.get(name) {
                 Some(kid) => kid.find(rest),
+                None => None,
+            },
+        }
+    }
+
+    /// The node at a path below this one.
+    pub(crate) fn node_at(&self, path: &[Text]) -> Option<&Node>
+        ensures { MatchOption result (get (map_of self.now) path.now ≡ None) (λ node. IsBelow (map_of self.now) path.now (map_of node.now)) }
+    {
+        match path {
+            [] => Some(self),
+            [name, rest @ ..] => match self.kids.get(name) {
+                Some(kid) => kid.node_at(rest),
                 None => None,
             },
         }

@@ -19,7 +19,7 @@ fn file(rt: &HostRuntime, bits: u16, text: &str) -> Result<Entry, Fail> {
     };
     Ok(Entry::File(
         meta,
-        Content::new(Bytes::read(rt.alloc(), text.as_bytes())?),
+        Content::new(Bytes::from_slice(rt.alloc(), text.as_bytes())?),
     ))
 }
 
@@ -209,6 +209,37 @@ fn get_finds_what_stands_there(rt: HostRuntime) -> Result<(), Fail> {
 }
 
 #[test]
+fn a_subtree_is_what_lies_below(rt: HostRuntime) -> Result<(), Fail> {
+    let tree = sample(&rt)?;
+    for (text, below) in [
+        ("/", "/ 755 0 D|/d 700 5 D|/d/f 600 7 one|/f 644 7 two|"),
+        ("/d", "/ 700 5 D|/f 600 7 one|"),
+    ] {
+        let shown = tree.subtree(rt.alloc(), &path(&rt, text)?)?;
+        assert_eq!(rt; listing(&rt, &shown)?.as_str(), below);
+    }
+    Ok(())
+}
+
+#[test]
+fn a_subtree_fails_by_the_table(rt: HostRuntime) -> Result<(), Fail> {
+    let tree = sample(&rt)?;
+    for (text, cause) in [
+        ("/e", Cause::F1),
+        ("/d/g", Cause::F1),
+        ("/d/f/x", Cause::F1),
+        ("/f", Cause::F2),
+        ("/d/f", Cause::F2),
+    ] {
+        match tree.subtree(rt.alloc(), &path(&rt, text)?) {
+            Ok(_) => assert!(rt; false, "{text}"),
+            Err(fault) => assert!(rt; fault == TreeFault::Fails(cause), "{text}"),
+        }
+    }
+    Ok(())
+}
+
+#[test]
 fn a_copy_is_the_same_tree(rt: HostRuntime) -> Result<(), Fail> {
     let tree = sample(&rt)?;
     let mut twin = tree.copy(rt.alloc())?;
@@ -237,7 +268,7 @@ fn bind(rt: &HostRuntime) -> Result<RunBind, Fail> {
 
 fn cache(rt: &HostRuntime) -> Result<CacheUse, Fail> {
     let target = path(rt, "/c")?;
-    let id = Text::read(rt.alloc(), "k")?;
+    let id = Text::from_str(rt.alloc(), "k")?;
     Ok(CacheUse {
         id,
         sharing: Sharing::Locked,
@@ -246,8 +277,8 @@ fn cache(rt: &HostRuntime) -> Result<CacheUse, Fail> {
 }
 
 fn variable(rt: &HostRuntime) -> Result<Variable, Fail> {
-    let name = Text::read(rt.alloc(), "A")?;
-    let value = Text::read(rt.alloc(), "1")?;
+    let name = Text::from_str(rt.alloc(), "A")?;
+    let value = Text::from_str(rt.alloc(), "1")?;
     Ok(Variable { name, value })
 }
 
@@ -255,7 +286,7 @@ fn command(rt: &HostRuntime) -> Result<RunRequest, Fail> {
     let alloc = rt.alloc();
     let root = sample(rt)?;
     let dir = path(rt, "/d")?;
-    let user = Text::read(alloc, "app")?;
+    let user = Text::from_str(alloc, "app")?;
     Ok(RunRequest {
         root,
         binds: Items::new(alloc),
@@ -276,7 +307,7 @@ fn a_request_is_copied_whole(rt: HostRuntime) -> Result<(), Fail> {
     request.env.push(variable(&rt)?)?;
     let mut twin = request.copy(alloc)?;
     assert!(rt; request.same(&twin));
-    twin.words.push(Text::read(alloc, "-v")?)?;
+    twin.words.push(Text::from_str(alloc, "-v")?)?;
     assert!(rt; !request.same(&twin));
     Ok(())
 }

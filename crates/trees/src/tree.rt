@@ -4,10 +4,11 @@ ghost use Rattle.trees.specs.Rows.{shown};
 ghost use Rattle.trees.specs.TreeMap.{IsTree, empty_tree};
 ghost use Rattle.trees.specs.declared.entry.Entry.TheVariants.{Directory};
 ghost use Rattle.trees.specs.Put.{IsPut};
+ghost use Rattle.trees.specs.Subtree.{IsSubtree};
 
 use crate::node::Node;
 use crate::put::cause_of;
-use crate::{Entry, Meta, TreeFault};
+use crate::{Cause, Entry, Meta, TreeFault};
 use paths::Path;
 use plain::{Exact, Memory};
 use std::alloc::Global;
@@ -54,7 +55,7 @@ impl Tree {
     pub fn get(&self, path: &Path) -> Option<&Entry>
         ensures { option_copied result ≡ get self.now path.now }
     {
-        self.root.find(path.as_slice())
+        self.root.find(path.components())
     }
 
     /// All entries with their paths, in path order, the root first. Paths are made, and the entries are lent.
@@ -66,6 +67,25 @@ impl Tree {
         Ok(rows)
     }
 
+    /// What lies under a path, as a tree of its own: the directory at the path is its root. Of the root it is a copy of the tree.
+    ///
+    /// It fails with `F1` where nothing stands at the path, as where a file stands on the way to it, and with `F2` where a file
+    /// stands there (own; it is what a bind mount of `RUN` asks).
+    pub fn subtree(&self, alloc: Global, path: &Path) -> Result<Tree, TreeFault>
+        ensures { IsSubtree self.now path.now result }
+    {
+        match self.root.node_at(path.components()) {
+            None => Err(TreeFault::Fails(Cause::F1)),
+            Some(node) => {
+                if !node.is_directory() {
+                    return Err(TreeFault::Fails(Cause::F2));
+                }
+                let root = node.copy(alloc)?;
+                Ok(Tree { root })
+            }
+        }
+    }
+
     /// Puts one entry at a path. Missing parents are made, 0755 and 0:0. A file that stands there is replaced; a directory that
     /// stands there takes mode and owner and keeps what is below it.
     ///
@@ -74,11 +94,11 @@ impl Tree {
     pub fn put(&mut self, alloc: Global, path: &Path, entry: Entry) -> Result<(), TreeFault>
         ensures { IsPut self.old self.new path.now entry result }
     {
-        match cause_of(&self.root, path.as_slice(), &entry) {
+        match cause_of(&self.root, path.components(), &entry) {
             Some(cause) => Err(TreeFault::Fails(cause)),
             None => {
                 self.root
-                    .plant(alloc, path.as_slice(), Meta::directory(), entry)?;
+                    .plant(alloc, path.components(), Meta::directory(), entry)?;
                 Ok(())
             }
         }

@@ -1,6 +1,6 @@
 use Rattle.std.proofs.Common.{◌≡◌, ◌<◌, ℕ, false, get_or}
-use Rattle.executor.specs.Script.{ends}
+use Rattle.executor.specs.Script.{is_cut_at}
 use Rattle.executor.proofs.script.first_len.Given as goal
 
 abbrev pub invariant-loop-index : goal.invariant-loop-index
-invariant-loop-index l = (k : ℕ) → k < l.index → ends l.cut (get_or l.text k 0) ≡ false
+invariant-loop-index l = (k : ℕ) → k < l.index → is_cut_at l.cut (get_or l.text k 0) ≡ false

@@ -1,5 +1,5 @@
-use Rattle.std.proofs.Common.{List, map, ◌++◌, not, ap, ◌∙◌}
-use Rattle.trees.specs.Run.{mounts_fit, ids_differ, ids_of}
+use Rattle.std.proofs.Common.{not, ap, ◌∙◌}
+use Rattle.trees.specs.Run.{ids_differ, ids_of}
 use Rattle.trees.specs.declared.run.CacheUse.{CacheUse}
 use Rattle.llb.specs.declared.op.Bind.{Bind}
 use Rattle.llb.specs.Operation.{is_environment}

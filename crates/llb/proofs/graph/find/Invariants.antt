@@ -1,4 +1,4 @@
-use Rattle.std.proofs.Common.{◌≡◌, ◌<◌, ℕ, slice_get}
+use Rattle.std.proofs.Common.{◌<◌, ℕ, slice_get}
 use Rattle.std.specs.Prelude.{Some, ◌≢◌}
 use Rattle.llb.proofs.graph.find.Given as goal
 

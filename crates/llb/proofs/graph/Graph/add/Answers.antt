@@ -1,4 +1,4 @@
-use Rattle.std.proofs.Common.{◌≡◌, ◌++◌, ◌∷◌, [], ◌<◌, ◌≤◌, ℕ, length, slice_get, Some, arith, ap, sym, ◌∙◌, subst}
+use Rattle.std.proofs.Common.{◌≡◌, ◌++◌, ◌∷◌, [], ◌<◌, ◌≤◌, length, slice_get, Some, arith, ap, sym, ◌∙◌, subst}
 use Rattle.llb.specs.declared.graph.TheConstants.{MOST_VERTICES}
 use Rattle.llb.specs.Graph.{IsAfterInputs, IsNew}
 use Rattle.llb.proofs.GraphKept.{append_keeps, found_keeps}

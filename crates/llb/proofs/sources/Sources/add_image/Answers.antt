@@ -1,4 +1,4 @@
-use Rattle.std.proofs.Common.{ℕ, List, ap, ◌∙◌}
+use Rattle.std.proofs.Common.{ap, ◌∙◌}
 use Rattle.std.specs.FinMap.{FinMap, insert, from_entries}
 use Rattle.trees.specs.TreeMap.{TreeMap}
 use Rattle.llb.specs.Sources.{name_cmp, SourcesValue}

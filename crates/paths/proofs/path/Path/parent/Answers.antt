@@ -2,4 +2,4 @@ use Rattle.paths.proofs.Places.{clean-take}
 use Rattle.paths.proofs.path.Path.parent.Goals as goal
 
 pub from_parts-requires : goal.from_parts-requires
-from_parts-requires c = rw (c.in_ok-copied-in-len1-up.ensures, c.as_slice.ensures.value) (clean-take _ _ c.as_slice.ensures.clean)
+from_parts-requires c = rw (c.in_ok-copied_items-in-len1-up.ensures, c.components.ensures.value) (clean-take _ _ c.components.ensures.clean)

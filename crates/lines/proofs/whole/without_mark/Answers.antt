@@ -1,8 +1,0 @@
-use Rattle.lines.proofs.TextLemmas.{without_mark-none, without_mark-some}
-use Rattle.lines.proofs.whole.without_mark.Goals as goal
-
-pub returns-in-Some : goal.returns-in-Some
-returns-in-Some c = let s = c.in-Some.ensures.cases in without_mark-some _ _ _ s.1.split s.2
-
-pub returns-in-None : goal.returns-in-None
-returns-in-None c = without_mark-none _ c.in-None.ensures.cases
