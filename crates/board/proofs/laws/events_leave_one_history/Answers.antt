@@ -1,0 +1,5 @@
+use Rattle.board.specs.HistoryLaws.{one_history}
+use Rattle.board.proofs.laws.events_leave_one_history.Goals as goal
+
+pub returns : goal.returns
+returns c = one_history

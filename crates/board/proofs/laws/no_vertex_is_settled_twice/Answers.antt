@@ -1,0 +1,6 @@
+use Rattle.board.specs.SoundLaws.{sound}
+use Rattle.board.specs.PlayLaws.{replay-right}
+use Rattle.board.proofs.laws.no_vertex_is_settled_twice.Goals as goal
+
+pub returns : goal.returns
+returns c = λ problem run plan replay. (replay-right problem run (sound problem plan) replay).agrees.once

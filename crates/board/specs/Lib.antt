@@ -1,0 +1,13 @@
+pub mod Words
+pub mod Play
+pub mod Legal
+pub mod ListLaws
+pub mod ReadyLaws
+pub mod StepLaws
+pub mod PlayLaws
+pub mod Claims
+pub mod BoardValue
+pub mod SoundLaws
+pub mod Desk
+pub mod DeskLaws
+pub mod HistoryLaws

@@ -1,0 +1,205 @@
+-- What holds of every replay: its history is legal, what is settled are the vertices' values, each once, and it never gets stuck.
+use Rattle.std.proofs.Common.{◌≡◌, ◌≢◌, ℕ, suc, ◌<◌, ◌≤◌, Bool, true, false, not, cond, ◌⊎◌, inl, inr, List, [], ◌∷◌, ◌++◌, length, map, Option, Some, None, is_some, Ok, Err, refl, sym, ap, ◌∙◌, subst, arith, append_assoc, append-nil}
+use Rattle.std.specs.Prelude.{slice_get}
+use Rattle.std.specs.Option.{option_map, MatchOption}
+use Rattle.std.specs.List.{list_any, slice_index_or}
+use Rattle.std.proofs.lemmas.Bool.{both_ways, not-false, not-true, or_parts}
+use Rattle.std.proofs.lemmas.Option.{slice_get_cases}
+use Rattle.board.specs.Words.{Value, Vertex, Problem, vertex_value}
+use Rattle.board.specs.Play.{State, Run, Step, Claim, Settle, Abandon, Move, plain, step_of, value_at, claim_of, has_cause, is_over, least, least_ready, can_claim, claim_move, settle_move, abandon_move, next, moved, go, go_all, begun, play, IsReplay}
+use Rattle.board.specs.Legal.{event_of, held, settles, IsSettled, HasTree, HasCause, IsReady, IsNext, Possible, GoesOn, IsLegal, PlaysOn, Plays}
+use Rattle.board.specs.ListLaws.{vertex_of, IsLeast, least-some, least-none, claim_of-worker}
+use Rattle.board.specs.ReadyLaws.{IsSound, Agrees, can_claim-some, can_claim-none, settled-is, no_cause-is}
+use Rattle.board.specs.StepLaws.{next-some, next-none, Agrees-begun}
+use Rattle.board.specs.declared.event.Happened.{Happened}
+use Rattle.board.specs.declared.event.Happened.TheVariants.{Claimed, Settled, Abandoned}
+use Rattle.board.specs.declared.event.Out.{Out}
+
+-- A run whose history is legal, and whose state is that of its history.
+pub record IsRight (problem : Problem) (run : Run) : Type 0 where
+  pub legal : IsLegal problem run.history
+  pub agrees : Agrees problem run.history run.state
+
+GoesOn-push : (problem : Problem) (before history : List Happened) (happened : Happened) → GoesOn problem before history → Possible problem (before ++ history) happened → GoesOn problem before (history ++ happened ∷ [])
+GoesOn-push problem before [] happened goes possible = (rw append-nil at possible, tt)
+GoesOn-push problem before (first ∷ history) happened goes possible =
+    (goes.0, GoesOn-push problem (before ++ first ∷ []) history happened goes.1 (rw (append_assoc before (first ∷ []) history) possible))
+
+moved-right : (problem : Problem) (run : Run) (step : Step) (o : Option Move) → IsSound problem → IsRight problem run → next problem run.state step ≡ o → IsRight problem (moved run o)
+moved-right problem run step None sound right e = right
+moved-right problem run step (Some move) sound right e =
+    let m = next-some problem run.history run.state step move sound right.agrees e in
+    record { legal = GoesOn-push problem [] run.history move.happened right.legal m.possible; agrees = m.agrees }
+
+pub go-right : (problem : Problem) (run : Run) (step : Step) → IsSound problem → IsRight problem run → IsRight problem (go problem run step)
+go-right problem run step sound right = moved-right problem run step (next problem run.state step) sound right refl
+
+pub go_all-right : (problem : Problem) (run : Run) (steps : List Step) → IsSound problem → IsRight problem run → IsRight problem (go_all problem run steps)
+go_all-right problem run [] sound right = right
+go_all-right problem run (step ∷ steps) sound right = go_all-right problem (go problem run step) steps sound (go-right problem run step sound right)
+
+pub play-right : (problem : Problem) (steps : List Step) → IsSound problem → IsRight problem (play problem steps)
+play-right problem steps sound = go_all-right problem (begun problem) steps sound (record { legal = tt; agrees = Agrees-begun problem })
+
+-- What a board holds is right.
+pub replay-right : (problem : Problem) (run : Run) → IsSound problem → IsReplay problem run → IsRight problem run
+replay-right problem run sound replay = subst (IsRight problem) replay (play-right problem (map step_of run.history) sound)
+
+-- What a list of steps leaves of a right run is what the rules leave of its history, by the events that the steps are.
+plays_on : (problem : Problem) (run : Run) (steps : List Step) → IsSound problem → IsRight problem run → PlaysOn problem run.history (map plain steps) (go_all problem run steps).history
+plays_on problem run [] sound right = refl
+plays_on problem run (step ∷ steps) sound right =
+    by_move (next problem run.state step) refl (λ o e. plays_on problem (moved run o) steps sound (moved-right problem run step o sound right e))
+  where
+    event_asked : (happened : Happened) → step_of happened ≡ step → event_of happened ≡ plain step
+    event_asked (Claimed worker vertex) e = ap plain e
+    event_asked (Settled worker vertex given) e = ap plain e
+    event_asked (Abandoned worker vertex) e = ap plain e
+
+    by_move : (o : Option Move) → next problem run.state step ≡ o → ((p : Option Move) → next problem run.state step ≡ p → PlaysOn problem (moved run p).history (map plain steps) (go_all problem (moved run p) steps).history) → PlaysOn problem run.history (map plain (step ∷ steps)) (go_all problem (go problem run step) steps).history
+    by_move None e rest = rw e (inr (next-none problem run.history run.state step right.agrees e, rest None e))
+    by_move (Some move) e rest =
+        let m = next-some problem run.history run.state step move sound right.agrees e in
+        rw e (inl (move.happened, event_asked move.happened m.asked, m.possible, rest (Some move) e))
+
+pub play-plays : (problem : Problem) (steps : List Step) → IsSound problem → Plays problem (map plain steps) (play problem steps).history
+play-plays problem steps sound = plays_on problem (begun problem) steps sound (record { legal = tt; agrees = Agrees-begun problem })
+
+-- The replay goes on: one step more of a replay is a replay.
+asked : (problem : Problem) (state : State) (step : Step) (move : Move) → next problem state step ≡ Some move → step_of move.happened ≡ step
+asked problem state (Claim worker) move e = by_vertex (can_claim problem state worker) e
+  where
+    by_vertex : (o : Option ℕ) → option_map (claim_move state worker) o ≡ Some move → step_of move.happened ≡ Claim worker
+    by_vertex None e = cc
+    by_vertex (Some vertex) e = (let same : claim_move state worker vertex ≡ move = cc in rw (← same) refl)
+asked problem state (Settle worker given) move e = by_claim (claim_of worker state.claims) refl e
+  where
+    by_claim : (o : Option Out) → claim_of worker state.claims ≡ o → option_map (settle_move problem state given) o ≡ Some move → step_of move.happened ≡ Settle worker given
+    by_claim None o e = cc
+    by_claim (Some claim) o e =
+        let same : settle_move problem state given claim ≡ move = cc in
+        rw (← same) (ap (λ w. Settle w given) (claim_of-worker worker state.claims claim o))
+asked problem state (Abandon worker) move e = by_claim (claim_of worker state.claims) refl e
+  where
+    by_claim : (o : Option Out) → claim_of worker state.claims ≡ o → option_map (abandon_move state) o ≡ Some move → step_of move.happened ≡ Abandon worker
+    by_claim None o e = cc
+    by_claim (Some claim) o e =
+        let same : abandon_move state claim ≡ move = cc in
+        rw (← same) (ap (λ w. Abandon w) (claim_of-worker worker state.claims claim o))
+
+pub go_all-append : (problem : Problem) (run : Run) (steps more : List Step) → go_all problem run (steps ++ more) ≡ go_all problem (go_all problem run steps) more
+go_all-append problem run [] more = refl
+go_all-append problem run (step ∷ steps) more = go_all-append problem (go problem run step) steps more
+
+pub map-append : {A B : Type 0} (f : A → B) (xs ys : List A) → map f (xs ++ ys) ≡ map f xs ++ map f ys
+map-append f [] ys = refl
+map-append f (x ∷ xs) ys = ap (λ zs. f x ∷ zs) (map-append f xs ys)
+
+map-push : (history : List Happened) (happened : Happened) → map step_of (history ++ happened ∷ []) ≡ map step_of history ++ step_of happened ∷ []
+map-push [] happened = refl
+map-push (first ∷ history) happened = ap (λ steps. step_of first ∷ steps) (map-push history happened)
+
+pub begun-replay : (problem : Problem) → IsReplay problem (begun problem)
+begun-replay problem = refl
+
+pub go-replay : (problem : Problem) (run : Run) (step : Step) → IsReplay problem run → IsReplay problem (go problem run step)
+go-replay problem run step replay = by_move (next problem run.state step) refl
+  where
+    by_move : (o : Option Move) → next problem run.state step ≡ o → IsReplay problem (moved run o)
+    by_move None e = replay
+    by_move (Some move) e =
+        let split : play problem (map step_of (run.history ++ move.happened ∷ [])) ≡ go problem (play problem (map step_of run.history)) (step_of move.happened) =
+        ap (play problem) (map-push run.history move.happened) ∙ go_all-append problem (begun problem) (map step_of run.history) (step_of move.happened ∷ []) in
+        let here : go problem (play problem (map step_of run.history)) (step_of move.happened) ≡ go problem run step =
+        ap (λ r. go problem r (step_of move.happened)) replay ∙ ap (go problem run) (asked problem run.state step move e) in
+        split ∙ (here ∙ ap (moved run) e)
+
+-- Each settled value is the vertex's value.
+pub replay-value : (problem : Problem) (run : Run) → IsSound problem → IsReplay problem run → (vertex : ℕ) (value : Value) → value_at run.state.settled vertex ≡ Some value → vertex_value problem vertex ≡ Some value
+replay-value problem run sound replay vertex value e =
+    by_test (list_any (settles vertex) run.history) (sym ((replay-right problem run sound replay).agrees.settled vertex) ∙ e)
+  where
+    by_test : (b : Bool) → cond b (vertex_value problem vertex) None ≡ Some value → vertex_value problem vertex ≡ Some value
+    by_test true f = f
+    by_test false f = cc
+
+-- A problem whose target is in its graph.
+abbrev pub HasTarget : Problem → Type 0
+HasTarget problem = problem.target < length problem.vertices
+
+tree_or_cause : (problem : Problem) (vertex : ℕ) (o : Option Value) → vertex_value problem vertex ≡ o → is_some o ≡ true → ¬ HasCause problem vertex → HasTree problem vertex
+tree_or_cause problem vertex (Some (Ok tree)) e s none = (tree, e)
+tree_or_cause problem vertex (Some (Err cause)) e s none = absurd (none (cause, e))
+tree_or_cause problem vertex None e s none = cc
+
+-- It never gets stuck: where no claim is out, the target isn't settled and no vertex is settled with a cause, some vertex is ready.
+pub never-stuck : (problem : Problem) (run : Run) → IsSound problem → HasTarget problem → IsRight problem run → ((worker : ℕ) → held run.history worker ≡ None) → ¬ IsSettled run.history problem.target → ((other : ℕ) → IsSettled run.history other → ¬ HasCause problem other) → (vertex : ℕ) × IsReady problem run.history vertex
+never-stuck problem run sound has_target right idle aim_open no_cause = by_least (least waits (suc problem.target)) refl
+  where
+    waits : ℕ → Bool
+    waits vertex = not (list_any (settles vertex) run.history)
+
+    settled_below : (k : ℕ) → IsLeast waits (suc problem.target) k → (input : ℕ) → input < k → IsSettled run.history input × HasTree problem input
+    settled_below k first input l =
+        let settled : IsSettled run.history input = not-false (list_any (settles input) run.history) (first.below input l) in
+        (settled, tree_or_cause problem input (vertex_value problem input) refl (right.agrees.valued input settled) (no_cause input settled))
+
+    ready_at : (k : ℕ) → IsLeast waits (suc problem.target) k → (v : Vertex) → slice_get problem.vertices k ≡ Some v → IsReady problem run.history k
+    ready_at k first v there = record {
+      unclaimed = λ worker h. (let f : None ≡ Some k = sym (idle worker) ∙ h in cc);
+      unsettled = λ s. both_ways (list_any (settles k) run.history) (not-true (list_any (settles k) run.history) first.passes) s;
+      inputs = (v, there, λ i d l. settled_below k first (slice_index_or v.inputs i d) (sound.below k v there i d l));
+      aim_open = aim_open;
+      no_cause = no_cause;
+    }
+
+    within : (k : ℕ) → IsLeast waits (suc problem.target) k → k < length problem.vertices
+    within k first = (let l : k < suc problem.target = first.within in omega (arith, l, has_target))
+
+    by_vertex : (k : ℕ) → IsLeast waits (suc problem.target) k → ((v : Vertex) × (k < length problem.vertices) × (slice_get problem.vertices k ≡ Some v) × (slice_index_or problem.vertices k v ≡ v)) ⊎ ((length problem.vertices ≤ k) × (slice_get problem.vertices k ≡ None)) → (vertex : ℕ) × IsReady problem run.history vertex
+    by_vertex k first (inl there) = (k, ready_at k first there.0 there.2)
+    by_vertex k first (inr past) = (let l : k < length problem.vertices = within k first in absurd (omega (arith, l, past.0)))
+
+    by_least : (o : Option ℕ) → least waits (suc problem.target) ≡ o → (vertex : ℕ) × IsReady problem run.history vertex
+    by_least None e = absurd (aim_open (not-false (list_any (settles problem.target) run.history) (least-none waits (suc problem.target) e problem.target (omega arith))))
+    by_least (Some k) e = by_vertex k (least-some waits (suc problem.target) k e) (slice_get_cases problem.vertices k).1
+
+idle_all : (problem : Problem) (run : Run) → IsRight problem run → run.state.claims ≡ [] → (worker : ℕ) → held run.history worker ≡ None
+idle_all problem run right none worker = sym (right.agrees.holds worker) ∙ ap (λ claims. vertex_of (claim_of worker claims)) none
+
+none_either : (b : Bool) (o : Option ℕ) → o ≡ None → cond b None o ≡ None
+none_either true o e = refl
+none_either false o e = e
+
+-- Where no claim is out and the machine finds no vertex ready, the target is settled or some vertex is settled with a cause.
+pub replay-ends : (problem : Problem) (run : Run) → IsSound problem → HasTarget problem → IsReplay problem run → run.state.claims ≡ [] → least_ready problem.vertices problem.target run.state ≡ None → is_over problem.target run.state.settled ≡ true
+replay-ends problem run sound has_target replay free none = by_test (is_over problem.target run.state.settled) refl
+  where
+    right : IsRight problem run
+    right = replay-right problem run sound replay
+
+    nothing : can_claim problem run.state 0 ≡ None
+    nothing = none_either (is_some (claim_of 0 run.state.claims)) (least_ready problem.vertices problem.target run.state) none
+
+    refute : ((held run.history 0 ≢ None) ⊎ ((vertex : ℕ) → ¬ IsReady problem run.history vertex)) → is_over problem.target run.state.settled ≡ false → ⊥
+    refute (inl busy) e = busy (idle_all problem run right free 0)
+    refute (inr no_ready) e =
+        let parts = or_parts (is_some (value_at run.state.settled problem.target)) (list_any has_cause run.state.settled) e in
+        let aim : list_any (settles problem.target) run.history ≡ false = sym (settled-is problem run.history run.state right.agrees problem.target) ∙ parts.0 in
+        let ready = never-stuck problem run sound has_target right (idle_all problem run right free) (both_ways (list_any (settles problem.target) run.history) aim) (no_cause-is problem run.history run.state right.agrees parts.1) in
+        no_ready ready.0 ready.1
+
+    by_test : (b : Bool) → is_over problem.target run.state.settled ≡ b → is_over problem.target run.state.settled ≡ true
+    by_test true e = e
+    by_test false e = absurd (refute (can_claim-none problem run.history run.state right.agrees 0 nothing) e)
+
+-- What a worker's claim is given: the next vertex, or none where it may claim none.
+pub replay-claims : (problem : Problem) (run : Run) (worker : ℕ) → IsSound problem → IsReplay problem run → MatchOption (can_claim problem run.state worker) ((held run.history worker ≢ None) ⊎ ((vertex : ℕ) → ¬ IsReady problem run.history vertex)) (IsNext problem run.history worker)
+replay-claims problem run worker sound replay = by_vertex (can_claim problem run.state worker) refl
+  where
+    agrees : Agrees problem run.history run.state
+    agrees = (replay-right problem run sound replay).agrees
+
+    by_vertex : (o : Option ℕ) → can_claim problem run.state worker ≡ o → MatchOption o ((held run.history worker ≢ None) ⊎ ((vertex : ℕ) → ¬ IsReady problem run.history vertex)) (IsNext problem run.history worker)
+    by_vertex (Some vertex) e = can_claim-some problem run.history run.state agrees worker vertex e
+    by_vertex None e = can_claim-none problem run.history run.state agrees worker e
