@@ -1,0 +1,3 @@
+pub mod LabelLemmas
+pub mod PieceLemmas
+pub mod WordLemmas

@@ -1,0 +1,9 @@
+pub mod Flags
+pub mod Form
+pub mod Pairs
+pub mod PartLaws
+pub mod Parts
+pub mod PieceLaws
+pub mod Pieces
+pub mod Places
+pub mod Reading

@@ -1,0 +1,33 @@
+use Rattle.std.specs.Prelude.{◌≡◌, ℕ, Bool, false, List, [], ◌∷◌, ◌++◌, ◌==◌, if◌then◌else◌, Option, Some, None, option_map, length}
+use Rattle.std.specs.List.{position_or_len, before_first, after_first}
+use Rattle.lines.specs.declared.line.Escape.{Escape}
+use Rattle.words.specs.Parts.{Part, IsMadeOf, blank, plain, escaped, single, double, open_single, open_double, part_text, written}
+use Rattle.words.specs.Reading.{parts}
+
+-- a word cut at its first `=` (Dockerfile reference, ENV and ARG)
+abbrev pub pair : List ℕ → Option (List ℕ × List ℕ)
+pair word = if position_or_len (λ c. c == 61) word == length word then None else Some (before_first (λ c. c == 61) word, after_first (λ c. c == 61) word)
+
+-- whether a part is an `=` outside quotes that isn't escaped
+abbrev pub is_equals : Part → Bool
+is_equals (blank c) = false
+is_equals (plain c) = c == 61
+is_equals (escaped c) = false
+is_equals (single cs) = false
+is_equals (double hs) = false
+is_equals (open_single cs) = false
+is_equals (open_double hs) = false
+
+-- parts cut at the first such `=`: what is written before it, and behind it
+abbrev pub cut_parts : Escape → List Part → Option (List ℕ × List ℕ)
+cut_parts e [] = None
+cut_parts e (p ∷ ps) = if is_equals p then Some ([], written e ps) else option_map (λ cut. (part_text e p ++ cut.0, cut.1)) (cut_parts e ps)
+
+-- a word is cut so at its first `=` outside quotes that isn't escaped (Dockerfile reference, LABEL; that quotes and the
+-- escape character hide an `=`: own)
+abbrev pub IsLabelCut : Escape → List ℕ → Option (List ℕ × List ℕ) → Type 0
+IsLabelCut e word cut = (ps : List Part) × IsMadeOf e word ps × (cut ≡ cut_parts e ps)
+
+-- the cut of a word that `IsLabelCut` means
+unfoldable pub label_pair : Escape → List ℕ → Option (List ℕ × List ℕ)
+label_pair e word = cut_parts e (parts e word)
