@@ -1,0 +1,68 @@
+-- How a build ends: what it leaves of its reader and its writer, for each of its results (own).
+use Rattle.std.specs.Prelude.{◌≡◌, ◌⊎◌, ℕ, ◌+◌, List, [], ◌∷◌, ◌++◌, Option, Some, None, Result, Ok, Err, ⊤}
+use Rattle.std.specs.Io.KnownBytes.{Appends}
+use Rattle.counted.specs.Edges.{AppendsBeginning}
+use Rattle.llb.specs.Value.{Out}
+use Rattle.build.specs.declared.limits.Limits.{Limits}
+use Rattle.build.specs.declared.status.Status.{Status}
+use Rattle.build.specs.declared.status.BuildFault.{BuildFault}
+use Rattle.build.specs.declared.status.BuildFault.TheVariants.{Memory, Device, NotYet}
+use Rattle.build.specs.Meaning.{Stage, Serves, Answers}
+
+-- a reader and a writer: the bytes that are left to be read and those that were written, where they are known, and how many calls
+-- of each failed
+pub record Devices : Type 0 where
+  pub left : Option (List ℕ)
+  pub written : Option (List ℕ)
+  pub failed_reads : ℕ
+  pub failed_writes : ℕ
+
+-- the two, by what a reader tells and what a writer tells
+abbrev pub devices : Option (List ℕ) → ℕ → Option (List ℕ) → ℕ → Devices
+devices left failed_reads written failed_writes =
+    record { left = left; written = written; failed_reads = failed_reads; failed_writes = failed_writes }
+
+-- the bundle is all that there was to read, where that is known
+abbrev pub IsBundle : Option (List ℕ) → List ℕ → Type 0
+IsBundle None bundle = ⊤
+IsBundle (Some all) bundle = bundle ≡ all
+
+-- nothing was written, and no write failed
+pub record IsUnwritten (old new : Devices) : Type 0 where
+  pub written : new.written ≡ old.written
+  pub failed_writes : new.failed_writes ≡ old.failed_writes
+
+-- an answer to the bundle was written, with the LF that ends it, and no call failed
+pub record HasAnswered (limits : Limits) (out : Out) (old new : Devices) (status : Status) : Type 0 where
+  pub bundle : List ℕ
+  pub is : IsBundle old.left bundle
+  pub text : List ℕ
+  pub answers : Answers limits bundle out status text
+  pub written : Appends old.written new.written (text ++ 10 ∷ [])
+  pub failed_reads : new.failed_reads ≡ old.failed_reads
+  pub failed_writes : new.failed_writes ≡ old.failed_writes
+
+-- the bundle isn't served
+pub record IsUnserved (limits : Limits) (old : Devices) : Type 0 where
+  pub bundle : List ℕ
+  pub is : IsBundle old.left bundle
+  pub unserved : (stage : Stage) → ¬ Serves limits bundle stage
+
+-- a write failed, and a beginning of an answer to the bundle, with its LF, was written
+pub record HasBegun (limits : Limits) (out : Out) (old new : Devices) : Type 0 where
+  pub bundle : List ℕ
+  pub is : IsBundle old.left bundle
+  pub status : Status
+  pub text : List ℕ
+  pub answers : Answers limits bundle out status text
+  pub written : AppendsBeginning old.written new.written (text ++ 10 ∷ [])
+  pub failed_reads : new.failed_reads ≡ old.failed_reads
+  pub failed_writes : new.failed_writes ≡ old.failed_writes + 1
+
+-- How a build ends, by its result: an answer was written, which only a bundle that is served has; the bundle isn't served, and
+-- nothing was written; there was no memory, and nothing was written; a read failed, and nothing was written, or a write failed.
+abbrev pub Ends : Limits → Out → Devices → Devices → Result Status BuildFault → Type 0
+Ends limits out old new (Ok status) = HasAnswered limits out old new status
+Ends limits out old new (Err NotYet) = IsUnserved limits old × IsUnwritten old new × (new.failed_reads ≡ old.failed_reads)
+Ends limits out old new (Err Memory) = IsUnwritten old new × (new.failed_reads ≡ old.failed_reads)
+Ends limits out old new (Err Device) = (IsUnwritten old new × (new.failed_reads ≡ old.failed_reads + 1)) ⊎ HasBegun limits out old new

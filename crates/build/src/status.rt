@@ -1,0 +1,67 @@
+use bundle::BundleFault;
+use counted::EdgeFault;
+use plain::Memory;
+use std::error::Error;
+use std::fmt;
+
+/// What an answer that was written says.
+#[derive(Clone, Copy, Debug, PartialEq, Eq)]
+pub enum Status {
+    /// The target's tree and configuration.
+    Built,
+    /// An instruction that failed, with its cause.
+    Failed,
+    /// Why the bundle is refused. No bundle is refused yet.
+    Refused,
+}
+
+/// Why a build wrote no whole answer.
+#[derive(Clone, Copy, Debug, PartialEq, Eq)]
+pub enum BuildFault {
+    /// There was no memory. Nothing was written.
+    Memory,
+    /// A read or a write failed. Nothing was written, or a beginning of the answer.
+    Device,
+    /// The bundle isn't one that is served yet. Nothing was written.
+    NotYet,
+}
+
+impl fmt::Display for BuildFault {
+    fn fmt<W: fmt::Write>(&self, f: &mut fmt::Formatter<W>) -> fmt::Result {
+        match self {
+            BuildFault::Memory => write!(f, "out of memory"),
+            BuildFault::Device => write!(f, "device failed"),
+            BuildFault::NotYet => write!(f, "not yet"),
+        }
+    }
+}
+
+impl Error for BuildFault {}
+
+impl From<EdgeFault> for BuildFault {
+    ghost use Rattle.std.specs.Prelude.{◌≡◌};
+    ghost use Rattle.build.specs.Faults.{of_edge};
+
+    ghost from_gives = { λ edge fault. fault ≡ of_edge edge };
+
+    fn from(edge: EdgeFault) -> BuildFault {
+        match edge {
+            EdgeFault::Memory => BuildFault::Memory,
+            EdgeFault::Device => BuildFault::Device,
+        }
+    }
+}
+
+impl From<BundleFault> for BuildFault {
+    ghost use Rattle.std.specs.Prelude.{◌≡◌};
+    ghost use Rattle.build.specs.Faults.{of_bundle};
+
+    ghost from_gives = { λ bundle fault. fault ≡ of_bundle bundle };
+
+    fn from(bundle: BundleFault) -> BuildFault {
+        match bundle {
+            BundleFault::NotYet => BuildFault::NotYet,
+            BundleFault::Memory => BuildFault::Memory,
+        }
+    }
+}

@@ -1,0 +1,81 @@
+// The program: `dfsolve build [--workers N]` reads a bundle from standard input and prints one answer.
+//
+// It is the edge of the edges and decides nothing: `command` reads the words, `build` does the work, and here stand only where
+// the bytes come from and go to, and what is said where no answer could be given.
+#![tactic(auto)]
+
+use build::{BuildFault, Status, run_build, status_code};
+use clap::Error;
+use clap::error::ErrorKind;
+use command::{Task, read_command};
+use counted::Counted;
+use executor::Fixture;
+use std::alloc::AllocError;
+use std::process::ExitCode;
+use std::{env, io};
+
+/// The status after a bad command line.
+const BAD_COMMAND: u8 = 2;
+
+fn main(rt: HostRuntime) -> ExitCode {
+    let code = match words(&rt) {
+        Ok(words) => perform(&rt, words.as_slice()),
+        Err(error) => refuse_words(&rt, &error),
+    };
+    ExitCode::from(code)
+}
+
+/// The words of the command line, the program's name first.
+fn words(rt: &HostRuntime) -> io::Result<Vec<String>> {
+    let words = env::args(rt)?.collect(rt.alloc())?;
+    Ok(words)
+}
+
+/// Ends without a command line: there was no memory for it, or a word is no text.
+fn refuse_words(rt: &HostRuntime, error: &io::Error) -> u8 {
+    if error.kind() == io::ErrorKind::OutOfMemory {
+        return end(rt, Err(BuildFault::Memory));
+    }
+    let _ = eprintln!(rt; "error: invalid UTF-8 was detected in one or more arguments");
+    BAD_COMMAND
+}
+
+/// Does what the words ask for, and gives the status that the program ends with.
+fn perform(rt: &HostRuntime, words: &[String]) -> u8 {
+    let Ok(words) = lent(rt, words) else {
+        return end(rt, Err(BuildFault::Memory));
+    };
+    match read_command(rt.alloc(), words.as_slice()) {
+        Ok(Task::Build(_)) => end(rt, build(rt)),
+        Err(error) => refuse_command(rt, &error),
+    }
+}
+
+/// The words, lent.
+fn lent<'a>(rt: &HostRuntime, words: &'a [String]) -> Result<Vec<&'a str>, AllocError> {
+    words.iter().map(|word| word.as_str()).collect(rt.alloc())
+}
+
+/// Ends without a task: the words are wrong or ask for help, which is said, or there was no memory to read them.
+fn refuse_command(rt: &HostRuntime, error: &Error) -> u8 {
+    if error.kind() == ErrorKind::OutOfMemory {
+        return end(rt, Err(BuildFault::Memory));
+    }
+    let _ = error.print(rt);
+    BAD_COMMAND
+}
+
+/// Builds the bundle on standard input, and prints the answer.
+fn build(rt: &HostRuntime) -> Result<Status, BuildFault> {
+    let mut input = Counted::new(rt.stdin());
+    let mut output = Counted::new(rt.stdout());
+    run_build(rt.alloc(), &mut input, &mut output, &Fixture)
+}
+
+/// Says why there is no whole answer, where there is none, and gives the status that the program ends with.
+fn end(rt: &HostRuntime, ended: Result<Status, BuildFault>) -> u8 {
+    if let Err(fault) = &ended {
+        let _ = eprintln!(rt; "{fault}");
+    }
+    status_code(ended)
+}
