@@ -1,0 +1,7 @@
+use Rattle.std.proofs.Common.{◌≡◌, ◌≤◌, ◌+◌, drop, length}
+use Rattle.std.specs.Prelude.{filter}
+use Rattle.instructions.specs.Names.{is_mark}
+use Rattle.instructions.proofs.copy.count_marks.Given as goal
+
+abbrev pub invariant-loop-text : goal.invariant-loop-text
+invariant-loop-text l = record { few : l.count ≤ l.text-index; same : l.count + length (filter is_mark (drop l.text-index l.texts)) ≡ length (filter is_mark l.texts) }

@@ -1,0 +1,7 @@
+use Rattle.std.proofs.Common.{◌≡◌, drop, map}
+use Rattle.instructions.specs.Lists.{all_some, behind}
+use Rattle.instructions.specs.Variables.{variable_of}
+use Rattle.instructions.proofs.variables.variables_among.Given as goal
+
+abbrev pub invariant-loop-word : goal.invariant-loop-word
+invariant-loop-word l = behind l.found (all_some (map variable_of (map (λ word. word.now) (drop l.word-index l.words)))) ≡ all_some (map variable_of (map (λ word. word.now) l.words))

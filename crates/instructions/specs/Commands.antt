@@ -1,0 +1,45 @@
+-- SHELL, CMD and ENTRYPOINT: a list in JSON, or a text for the shell.
+use Rattle.std.specs.Prelude.{ℕ, ◌==◌, Bool, false, not, List, Option, Some, None, is_some, length, if◌then◌else◌}
+use Rattle.plain.specs.declared.refusal.Code.{Code}
+use Rattle.plain.specs.declared.refusal.Code.TheVariants.{R06}
+use Rattle.words.specs.Form.{json_form}
+use Rattle.instructions.specs.declared.instruction.Instruction.{Instruction}
+use Rattle.instructions.specs.declared.instruction.Instruction.TheVariants.{Shell}
+use Rattle.instructions.specs.declared.instruction.Command.{Command}
+use Rattle.instructions.specs.declared.instruction.Command.TheVariants.{Exec, Shell as Script}
+
+-- SHELL has a list in JSON with one word at least (Dockerfile reference)
+
+-- the SHELL of a list in JSON, where there is one with a word
+abbrev pub shell_words : Option (List (List ℕ)) → Option Instruction
+shell_words None = None
+shell_words (Some ws) = if length ws == 0 then None else Some (Shell ws)
+
+-- what a text behind SHELL is read as
+abbrev pub shell_read : List ℕ → Option Instruction
+shell_read text = shell_words (json_form text)
+
+-- the codes that are due for SHELL and what stands behind it
+abbrev pub shell_due : List ℕ → Code → Bool
+shell_due text R06 = not (is_some (shell_read text))
+shell_due text code = false
+
+-- the exec form is a list in JSON; any other text is the shell form (Dockerfile reference)
+
+-- the command of a text and the list in JSON that it is, if it is one
+abbrev pub command_by : List ℕ → Option (List (List ℕ)) → Command
+command_by text None = Script text
+command_by text (Some ws) = Exec ws
+
+-- the command that a text is
+abbrev pub command_of : List ℕ → Command
+command_of text = command_by text (json_form text)
+
+-- what a text behind CMD or ENTRYPOINT is read as: a command, whatever the text is
+abbrev pub command_read : List ℕ → Option Command
+command_read text = Some (command_of text)
+
+-- the codes that are due for CMD or ENTRYPOINT and what stands behind it; a list without a word is fine, and unsets
+abbrev pub command_due : List ℕ → Code → Bool
+command_due text R06 = length text == 0
+command_due text code = false

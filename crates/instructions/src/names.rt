@@ -1,0 +1,148 @@
+ghost use Rattle.std.specs.Prelude.{◌≡◌, Bool, is_some, option_map};
+ghost use Rattle.std.specs.List.{list_all};
+ghost use Rattle.lines.specs.Blanks.{starts_with};
+ghost use Rattle.lines.specs.Marks.{is_in_name, are_in_name, is_name, is_quoted_by, mark_from, after_two};
+ghost use Rattle.instructions.specs.Names.{is_digit, is_letter, is_variable_name, is_in_stage_name, has_stage_form, is_stage_name, is_mark};
+
+use crate::keyword::is_word;
+
+/// Whether a byte is a digit.
+pub fn is_digit(byte: u8) -> bool
+    ensures { result ≡ is_digit byte }
+{
+    byte.is_ascii_digit()
+}
+
+/// Whether a byte is a letter.
+fn is_letter(byte: u8) -> bool
+    ensures { result ≡ is_letter byte }
+{
+    matches!(byte, b'A'..=b'Z' | b'a'..=b'z')
+}
+
+/// Whether a byte may stand in the name of a variable.
+fn is_in_name(byte: u8) -> bool
+    ensures { result ≡ is_in_name byte }
+{
+    is_letter(byte) || byte == b'_' || is_digit(byte)
+}
+
+/// Whether bytes may all stand in the name of a variable.
+fn are_in_name(bytes: &[u8]) -> bool
+    ensures { result ≡ are_in_name bytes.now }
+{
+    for byte in bytes {
+        if !is_in_name(*byte) {
+            return false;
+        }
+    }
+    true
+}
+
+/// Whether bytes are the name of a variable.
+fn is_name(bytes: &[u8]) -> bool
+    ensures { result ≡ is_name bytes.now }
+{
+    match bytes {
+        [] => false,
+        [first, rest @ ..] => (is_letter(*first) || *first == b'_') && are_in_name(rest),
+    }
+}
+
+/// Whether a text is the name of a variable: a letter or `_` followed by letters, digits or `_`.
+pub fn is_variable_name(name: &str) -> bool
+    ensures { result ≡ is_variable_name name.now }
+{
+    is_name(name.as_bytes())
+}
+
+/// Whether a byte may stand in the name of a stage.
+fn is_in_stage_name(byte: u8) -> bool
+    ensures { result ≡ is_in_stage_name byte }
+{
+    is_letter(byte) || is_digit(byte) || matches!(byte, b'-' | b'_' | b'.')
+}
+
+/// Whether bytes may all stand in the name of a stage.
+fn are_in_stage_name(bytes: &[u8]) -> bool
+    ensures { result ≡ list_all is_in_stage_name bytes.now }
+{
+    for byte in bytes {
+        if !is_in_stage_name(*byte) {
+            return false;
+        }
+    }
+    true
+}
+
+/// Whether bytes are a letter followed by letters, digits, `-`, `_` and `.`.
+fn has_stage_form(bytes: &[u8]) -> bool
+    ensures { result ≡ has_stage_form bytes.now }
+{
+    match bytes {
+        [] => false,
+        [first, rest @ ..] => is_letter(*first) && are_in_stage_name(rest),
+    }
+}
+
+/// Whether a text is the name of a stage: of that form, and not `scratch`.
+pub fn is_stage_name(name: &str) -> bool
+    ensures { result ≡ is_stage_name name.now }
+{
+    has_stage_form(name.as_bytes()) && !is_word(b"scratch", name.as_bytes())
+}
+
+/// Whether a text stands in a pair of these quotes.
+fn is_quoted_by(quote: u8, text: &[u8]) -> bool
+    ensures { result ≡ is_quoted_by quote text.now }
+{
+    match text {
+        [first, .., last] => *first == quote && *last == quote,
+        _ => false,
+    }
+}
+
+/// Whether what stands behind `<<` or `<<-` is a name, bare or in quotes.
+fn is_mark_name(text: &[u8]) -> bool
+    ensures { (strips : Bool) → result ≡ is_some (mark_from strips text.now) }
+{
+    if is_quoted_by(b'"', text) || is_quoted_by(b'\'', text) {
+        let inner = &text[1..];
+        return is_name(&inner[..text.len() - 2]);
+    }
+    is_name(text)
+}
+
+/// What stands behind the `<<` with which a word begins.
+fn after_two(word: &[u8]) -> Option<&[u8]>
+    ensures { option_map (λ rest. rest.now) result ≡ after_two word.now }
+{
+    match word {
+        [b'<', b'<', rest @ ..] => Some(rest),
+        _ => None,
+    }
+}
+
+/// Whether a text begins with a dash.
+fn is_dashed(text: &[u8]) -> bool
+    ensures { result ≡ starts_with 45 text.now }
+{
+    match text {
+        [] => false,
+        [first, ..] => *first == b'-',
+    }
+}
+
+/// Whether a word is the mark of a heredoc, as `<<-"EOF"`.
+#[tactic(auto, unfolding(crate::specs::Names::is_mark))]
+pub fn is_mark(word: &str) -> bool
+    ensures { result ≡ is_mark word.now }
+{
+    let Some(rest) = after_two(word.as_bytes()) else {
+        return false;
+    };
+    if is_dashed(rest) {
+        return is_mark_name(&rest[1..]);
+    }
+    is_mark_name(rest)
+}

@@ -1,0 +1,728 @@
+use crate::*;
+use lines::{Line, LineFault, Reader};
+use plain::{Items, Sharing, Text};
+use std::alloc::{AllocError, Global};
+use std::process::Abort;
+use std::test::Fail;
+
+/// The logical lines of a text.
+fn lines_of(alloc: Global, text: &str) -> Result<Vec<Line>, LineFault> {
+    let mut reader = Reader::new(alloc);
+    reader.feed(alloc, text.as_bytes())?;
+    reader.finish(alloc)
+}
+
+/// Adds texts, one behind another.
+fn add(shown: &mut String, texts: &[&str]) -> Result<(), AllocError> {
+    for text in texts {
+        shown.push_str(text)?;
+    }
+    Ok(())
+}
+
+/// Adds a text that is expanded later: a word as it is, any other behind `p:` or `l:`.
+fn add_template(shown: &mut String, template: &Template) -> Result<(), AllocError> {
+    match template {
+        Template::Word(text) => add(shown, &[text.as_str()]),
+        Template::Plain(text) => add(shown, &["p:", text.as_str()]),
+        Template::Literal(text) => add(shown, &["l:", text.as_str()]),
+    }
+}
+
+/// Adds texts that are expanded later, each behind `|`.
+fn add_templates(shown: &mut String, templates: &[Template]) -> Result<(), AllocError> {
+    for template in templates {
+        add(shown, &["|"])?;
+        add_template(shown, template)?;
+    }
+    Ok(())
+}
+
+/// Adds a name and its text, where there is one, as `,id=k`.
+fn add_option(shown: &mut String, name: &str, text: &Option<Text>) -> Result<(), AllocError> {
+    match text {
+        Some(text) => add(shown, &[name, text.as_str()]),
+        None => Ok(()),
+    }
+}
+
+/// Adds ARG's variables, as `|a=1|b`.
+fn add_arguments(shown: &mut String, arguments: &[Argument]) -> Result<(), AllocError> {
+    for argument in arguments {
+        add(shown, &["|", argument.name.as_str()])?;
+        if let Some(default) = &argument.default {
+            add(shown, &["="])?;
+            add_template(shown, default)?;
+        }
+    }
+    Ok(())
+}
+
+/// Adds ENV's variables, as `|a=1`.
+fn add_variables(shown: &mut String, variables: &[Variable]) -> Result<(), AllocError> {
+    for variable in variables {
+        add(shown, &["|", variable.name.as_str(), "="])?;
+        add_template(shown, &variable.value)?;
+    }
+    Ok(())
+}
+
+/// Adds labels, as `|a=1`.
+fn add_labels(shown: &mut String, labels: &[Label]) -> Result<(), AllocError> {
+    for label in labels {
+        add(shown, &["|"])?;
+        add_template(shown, &label.key)?;
+        add(shown, &["="])?;
+        add_template(shown, &label.value)?;
+    }
+    Ok(())
+}
+
+/// Adds a command: `|[a][b]`, or `|$` and the text for the shell.
+fn add_command(shown: &mut String, command: &Command) -> Result<(), AllocError> {
+    match command {
+        Command::Exec(words) => {
+            add(shown, &["|"])?;
+            for word in words.as_slice() {
+                add(shown, &["[", word.as_str(), "]"])?;
+            }
+            Ok(())
+        }
+        Command::Shell(text) => add(shown, &["|$", text.as_str()]),
+    }
+}
+
+/// Adds how a cache is shared, unless it is plainly shared.
+fn add_sharing(shown: &mut String, sharing: Sharing) -> Result<(), AllocError> {
+    match sharing {
+        Sharing::Shared => Ok(()),
+        Sharing::Private => add(shown, &[",private"]),
+        Sharing::Locked => add(shown, &[",locked"]),
+    }
+}
+
+/// Adds a mount, as `|bind:/m,source=/s,rw` or `|cache:/c,id=k`.
+fn add_mount(shown: &mut String, mount: &Mount) -> Result<(), AllocError> {
+    match &mount.kind {
+        MountKind::Bind {
+            source,
+            from,
+            is_writable,
+        } => {
+            add(shown, &["|bind:", mount.target.as_str()])?;
+            add_option(shown, ",source=", source)?;
+            add_option(shown, ",from=", from)?;
+            add(shown, &[if *is_writable { ",rw" } else { "" }])
+        }
+        MountKind::Cache { id, sharing } => {
+            add(shown, &["|cache:", mount.target.as_str()])?;
+            add_option(shown, ",id=", id)?;
+            add_sharing(shown, *sharing)
+        }
+    }
+}
+
+/// Adds mounts.
+fn add_mounts(shown: &mut String, mounts: &[Mount]) -> Result<(), AllocError> {
+    for mount in mounts {
+        add_mount(shown, mount)?;
+    }
+    Ok(())
+}
+
+/// Adds COPY's sources: a pattern as it is, a heredoc as `<NAME=BODY>`.
+fn add_sources(shown: &mut String, sources: &[Source]) -> Result<(), AllocError> {
+    for source in sources {
+        add(shown, &["|"])?;
+        match source {
+            Source::Files(pattern) => add_template(shown, pattern)?,
+            Source::Document { name, body } => {
+                add(shown, &["<", name.as_str(), "="])?;
+                add_template(shown, body)?;
+                add(shown, &[">"])?;
+            }
+        }
+    }
+    Ok(())
+}
+
+/// Adds an owner, as `|owner=1:2`.
+fn add_owner(alloc: Global, shown: &mut String, owner: &Option<Owner>) -> Result<(), AllocError> {
+    match owner {
+        Some(owner) => {
+            let text = format!(in alloc; "|owner={}:{}", owner.user, owner.group)?;
+            add(shown, &[text.as_str()])
+        }
+        None => Ok(()),
+    }
+}
+
+/// Adds a mode as a decimal number, as `|mode=493`.
+fn add_mode(alloc: Global, shown: &mut String, mode: &Option<u16>) -> Result<(), AllocError> {
+    match mode {
+        Some(mode) => {
+            let text = format!(in alloc; "|mode={}", mode)?;
+            add(shown, &[text.as_str()])
+        }
+        None => Ok(()),
+    }
+}
+
+/// Adds what COPY's flags say.
+fn add_flags(alloc: Global, shown: &mut String, flags: &CopyFlags) -> Result<(), AllocError> {
+    add_option(shown, "|from=", &flags.from)?;
+    add_owner(alloc, shown, &flags.owner)?;
+    add_mode(alloc, shown, &flags.mode)?;
+    add(shown, &[if flags.is_linked { "|link" } else { "" }])
+}
+
+/// Adds the image and the name of a stage.
+fn add_stage(shown: &mut String, image: &Template, name: &Option<Text>) -> Result<(), AllocError> {
+    add(shown, &["FROM|"])?;
+    add_template(shown, image)?;
+    add_option(shown, "|", name)
+}
+
+/// Adds the name of an instruction of one argument, and that.
+fn add_only(shown: &mut String, name: &str, argument: &Template) -> Result<(), AllocError> {
+    add(shown, &[name])?;
+    add_template(shown, argument)
+}
+
+/// Adds SHELL's words.
+fn add_words(shown: &mut String, words: &Items<Text>) -> Result<(), AllocError> {
+    for word in words.as_slice() {
+        add(shown, &["|", word.as_str()])?;
+    }
+    Ok(())
+}
+
+/// Adds an instruction whose arguments are variables, labels or words.
+fn add_setting(shown: &mut String, instruction: &Instruction) -> Result<(), AllocError> {
+    match instruction {
+        Instruction::Arg { arguments } => {
+            add(shown, &["ARG"])?;
+            add_arguments(shown, arguments.as_slice())
+        }
+        Instruction::Env { variables } => {
+            add(shown, &["ENV"])?;
+            add_variables(shown, variables.as_slice())
+        }
+        Instruction::Label { labels } => {
+            add(shown, &["LABEL"])?;
+            add_labels(shown, labels.as_slice())
+        }
+        Instruction::Expose { ports } => {
+            add(shown, &["EXPOSE"])?;
+            add_templates(shown, ports.as_slice())
+        }
+        Instruction::Volume { paths } => {
+            add(shown, &["VOLUME"])?;
+            add_templates(shown, paths.as_slice())
+        }
+        _ => Ok(()),
+    }
+}
+
+/// Adds an instruction.
+fn add_instruction(
+    alloc: Global,
+    shown: &mut String,
+    instruction: &Instruction,
+) -> Result<(), AllocError> {
+    match instruction {
+        Instruction::From { image, name } => add_stage(shown, image, name),
+        Instruction::User { user } => add_only(shown, "USER|", user),
+        Instruction::Workdir { path } => add_only(shown, "WORKDIR|", path),
+        Instruction::StopSignal { signal } => add_only(shown, "STOPSIGNAL|", signal),
+        Instruction::Shell { words } => {
+            add(shown, &["SHELL"])?;
+            add_words(shown, words)
+        }
+        Instruction::Cmd { command } => {
+            add(shown, &["CMD"])?;
+            add_command(shown, command)
+        }
+        Instruction::Entrypoint { command } => {
+            add(shown, &["ENTRYPOINT"])?;
+            add_command(shown, command)
+        }
+        Instruction::Run { mounts, command } => {
+            add(shown, &["RUN"])?;
+            add_mounts(shown, mounts.as_slice())?;
+            add_command(shown, command)
+        }
+        Instruction::Copy {
+            sources,
+            destination,
+            flags,
+        } => {
+            add(shown, &["COPY"])?;
+            add_sources(shown, sources.as_slice())?;
+            add_only(shown, "|>", destination)?;
+            add_flags(alloc, shown, flags)
+        }
+        other => add_setting(shown, other),
+    }
+}
+
+/// What a text's lines spell, as a text: the instructions, or `R06 at line 1`, with `;` between them.
+fn shown(alloc: Global, text: &str) -> Result<String, Fail> {
+    let lines = lines_of(alloc, text)?;
+    let mut shown = String::new(alloc);
+    for line in &lines {
+        if !shown.is_empty() {
+            shown.push_str(";")?;
+        }
+        match parse(alloc, line) {
+            Ok(instruction) => add_instruction(alloc, &mut shown, &instruction)?,
+            Err(fault) => shown.push_str(fault.to_string(alloc)?.as_str())?,
+        }
+    }
+    Ok(shown)
+}
+
+/// Compares what texts spell with what they ought to.
+fn expect<R: Abort>(rt: &R, alloc: Global, rows: &[(&str, &str)]) -> Result<(), Fail> {
+    for (text, wanted) in rows {
+        let found = shown(alloc, text)?;
+        assert_eq!(rt; found.as_str(), *wanted);
+    }
+    Ok(())
+}
+
+#[test]
+fn from_begins_a_stage(rt: HostRuntime) -> Result<(), Fail> {
+    expect(
+        &rt,
+        rt.alloc(),
+        &[
+            ("FROM scratch", "FROM|scratch"),
+            ("from a AS b", "FROM|a|b"),
+            ("From a aS B-1_.x", "FROM|a|B-1_.x"),
+            ("FROM img$V as a", "FROM|img$V|a"),
+            ("FROM 'a b'", "FROM|'a b'"),
+            ("FROM a\\ b AS c", "FROM|a\\ b|c"),
+            ("FROM ''", "FROM|''"),
+            ("FROM", "R06 at line 1"),
+            ("FROM a b", "R06 at line 1"),
+            ("FROM a AS", "R06 at line 1"),
+            ("FROM a IS b", "R06 at line 1"),
+            ("FROM a \"AS\" b", "R06 at line 1"),
+            ("FROM a AS b c", "R06 at line 1"),
+            ("FROM --platform=x", "R06 at line 1"),
+            ("FROM --platform=x a", "R07 at line 1"),
+            ("FROM -- a", "R07 at line 1"),
+            ("FROM a AS --x", "R10 at line 1"),
+            ("FROM 'a", "R09 at line 1"),
+            ("FROM a AS 'b", "R09 at line 1"),
+            ("FROM a AS Scratch", "R10 at line 1"),
+            ("FROM a AS 1b", "R10 at line 1"),
+            ("FROM a AS \"b\"", "R10 at line 1"),
+            ("FROM a AS b/c", "R10 at line 1"),
+            ("FROM a AS é", "R10 at line 1"),
+        ],
+    )
+}
+
+#[test]
+fn arg_declares_variables(rt: HostRuntime) -> Result<(), Fail> {
+    expect(
+        &rt,
+        rt.alloc(),
+        &[
+            ("ARG a", "ARG|a"),
+            ("ARG a=1 b c=", "ARG|a=1|b|c="),
+            ("ARG a=b=c", "ARG|a=b=c"),
+            ("ARG _a1=\"x y\"", "ARG|_a1=\"x y\""),
+            ("ARG --x a", "R10 at line 1"),
+            ("ARG", "R06 at line 1"),
+            ("arg \\\n\\\n", "R06 at line 1"),
+            ("ARG a 'b", "R09 at line 1"),
+            ("ARG 1='b", "R09 at line 1"),
+            ("ARG a b-c", "R10 at line 1"),
+            ("ARG =1", "R10 at line 1"),
+            ("ARG 'a'=1", "R10 at line 1"),
+            ("ARG 1a", "R10 at line 1"),
+        ],
+    )
+}
+
+#[test]
+fn env_sets_variables(rt: HostRuntime) -> Result<(), Fail> {
+    expect(
+        &rt,
+        rt.alloc(),
+        &[
+            ("ENV a=1 b='x y'", "ENV|a=1|b='x y'"),
+            ("ENV a=", "ENV|a="),
+            ("ENV a=b=c", "ENV|a=b=c"),
+            ("ENV ONE TWO= THREE=world", "ENV|ONE=TWO= THREE=world"),
+            ("ENV a \t b  c", "ENV|a=b  c"),
+            ("ENV a\\ b=1", "R10 at line 1"),
+            ("ENV", "R06 at line 1"),
+            ("ENV a", "R06 at line 1"),
+            ("ENV a=1 b", "R06 at line 1"),
+            ("ENV a=1 'b c'", "R06 at line 1"),
+            ("ENV a=\"1 b=2", "R09 at line 1"),
+            ("ENV a=1 b-c='", "R09 at line 1"),
+            ("ENV 1=\"", "R09 at line 1"),
+            ("ENV \"a\"=b", "R10 at line 1"),
+            ("ENV a=1 =2", "R10 at line 1"),
+            ("ENV a-b c", "R10 at line 1"),
+        ],
+    )
+}
+
+#[test]
+fn label_sets_labels(rt: HostRuntime) -> Result<(), Fail> {
+    expect(
+        &rt,
+        rt.alloc(),
+        &[
+            ("LABEL a=b", "LABEL|a=b"),
+            ("LABEL \"a b\"=c d=\"e=f\"", "LABEL|\"a b\"=c|d=\"e=f\""),
+            ("LABEL \"a=b\"=c a\\=b=c", "LABEL|\"a=b\"=c|a\\=b=c"),
+            ("LABEL =c", "LABEL|=c"),
+            ("LABEL", "R06 at line 1"),
+            ("LABEL a b", "R06 at line 1"),
+            ("LABEL a=b c", "R06 at line 1"),
+            ("LABEL \"a=b\"", "R06 at line 1"),
+            ("LABEL a\\=b", "R06 at line 1"),
+            ("LABEL a='b", "R09 at line 1"),
+            ("LABEL a=b c=\"d e", "R09 at line 1"),
+            ("LABEL a='b\\'", "LABEL|a='b\\'"),
+        ],
+    )
+}
+
+#[test]
+fn settings_have_words(rt: HostRuntime) -> Result<(), Fail> {
+    expect(
+        &rt,
+        rt.alloc(),
+        &[
+            ("EXPOSE 80 53/UDP", "EXPOSE|80|53/UDP"),
+            ("EXPOSE $P", "EXPOSE|$P"),
+            ("EXPOSE ''", "EXPOSE|''"),
+            ("EXPOSE", "R06 at line 1"),
+            ("EXPOSE 80 '", "R09 at line 1"),
+            ("EXPOSE \"8 0", "R09 at line 1"),
+            ("USER u", "USER|u"),
+            ("USER \"a b\"", "USER|\"a b\""),
+            ("USER", "R06 at line 1"),
+            ("USER a b", "R06 at line 1"),
+            ("USER 'a", "R09 at line 1"),
+            ("WORKDIR /a/../b", "WORKDIR|/a/../b"),
+            ("WORKDIR /a\\ b", "WORKDIR|/a\\ b"),
+            ("WORKDIR", "R06 at line 1"),
+            ("WORKDIR /a b", "R06 at line 1"),
+            ("WORKDIR \"/a", "R09 at line 1"),
+            ("STOPSIGNAL SIGKILL", "STOPSIGNAL|SIGKILL"),
+            ("stopsignal 9", "STOPSIGNAL|9"),
+            ("STOPSIGNAL", "R06 at line 1"),
+            ("STOPSIGNAL 9 9", "R06 at line 1"),
+            ("STOPSIGNAL '9", "R09 at line 1"),
+            ("VOLUME /a /b", "VOLUME|/a|/b"),
+            ("VOLUME [\"/a\", \"/b c\"]", "VOLUME|p:/a|p:/b c"),
+            ("VOLUME [x]", "VOLUME|[x]"),
+            ("VOLUME [1]", "VOLUME|[1]"),
+            ("VOLUME [\"/a\"] b", "VOLUME|[\"/a\"]|b"),
+            ("VOLUME", "R06 at line 1"),
+            ("VOLUME []", "R06 at line 1"),
+            ("VOLUME [\"/a", "R09 at line 1"),
+            ("VOLUME /a '", "R09 at line 1"),
+        ],
+    )
+}
+
+#[test]
+fn commands_have_two_forms(rt: HostRuntime) -> Result<(), Fail> {
+    expect(
+        &rt,
+        rt.alloc(),
+        &[
+            ("SHELL [\"a\", \"-c\"]", "SHELL|a|-c"),
+            ("SHELL [\"\"]", "SHELL|"),
+            ("SHELL []", "R06 at line 1"),
+            ("SHELL", "R06 at line 1"),
+            ("SHELL a -c", "R06 at line 1"),
+            ("SHELL [\"a\", 1]", "R06 at line 1"),
+            ("CMD [\"a\", \"b c\"]", "CMD|[a][b c]"),
+            ("CMD []", "CMD|"),
+            ("CMD a 'b", "CMD|$a 'b"),
+            ("CMD [\"a\"] x", "CMD|$[\"a\"] x"),
+            ("CMD --a b", "CMD|$--a b"),
+            ("CMD", "R06 at line 1"),
+            ("ENTRYPOINT [\"a\"]", "ENTRYPOINT|[a]"),
+            ("ENTRYPOINT []", "ENTRYPOINT|"),
+            ("ENTRYPOINT a $b", "ENTRYPOINT|$a $b"),
+            ("entrypoint \\\n # c\n", "R06 at line 1"),
+            ("ENTRYPOINT", "R06 at line 1"),
+        ],
+    )
+}
+
+#[test]
+fn run_has_mounts(rt: HostRuntime) -> Result<(), Fail> {
+    expect(
+        &rt,
+        rt.alloc(),
+        &[
+            ("RUN a  b", "RUN|$a  b"),
+            ("RUN [\"a\", \"b\"]", "RUN|[a][b]"),
+            ("RUN [x", "RUN|$[x"),
+            ("RUN --mount=target=/m x", "RUN|bind:/m|$x"),
+            (
+                "RUN --mount=type=bind,source=/s,from=a,destination=m,rw x",
+                "RUN|bind:m,source=/s,from=a,rw|$x",
+            ),
+            ("RUN --mount=readwrite=true,dst=/m x", "RUN|bind:/m,rw|$x"),
+            ("RUN --mount=rw=false,target=/m x", "RUN|bind:/m|$x"),
+            (
+                "RUN --mount=type=cache,target=/c [\"x\"]",
+                "RUN|cache:/c|[x]",
+            ),
+            (
+                "RUN --mount=type=cache,id=k,target=/c,sharing=locked x",
+                "RUN|cache:/c,id=k,locked|$x",
+            ),
+            (
+                "RUN --mount=target=/c,type=cache,sharing=private --mount=target=/m x",
+                "RUN|cache:/c,private|bind:/m|$x",
+            ),
+            ("RUN --mount=target=a=b x", "RUN|bind:a=b|$x"),
+            ("RUN a --mount=b", "RUN|$a --mount=b"),
+            ("RUN", "R06 at line 1"),
+            ("RUN []", "R06 at line 1"),
+            ("RUN --foo", "R06 at line 1"),
+            ("RUN --mount=target=/m", "R06 at line 1"),
+            ("RUN --foo x", "R07 at line 1"),
+            ("RUN -- x", "R07 at line 1"),
+            ("RUN --mount x", "R07 at line 1"),
+            ("RUN --mount= x", "R07 at line 1"),
+            ("RUN --Mount=target=/m x", "R07 at line 1"),
+            ("RUN --network=none --mount=x x", "R07 at line 1"),
+        ],
+    )
+}
+
+#[test]
+fn mounts_are_refused(rt: HostRuntime) -> Result<(), Fail> {
+    expect(
+        &rt,
+        rt.alloc(),
+        &[
+            ("RUN --mount=target=/c,dst=/d x", "R17 at line 1"),
+            ("RUN --mount=type=bind x", "R17 at line 1"),
+            ("RUN --mount=type=tmpfs,target=/m x", "R17 at line 1"),
+            ("RUN --mount=type=Bind,target=/m x", "R17 at line 1"),
+            ("RUN --mount=type,target=/m x", "R17 at line 1"),
+            ("RUN --mount=target= x", "R17 at line 1"),
+            ("RUN --mount=target x", "R17 at line 1"),
+            ("RUN --mount=target=/m,,rw x", "R17 at line 1"),
+            ("RUN --mount=target=/m, x", "R17 at line 1"),
+            (
+                "RUN --mount=target=/m,rw,readwrite=false x",
+                "R17 at line 1",
+            ),
+            ("RUN --mount=target=/m,rw= x", "R17 at line 1"),
+            ("RUN --mount=target=/m,rw=yes x", "R17 at line 1"),
+            ("RUN --mount=target=/m,ro x", "R17 at line 1"),
+            ("RUN --mount=target=/m,src=/s x", "R17 at line 1"),
+            ("RUN --mount=target=/m,source= x", "R17 at line 1"),
+            ("RUN --mount=target=/m,from x", "R17 at line 1"),
+            ("RUN --mount=target=/m,id=k x", "R17 at line 1"),
+            ("RUN --mount=target=/m,sharing=locked x", "R17 at line 1"),
+            ("RUN --mount=type=cache,target=/c,rw x", "R17 at line 1"),
+            ("RUN --mount=type=cache,target=/c,from=a x", "R17 at line 1"),
+            (
+                "RUN --mount=type=cache,target=/c,source=/ x",
+                "R17 at line 1",
+            ),
+            (
+                "RUN --mount=type=cache,target=/c,sharing=none x",
+                "R17 at line 1",
+            ),
+            ("RUN --mount=type=cache,target=/c,id= x", "R17 at line 1"),
+            (
+                "RUN --mount=type=cache,type=cache,target=/c x",
+                "R17 at line 1",
+            ),
+            ("RUN --mount=TARGET=/m x", "R17 at line 1"),
+        ],
+    )
+}
+
+#[test]
+fn run_has_one_heredoc(rt: HostRuntime) -> Result<(), Fail> {
+    expect(
+        &rt,
+        rt.alloc(),
+        &[
+            ("RUN <<E\na\nb\nE", "RUN|$a\nb\n"),
+            ("RUN <<-'E'\n\ta $b\n\tE", "RUN|$a $b\n"),
+            ("RUN --mount=target=/m <<E\n# c\nE", "RUN|bind:/m|$# c\n"),
+            ("RUN [x <<E", "RUN|$[x <<E"),
+            ("RUN <<E\nE", "R06 at line 1"),
+            ("RUN <<E <<F\na\nE\nF", "R06 at line 1"),
+            ("RUN cat <<E\na\nE", "R08 at line 1"),
+            ("RUN <<E cat\na\nE", "R08 at line 1"),
+            ("RUN <<E <<F\na\nE\nb\nF", "R08 at line 1"),
+            ("RUN <<E\n#!/bin/sh\nE", "R08 at line 1"),
+            ("RUN --foo <<E\n#!x\nE", "R07 at line 1"),
+        ],
+    )
+}
+
+#[test]
+fn copy_has_flags(rt: HostRuntime) -> Result<(), Fail> {
+    expect(
+        &rt,
+        rt.alloc(),
+        &[
+            ("COPY a b", "COPY|a|>b"),
+            ("COPY a 'b c' /d/", "COPY|a|'b c'|>/d/"),
+            ("COPY [\"a b\", \"/d\"]", "COPY|p:a b|>p:/d"),
+            ("COPY [x-] /d", "COPY|[x-]|>/d"),
+            ("COPY --link a b", "COPY|a|>b|link"),
+            ("COPY --link=true a b", "COPY|a|>b|link"),
+            ("COPY --link=false a b", "COPY|a|>b"),
+            (
+                "COPY --from=0 --chown=1:2 --chmod=755 a b",
+                "COPY|a|>b|from=0|owner=1:2|mode=493",
+            ),
+            (
+                "COPY --chown=007 --chmod=0644 a b",
+                "COPY|a|>b|owner=7:7|mode=420",
+            ),
+            (
+                "COPY --chown=4294967295:0 --chmod=7777 a b",
+                "COPY|a|>b|owner=4294967295:0|mode=4095",
+            ),
+            ("COPY --from=a=b a b", "COPY|a|>b|from=a=b"),
+            ("COPY a --link b", "COPY|a|--link|>b"),
+            ("COPY [\"\", \"\"]", "COPY|p:|>p:"),
+            ("COPY", "R06 at line 1"),
+            ("COPY a", "R06 at line 1"),
+            ("COPY --foo a", "R06 at line 1"),
+            ("COPY [\"a\"]", "R06 at line 1"),
+            ("COPY 'a b", "R06 at line 1"),
+            ("COPY --from= a b", "R07 at line 1"),
+            ("COPY --from a b c", "R07 at line 1"),
+            ("COPY -- a b", "R07 at line 1"),
+            ("COPY --parents a b", "R07 at line 1"),
+            ("COPY --From=a a b", "R07 at line 1"),
+            ("COPY --link=yes a b", "R07 at line 1"),
+            ("COPY --link= a b", "R07 at line 1"),
+            ("COPY --link --link=false a b", "R07 at line 1"),
+            ("COPY --from=a --from=a a b", "R07 at line 1"),
+            ("COPY --chown= --chmod=9 a b", "R07 at line 1"),
+            ("COPY --chmod=9 --chmod=9 a b", "R07 at line 1"),
+            ("COPY a 'b", "R09 at line 1"),
+            ("COPY --chmod=9 a 'b", "R09 at line 1"),
+            ("COPY [\"a\", \"b'\"]", "COPY|p:a|>p:b'"),
+            ("COPY --chmod=9 a b", "R16 at line 1"),
+            ("COPY --chmod=75 a b", "R16 at line 1"),
+            ("COPY --chmod=00755 a b", "R16 at line 1"),
+            ("COPY --chmod=788 a b", "R16 at line 1"),
+            ("COPY --chmod=u+x a b", "R16 at line 1"),
+            ("COPY --chown=root a b", "R16 at line 1"),
+            ("COPY --chown=1: a b", "R16 at line 1"),
+            ("COPY --chown=:1 a b", "R16 at line 1"),
+            ("COPY --chown=1:2:3 a b", "R16 at line 1"),
+            ("COPY --chown=+1 a b", "R16 at line 1"),
+            ("COPY --chown=4294967296 a b", "R16 at line 1"),
+            ("COPY --chown=42949672950 a b", "R16 at line 1"),
+        ],
+    )
+}
+
+#[test]
+fn copy_has_heredocs(rt: HostRuntime) -> Result<(), Fail> {
+    expect(
+        &rt,
+        rt.alloc(),
+        &[
+            ("COPY <<E /d\na\nE", "COPY|<E=p:a\n>|>/d"),
+            (
+                "COPY <<-\"E\" <<F /d/\n\ta$V\n\tE\nb$V\nF",
+                "COPY|<E=l:a$V\n>|<F=p:b$V\n>|>/d/",
+            ),
+            ("COPY a <<E b /d/\nE", "COPY|a|<E=p:>|b|>/d/"),
+            ("COPY --link <<E /d\nE", "COPY|<E=p:>|>/d|link"),
+            ("COPY [x <<E /d", "COPY|[x|<<E|>/d"),
+            ("COPY a x<<E", "COPY|a|>x<<E"),
+            ("COPY a <<E\nE", "R08 at line 1"),
+            ("COPY <<E <<F\nE\nF", "R08 at line 1"),
+            ("COPY \"a <<E b\" /d\nE", "R08 at line 1"),
+            ("COPY a\\ <<E /d\nE", "R08 at line 1"),
+            ("COPY --from=a <<E /d\nE", "R08 at line 1"),
+            ("COPY <<E\nE", "R06 at line 1"),
+            ("COPY --foo a <<E\nE", "R07 at line 1"),
+            ("COPY \r[\"a <<E b\", \"/d\"]\nE", "R08 at line 1"),
+            ("COPY <<E 'd\nE", "R09 at line 1"),
+            ("COPY --chmod=8 a <<E\nE", "R08 at line 1"),
+        ],
+    )
+}
+
+#[test]
+fn other_names_are_unknown(rt: HostRuntime) -> Result<(), Fail> {
+    expect(
+        &rt,
+        rt.alloc(),
+        &[
+            ("ADD a b", "R04 at line 1"),
+            ("ONBUILD RUN a", "R04 at line 1"),
+            ("HEALTHCHECK NONE", "R04 at line 1"),
+            ("MAINTAINER a", "R04 at line 1"),
+            ("RUN\\ a", "R04 at line 1"),
+            ("\"RUN\" a", "R04 at line 1"),
+            ("FROMA a", "R04 at line 1"),
+            ("é", "R04 at line 1"),
+            ("RUN a\nENVY a\n", "RUN|$a;R04 at line 2"),
+            ("# escape=`\nENV a=`\" b=\\", "ENV|a=`\"|b=\\"),
+            ("# escape=`\nCOPY f `\n# note\n /d\\e", "COPY|f|>/d\\e"),
+            ("cOpY a b", "COPY|a|>b"),
+        ],
+    )
+}
+
+/// A RUN with so many mounts, the last of which is `last`.
+fn many_mounts(alloc: Global, count: usize, last: &str) -> Result<String, AllocError> {
+    let mut text = String::from_str(alloc, "RUN")?;
+    for _ in 0..count {
+        text.push_str(" --mount=target=/m")?;
+    }
+    add(&mut text, &[last, " x"])?;
+    Ok(text)
+}
+
+#[test]
+fn a_run_has_sixteen_mounts(rt: HostRuntime) -> Result<(), Fail> {
+    for (count, last, wanted) in [
+        (17, "", "R18 at line 1"),
+        (40, "", "R18 at line 1"),
+        (16, " --mount=target=/n", "R18 at line 1"),
+        // A malformed mount is told before, and a bad flag before that.
+        (16, " --mount=n", "R17 at line 1"),
+        (16, " --mount=", "R07 at line 1"),
+    ] {
+        let text = many_mounts(rt.alloc(), count, last)?;
+        let found = shown(rt.alloc(), text.as_str())?;
+        assert_eq!(rt; found.as_str(), wanted);
+    }
+    let text = many_mounts(rt.alloc(), 15, " --mount=target=/n")?;
+    let found = shown(rt.alloc(), text.as_str())?;
+    assert!(rt; found.as_str().ends_with("|bind:/m|bind:/n|$x"));
+    Ok(())
+}
+
+#[test]
+fn laws_hold(_rt: HostRuntime) -> Result<(), Fail> {
+    a_line_spells_one();
+    lines_are_spelled_or_refused();
+    the_least_code_is_told();
+    Ok(())
+}
