@@ -112,7 +112,7 @@ mode_of (a ∷ b ∷ c ∷ []) = mode_with 0 (octal a) (octal b) (octal c)
 mode_of (a ∷ b ∷ c ∷ d ∷ []) = option_and_then (λ first. mode_with first (octal b) (octal c) (octal d)) (octal a)
 mode_of (a ∷ b ∷ c ∷ d ∷ e ∷ rest) = None
 
--- whether the value of `--chown` is no owner, or that of `--chmod` no mode
+-- whether the value of `--chown` is no owner
 abbrev pub is_bad_owner : Option (List ℕ) → Bool
 is_bad_owner None = false
 is_bad_owner (Some value) = not (is_some (owner_of value))

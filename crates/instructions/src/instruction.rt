@@ -9,7 +9,7 @@ pub enum Instruction {
     /// `FROM image` or `FROM image AS name`: a stage begins.
     From {
         image: Template,
-        /// A letter followed by letters, digits, `-`, `_` and `.`, and not `scratch`.
+        /// A letter followed by letters, digits, `-`, `_` and `.`, and not `scratch` in any case.
         name: Option<Text>,
     },
     /// `ARG name` or `ARG name=default`, one or more of them.

@@ -18,7 +18,8 @@ use words::first_piece;
 /// The instruction that a logical line spells (Dockerfile reference), with its flags, mounts and heredocs.
 ///
 /// A line that spells none is refused with the least code that is due: R04 for an unknown name, R06 for a wrong number of
-/// arguments or an empty body, R07 for a flag that is unknown, repeated or malformed, R08 for a heredoc that isn't allowed,
+/// arguments (an empty rest, a word without `=`, a second word that isn't AS and a SHELL that isn't JSON count here too) or an
+/// empty body, R07 for a flag that is unknown, repeated or malformed, R08 for a heredoc that isn't allowed,
 /// R09 for an open quote in words, R10 for a bad name of a variable or a stage, R16 for a bad owner or mode, R17 for a
 /// malformed mount, R18 for more than 16 mounts. The line's heredocs are taken to be those of its marks, as a reader of
 /// lines gives them.

@@ -5,7 +5,8 @@ use plain::Text;
 /// It is kept as it is written: its variables, quotes and escape characters are still in it.
 #[derive(Debug, Drop)]
 pub enum Template {
-    /// A word of the line: variables are expanded, quotes are removed, and the escape character acts.
+    /// A word of the line, or the rest that is the value of `ENV name value`: variables are expanded, quotes are removed,
+    /// and the escape character acts.
     Word(Text),
     /// A string of the JSON form, or the body of a heredoc: variables are expanded, quotes are characters as any
     /// other, and the escape character acts before `$` and itself.

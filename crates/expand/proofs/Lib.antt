@@ -1,0 +1,4 @@
+pub mod OutputLemmas
+pub mod ScanLemmas
+pub mod ReadLemmas
+pub mod ExpandLemmas

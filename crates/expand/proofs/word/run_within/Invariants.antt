@@ -1,0 +1,11 @@
+use Rattle.std.proofs.Common.{drop, ◌≡◌, ◌≤◌, ◌++◌}
+use Rattle.std.specs.String.{string_bytes, string_len}
+use Rattle.expand.specs.Expanding.{run}
+use Rattle.expand.proofs.word.run_within.Given as goal
+
+abbrev pub invariant-loop-token : goal.invariant-loop-token
+invariant-loop-token g l = record {
+  within : string_len l.text ≤ l.limit;
+  few : l.skipped ≤ l.token-index;
+  found : string_bytes l.text ++ run (g.S.Lookup.value_of l.scope) l.skipped (drop l.token-index l.tokens) ≡ run (g.S.Lookup.value_of l.scope) 0 l.tokens;
+}

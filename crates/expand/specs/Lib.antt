@@ -1,0 +1,14 @@
+pub mod Depth
+pub mod Expanding
+pub mod Grammar
+pub mod Levels
+pub mod Meaning
+pub mod Output
+pub mod Places
+pub mod Reading
+pub mod ReadLaws
+pub mod Scan
+pub mod ScanLaws
+pub mod Steps
+pub mod Value
+pub mod WordLaws

@@ -1,0 +1,18 @@
+-- The tokens that an output stands for, plain text byte by byte.
+use Rattle.std.specs.Prelude.{List, [], ◌∷◌, ◌++◌}
+use Rattle.expand.specs.Grammar.{plain_bytes}
+use Rattle.expand.specs.declared.output.Output.{Output}
+use Rattle.expand.specs.declared.token.Token.{Token}
+use Rattle.expand.specs.declared.token.Token.TheVariants.{Plain, Variable, Default, Alternative, Close}
+
+-- tokens with plain text byte by byte
+abbrev pub bytewise : List Token → List Token
+bytewise [] = []
+bytewise (Plain text ∷ ts) = plain_bytes text ++ bytewise ts
+bytewise (Variable v ∷ ts) = Variable v ∷ bytewise ts
+bytewise (Default v ∷ ts) = Default v ∷ bytewise ts
+bytewise (Alternative v ∷ ts) = Alternative v ∷ bytewise ts
+bytewise (Close ∷ ts) = Close ∷ bytewise ts
+
+abbrev pub made : Output → List Token
+made o = bytewise o.tokens ++ plain_bytes o.plain

@@ -1,0 +1,384 @@
+-- Laws of the scan: each text leaves just one list of marked characters, or none.
+use Rattle.std.specs.Prelude.{◌≡◌, ℕ, ◌==◌, ◌||◌, Bool, true, false, List, [], ◌∷◌, ◌++◌, if◌then◌else◌, Option, Some, None, option_map, map, refl}
+use Rattle.std.proofs.Common.{sym, ◌∙◌, ap, ap₂, subst, append_assoc, append-nil, arith}
+use Rattle.std.proofs.lemmas.Bool.{true≢false}
+use Rattle.std.proofs.lemmas.Bool.Decides.{nat_tests}
+use Rattle.lines.specs.Blanks.{is_blank}
+use Rattle.lines.specs.Escapes.{byte_of}
+use Rattle.lines.specs.declared.line.Escape.{Escape}
+use Rattle.lines.specs.declared.line.Escape.TheVariants.{Backslash, Backtick}
+use Rattle.words.specs.declared.class.Class.{Class}
+use Rattle.words.specs.declared.class.Class.TheVariants.{Blank, SingleQuote, DoubleQuote, Dollar, Equals, EscapeCharacter, Other}
+use Rattle.words.specs.Parts.{class_of, Held, kept, freed, Part, blank, plain, escaped, single, double, open_single, open_double, held_text, has_open}
+use Rattle.words.specs.Reading.{Begun, nothing, escaping, in_single, in_double, in_double_escaping, ended_by, begun_by, ended_at_end, parts_from, parts}
+use Rattle.words.specs.PartLaws.{parts-made, parts-only}
+use Rattle.expand.specs.Scan.{marked_held, marked_part, marked, is_freed, IsIdleBefore, AreFreed, IsScannedBare, IsScannedQuoted, IsScanned}
+use Rattle.expand.specs.Places.{role_of, place_after, emitted, emitted_at_end, quoted_from}
+use Rattle.expand.specs.Reading.{bare_from, quoted_unless, scanned}
+use Rattle.expand.specs.declared.character.Character.{Character}
+use Rattle.expand.specs.declared.character.Character.TheVariants.{Active, Literal}
+use Rattle.expand.specs.declared.kind.Kind.{Kind}
+use Rattle.expand.specs.declared.kind.Kind.TheVariants.{Quoted, Json, Body}
+use Rattle.expand.specs.declared.scan.Role.{Role}
+use Rattle.expand.specs.declared.scan.Role.TheVariants.{SingleQuote as SingleRole, DoubleQuote as DoubleRole, Dollar as DollarRole, Escape as EscapeRole, Other as OtherRole}
+use Rattle.expand.specs.declared.scan.Place.{Place}
+use Rattle.expand.specs.declared.scan.Place.TheVariants.{Outside, Escaped, Single, Double, DoubleEscaped}
+
+eqb_equal : (a b : ℕ) → (a == b) ≡ true → a ≡ b
+eqb_equal a b h = grind (arith, nat_tests)
+
+eqb_same : (a b : ℕ) → a ≡ b → (a == b) ≡ true
+eqb_same a b h = grind (arith, nat_tests)
+
+-- what a class is where quotes are known
+abbrev role_by : Class → Role
+role_by Blank = OtherRole
+role_by SingleQuote = SingleRole
+role_by DoubleQuote = DoubleRole
+role_by Dollar = DollarRole
+role_by Equals = OtherRole
+role_by EscapeCharacter = EscapeRole
+role_by Other = OtherRole
+
+abbrev class_at : Bool → Bool → Bool → Bool → Bool → Bool → Class
+class_at b s d m q x = if b then Blank else (if s then SingleQuote else (if d then DoubleQuote else (if m then Dollar else (if q then Equals else (if x then EscapeCharacter else Other)))))
+
+abbrev role_at : Bool → Bool → Bool → Bool → Role
+role_at s d m x = if s then SingleRole else (if d then DoubleRole else (if m then DollarRole else (if x then EscapeRole else OtherRole)))
+
+blank_escape : (e : Escape) → is_blank (byte_of e) ≡ false
+blank_escape Backslash = refl
+blank_escape Backtick = refl
+
+equals_escape : (e : Escape) → (byte_of e == 61) ≡ false
+equals_escape Backslash = refl
+equals_escape Backtick = refl
+
+role_by_tests : (e : Escape) (c : ℕ) (b s d m q x : Bool) → is_blank c ≡ b → (c == 39) ≡ s → (c == 34) ≡ d → (c == 36) ≡ m → (c == 61) ≡ q → (c == byte_of e) ≡ x
+    → role_at s d m x ≡ role_by (class_at b s d m q x)
+role_by_tests e c true true d m q x hb hs hd hm hq hx = absurd (true≢false (sym hb ∙ ap is_blank (eqb_equal c 39 hs)))
+role_by_tests e c true false true m q x hb hs hd hm hq hx = absurd (true≢false (sym hb ∙ ap is_blank (eqb_equal c 34 hd)))
+role_by_tests e c true false false true q x hb hs hd hm hq hx = absurd (true≢false (sym hb ∙ ap is_blank (eqb_equal c 36 hm)))
+role_by_tests e c true false false false q true hb hs hd hm hq hx = absurd (true≢false (sym hb ∙ ap is_blank (eqb_equal c (byte_of e) hx) ∙ blank_escape e))
+role_by_tests e c true false false false q false hb hs hd hm hq hx = refl
+role_by_tests e c false true d m q x hb hs hd hm hq hx = refl
+role_by_tests e c false false true m q x hb hs hd hm hq hx = refl
+role_by_tests e c false false false true q x hb hs hd hm hq hx = refl
+role_by_tests e c false false false false true true hb hs hd hm hq hx = absurd (true≢false (sym hq ∙ ap (λ n. n == 61) (eqb_equal c (byte_of e) hx) ∙ equals_escape e))
+role_by_tests e c false false false false true false hb hs hd hm hq hx = refl
+role_by_tests e c false false false false false true hb hs hd hm hq hx = refl
+role_by_tests e c false false false false false false hb hs hd hm hq hx = refl
+
+role_of-class : (e : Escape) (c : ℕ) → role_of e c ≡ role_by (class_of e c)
+unfolding role_of class_of
+role_of-class e c = role_by_tests e c (is_blank c) (c == 39) (c == 34) (c == 36) (c == 61) (c == byte_of e) refl refl refl refl refl refl
+
+-- parts, one after another
+
+marked-append : (ps qs : List Part) → marked (ps ++ qs) ≡ marked ps ++ marked qs
+marked-append [] qs = refl
+marked-append (p ∷ ps) qs = ap (λ (t : List Character). marked_part p ++ t) (marked-append ps qs) ∙ sym (append_assoc (marked_part p) (marked ps) (marked qs))
+
+has_open-append : (ps qs : List Part) → has_open ps ≡ false → has_open (ps ++ qs) ≡ has_open qs
+has_open-append [] qs h = refl
+has_open-append (blank c ∷ ps) qs h = has_open-append ps qs h
+has_open-append (plain c ∷ ps) qs h = has_open-append ps qs h
+has_open-append (escaped c ∷ ps) qs h = has_open-append ps qs h
+has_open-append (single cs ∷ ps) qs h = has_open-append ps qs h
+has_open-append (double hs ∷ ps) qs h = has_open-append ps qs h
+has_open-append (open_single cs ∷ ps) qs h = absurd (true≢false h)
+has_open-append (open_double hs ∷ ps) qs h = absurd (true≢false h)
+
+abbrev found : List Part → Option (List Character)
+found ps = quoted_unless (has_open ps) (marked ps)
+
+unless_map : (b : Bool) (ms ns : List Character) → quoted_unless b (ms ++ ns) ≡ option_map (λ (t : List Character). ms ++ t) (quoted_unless b ns)
+unless_map true ms ns = refl
+unless_map false ms ns = refl
+
+found-append : (ps qs : List Part) → has_open ps ≡ false → found (ps ++ qs) ≡ option_map (λ (t : List Character). marked ps ++ t) (found qs)
+found-append ps qs h = ap₂ (λ (b : Bool) (t : List Character). quoted_unless b t) (has_open-append ps qs h) (marked-append ps qs) ∙ unless_map (has_open qs) (marked ps) (marked qs)
+
+map_twice : (ms ns : List Character) (o : Option (List Character))
+    → option_map (λ (t : List Character). ms ++ t) (option_map (λ (t : List Character). ns ++ t) o) ≡ option_map (λ (t : List Character). (ms ++ ns) ++ t) o
+map_twice ms ns None = refl
+map_twice ms ns (Some t) = ap (λ (u : List Character). Some u) (sym (append_assoc ms ns t))
+
+-- what was begun leaves so far
+abbrev begun_marks : Begun → List Character
+begun_marks nothing = []
+begun_marks escaping = []
+begun_marks (in_single cs) = map (λ c. Literal c) cs
+begun_marks (in_double hs) = map marked_held hs
+begun_marks (in_double_escaping hs) = map marked_held hs
+
+abbrev place_of : Begun → Place
+place_of nothing = Outside
+place_of escaping = Escaped
+place_of (in_single cs) = Single
+place_of (in_double hs) = Double
+place_of (in_double_escaping hs) = DoubleEscaped
+
+literal-more : (cs : List ℕ) (c : ℕ) → map (λ d. Literal d) cs ++ Literal c ∷ [] ≡ map (λ d. Literal d) (cs ++ c ∷ [])
+literal-more [] c = refl
+literal-more (d ∷ ds) c = ap (λ (t : List Character). Literal d ∷ t) (literal-more ds c)
+
+held-more : (hs gs : List Held) → map marked_held hs ++ map marked_held gs ≡ map marked_held (hs ++ gs)
+held-more [] gs = refl
+held-more (h ∷ hs) gs = ap (λ (t : List Character). marked_held h ∷ t) (held-more hs gs)
+
+held-idle : (e : Escape) (hs : List Held) (c : ℕ) → map marked_held hs ++ Active (byte_of e) ∷ Active c ∷ [] ≡ map marked_held ((hs ++ kept (byte_of e) ∷ []) ++ kept c ∷ [])
+held-idle e hs c = held-more hs (kept (byte_of e) ∷ kept c ∷ []) ∙ ap (λ (gs : List Held). map marked_held gs) (sym (append_assoc hs (kept (byte_of e) ∷ []) (kept c ∷ [])))
+
+quotes_end : (ms : List Character) → ms ++ [] ≡ (ms ++ []) ++ []
+quotes_end ms = sym (append-nil (ms ++ []))
+
+ended_closed : (b : Begun) (k : Class) (c : ℕ) → has_open (ended_by b k c) ≡ false
+ended_closed nothing Blank c = refl
+ended_closed nothing SingleQuote c = refl
+ended_closed nothing DoubleQuote c = refl
+ended_closed nothing Dollar c = refl
+ended_closed nothing Equals c = refl
+ended_closed nothing EscapeCharacter c = refl
+ended_closed nothing Other c = refl
+ended_closed escaping k c = refl
+ended_closed (in_single cs) Blank c = refl
+ended_closed (in_single cs) SingleQuote c = refl
+ended_closed (in_single cs) DoubleQuote c = refl
+ended_closed (in_single cs) Dollar c = refl
+ended_closed (in_single cs) Equals c = refl
+ended_closed (in_single cs) EscapeCharacter c = refl
+ended_closed (in_single cs) Other c = refl
+ended_closed (in_double hs) Blank c = refl
+ended_closed (in_double hs) SingleQuote c = refl
+ended_closed (in_double hs) DoubleQuote c = refl
+ended_closed (in_double hs) Dollar c = refl
+ended_closed (in_double hs) Equals c = refl
+ended_closed (in_double hs) EscapeCharacter c = refl
+ended_closed (in_double hs) Other c = refl
+ended_closed (in_double_escaping hs) k c = refl
+
+place_more : (e : Escape) (b : Begun) (k : Class) (c : ℕ) → place_after (place_of b) (role_by k) ≡ place_of (begun_by e b k c)
+place_more e nothing Blank c = refl
+place_more e nothing SingleQuote c = refl
+place_more e nothing DoubleQuote c = refl
+place_more e nothing Dollar c = refl
+place_more e nothing Equals c = refl
+place_more e nothing EscapeCharacter c = refl
+place_more e nothing Other c = refl
+place_more e escaping Blank c = refl
+place_more e escaping SingleQuote c = refl
+place_more e escaping DoubleQuote c = refl
+place_more e escaping Dollar c = refl
+place_more e escaping Equals c = refl
+place_more e escaping EscapeCharacter c = refl
+place_more e escaping Other c = refl
+place_more e (in_single cs) Blank c = refl
+place_more e (in_single cs) SingleQuote c = refl
+place_more e (in_single cs) DoubleQuote c = refl
+place_more e (in_single cs) Dollar c = refl
+place_more e (in_single cs) Equals c = refl
+place_more e (in_single cs) EscapeCharacter c = refl
+place_more e (in_single cs) Other c = refl
+place_more e (in_double hs) Blank c = refl
+place_more e (in_double hs) SingleQuote c = refl
+place_more e (in_double hs) DoubleQuote c = refl
+place_more e (in_double hs) Dollar c = refl
+place_more e (in_double hs) Equals c = refl
+place_more e (in_double hs) EscapeCharacter c = refl
+place_more e (in_double hs) Other c = refl
+place_more e (in_double_escaping hs) Blank c = refl
+place_more e (in_double_escaping hs) SingleQuote c = refl
+place_more e (in_double_escaping hs) DoubleQuote c = refl
+place_more e (in_double_escaping hs) Dollar c = refl
+place_more e (in_double_escaping hs) Equals c = refl
+place_more e (in_double_escaping hs) EscapeCharacter c = refl
+place_more e (in_double_escaping hs) Other c = refl
+
+marks_more : (e : Escape) (b : Begun) (k : Class) (c : ℕ) → begun_marks b ++ emitted e (place_of b) (role_by k) c ≡ marked (ended_by b k c) ++ begun_marks (begun_by e b k c)
+marks_more e nothing Blank c = refl
+marks_more e nothing SingleQuote c = refl
+marks_more e nothing DoubleQuote c = refl
+marks_more e nothing Dollar c = refl
+marks_more e nothing Equals c = refl
+marks_more e nothing EscapeCharacter c = refl
+marks_more e nothing Other c = refl
+marks_more e escaping Blank c = refl
+marks_more e escaping SingleQuote c = refl
+marks_more e escaping DoubleQuote c = refl
+marks_more e escaping Dollar c = refl
+marks_more e escaping Equals c = refl
+marks_more e escaping EscapeCharacter c = refl
+marks_more e escaping Other c = refl
+marks_more e (in_single cs) Blank c = literal-more cs c
+marks_more e (in_single cs) SingleQuote c = quotes_end (map (λ d. Literal d) cs)
+marks_more e (in_single cs) DoubleQuote c = literal-more cs c
+marks_more e (in_single cs) Dollar c = literal-more cs c
+marks_more e (in_single cs) Equals c = literal-more cs c
+marks_more e (in_single cs) EscapeCharacter c = literal-more cs c
+marks_more e (in_single cs) Other c = literal-more cs c
+marks_more e (in_double hs) Blank c = held-more hs (kept c ∷ [])
+marks_more e (in_double hs) SingleQuote c = held-more hs (kept c ∷ [])
+marks_more e (in_double hs) DoubleQuote c = quotes_end (map marked_held hs)
+marks_more e (in_double hs) Dollar c = held-more hs (kept c ∷ [])
+marks_more e (in_double hs) Equals c = held-more hs (kept c ∷ [])
+marks_more e (in_double hs) EscapeCharacter c = append-nil (map marked_held hs)
+marks_more e (in_double hs) Other c = held-more hs (kept c ∷ [])
+marks_more e (in_double_escaping hs) Blank c = held-idle e hs c
+marks_more e (in_double_escaping hs) SingleQuote c = held-idle e hs c
+marks_more e (in_double_escaping hs) DoubleQuote c = held-more hs (freed c ∷ [])
+marks_more e (in_double_escaping hs) Dollar c = held-more hs (freed c ∷ [])
+marks_more e (in_double_escaping hs) Equals c = held-idle e hs c
+marks_more e (in_double_escaping hs) EscapeCharacter c = held-more hs (freed c ∷ [])
+marks_more e (in_double_escaping hs) Other c = held-idle e hs c
+
+at_end : (e : Escape) (b : Begun) → found (ended_at_end e b) ≡ option_map (λ (t : List Character). begun_marks b ++ t) (emitted_at_end e (place_of b))
+at_end e nothing = refl
+at_end e escaping = refl
+at_end e (in_single cs) = refl
+at_end e (in_double hs) = refl
+at_end e (in_double_escaping hs) = refl
+
+-- going through a text character by character leaves what its parts leave
+quoted_from-found : (e : Escape) (b : Begun) (text : List ℕ) → found (parts_from e b text) ≡ option_map (λ (t : List Character). begun_marks b ++ t) (quoted_from e (place_of b) text)
+quoted_from-found e b [] = at_end e b
+quoted_from-found e b (c ∷ cs) =
+    let k : Class = class_of e c in
+    let next : Begun = begun_by e b k c in
+    found-append (ended_by b k c) (parts_from e next cs) (ended_closed b k c)
+    ∙ ap (λ (o : Option (List Character)). option_map (λ (t : List Character). marked (ended_by b k c) ++ t) o) (quoted_from-found e next cs)
+    ∙ map_twice (marked (ended_by b k c)) (begun_marks next) (quoted_from e (place_of next) cs)
+    ∙ ap₂ (λ (ms : List Character) (p : Place). option_map (λ (t : List Character). ms ++ t) (quoted_from e p cs)) (sym (marks_more e b k c)) (sym (place_more e b k c))
+    ∙ sym (map_twice (begun_marks b) (emitted e (place_of b) (role_by k) c) (quoted_from e (place_after (place_of b) (role_by k)) cs))
+    ∙ ap (λ (r : Role). option_map (λ (t : List Character). begun_marks b ++ t) (option_map (λ (t : List Character). emitted e (place_of b) r c ++ t) (quoted_from e (place_after (place_of b) r) cs))) (sym (role_of-class e c))
+
+map_none : (o : Option (List Character)) → option_map (λ (t : List Character). t) o ≡ o
+map_none None = refl
+map_none (Some t) = refl
+
+pub quoted_from-is : (e : Escape) (text : List ℕ) → quoted_from e Outside text ≡ quoted_unless (has_open (parts e text)) (marked (parts e text))
+unfolding parts
+quoted_from-is e text = sym (map_none (quoted_from e Outside text)) ∙ sym (quoted_from-found e nothing text)
+
+-- texts without quotes
+
+abbrev held_from : Escape → Bool → List ℕ → List Held
+held_from e false [] = []
+held_from e true [] = kept (byte_of e) ∷ []
+held_from e false (c ∷ cs) = if c == byte_of e then held_from e true cs else kept c ∷ held_from e false cs
+held_from e true (c ∷ cs) = if is_freed e c then freed c ∷ held_from e false cs else kept (byte_of e) ∷ kept c ∷ held_from e false cs
+
+abbrev held_back : Escape → Bool → List ℕ
+held_back e false = []
+held_back e true = byte_of e ∷ []
+
+marked-if : (t : Bool) (hs gs : List Held) → map marked_held (if t then hs else gs) ≡ (if t then map marked_held hs else map marked_held gs)
+marked-if true hs gs = refl
+marked-if false hs gs = refl
+
+if_both : (t : Bool) (ms ns os us : List Character) → ms ≡ os → ns ≡ us → (if t then ms else ns) ≡ (if t then os else us)
+if_both true ms ns os us h i = h
+if_both false ms ns os us h i = i
+
+marked-held_from : (e : Escape) (b : Bool) (text : List ℕ) → map marked_held (held_from e b text) ≡ bare_from e b text
+marked-held_from e false [] = refl
+marked-held_from e true [] = refl
+marked-held_from e false (c ∷ cs) =
+    marked-if (c == byte_of e) (held_from e true cs) (kept c ∷ held_from e false cs)
+    ∙ if_both (c == byte_of e) _ _ _ _ (marked-held_from e true cs) (ap (λ (t : List Character). Active c ∷ t) (marked-held_from e false cs))
+marked-held_from e true (c ∷ cs) =
+    marked-if (is_freed e c) (freed c ∷ held_from e false cs) (kept (byte_of e) ∷ kept c ∷ held_from e false cs)
+    ∙ if_both (is_freed e c) _ _ _ _ (ap (λ (t : List Character). Literal c ∷ t) (marked-held_from e false cs)) (ap (λ (t : List Character). Active (byte_of e) ∷ Active c ∷ t) (marked-held_from e false cs))
+
+text_by : (e : Escape) (t : Bool) (hs gs : List Held) (text : List ℕ) → (t ≡ true → held_text e hs ≡ text) → (t ≡ false → held_text e gs ≡ text) → held_text e (if t then hs else gs) ≡ text
+text_by e true hs gs text h i = h refl
+text_by e false hs gs text h i = i refl
+
+held_text-held_from : (e : Escape) (b : Bool) (text : List ℕ) → held_text e (held_from e b text) ≡ held_back e b ++ text
+held_text-held_from e false [] = refl
+held_text-held_from e true [] = refl
+held_text-held_from e false (c ∷ cs) =
+    text_by e (c == byte_of e) _ _ _ (λ h. held_text-held_from e true cs ∙ ap (λ d. d ∷ cs) (sym (eqb_equal c (byte_of e) h))) (λ _. ap (λ t. c ∷ t) (held_text-held_from e false cs))
+held_text-held_from e true (c ∷ cs) =
+    text_by e (is_freed e c) _ _ _ (λ _. ap (λ t. byte_of e ∷ c ∷ t) (held_text-held_from e false cs)) (λ _. ap (λ t. byte_of e ∷ c ∷ t) (held_text-held_from e false cs))
+
+freed_by : (e : Escape) (t : Bool) (hs gs : List Held) → (t ≡ true → AreFreed e hs) → (t ≡ false → AreFreed e gs) → AreFreed e (if t then hs else gs)
+freed_by e true hs gs h i = h refl
+freed_by e false hs gs h i = i refl
+
+or_right : (a b : Bool) → b ≡ true → (a || b) ≡ true
+or_right true b h = refl
+or_right false b h = h
+
+freed_itself : (e : Escape) (c : ℕ) → c ≡ byte_of e → is_freed e c ≡ true
+freed_itself e c h = or_right (c == 36) (c == byte_of e) (eqb_same c (byte_of e) h)
+
+areFreed-held_from : (e : Escape) (b : Bool) (text : List ℕ) → AreFreed e (held_from e b text)
+areFreed-held_from e false [] = tt
+areFreed-held_from e true [] = (λ _. tt, tt)
+areFreed-held_from e false (c ∷ cs) =
+    freed_by e (c == byte_of e) _ _ (λ _. areFreed-held_from e true cs) (λ h. (λ i. absurd (true≢false (sym (eqb_same c (byte_of e) i) ∙ h)), areFreed-held_from e false cs))
+areFreed-held_from e true (c ∷ cs) =
+    freed_by e (is_freed e c) _ _ (λ h. (h, areFreed-held_from e false cs)) (λ h. (λ _. h, (λ i. absurd (true≢false (sym (freed_itself e c i) ∙ h)), areFreed-held_from e false cs)))
+
+pub bare-scanned : (e : Escape) (text : List ℕ) → IsScannedBare e text (bare_from e false text)
+bare-scanned e text = (held_from e false text, areFreed-held_from e false text, sym (held_text-held_from e false text), sym (marked-held_from e false text))
+
+if_true : (t : Bool) (ms ns : List Character) → t ≡ true → (if t then ms else ns) ≡ ms
+if_true t ms ns h = ap (λ (u : Bool). if u then ms else ns) h
+
+if_false : (t : Bool) (ms ns : List Character) → t ≡ false → (if t then ms else ns) ≡ ns
+if_false t ms ns h = ap (λ (u : Bool). if u then ms else ns) h
+
+not_escape : (e : Escape) (c : ℕ) (t : Bool) → (c == byte_of e) ≡ t → is_freed e c ≡ false → (c == byte_of e) ≡ false
+not_escape e c true h i = absurd (true≢false (sym (freed_itself e c (eqb_equal c (byte_of e) h)) ∙ i))
+not_escape e c false h i = h
+
+bare_from-idle : (e : Escape) (text : List ℕ) → IsIdleBefore e text → bare_from e true text ≡ Active (byte_of e) ∷ bare_from e false text
+bare_from-idle e [] h = refl
+bare_from-idle e (c ∷ cs) h =
+    if_false (is_freed e c) _ _ h ∙ ap (λ (t : List Character). Active (byte_of e) ∷ t) (sym (if_false (c == byte_of e) _ _ (not_escape e c (c == byte_of e) refl h)))
+
+kept_by : (e : Escape) (c : ℕ) (text : List ℕ) (t : Bool) → (c == byte_of e) ≡ t → (c ≡ byte_of e → IsIdleBefore e text) → bare_from e false (c ∷ text) ≡ Active c ∷ bare_from e false text
+kept_by e c text true h i =
+    if_true (c == byte_of e) _ _ h ∙ bare_from-idle e text (i (eqb_equal c (byte_of e) h)) ∙ ap (λ d. Active d ∷ bare_from e false text) (sym (eqb_equal c (byte_of e) h))
+kept_by e c text false h i = if_false (c == byte_of e) _ _ h
+
+bare_read : (e : Escape) (hs : List Held) → AreFreed e hs → bare_from e false (held_text e hs) ≡ map marked_held hs
+bare_read e [] h = refl
+bare_read e (kept c ∷ hs) h = kept_by e c (held_text e hs) (c == byte_of e) refl h.0 ∙ ap (λ (t : List Character). Active c ∷ t) (bare_read e hs h.1)
+bare_read e (freed c ∷ hs) h =
+    if_true (byte_of e == byte_of e) _ _ (eqb_same (byte_of e) (byte_of e) refl) ∙ if_true (is_freed e c) _ _ h.0 ∙ ap (λ (t : List Character). Literal c ∷ t) (bare_read e hs h.1)
+
+pub bare-only : (e : Escape) (text : List ℕ) (ms : List Character) → IsScannedBare e text ms → bare_from e false text ≡ ms
+bare-only e text ms h = ap (λ t. bare_from e false t) h.2 ∙ bare_read e h.0 h.1 ∙ sym h.3
+
+-- of texts with quotes
+
+unless_some : (b : Bool) (ms ns : List Character) → quoted_unless b ms ≡ Some ns → (b ≡ false) × (ns ≡ ms)
+unless_some true ms ns h = cc
+unless_some false ms ns h = (refl, cc)
+
+pub quoted-scanned : (e : Escape) (text : List ℕ) (ms : List Character) → quoted_unless (has_open (parts e text)) (marked (parts e text)) ≡ Some ms → IsScannedQuoted e text ms
+quoted-scanned e text ms h =
+    let is = unless_some (has_open (parts e text)) (marked (parts e text)) ms h in
+    (parts e text, parts-made e text, is.0, is.1)
+
+pub quoted-only : (e : Escape) (text : List ℕ) (ms : List Character) → IsScannedQuoted e text ms → quoted_unless (has_open (parts e text)) (marked (parts e text)) ≡ Some ms
+quoted-only e text ms h =
+    let same : h.0 ≡ parts e text = parts-only e text h.0 h.1 in
+    ap (λ (ps : List Part). found ps) (sym same) ∙ ap (λ (b : Bool). quoted_unless b (marked h.0)) h.2 ∙ ap (λ (t : List Character). Some t) (sym h.3)
+
+-- what scanning gives is what is scanned, and nothing else is
+
+pub scanned-is : (kind : Kind) (e : Escape) (text : List ℕ) (ms : List Character) → scanned kind e text ≡ Some ms → IsScanned kind e text ms
+unfolding scanned
+scanned-is Quoted e text ms h = quoted-scanned e text ms h
+scanned-is Json e text ms h = let same : bare_from e false text ≡ ms = cc in subst (λ (t : List Character). IsScannedBare e text t) same (bare-scanned e text)
+scanned-is Body e text ms h = let same : bare_from e false text ≡ ms = cc in subst (λ (t : List Character). IsScannedBare e text t) same (bare-scanned e text)
+
+pub scanned-only : (kind : Kind) (e : Escape) (text : List ℕ) (ms : List Character) → IsScanned kind e text ms → scanned kind e text ≡ Some ms
+unfolding scanned
+scanned-only Quoted e text ms h = quoted-only e text ms h
+scanned-only Json e text ms h = ap (λ (t : List Character). Some t) (bare-only e text ms h)
+scanned-only Body e text ms h = ap (λ (t : List Character). Some t) (bare-only e text ms h)

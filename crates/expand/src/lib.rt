@@ -1,0 +1,32 @@
+// Words of a Dockerfile that are expanded: how a text is read as one, and its value under a scope.
+//
+// It knows no instruction and no scope: what gives a name its value is a trait, `Lookup`, and the crates above say which
+// texts are expanded, and with which scope.
+//
+// The central definitions are `IsWord` in specs/Meaning.antt, by which a text is scanned (which characters are active) and
+// what is left is read in a grammar, and `value` in specs/Value.antt, which joins the values of a word's parts.
+//
+// ```
+// let word = Word::read(alloc, Kind::Quoted, Escape::Backslash, "${name:-'a b'}/c")?;
+// expand(alloc, &word, &scope)?                  // "a b/c" where name is unset or empty
+// ```
+#![tactic(auto)]
+
+mod character;
+mod kind;
+mod laws;
+mod lookup;
+mod output;
+mod reading;
+mod scan;
+mod state;
+mod token;
+mod word;
+
+pub use kind::Kind;
+pub use laws::words_are_unique;
+pub use lookup::Lookup;
+pub use word::{Word, expand};
+
+#[cfg(test)]
+mod tests;
