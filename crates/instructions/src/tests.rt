@@ -668,6 +668,23 @@ fn copy_has_heredocs(rt: HostRuntime) -> Result<(), Fail> {
 }
 
 #[test]
+fn spelling_of_edge_lines(rt: HostRuntime) -> Result<(), Fail> {
+    expect(
+        &rt,
+        rt.alloc(),
+        &[
+            ("COPY --link=false a b", "COPY|a|>b"),
+            ("COPY --from= a b", "R07 at line 1"),
+            ("RUN --mount=target=/c,dst=/d x", "R17 at line 1"),
+            ("FROM a AS Scratch", "R10 at line 1"),
+            ("RUN []", "R06 at line 1"),
+            ("CMD []", "CMD|"),
+            ("RUN [x", "RUN|$[x"),
+        ],
+    )
+}
+
+#[test]
 fn other_names_are_unknown(rt: HostRuntime) -> Result<(), Fail> {
     expect(
         &rt,
