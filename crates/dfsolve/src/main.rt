@@ -4,6 +4,9 @@
 // the bytes come from and go to, and what is said where no answer could be given.
 #![tactic(auto)]
 
+ghost use Rattle.std.specs.Prelude.{◌≡◌};
+ghost use Rattle.build.specs.Faults.{exit_status};
+
 use build::{BuildFault, Status, run_build, status_code};
 use clap::Error;
 use clap::error::ErrorKind;
@@ -73,7 +76,9 @@ fn build(rt: &HostRuntime) -> Result<Status, BuildFault> {
 }
 
 /// Says why there is no whole answer, where there is none, and gives the status that the program ends with.
-fn end(rt: &HostRuntime, ended: Result<Status, BuildFault>) -> u8 {
+fn end(rt: &HostRuntime, ended: Result<Status, BuildFault>) -> u8
+    ensures { result ≡ exit_status ended }
+{
     if let Err(fault) = &ended {
         let _ = eprintln!(rt; "{fault}");
     }
