@@ -15,7 +15,8 @@ with_bind bind (Err cause) rest = Err cause
 with_bind bind (Ok tree) (Err cause) = Err cause
 with_bind bind (Ok tree) (Ok rest) = Ok (record { target = bind.target; tree = tree; rw = bind.rw } ∷ rest)
 
--- the binds with the trees that they show, each out of its own input, in order
+-- the binds with the trees that they show, each out of its own input, in order. A well-formed command has an input for each
+-- bind, so no bind of one is left out
 abbrev pub binds_of : List Bind → List TreeMap → Result (List RunBind) Cause
 binds_of [] trees = Ok []
 binds_of (bind ∷ binds) [] = Ok []
@@ -28,7 +29,7 @@ request_with exec root (Ok binds) =
     Ok (record { root = root; binds = binds; caches = exec.caches; env = exec.env; dir = exec.dir; user = exec.user; words = exec.words })
 
 -- the request of a command on the trees of its inputs, or why it isn't run: the first tree is the one that it runs in, and
--- those after it are the binds'. A well-formed command has a first input.
+-- those after it are the binds'. A well-formed command has a first input, so F1 stands here for lists that no graph gives
 abbrev pub request_of : Exec → List TreeMap → Result RunRequest Cause
 request_of exec [] = Err F1
 request_of exec (root ∷ trees) = request_with exec root (binds_of exec.binds trees)

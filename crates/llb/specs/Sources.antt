@@ -2,21 +2,15 @@
 -- BuildKit's LLB).
 use Rattle.std.specs.Prelude.{◌≡◌, ℕ, Option, Some, List, IsTrue, is_some, slice_get, refl}
 use Rattle.std.specs.Coded.{Coded, code_by, coded×, coded_list, coded_ℕ}
-use Rattle.std.specs.declared.cmp.Ordering.{Ordering}
-use Rattle.std.specs.Ordering.{nat_cmp}
-use Rattle.std.specs.Cmp.Lexicographic.{slice_cmp}
 use Rattle.std.specs.FinMap.{FinMap, get, code}
 use Rattle.trees.specs.TreeMap.{TreeMap, empty_tree}
+pub use Rattle.trees.specs.TreeMap.{name_cmp}
 use Rattle.trees.specs.contracts.tree.Tree as tree
 use Rattle.llb.specs.declared.op.Source.{Source}
 use Rattle.llb.specs.declared.op.Source.TheVariants.{Scratch, Context, Image}
 use Rattle.llb.specs.declared.op.Op.{Op}
 use Rattle.llb.specs.declared.op.Op.TheVariants.{Source as SourceOp, Exec as ExecOp}
 use Rattle.llb.specs.declared.vertex.Vertex.{Vertex}
-
--- how names are ordered: by their bytes
-abbrev pub name_cmp : List ℕ → List ℕ → Ordering
-name_cmp = slice_cmp nat_cmp
 
 -- the context's tree, and the trees of the images by their names
 pub record SourcesValue : Type 0 where

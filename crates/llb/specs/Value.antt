@@ -34,7 +34,7 @@ run_of out (Err cause) = Err cause
 run_of out (Ok request) = ended (out request)
 
 -- What an operation gives on the trees of its inputs. A source has no step, since its tree is given and not made: `result_of`
--- asks for no step of one.
+-- asks for no step of one, so F1 stands here for what is never asked.
 abbrev pub step : Out → Op → List TreeMap → Result TreeMap Cause
 step out (SourceOp source) trees = Err F1
 step out (ExecOp exec) trees = run_of out (request_of exec trees)
