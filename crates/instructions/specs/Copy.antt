@@ -1,6 +1,6 @@
 -- COPY: flags, then sources and a destination, as words or as a list in JSON; a heredoc's mark may stand as a source
 -- (Dockerfile reference, COPY).
-use Rattle.std.specs.Prelude.{ℕ, ◌-◌, ◌==◌, ◌||◌, ◌&&◌, Bool, true, false, not, List, [], ◌∷◌, Option, Some, None, is_some, length, take, nat_lt, filter, slice_index_or, if◌then◌else◌}
+use Rattle.std.specs.Prelude.{ℕ, ◌-◌, ◌==◌, ◌||◌, ◌&&◌, Bool, false, not, List, [], ◌∷◌, Option, Some, None, is_some, option_map, length, take, nat_lt, filter, slice_index_or, if◌then◌else◌}
 use Rattle.plain.specs.declared.refusal.Code.{Code}
 use Rattle.plain.specs.declared.refusal.Code.TheVariants.{R06, R07, R08, R09, R16}
 use Rattle.lines.specs.declared.line.Escape.{Escape}
@@ -8,15 +8,14 @@ use Rattle.lines.specs.declared.line.Heredoc.{Heredoc}
 use Rattle.words.specs.Flags.{flags, behind_flags}
 use Rattle.words.specs.Form.{json_form}
 use Rattle.words.specs.Reading.{words, ends_open}
-use Rattle.instructions.specs.CopyFlags.{copy_settings, have_bad_value, flags_said}
-use Rattle.instructions.specs.Keys.{value_at, has_twice}
+use Rattle.words.specs.declared.leading.Flag.{Flag}
+use Rattle.options.specs.CopyFlags.{are_copy_flags, copy_flags, has_from}
+use Rattle.options.specs.declared.copying.CopyFlags.{CopyFlags}
 use Rattle.instructions.specs.Names.{is_mark}
 use Rattle.instructions.specs.declared.instruction.Instruction.{Instruction}
 use Rattle.instructions.specs.declared.instruction.Instruction.TheVariants.{Copy}
 use Rattle.instructions.specs.declared.instruction.Source.{Source}
 use Rattle.instructions.specs.declared.instruction.Source.TheVariants.{Files, Document}
-use Rattle.instructions.specs.declared.setting.Key.TheVariants.{From}
-use Rattle.instructions.specs.declared.setting.Setting.{Setting}
 use Rattle.instructions.specs.declared.template.Template.{Template}
 use Rattle.instructions.specs.declared.template.Template.TheVariants.{Word, Plain, Literal}
 
@@ -57,45 +56,29 @@ sources listed hs [] = []
 sources listed [] (t ∷ ts) = Files (template_of listed t) ∷ sources listed [] ts
 sources listed (h ∷ hs) (t ∷ ts) = if is_mark t then document h ∷ sources listed hs ts else Files (template_of listed t) ∷ sources listed (h ∷ hs) ts
 
--- the COPY of arguments and flags, where each flag is one that COPY knows
-abbrev pub copy_made : Bool → List Heredoc → List (List ℕ) → Option (List Setting) → Option Instruction
-copy_made listed hs ts None = None
-copy_made listed hs ts (Some ss) = Some (Copy (sources listed hs (but_last ts)) (template_of listed (last_of ts)) (flags_said ss))
+-- the COPY of arguments and of what its flags say
+abbrev pub copy_made : Bool → List Heredoc → List (List ℕ) → CopyFlags → Instruction
+copy_made listed hs ts said = Copy (sources listed hs (but_last ts)) (template_of listed (last_of ts)) said
 
 -- what a text behind COPY is read as, in a line with these heredocs
 abbrev pub copy_read : Escape → List Heredoc → List ℕ → Option Instruction
-copy_read e hs text = copy_made (is_list text) hs (texts e text) (copy_settings (flags text))
+copy_read e hs text = option_map (copy_made (is_list text) hs (texts e text)) (copy_flags (flags text))
 
 -- what is due
-
--- a flag that COPY doesn't know, or that is malformed, or there twice
-abbrev pub have_bad_flag : Option (List Setting) → Bool
-have_bad_flag None = true
-have_bad_flag (Some ss) = has_twice ss
-
--- whether `--from` is there
-abbrev pub name_stage : Option (List Setting) → Bool
-name_stage None = false
-name_stage (Some ss) = is_some (value_at From ss)
-
--- whether the owner or the mode that flags give is none
-abbrev pub have_bad_number : Option (List Setting) → Bool
-have_bad_number None = false
-have_bad_number (Some ss) = have_bad_value ss
 
 -- whether a mark is no source of its own: it is the destination, or stands inside a longer word or a list in JSON
 abbrev pub has_idle_mark : Bool → List Heredoc → List (List ℕ) → Bool
 has_idle_mark listed hs ts = listed || nat_lt (length (filter is_mark (but_last ts))) (length hs)
 
 -- whether the heredocs aren't allowed: one of their marks is idle, or sources are taken from elsewhere by `--from`
-abbrev pub are_refused : Bool → List Heredoc → List (List ℕ) → Option (List Setting) → Bool
-are_refused listed hs ts fs = not (length hs == 0) && (has_idle_mark listed hs ts || name_stage fs)
+abbrev pub are_refused : Bool → List Heredoc → List (List ℕ) → List Flag → Bool
+are_refused listed hs ts fs = not (length hs == 0) && (has_idle_mark listed hs ts || has_from fs)
 
 -- the codes that are due for COPY with these heredocs and what stands behind it
 abbrev pub copy_due : Escape → List Heredoc → List ℕ → Code → Bool
 copy_due e hs text R06 = nat_lt (length (texts e text)) 2
-copy_due e hs text R07 = have_bad_flag (copy_settings (flags text))
-copy_due e hs text R08 = are_refused (is_list text) hs (texts e text) (copy_settings (flags text))
+copy_due e hs text R07 = not (are_copy_flags (flags text))
+copy_due e hs text R08 = are_refused (is_list text) hs (texts e text) (flags text)
 copy_due e hs text R09 = not (is_list text) && ends_open e (behind_flags text)
-copy_due e hs text R16 = have_bad_number (copy_settings (flags text))
+copy_due e hs text R16 = not (is_some (copy_flags (flags text)))
 copy_due e hs text code = false

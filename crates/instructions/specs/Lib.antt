@@ -1,13 +1,9 @@
 pub mod Commands
 pub mod Copy
-pub mod CopyFlags
 pub mod From
-pub mod Keys
 pub mod Keywords
 pub mod Least
 pub mod LeastLaws
-pub mod Lists
-pub mod Mounts
 pub mod Names
 pub mod Run
 pub mod Spells

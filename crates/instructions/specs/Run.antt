@@ -1,5 +1,5 @@
 -- RUN: flags `--mount=..`, then one heredoc's mark, or a list in JSON, or a text for the shell (Dockerfile reference, RUN).
-use Rattle.std.specs.Prelude.{ℕ, ◌==◌, ◌||◌, ◌&&◌, Bool, true, false, not, List, [], ◌∷◌, Option, Some, None, is_some, option_map, option_and_then, length, map, nat_lt, bytes_eq, codes}
+use Rattle.std.specs.Prelude.{ℕ, ◌==◌, ◌||◌, ◌&&◌, Bool, true, false, not, List, [], ◌∷◌, Option, Some, None, is_some, option_map, length, nat_lt}
 use Rattle.std.specs.List.{list_any}
 use Rattle.plain.specs.declared.refusal.Code.{Code}
 use Rattle.plain.specs.declared.refusal.Code.TheVariants.{R06, R07, R08, R17, R18}
@@ -7,34 +7,12 @@ use Rattle.lines.specs.declared.line.Heredoc.{Heredoc}
 use Rattle.words.specs.Flags.{flags, behind_flags}
 use Rattle.words.specs.Form.{json_form}
 use Rattle.words.specs.Pieces.{behind_piece}
-use Rattle.words.specs.declared.leading.Flag.{Flag}
+use Rattle.options.specs.Mounts.{are_mount_flags, mounts}
 use Rattle.instructions.specs.Commands.{command_of}
-use Rattle.instructions.specs.Lists.{all_some}
-use Rattle.instructions.specs.Mounts.{mount_of}
 use Rattle.instructions.specs.declared.instruction.Instruction.{Instruction}
 use Rattle.instructions.specs.declared.instruction.Instruction.TheVariants.{Run}
 use Rattle.instructions.specs.declared.instruction.Command.{Command}
 use Rattle.instructions.specs.declared.instruction.Command.TheVariants.{Shell as Script}
-use Rattle.instructions.specs.declared.mount.Mount.{Mount}
-
--- flags
-
--- a value that is there and isn't empty
-abbrev pub is_filled : Option (List ℕ) → Bool
-is_filled None = false
-is_filled (Some value) = not (length value == 0)
-
--- `--mount` with a value is the one flag
-abbrev pub is_mount_flag : Flag → Bool
-is_mount_flag flag = bytes_eq flag.name (codes "mount") && is_filled flag.value
-
--- the mount that a flag asks for
-unfoldable pub mount_in : Flag → Option Mount
-mount_in flag = option_and_then mount_of flag.value
-
--- the mounts that flags ask for, in their order, where each is one
-abbrev pub mounts : List Flag → Option (List Mount)
-mounts fs = all_some (map mount_in fs)
 
 -- the command
 
@@ -67,7 +45,7 @@ run_read hs text = option_map (λ ms. Run ms (run_command hs (behind_flags text)
 -- the codes that are due for RUN with these heredocs and what stands behind it
 abbrev pub run_due : List Heredoc → List ℕ → Code → Bool
 run_due hs text R06 = (length (behind_flags text) == 0) || (is_wordless (json_form (behind_flags text)) || list_any (λ h. length h.body == 0) hs)
-run_due hs text R07 = list_any (λ f. not (is_mount_flag f)) (flags text)
+run_due hs text R07 = not (are_mount_flags (flags text))
 run_due hs text R08 = is_mark_beside hs (behind_flags text) || list_any (λ h. names_interpreter h.body) hs
 run_due hs text R17 = not (is_some (mounts (flags text)))
 run_due hs text R18 = nat_lt 16 (length (flags text))

@@ -3,25 +3,23 @@ use Rattle.std.specs.Prelude.{◌≡◌, ◌⊎◌, ℕ, false, not, List, Optio
 use Rattle.std.proofs.Common.{sym, ◌∙◌, inl, inr}
 use Rattle.std.proofs.lemmas.Bool.{true≢false}
 use Rattle.plain.specs.declared.refusal.Code.{Code}
-use Rattle.plain.specs.declared.refusal.Code.TheVariants.{R04, R06, R07, R17}
+use Rattle.plain.specs.declared.refusal.Code.TheVariants.{R04, R06, R16, R17}
 use Rattle.lines.specs.declared.line.Line.{Line}
 use Rattle.words.specs.Flags.{flags}
 use Rattle.words.specs.Pieces.{behind_piece}
 use Rattle.words.specs.Reading.{words}
+use Rattle.options.specs.CopyFlags.{copy_flags}
+use Rattle.options.specs.Mounts.{mounts}
 use Rattle.instructions.specs.Commands.{shell_read}
-use Rattle.instructions.specs.Copy.{copy_made, have_bad_flag, is_list, texts}
-use Rattle.instructions.specs.CopyFlags.{copy_settings}
 use Rattle.instructions.specs.From.{stage_in}
 use Rattle.instructions.specs.Least.{least}
 use Rattle.instructions.specs.LeastLaws.{none_due}
-use Rattle.instructions.specs.Run.{mounts}
 use Rattle.instructions.specs.Spells.{named_read, named_due, keyword_in, is_due, Spells}
 use Rattle.instructions.specs.Variables.{variables, labels_among}
 use Rattle.instructions.specs.Words.{only_word}
 use Rattle.instructions.specs.declared.instruction.Instruction.{Instruction}
 use Rattle.instructions.specs.declared.keyword.Keyword.{Keyword}
 use Rattle.instructions.specs.declared.keyword.Keyword.TheVariants.{From, Arg, Env, Label, Expose, User, Workdir, StopSignal, Volume, Shell, Cmd, Entrypoint, Run, Copy}
-use Rattle.instructions.specs.declared.setting.Setting.{Setting}
 
 pub spelled_once : (line : Line) (i j : Instruction) → Spells line i → Spells line j → i ≡ j
 spelled_once line i j h k = let e : Some i ≡ Some j = sym h.0 ∙ k.0 in cc
@@ -46,10 +44,6 @@ there_twice : {X Y Z : Type 0} (g : Y → Z) (f : X → Y) (o : Option X) → no
 there_twice g f None h = absurd (true≢false h)
 there_twice g f (Some x) h = (g (f x), refl)
 
-there_copied : (line : Line) (rest : List ℕ) (fs : Option (List Setting)) → have_bad_flag fs ≡ false → (i : Instruction) × (copy_made (is_list rest) line.heredocs (texts line.escape rest) fs ≡ Some i)
-there_copied line rest None h = absurd (true≢false h)
-there_copied line rest (Some ss) h = (_, refl)
-
 -- where no code is due, an instruction is made
 
 made : (k : Option Keyword) (line : Line) (rest : List ℕ) → least (named_due k line rest) ≡ None → (i : Instruction) × (named_read k line rest ≡ Some i)
@@ -67,7 +61,7 @@ made (Some Shell) line rest h = there (shell_read rest) (none_due (named_due (So
 made (Some Cmd) line rest h = (_, refl)
 made (Some Entrypoint) line rest h = (_, refl)
 made (Some Run) line rest h = there_mapped _ (mounts (flags rest)) (none_due (named_due (Some Run) line rest) h R17)
-made (Some Copy) line rest h = there_copied line rest (copy_settings (flags rest)) (none_due (named_due (Some Copy) line rest) h R07)
+made (Some Copy) line rest h = there_mapped _ (copy_flags (flags rest)) (none_due (named_due (Some Copy) line rest) h R16)
 
 spelled_by : (line : Line) (o : Option Code) → least (is_due line) ≡ o → ((i : Instruction) × Spells line i) ⊎ ((c : Code) × (least (is_due line) ≡ Some c))
 spelled_by line (Some c) h = inr (c, h)

@@ -7,7 +7,7 @@ use Rattle.lines.specs.declared.line.Escape.{Escape}
 use Rattle.words.specs.Reading.{words, ends_open}
 use Rattle.words.specs.Pairs.{pair, label_pair}
 use Rattle.words.specs.Pieces.{first_piece, behind_piece}
-use Rattle.instructions.specs.Lists.{all_some}
+use Rattle.options.specs.Lists.{all_some}
 use Rattle.instructions.specs.Names.{is_variable_name}
 use Rattle.instructions.specs.declared.instruction.Instruction.{Instruction}
 use Rattle.instructions.specs.declared.instruction.Instruction.TheVariants.{Arg, Env, Label}

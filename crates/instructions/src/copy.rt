@@ -1,17 +1,15 @@
-ghost use Rattle.std.specs.Prelude.{◌≡◌, ◌∷◌, ◌==◌, ℕ, false, is_some, List, map, length, filter, nat_lt, IfOk};
+ghost use Rattle.std.specs.Prelude.{◌≡◌, ◌∷◌, ◌==◌, ℕ, false, List, Some, map, length, filter, nat_lt, IfOk};
 ghost use Rattle.instructions.specs.Copy.{texts_by, template_of, document, sources, copy_made, are_refused, copy_read, copy_due};
-ghost use Rattle.instructions.specs.Keys.{value_at};
 ghost use Rattle.instructions.specs.Least.{Meets};
 ghost use Rattle.instructions.specs.Names.{is_mark};
 
-use crate::copy_flags::{copy_settings, flags_said, have_bad_value};
 use crate::names::is_mark;
-use crate::setting::{Key, Setting, has_twice, value_at};
 use crate::{Instruction, Source, Template};
 use lines::{Escape, Heredoc};
+use options::{CopyFlags, are_copy_flags, copy_flags, has_from};
 use plain::{Code, Exact, Items, Memory, Text};
 use std::alloc::Global;
-use words::{Fault, closed, flags, json_form, split};
+use words::{Fault, Flag, closed, flags, json_form, split};
 
 /// Words, each as a text of its own.
 fn copied_words(alloc: Global, words: &[&str]) -> Result<Items<Text>, Memory>
@@ -121,28 +119,20 @@ fn count_marks(texts: &[Text]) -> usize
     count
 }
 
-/// Whether flags name a stage or an image to copy from.
-fn name_stage(settings: &[Setting]) -> bool
-    ensures { result ≡ is_some (value_at Key.From settings.now) }
-{
-    value_at(Key::From, settings).is_some()
-}
-
 /// The COPY of texts, of which there are two at least.
 fn copy_made(
     alloc: Global,
     is_list: bool,
     heredocs: &[Heredoc],
     texts: &[Text],
-    settings: &[Setting],
+    flags: CopyFlags,
 ) -> Result<Instruction, Memory>
     requires { nat_lt (length texts.now) 2 ≡ false }
-    ensures { IfOk result (λ made. Some made ≡ copy_made is_list heredocs.now texts.now (Some settings.now)) }
+    ensures { IfOk result (λ made. made ≡ copy_made is_list heredocs.now texts.now flags) }
 {
     let last = texts.len() - 1;
     let sources = sources(alloc, is_list, heredocs, &texts[..last])?;
     let destination = template_of(alloc, is_list, texts[last].as_str())?;
-    let flags = flags_said(alloc, settings)?;
     Ok(Instruction::Copy {
         sources,
         destination,
@@ -151,12 +141,12 @@ fn copy_made(
 }
 
 /// Whether heredocs aren't allowed: a mark is no source of its own, or sources are taken from elsewhere.
-fn are_refused(is_list: bool, heredocs: &[Heredoc], texts: &[Text], settings: &[Setting]) -> bool
+fn are_refused(is_list: bool, heredocs: &[Heredoc], texts: &[Text], flags: &[Flag]) -> bool
     requires { nat_lt (length texts.now) 2 ≡ false }
-    ensures { result ≡ are_refused is_list heredocs.now texts.now (Some settings.now) }
+    ensures { result ≡ are_refused is_list heredocs.now texts.now flags.now }
 {
     let marks = count_marks(&texts[..texts.len() - 1]);
-    !heredocs.is_empty() && (is_list || marks < heredocs.len() || name_stage(settings))
+    !heredocs.is_empty() && (is_list || marks < heredocs.len() || has_from(flags))
 }
 
 /// COPY: flags, then sources and a destination, as words or as a list in JSON.
@@ -175,26 +165,17 @@ pub fn read_copy(
     if texts.len() < 2 {
         return Err(Fault::Refused(Code::R06));
     }
-    let Some(settings) = copy_settings(alloc, flags.as_slice())? else {
-        return Err(Fault::Refused(Code::R07));
-    };
-    if has_twice(settings.as_slice()) {
+    if !are_copy_flags(flags.as_slice()) {
         return Err(Fault::Refused(Code::R07));
     }
-    if are_refused(is_list, heredocs, texts.as_slice(), settings.as_slice()) {
+    if are_refused(is_list, heredocs, texts.as_slice(), flags.as_slice()) {
         return Err(Fault::Refused(Code::R08));
     }
     if !is_list {
         closed(escape, rest)?;
     }
-    if have_bad_value(settings.as_slice()) {
+    let Some(said) = copy_flags(alloc, flags.as_slice())? else {
         return Err(Fault::Refused(Code::R16));
-    }
-    Ok(copy_made(
-        alloc,
-        is_list,
-        heredocs,
-        texts.as_slice(),
-        settings.as_slice(),
-    )?)
+    };
+    Ok(copy_made(alloc, is_list, heredocs, texts.as_slice(), said)?)
 }

@@ -1,4 +1,5 @@
-use crate::{Mount, Template};
+use crate::Template;
+use options::{CopyFlags, Mount};
 use plain::{Items, Text};
 
 /// An instruction of a Dockerfile, as a logical line spells it.
@@ -108,24 +109,4 @@ pub enum Source {
     Files(Template),
     /// A heredoc: a file of this name with this body.
     Document { name: Text, body: Template },
-}
-
-/// What a COPY's flags say.
-#[derive(Debug, Drop)]
-pub struct CopyFlags {
-    /// The stage or the image that `--from` names, never empty; the context where there is none.
-    pub from: Option<Text>,
-    /// The owner that `--chown` gives.
-    pub owner: Option<Owner>,
-    /// The mode that `--chmod` gives, at most 0o7777.
-    pub mode: Option<u16>,
-    /// Whether `--link` is there, and isn't `--link=false`.
-    pub is_linked: bool,
-}
-
-/// An owner of files.
-#[derive(Clone, Copy, Debug, PartialEq, Eq)]
-pub struct Owner {
-    pub user: u32,
-    pub group: u32,
 }

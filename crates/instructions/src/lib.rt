@@ -1,8 +1,8 @@
 // The instructions of a Dockerfile: what a logical line spells.
 //
-// It knows the table of instructions, their flags and mounts, and gives no text a value: variables are expanded by the
-// crates above, and a stage, an image or a path that an instruction names is looked for there. ADD, ONBUILD, HEALTHCHECK
-// and MAINTAINER are unknown.
+// It knows the table of instructions and which flags each takes; what a flag says is read by `options`. It gives no text a
+// value: variables are expanded by the crates above, and a stage, an image or a path that an instruction names is looked
+// for there. ADD, ONBUILD, HEALTHCHECK and MAINTAINER are unknown.
 //
 // The central definition is `Spells` in specs/Spells.antt: by cases of the line's name, what the rest of the line is read
 // as, and which codes are due for it. A line for which no code is due spells just one instruction, and of any other the
@@ -15,26 +15,22 @@
 
 mod commands;
 mod copy;
-mod copy_flags;
 mod fault;
 mod instruction;
 mod keyword;
 mod laws;
-mod mount;
-mod mounts;
 mod names;
 mod parsing;
 mod run;
-mod setting;
 mod stage;
 mod template;
 mod texts;
 mod variables;
 
 pub use fault::Fault;
-pub use instruction::{Argument, Command, CopyFlags, Instruction, Label, Owner, Source, Variable};
+pub use instruction::{Argument, Command, Instruction, Label, Source, Variable};
 pub use laws::{a_line_spells_one, lines_are_spelled_or_refused, the_least_code_is_told};
-pub use mount::{Mount, MountKind};
+pub use options::{CopyFlags, Mount, MountKind, Owner};
 pub use parsing::parse;
 pub use template::Template;
 

@@ -1,74 +1,19 @@
-ghost use Rattle.std.specs.Prelude.{◌≡◌, ◌==◌, ◌||◌, map, not, length, IfOk};
+ghost use Rattle.std.specs.Prelude.{◌≡◌, ◌==◌, length, IfOk};
 ghost use Rattle.std.specs.List.{list_any};
 ghost use Rattle.words.specs.Form.{json_form};
 ghost use Rattle.instructions.specs.Least.{Meets};
-ghost use Rattle.instructions.specs.Run.{is_filled, is_mount_flag, mount_in, mounts, run_command, is_wordless, is_mark_beside, names_interpreter, run_read, run_due};
+ghost use Rattle.instructions.specs.Run.{run_command, is_wordless, is_mark_beside, names_interpreter, run_read, run_due};
 
 use crate::commands::command_of;
-use crate::mounts::mount_of;
-use crate::{Command, Instruction, Mount};
+use crate::{Command, Instruction};
 use lines::Heredoc;
-use plain::{Code, Exact, Items, Memory, Text};
+use options::{are_mount_flags, mounts};
+use plain::{Code, Exact, Memory};
 use std::alloc::Global;
-use words::{Fault, Flag, first_piece, flags, json_form};
+use words::{Fault, first_piece, flags, json_form};
 
 /// The most mounts that a RUN has.
 const MOST_MOUNTS: usize = 16;
-
-/// Whether a value is there and isn't empty.
-fn is_filled(value: &Option<Text>) -> bool
-    ensures { result ≡ is_filled value.now }
-{
-    match value {
-        Some(value) => value.len() != 0,
-        None => false,
-    }
-}
-
-/// Whether a flag is `--mount` with a value.
-fn is_mount_flag(flag: &Flag) -> bool
-    ensures { result ≡ is_mount_flag flag.now }
-{
-    flag.name.as_str() == "mount" && is_filled(&flag.value)
-}
-
-/// Whether a flag is none that RUN knows.
-fn have_other_flag(flags: &[Flag]) -> bool
-    ensures { result ≡ list_any (λ f. not (is_mount_flag f)) flags.now }
-{
-    for flag in flags {
-        if !is_mount_flag(flag) {
-            return true;
-        }
-    }
-    false
-}
-
-/// The mount that a flag asks for.
-#[tactic(auto, unfolding(crate::specs::Run::mount_in))]
-fn mount_in(alloc: Global, flag: &Flag) -> Result<Option<Mount>, Memory>
-    ensures { IfOk result (λ mount. mount ≡ mount_in flag.now) }
-{
-    match &flag.value {
-        Some(value) => mount_of(alloc, value.as_str()),
-        None => Ok(None),
-    }
-}
-
-/// The mounts that flags ask for, where each is one.
-#[tactic(auto, using(crate::proofs::ListLemmas::behind_none, crate::proofs::ListLemmas::behind_some))]
-fn mounts(alloc: Global, flags: &[Flag]) -> Result<Option<Items<Mount>>, Memory>
-    ensures { IfOk result (λ found. found ≡ mounts flags.now) }
-{
-    let mut found = Items::new(alloc);
-    for flag in flags {
-        match mount_in(alloc, flag)? {
-            Some(mount) => found.push(mount)?,
-            None => return Ok(None),
-        }
-    }
-    Ok(Some(found))
-}
 
 /// The command: the body of the heredoc, else what the rest of the line is.
 fn run_command(alloc: Global, heredocs: &[Heredoc], rest: &str) -> Result<Command, Memory>
@@ -140,7 +85,7 @@ pub fn read_run(alloc: Global, heredocs: &[Heredoc], text: &str) -> Result<Instr
     if rest.is_empty() || is_wordless(alloc, rest)? || have_empty_body(heredocs) {
         return Err(Fault::Refused(Code::R06));
     }
-    if have_other_flag(flags.as_slice()) {
+    if !are_mount_flags(flags.as_slice()) {
         return Err(Fault::Refused(Code::R07));
     }
     if is_mark_beside(heredocs, rest) || have_interpreter(heredocs) {

@@ -93,7 +93,7 @@ fn variable(alloc: Global, word: &str) -> Result<Option<Variable>, Memory>
 }
 
 /// The variables that words set, where there are any and each has an `=`.
-#[tactic(auto, using(crate::proofs::ListLemmas::behind_none, crate::proofs::ListLemmas::behind_some))]
+#[tactic(auto, using(options::specs::ListLaws::behind_none, options::specs::ListLaws::behind_some))]
 fn variables_among(alloc: Global, words: &[&str]) -> Result<Option<Items<Variable>>, Memory>
     ensures { IfOk result (λ found. found ≡ variables_among (map (λ word. word.now) words.now)) }
 {
@@ -175,7 +175,7 @@ fn label(alloc: Global, escape: Escape, word: &str) -> Result<Option<Label>, Mem
 }
 
 /// The labels that words set, where there are any and each has an `=`.
-#[tactic(auto, using(crate::proofs::ListLemmas::behind_none, crate::proofs::ListLemmas::behind_some))]
+#[tactic(auto, using(options::specs::ListLaws::behind_none, options::specs::ListLaws::behind_some))]
 fn labels_among(
     alloc: Global,
     escape: Escape,

@@ -1,5 +1,6 @@
 use Rattle.std.proofs.Common.{◌≡◌, drop, map}
-use Rattle.instructions.specs.Lists.{all_some, behind}
+use Rattle.options.specs.ListLaws.{behind}
+use Rattle.options.specs.Lists.{all_some}
 use Rattle.instructions.specs.Variables.{label_of}
 use Rattle.instructions.proofs.variables.labels_among.Given as goal
 

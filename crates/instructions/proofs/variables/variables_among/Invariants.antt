@@ -1,5 +1,6 @@
 use Rattle.std.proofs.Common.{◌≡◌, drop, map}
-use Rattle.instructions.specs.Lists.{all_some, behind}
+use Rattle.options.specs.ListLaws.{behind}
+use Rattle.options.specs.Lists.{all_some}
 use Rattle.instructions.specs.Variables.{variable_of}
 use Rattle.instructions.proofs.variables.variables_among.Given as goal
 

@@ -1,2 +1,0 @@
-pub mod DecimalLemmas
-pub mod ListLemmas
