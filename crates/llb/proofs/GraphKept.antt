@@ -11,7 +11,7 @@ use Rattle.llb.specs.PlacesLaws.{AscendFrom-with_line}
 use Rattle.llb.specs.Graph.{IsAfterInputs, IsNew, AreVertices, IsGraph}
 
 -- an element of a list with one more is an old one or the last
-last_cases : {X : Type 0} (xs : List X) (x : X) (k : ℕ) (y : X) → slice_get (xs ++ x ∷ []) k ≡ Some y → (slice_get xs k ≡ Some y) ⊎ ((k ≡ length xs) × (y ≡ x))
+pub last_cases : {X : Type 0} (xs : List X) (x : X) (k : ℕ) (y : X) → slice_get (xs ++ x ∷ []) k ≡ Some y → (slice_get xs k ≡ Some y) ⊎ ((k ≡ length xs) × (y ≡ x))
 last_cases [] x zero y e = inr (refl, cc)
 last_cases [] x (suc k) y e = cc
 last_cases (z ∷ zs) x zero y e = inl e

@@ -1,3 +1,4 @@
 pub mod FormedSteps
 pub mod GraphKept
+pub mod IndexKept
 pub mod MapViews

@@ -1,6 +1,8 @@
 pub mod Graph
 pub mod GraphLaws
+pub mod Hash
 pub mod Images
+pub mod Index
 pub mod Operation
 pub mod Places
 pub mod PlacesLaws

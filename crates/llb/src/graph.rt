@@ -2,9 +2,12 @@ ghost use Rattle.std.specs.Prelude.{◌≡◌, ◌↔◌, ◌<◌, ◌≤◌, �
 ghost use Rattle.std.specs.Option.{ForSome};
 ghost use Rattle.std.specs.List.{All};
 ghost use Rattle.llb.specs.Graph.{IsAfterInputs, IsNew, IsGraph, Adds};
+ghost use Rattle.llb.specs.Hash.{hash_of};
 ghost use Rattle.llb.specs.Operation.{is_operation};
 ghost use Rattle.llb.specs.Places.{IsLine, least_line};
 
+use crate::hash::hash_of;
+use crate::index::Index;
 use crate::{GraphFault, Vertex, VertexId, places};
 use plain::{Exact, Items, Memory};
 use std::alloc::Global;
@@ -19,16 +22,20 @@ pub const MOST_VERTICES: usize = 16_384;
 pub struct Graph {
     vertices: Vec<Vertex>,
     places: Vec<Items<u32>>,
+    // finds an equal vertex without comparing with all; contracts don't see it
+    index: Index,
 }
 
 impl Model for Graph {
     ghost use Rattle.llb.specs.Graph.{GraphValue, IsGraph};
+    ghost use Rattle.llb.specs.Index.{IsIndexed};
 
     ghost Value = { GraphValue };
 
     ghost view = { λ g. record { vertices = g.vertices.items; places = g.places.items } };
 
-    ghost invariant = { λ g. IsGraph (record { vertices = g.vertices.items; places = g.places.items }) };
+    ghost invariant = { λ g. IsGraph (record { vertices = g.vertices.items; places = g.places.items })
+        × IsIndexed g.vertices.items g.index };
 }
 
 impl Graph {
@@ -39,6 +46,7 @@ impl Graph {
         Graph {
             vertices: Vec::new(alloc),
             places: Vec::new(alloc),
+            index: Index::new(alloc),
         }
     }
 
@@ -59,7 +67,8 @@ impl Graph {
         ensures adds { Adds self.old self.new vertex place result }
         ensures err { OnErr result (self.new ≡ self.old) }
     {
-        if let Some(at) = find(self.vertices.as_slice(), &vertex) {
+        let hash = hash_of(&vertex);
+        if let Some(at) = self.find(hash, &vertex) {
             places::add_line(alloc, &mut self.places, at, place)?;
             return Ok(VertexId::new(at as u32));
         }
@@ -68,8 +77,29 @@ impl Graph {
             return Err(GraphFault::Full);
         }
         let lines = places::first_line(alloc, place)?;
-        append(&mut self.vertices, &mut self.places, vertex, lines)?;
+        self.vertices.reserve(1)?;
+        self.places.reserve(1)?;
+        self.index.enter(alloc, hash, at as u32)?;
+        self.places.push(lines).unwrap();
+        self.vertices.push(vertex).unwrap();
         Ok(VertexId::new(at as u32))
+    }
+
+    /// The number of the vertex that is equal to this one, which has this hash; `None` where there is none.
+    fn find(&self, hash: u64, vertex: &Vertex) -> Option<usize>
+        requires { hash ≡ hash_of vertex.now }
+        ensures found { IfSome result (λ at. slice_get self.now.vertices at ≡ Some vertex.now) }
+        ensures fresh { IfNone result (IsNew self.now.vertices vertex.now) }
+    {
+        for number in self.index.under(hash) {
+            let at = *number as usize;
+            if let Some(other) = self.vertices.get(at) {
+                if other.same(vertex) {
+                    return Some(at);
+                }
+            }
+        }
+        None
     }
 
     /// Whether a vertex may be added: it is well formed, and its inputs are in the graph.
@@ -138,35 +168,4 @@ fn are_below(ids: &[VertexId], number: usize) -> bool
     ensures { IsTrue result ↔ All (λ id. id < number) ids.now }
 {
     ids.iter().all(|id| id.index() < number)
-}
-
-/// The number of the vertex that is equal to this one; `None` where there is none.
-fn find(vertices: &[Vertex], vertex: &Vertex) -> Option<usize>
-    ensures found { IfSome result (λ at. slice_get vertices.now at ≡ Some vertex.now) }
-    ensures fresh { IfNone result (IsNew vertices.now vertex.now) }
-{
-    for (at, other) in vertices.iter().enumerate() {
-        if other.same(vertex) {
-            return Some(at);
-        }
-    }
-    None
-}
-
-/// Adds a vertex and its lines at the end. After `Memory` nothing has changed.
-fn append(
-    vertices: &mut Vec<Vertex>,
-    places: &mut Vec<Items<u32>>,
-    vertex: Vertex,
-    lines: Items<u32>,
-) -> Result<(), Memory>
-    ensures vertices { OnOk result (vertices.new.items ≡ vertices.old.items ++ vertex ∷ []) }
-    ensures places { OnOk result (places.new.items ≡ places.old.items ++ lines ∷ []) }
-    ensures same_vertices { OnErr result (vertices.new.items ≡ vertices.old.items) }
-    ensures same_places { OnErr result (places.new.items ≡ places.old.items) }
-{
-    vertices.reserve(1)?;
-    places.push(lines)?;
-    vertices.push(vertex).unwrap();
-    Ok(())
 }

@@ -17,7 +17,9 @@
 mod fault;
 mod formed;
 mod graph;
+mod hash;
 mod images;
+mod index;
 mod laws;
 mod op;
 mod places;

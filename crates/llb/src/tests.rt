@@ -1,3 +1,4 @@
+use crate::index::Index;
 use crate::*;
 use paths::Path;
 use plain::{Exact, Items, Memory, Sharing, Text};
@@ -142,6 +143,20 @@ fn are_different(alloc: Global, vertices: &[Vertex]) -> Result<bool, Memory> {
     Ok(true)
 }
 
+/// Whether a copy of each of the vertices, added again, gets that one's number.
+fn are_found(alloc: Global, graph: &mut Graph) -> Result<bool, Memory> {
+    for number in 0..16_384 {
+        let Some(vertex) = graph.vertex(VertexId::new(number)) else {
+            return Ok(true);
+        };
+        let copy = vertex.copy(alloc)?;
+        if add(alloc, graph, copy, 0) != Some(number) {
+            return Ok(false);
+        }
+    }
+    Ok(true)
+}
+
 /// A command with a user.
 fn with_user(alloc: Global, user: &str) -> Result<Vertex, Memory> {
     let user = Text::from_str(alloc, user)?;
@@ -199,6 +214,21 @@ fn each_field_tells_vertices_apart(rt: HostRuntime) -> Result<(), Fail> {
     add(alloc, &mut graph, with_cache(alloc, "k", "/c")?, 0);
     assert_eq!(rt; graph.len(), 11);
     assert!(rt; are_different(alloc, graph.vertices())?);
+    assert!(rt; are_found(alloc, &mut graph)?);
+    assert_eq!(rt; graph.len(), 11);
+    Ok(())
+}
+
+#[test]
+fn numbers_of_one_hash_stand_together(rt: HostRuntime) -> Result<(), Fail> {
+    let mut index = Index::new(rt.alloc());
+    for (hash, number) in [(7, 0), (9, 1), (7, 2), (u64::MAX, 3)] {
+        index.enter(rt.alloc(), hash, number)?;
+    }
+    assert_eq!(rt; index.under(7), [0u32, 2].as_slice());
+    assert_eq!(rt; index.under(9), [1u32].as_slice());
+    assert_eq!(rt; index.under(u64::MAX), [3u32].as_slice());
+    assert!(rt; index.under(8).is_empty());
     Ok(())
 }
 

@@ -1,0 +1,172 @@
+ghost use Rattle.std.specs.Prelude.{◌≡◌, ℕ, List, fold};
+ghost use Rattle.std.specs.Hash.{u32 as u32_writes, slice, str as str_writes};
+ghost use Rattle.std.specs.Hash.DefaultHasher as sip;
+ghost use Rattle.llb.specs.Hash.{path_writes, variable_writes, sharing_writes, cache_writes, bind_writes, exec_writes, source_writes, op_writes, vertex_writes, hash_of};
+
+use crate::{Bind, Exec, Op, Source, Vertex, VertexId};
+use paths::Path;
+use plain::{Items, Sharing, Text};
+use std::hash::{DefaultHasher, Hash, Hasher};
+use trees::{CacheUse, Variable};
+
+/// The hash of a vertex: SipHash of what the vertex is made of.
+///
+/// Its keys are fixed, so that a build does the same work each time. Whoever writes a Dockerfile can therefore search for
+/// vertices that share a hash. Each of those is compared with those before it, at worst all that a graph may have: that
+/// costs time, and changes no answer.
+pub(crate) fn hash_of(vertex: &Vertex) -> u64
+    ensures { result ≡ hash_of vertex.now }
+{
+    let mut state = DefaultHasher::new();
+    vertex.write_to(&mut state);
+    state.finish()
+}
+
+/// Values that are written to a hasher, equal ones by equal writes.
+///
+/// It is std's `Hash` without `Eq`, in whose place these values have `Exact`.
+trait Written {
+    // what `write_to` writes, in order
+    ghost writes: { Self → List (List ℕ) };
+
+    /// Writes the value to a hasher.
+    fn write_to(&self, state: &mut DefaultHasher)
+        ensures { state.new ≡ fold sip.write state.old (writes self.now) };
+}
+
+impl Written for Text {
+    ghost writes = { str_writes };
+
+    fn write_to(&self, state: &mut DefaultHasher) {
+        self.as_str().hash(state);
+    }
+}
+
+impl Written for VertexId {
+    ghost writes = { u32_writes };
+
+    fn write_to(&self, state: &mut DefaultHasher) {
+        self.number().hash(state);
+    }
+}
+
+impl<T: Written> Written for Items<T> {
+    ghost writes = { slice T.writes };
+
+    fn write_to(&self, state: &mut DefaultHasher) {
+        write_items(self.as_slice(), state);
+    }
+}
+
+/// Writes how many items there are, and then each.
+fn write_items<T: Written>(items: &[T], state: &mut DefaultHasher)
+    ensures { state.new ≡ fold sip.write state.old (slice T.writes items.now) }
+{
+    items.len().hash(state);
+    for item in items {
+        item.write_to(state);
+    }
+}
+
+impl Written for Path {
+    ghost writes = { path_writes };
+
+    fn write_to(&self, state: &mut DefaultHasher) {
+        write_items(self.components(), state);
+    }
+}
+
+impl Written for Variable {
+    ghost writes = { variable_writes };
+
+    fn write_to(&self, state: &mut DefaultHasher) {
+        self.name.write_to(state);
+        self.value.write_to(state);
+    }
+}
+
+impl Written for Sharing {
+    ghost writes = { sharing_writes };
+
+    fn write_to(&self, state: &mut DefaultHasher) {
+        state.write_u8(match self {
+            Sharing::Shared => 0,
+            Sharing::Private => 1,
+            Sharing::Locked => 2,
+        });
+    }
+}
+
+impl Written for CacheUse {
+    ghost writes = { cache_writes };
+
+    fn write_to(&self, state: &mut DefaultHasher) {
+        self.id.write_to(state);
+        self.sharing.write_to(state);
+        self.target.write_to(state);
+    }
+}
+
+impl Written for Bind {
+    ghost writes = { bind_writes };
+
+    fn write_to(&self, state: &mut DefaultHasher) {
+        self.rw.hash(state);
+        self.source.write_to(state);
+        self.target.write_to(state);
+    }
+}
+
+impl Written for Exec {
+    ghost writes = { exec_writes };
+
+    fn write_to(&self, state: &mut DefaultHasher) {
+        self.binds.write_to(state);
+        self.caches.write_to(state);
+        self.dir.write_to(state);
+        self.env.write_to(state);
+        self.user.write_to(state);
+        self.words.write_to(state);
+    }
+}
+
+impl Written for Source {
+    ghost writes = { source_writes };
+
+    fn write_to(&self, state: &mut DefaultHasher) {
+        match self {
+            Source::Scratch => state.write_u8(0),
+            Source::Context => state.write_u8(1),
+            Source::Image(name) => {
+                state.write_u8(2);
+                name.write_to(state);
+            }
+        }
+    }
+}
+
+impl Written for Op {
+    ghost writes = { op_writes };
+
+    fn write_to(&self, state: &mut DefaultHasher) {
+        match self {
+            Op::Source(source) => {
+                state.write_u8(0);
+                source.write_to(state);
+            }
+            Op::Exec(exec) => {
+                state.write_u8(1);
+                exec.write_to(state);
+            }
+        }
+    }
+}
+
+impl Written for Vertex {
+    ghost writes = { vertex_writes };
+
+    fn write_to(&self, state: &mut DefaultHasher) {
+        self.inputs.write_to(state);
+        self.op.write_to(state);
+    }
+}
