@@ -1,28 +1,23 @@
--- What continued lines join to, by the steps.
-use Rattle.std.proofs.Common.{◌≡◌, ◌≢◌, ◌==◌, ◌||◌, ℕ, Bool, true, false, cond, Option, Some, None, List, [], ◌∷◌, ◌++◌, length, refl, sym, ap, ap₂, ◌∙◌, subst, append_assoc, true≢false, arith}
+-- What continued lines join to, by the structure of their file.
+use Rattle.std.proofs.Common.{◌≡◌, ◌≢◌, ◌==◌, ◌||◌, ◌+◌, ℕ, Bool, true, false, cond, Option, Some, None, List, [], ◌∷◌, ◌++◌, length, map, refl, sym, ap, ap₂, ◌∙◌, subst, append_assoc, inl, true≢false, arith}
+use Rattle.std.specs.Prelude.{is_some, unwrap_or}
 use Rattle.std.specs.List.{concat}
+use Rattle.std.proofs.Math.Bool.{or-true}
 use Rattle.std.proofs.lemmas.Bool.Decides.{nat_tests}
-use Rattle.plain.specs.declared.refusal.Code.TheVariants.{R18}
-use Rattle.lines.specs.Blanks.{trimmed, continued_part, is_comment}
-use Rattle.lines.specs.Continued.{IsKept, AreContinued, first_line}
+use Rattle.std.proofs.lemmas.List.{append-nil}
+use Rattle.plain.specs.declared.refusal.Refusal.{Refusal}
+use Rattle.lines.specs.Blanks.{trimmed, continued_part, is_blank_line, is_comment, is_skipped}
+use Rattle.lines.specs.Continued.{AreContinued, plain_line}
 use Rattle.lines.specs.Directives.{after_sharp, directive_after, directive_of}
 use Rattle.lines.specs.Escapes.{byte_of}
-use Rattle.lines.specs.Joining.{initial, at_stage, counted, noted, limited, completed, opened, closed, joined_part, joined, is_skipped, ended}
-use Rattle.lines.specs.Labels.{IsReadAs}
-use Rattle.lines.specs.LabelLaws.{IsReadAs-is, IsReadAs-same}
+use Rattle.lines.specs.File.{AreDirectives, BeginsBelowDirectives, escape_below, directive_faults, goes_on, IsKept, BeginsKept, AreJoined, part_of, joined_text, AreBodies, line_of, AreBlocks, none, logical, IsFile}
+use Rattle.lines.specs.FileLaws.{IsFile-same}
 use Rattle.lines.specs.Marks.{marks_of}
-use Rattle.lines.specs.Steps.{top_chosen, line_step, after_lines}
 use Rattle.lines.specs.declared.line.Escape.{Escape}
 use Rattle.lines.specs.declared.line.Escape.TheVariants.{Backslash}
 use Rattle.lines.specs.declared.line.Line.{Line}
+use Rattle.lines.specs.declared.line.Mark.{Mark}
 use Rattle.lines.specs.declared.state.Directive.{Directive}
-use Rattle.lines.specs.declared.state.Pending.{Pending}
-use Rattle.lines.specs.declared.state.Stage.TheVariants.{Between, Within}
-use Rattle.lines.specs.declared.state.Reading.{Reading}
-use Rattle.lines.specs.declared.steps.TheConstants.{MAX_LINES}
-
-kept_is : (line : List ℕ) → IsKept line → is_skipped line ≡ false
-kept_is line kept = ap₂ (λ x y. x || y) kept.0 kept.1
 
 -- a line that is no comment is no directive
 sharp_by : (c : ℕ) (cs : List ℕ) (b : Bool) → (c == 35) ≡ b → is_comment (c ∷ cs) ≡ false → cond b (Some cs) None ≡ None
@@ -35,92 +30,87 @@ no_sharp : (line : List ℕ) → is_comment line ≡ false → after_sharp line 
 no_sharp [] h = refl
 no_sharp (c ∷ cs) h = sharp_by c cs (c == 35) refl h
 
+no_comment : (a b : Bool) → (a || b) ≡ false → b ≡ false
+no_comment true b h = absurd (true≢false h)
+no_comment false b h = h
+
 no_directive : (line : List ℕ) → IsKept line → directive_of line ≡ None
-no_directive line kept = ap directive_after (no_sharp line kept.1)
+no_directive line kept = ap directive_after (no_sharp line (no_comment (is_blank_line line) (is_comment line) kept))
 
--- one line that is kept
+-- what each line does
 
-joined_is : (r : Reading) (n : ℕ) (before line : List ℕ) (o : Option (List ℕ)) → r.escape ≡ Backslash → continued_part 92 line ≡ o → joined r n before line ≡ joined_part r n before line o
-joined_is r n before line o escape is =
-    ap (joined_part r n before line) (ap (λ (e : Escape). continued_part (byte_of e) line) escape ∙ is)
+continued_goes_on : (e : ℕ) (line part : List ℕ) → continued_part e line ≡ Some part → goes_on e line ≡ true
+continued_goes_on e line part h = ap (λ (o : Option (List ℕ)). is_skipped line || is_some o) h ∙ or-true (is_skipped line)
 
-within_kept : (r : Reading) (p : Pending) (line : List ℕ) (o : Option (List ℕ)) → r.escape ≡ Backslash → IsKept line → continued_part 92 line ≡ o
-    → line_step (at_stage r (Within p)) line ≡ joined_part (counted r) p.number p.text line o
-unfolding line_step
-within_kept r p line o escape kept is =
-    ap (λ b. cond b (at_stage (counted r) (Within p)) (joined (counted r) p.number p.text line)) (kept_is line kept) ∙ joined_is (counted r) p.number p.text line o escape is
+last_ends : (e : ℕ) (line : List ℕ) → IsKept line → continued_part e line ≡ None → goes_on e line ≡ false
+last_ends e line kept h = ap₂ (λ (b : Bool) (o : Option (List ℕ)). b || is_some o) kept h
 
-first_kept : (line : List ℕ) (o : Option (List ℕ)) → IsKept line → continued_part 92 line ≡ o → line_step initial line ≡ joined_part (counted initial) 1 [] line o
-unfolding line_step
-first_kept line o kept is =
-    ap (λ (d : Option Directive). top_chosen (counted initial) (record { escape = false; syntax = false; check = false }) line d) (no_directive line kept)
-    ∙ ap (λ b. cond b (at_stage (counted initial) Between) (joined (counted initial) 1 [] line)) (kept_is line kept)
-    ∙ joined_is (counted initial) 1 [] line o refl is
+adds : (e : ℕ) (line : List ℕ) (o : Option (List ℕ)) → IsKept line → continued_part e line ≡ o → part_of e line ≡ unwrap_or o line
+adds e line o kept h = ap₂ (λ (b : Bool) (o : Option (List ℕ)). cond b [] (unwrap_or o line)) kept h
 
--- many lines: the last one closes the logical line that they join to
-record IsClosed (r : Reading) (n : ℕ) (text : List ℕ) (found : Reading) : Type 0 where
-  by : Reading
-  escape : by.escape ≡ Backslash
-  lines : by.lines ≡ r.lines
-  faults : by.faults ≡ r.faults
-  is : found ≡ closed by n text
+-- what they are together
 
-walk : (r : Reading) (p : Pending) (fronts parts : List (List ℕ)) (last : List ℕ) → r.escape ≡ Backslash → AreContinued fronts parts → IsKept last → continued_part 92 last ≡ None
-    → IsClosed r p.number (trimmed (p.text ++ (concat parts ++ last))) (after_lines (at_stage r (Within p)) (fronts ++ last ∷ []))
-walk r p [] [] last escape all kept ends =
-    record { by = counted r; escape = escape; lines = refl; faults = refl; is = within_kept r p last None escape kept ends }
-walk r p [] (q ∷ qs) last escape all kept ends = absurd all
-walk r p (l ∷ ls) [] last escape all kept ends = absurd all
-walk r p (l ∷ ls) (q ∷ qs) last escape all kept ends =
-    let more = walk (counted r) (record { number = p.number; text = p.text ++ q }) ls qs last escape all.2 kept ends in
-    let text : (p.text ++ q) ++ (concat qs ++ last) ≡ p.text ++ ((q ++ concat qs) ++ last) = append_assoc p.text q (concat qs ++ last) ∙ ap (λ x. p.text ++ x) (sym (append_assoc q (concat qs) last)) in
-    record {
-      by = more.by;
-      escape = more.escape;
-      lines = more.lines;
-      faults = more.faults;
-      is = ap (λ (s : Reading). after_lines s (ls ++ last ∷ [])) (within_kept r p l (Some q) escape all.0 all.1) ∙ more.is ∙ ap (λ t. closed more.by p.number (trimmed t)) text;
-    }
+goes_to : (e : ℕ) (line : List ℕ) (lines : List (List ℕ)) (last : List ℕ) → goes_on e line ≡ true → AreJoined e (lines ++ last ∷ []) [] → AreJoined e (line ∷ (lines ++ last ∷ [])) []
+goes_to e line [] last h i = (h, i)
+goes_to e line (next ∷ lines) last h i = (h, i)
 
-walk_all : (fronts parts : List (List ℕ)) (last : List ℕ) → AreContinued fronts parts → IsKept last → continued_part 92 last ≡ None
-    → IsClosed initial 1 (trimmed (concat parts ++ last)) (after_lines initial (fronts ++ last ∷ []))
-walk_all [] [] last all kept ends =
-    record { by = counted initial; escape = refl; lines = refl; faults = refl; is = first_kept last None kept ends }
-walk_all [] (q ∷ qs) last all kept ends = absurd all
-walk_all (l ∷ ls) [] last all kept ends = absurd all
-walk_all (l ∷ ls) (q ∷ qs) last all kept ends =
-    let more = walk (counted initial) (record { number = 1; text = q }) ls qs last refl all.2 kept ends in
-    record {
-      by = more.by;
-      escape = more.escape;
-      lines = more.lines;
-      faults = more.faults;
-      is = ap (λ (s : Reading). after_lines s (ls ++ last ∷ [])) (first_kept l (Some q) all.0 all.1) ∙ more.is ∙ ap (λ t. closed more.by 1 (trimmed t)) (sym (append_assoc q (concat qs) last));
-    }
+joined : (e : ℕ) (fronts parts : List (List ℕ)) (last : List ℕ) → AreContinued e fronts parts → IsKept last → continued_part e last ≡ None → AreJoined e (fronts ++ last ∷ []) []
+joined e [] [] last all kept ends = inl (last_ends e last kept ends)
+joined e [] (q ∷ qs) last all kept ends = absurd all
+joined e (l ∷ ls) [] last all kept ends = absurd all
+joined e (l ∷ ls) (q ∷ qs) last all kept ends = goes_to e l ls last (continued_goes_on e l q all.1) (joined e ls qs last all.2 kept ends)
 
--- the one logical line
-abbrev IsLone : List ℕ → Reading → Type 0
-IsLone text found = (found.faults ≡ []) × (found.lines ≡ first_line text ∷ [])
+parts_are : (e : ℕ) (fronts parts : List (List ℕ)) (last : List ℕ) → AreContinued e fronts parts → IsKept last → continued_part e last ≡ None → concat (map (part_of e) (fronts ++ last ∷ [])) ≡ concat parts ++ last
+parts_are e [] [] last all kept ends = append-nil (part_of e last) ∙ adds e last None kept ends
+parts_are e [] (q ∷ qs) last all kept ends = absurd all
+parts_are e (l ∷ ls) [] last all kept ends = absurd all
+parts_are e (l ∷ ls) (q ∷ qs) last all kept ends =
+    ap₂ (λ x y. x ++ y) (adds e l (Some q) all.0 all.1) (parts_are e ls qs last all.2 kept ends) ∙ sym (append_assoc q (concat qs) last)
 
-limited_is : (s : Reading) → s.lines ≡ [] → limited s 1 ≡ s
-limited_is s none = ap (λ (lines : List Line). cond (length lines == MAX_LINES) (noted s R18 1) s) none
+begins : (e : ℕ) (fronts parts : List (List ℕ)) (last : List ℕ) → AreContinued e fronts parts → IsKept last
+    → BeginsKept (fronts ++ last ∷ []) × BeginsBelowDirectives (fronts ++ last ∷ [])
+begins e [] [] last all kept = (kept, no_directive last kept)
+begins e [] (q ∷ qs) last all kept = absurd all
+begins e (l ∷ ls) [] last all kept = absurd all
+begins e (l ∷ ls) (q ∷ qs) last all kept = (all.0, no_directive l all.0)
 
-completed_lone : (s : Reading) (text : List ℕ) → s.escape ≡ Backslash → s.lines ≡ [] → s.faults ≡ [] → IsLone text (ended (completed s 1 text []))
-completed_lone s text escape none fine =
-    (fine, ap₂ (λ (lines : List Line) (e : Escape). lines ++ (record { number = 1; text = text; heredocs = []; escape = e }) ∷ []) none escape)
+lone_line : (number : ℕ) (escape : Escape) (text : List ℕ) → text ≢ [] → line_of number escape text [] ++ [] ≡ plain_line number escape text ∷ []
+lone_line number escape [] h = absurd (h refl)
+lone_line number escape (c ∷ cs) h = refl
 
-closed_lone : (s : Reading) (text : List ℕ) → s.escape ≡ Backslash → s.lines ≡ [] → s.faults ≡ [] → text ≢ [] → marks_of text ≡ [] → IsLone text (ended (closed s 1 text))
-closed_lone s [] escape none fine some unmarked = absurd (some refl)
-closed_lone s (c ∷ cs) escape none fine some unmarked =
-    let is : closed s 1 (c ∷ cs) ≡ completed s 1 (c ∷ cs) [] = ap (opened (limited s 1) 1 (c ∷ cs)) unmarked ∙ ap (λ (r : Reading). completed r 1 (c ∷ cs) []) (limited_is s none) in
-    subst (λ (r : Reading). IsLone (c ∷ cs) (ended r)) (sym is) (completed_lone s (c ∷ cs) escape none fine)
+-- the file of directives and one logical line
+continued_blocks : (escape : Escape) (above : ℕ) (own : List (List ℕ)) (text : List ℕ) → BeginsKept own → AreJoined (byte_of escape) own [] → joined_text (byte_of escape) own ≡ text → text ≢ [] → marks_of text ≡ []
+    → AreBlocks escape above own (plain_line (above + 1) escape text ∷ []) None
+continued_blocks escape above own text kept all is some unmarked =
+    let bodies : AreBodies (marks_of (joined_text (byte_of escape) own)) [] [] = subst (λ (marks : List Mark). AreBodies marks [] []) (sym (ap marks_of is ∙ unmarked)) refl in
+    let found : line_of (above + 1) escape (joined_text (byte_of escape) own) [] ++ [] ≡ plain_line (above + 1) escape text ∷ [] = ap (λ t. line_of (above + 1) escape t [] ++ []) is ∙ lone_line (above + 1) escape text some in
+    subst (λ (found : List Line). AreBlocks escape above own found None) found
+    (logical above own own [] [] [] [] None (sym (append-nil own)) kept all bodies (none (above + length (own ++ []))))
 
-pub continued_join : (fronts parts : List (List ℕ)) (last : List ℕ) (found : Reading) → AreContinued fronts parts → IsKept last → continued_part 92 last ≡ None
-    → trimmed (concat parts ++ last) ≢ [] → marks_of (trimmed (concat parts ++ last)) ≡ [] → IsReadAs (fronts ++ last ∷ []) found
-    → (found.faults ≡ []) × (found.lines ≡ first_line (trimmed (concat parts ++ last)) ∷ [])
-continued_join fronts parts last found all kept ends some unmarked read =
-    let closes = walk_all fronts parts last all kept ends in
+pub continued_join : (top : List (List ℕ)) (directives : List Directive) (escape : Escape) (fronts parts : List (List ℕ)) (last : List ℕ) (found : List Line) (faults : List Refusal)
+    → AreDirectives top directives → escape ≡ escape_below Backslash directives
+    → AreContinued (byte_of escape) fronts parts → IsKept last → continued_part (byte_of escape) last ≡ None
+    → trimmed (concat parts ++ last) ≢ [] → marks_of (trimmed (concat parts ++ last)) ≡ []
+    → IsFile (top ++ (fronts ++ last ∷ [])) found faults
+    → (faults ≡ directive_faults [] directives) × (found ≡ plain_line (length top + 1) escape (trimmed (concat parts ++ last)) ∷ [])
+continued_join top directives escape fronts parts last found faults read is all kept ends some unmarked file =
+    let e = byte_of escape in
+    let own = fronts ++ last ∷ [] in
     let text = trimmed (concat parts ++ last) in
-    let lone : IsLone text (ended (closed closes.by 1 text)) = closed_lone closes.by text closes.escape closes.lines closes.faults some unmarked in
-    let same : found ≡ ended (closed closes.by 1 text) = IsReadAs-same (fronts ++ last ∷ []) found (ended (after_lines initial (fronts ++ last ∷ []))) read (IsReadAs-is (fronts ++ last ∷ [])) ∙ ap ended closes.is in
-    subst (IsLone text) (sym same) lone
+    let wrong = directive_faults [] directives in
+    let begin = begins e fronts parts last all kept in
+    let line = plain_line (length top + 1) escape text in
+    let blocks = continued_blocks escape (length top) own text begin.0 (joined e fronts parts last all kept ends) (ap trimmed (parts_are e fronts parts last all kept ends)) some unmarked in
+    let built : IsFile (top ++ own) (line ∷ []) wrong = record {
+      top = top;
+      rest = own;
+      directives = directives;
+      unclosed = None;
+      cut = refl;
+      read = read;
+      ended = begin.1;
+      blocks = subst (λ (x : Escape). AreBlocks x (length top) own (line ∷ []) None) is blocks;
+      wrong = sym (append-nil wrong);
+    } in
+    let same = IsFile-same (top ++ own) found (line ∷ []) faults wrong file built in
+    (same.1, same.0)

@@ -1,15 +1,14 @@
 -- What reading a text needs to know: the byte order mark, and the lines one by one.
 use Rattle.std.proofs.Common.{◌≡◌, ◌≢◌, ℕ, Bool, true, false, List, [], ◌∷◌, ◌++◌, length, take, drop, map, refl, sym, ap, ◌∙◌, subst, inr, arith}
-use Rattle.std.specs.Prelude.{Some, None, bytes_eq, IsUtf8, encode_utf8}
+use Rattle.std.specs.Prelude.{bytes_eq, IsUtf8, encode_utf8}
 use Rattle.std.proofs.lemmas.Slice.Eq.{bytes_eq-Decides}
 use Rattle.std.proofs.lemmas.List.{take-append-drop, map-append, length-append}
 use Rattle.lines.specs.Steps.{line_step, after_lines}
 use Rattle.lines.specs.Text.{IsShort, without_byte_order_mark, text_lines, AreLines, IsRefused}
-use Rattle.lines.specs.Faults.{least_from}
-use Rattle.lines.specs.FaultLaws.{least_from-none, least_from-some}
+use Rattle.lines.specs.Faults.{IsLeast}
+use Rattle.lines.specs.File.{IsFile}
+use Rattle.lines.specs.FileLaws.{IsFile-is}
 use Rattle.lines.specs.Joining.{initial, ended}
-use Rattle.lines.specs.Labels.{IsReadAs}
-use Rattle.lines.specs.LabelLaws.{IsReadAs-is}
 use Rattle.lines.specs.StepLaws.{line_step-count}
 use Rattle.plain.specs.declared.refusal.Refusal.{Refusal}
 use denote.Ref.{Bor}
@@ -52,13 +51,14 @@ pub count_more : (xs : List (Bor (List ℕ))) (x : Bor (List ℕ)) (r s : Readin
 count_more xs x r s h e = omega (arith, ap (λ q. q.count) e, line_step-count r x.now, length-append xs (x ∷ []), h)
 
 -- what was read of a text, as what is read of its bytes
-read_as : (bytes text : List ℕ) (r : Reading) → text ≡ bytes → r ≡ ended (after_lines initial (text_lines text)) → IsReadAs (text_lines bytes) r
-read_as bytes text r e h = subst (λ (t : List ℕ). IsReadAs (text_lines t) r) e (subst (IsReadAs (text_lines text)) (sym h) (IsReadAs-is (text_lines text)))
+read_as : (bytes text : List ℕ) (r : Reading) → text ≡ bytes → r ≡ ended (after_lines initial (text_lines text)) → IsFile (text_lines bytes) r.lines r.faults
+read_as bytes text r e h =
+    subst (λ (t : List ℕ). IsFile (text_lines t) r.lines r.faults) e (subst (λ (s : Reading). IsFile (text_lines text) s.lines s.faults) (sym h) (IsFile-is (text_lines text)))
 
 pub answers_lines : (bytes text : List ℕ) (r : Reading) → IsShort bytes → IsUtf8 bytes → text ≡ bytes → r ≡ ended (after_lines initial (text_lines text))
-    → least_from None r.faults ≡ None → AreLines bytes r.lines
-answers_lines bytes text r s u e h l = (s, u, (r, read_as bytes text r e h, least_from-none r.faults l, refl))
+    → r.faults ≡ [] → AreLines bytes r.lines
+answers_lines bytes text r s u e h fine = (s, u, subst (IsFile (text_lines bytes) r.lines) fine (read_as bytes text r e h))
 
 pub answers_refusal : (bytes text : List ℕ) (r : Reading) (f : Refusal) → IsShort bytes → IsUtf8 bytes → text ≡ bytes → r ≡ ended (after_lines initial (text_lines text))
-    → least_from None r.faults ≡ Some f → IsRefused bytes f
-answers_refusal bytes text r f s u e h l = inr (inr (s, u, (r, read_as bytes text r e h, least_from-some r.faults f l)))
+    → IsLeast r.faults f → IsRefused bytes f
+answers_refusal bytes text r f s u e h least = inr (inr (s, u, (r.lines, r.faults, read_as bytes text r e h, least)))

@@ -56,6 +56,10 @@ is_blank_line line = length (after_blanks line) == 0
 abbrev pub is_comment : List ℕ → Bool
 is_comment line = starts_with 35 (after_blanks line)
 
+-- comments and blank lines, which are dropped, also inside a continuation (Dockerfile reference, comments)
+abbrev pub is_skipped : List ℕ → Bool
+is_skipped line = is_blank_line line || is_comment line
+
 -- a piece alone, or nothing where it is empty
 abbrev pub if_any : List ℕ → List (List ℕ)
 if_any [] = []

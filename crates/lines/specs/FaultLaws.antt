@@ -1,12 +1,12 @@
--- Laws of the least fault: there is just one, and going through the list finds it.
-use Rattle.std.specs.Prelude.{◌≡◌, ◌<◌, ◌≤◌, ◌⊎◌, ℕ, Bool, true, false, List, [], ◌∷◌, Some, None, ◌==◌, ◌||◌, ◌&&◌, nat_lt, if◌then◌else◌, refl}
+-- Laws of the least fault: there is just one where there is a fault.
+use Rattle.std.specs.Prelude.{◌≡◌, ◌<◌, ◌≤◌, ◌⊎◌, ℕ, ◌++◌, Bool, true, false, List, [], ◌∷◌, ◌==◌, ◌||◌, ◌&&◌, nat_lt, nat_le, if◌then◌else◌, refl}
 use Rattle.std.proofs.Common.{sym, ◌∙◌, ap, ap₂, subst, inl, inr, arith}
 use Rattle.std.proofs.lemmas.Bool.Decides.{nat_tests}
 use Rattle.plain.specs.Codes.{number_of}
 use Rattle.plain.specs.declared.refusal.Code.{Code}
 use Rattle.plain.specs.declared.refusal.Code.TheVariants.{R01, R02, R03, R04, R05, R06, R07, R08, R09, R10, R11, R12, R13, R14, R15, R16, R17, R18, R19, R20}
 use Rattle.plain.specs.declared.refusal.Refusal.{Refusal}
-use Rattle.lines.specs.Faults.{refusal, IsAmong, IsNotBehind, IsBehindNone, IsLeast, is_before, lesser, least_from}
+use Rattle.lines.specs.Faults.{refusal, IsAmong, IsNotBehind, IsBehindNone, IsLeast}
 
 -- a code's number tells the code
 
@@ -60,29 +60,18 @@ at_one f g (x ∷ xs) h i = elim i [ inl e ↦ subst (IsNotBehind f) (sym e) h.0
 pub IsLeast-same : (fs : List Refusal) (f g : Refusal) → IsLeast fs f → IsLeast fs g → f ≡ g
 IsLeast-same fs f g h i = behind_same f g (at_one f g fs h.1 i.0) (at_one g f fs i.1 h.0)
 
--- going through the list
-
-none_some : (f : Refusal) → None ≡ Some f → ⊥
-none_some f h = cc
-
-some_one : (f g : Refusal) → Some f ≡ Some g → f ≡ g
-some_one f g h = cc
+-- of two, one isn't behind the other
 
 behind_self : (f : Refusal) → IsNotBehind f f
 behind_self f = inr (refl, omega arith)
 
--- by the numbers alone, the tests' values handed in
-not_before_by : (l m a b : ℕ) → ((nat_lt m l) || ((m == l) && nat_lt b a)) ≡ false → (l < m) ⊎ ((l ≡ m) × (a ≤ b))
-not_before_by l m a b h = grind (arith, nat_tests)
+-- by the numbers alone, the test's value handed in
+first_by : (l m a b : ℕ) (t : Bool) → (nat_lt l m || ((l == m) && nat_le a b)) ≡ t → ((l < m) ⊎ ((l ≡ m) × (a ≤ b))) ⊎ ((m < l) ⊎ ((m ≡ l) × (b ≤ a)))
+first_by l m a b true h = inl (grind (arith, nat_tests))
+first_by l m a b false h = inr (grind (arith, nat_tests))
 
-before_by : (l m a b : ℕ) → ((nat_lt m l) || ((m == l) && nat_lt b a)) ≡ true → (m < l) ⊎ ((m ≡ l) × (b ≤ a))
-before_by l m a b h = grind (arith, nat_tests)
-
-not_before : (f g : Refusal) → is_before g f ≡ false → IsNotBehind f g
-not_before f g h = not_before_by f.line g.line (number_of f.code) (number_of g.code) h
-
-before : (f g : Refusal) → is_before g f ≡ true → IsNotBehind g f
-before f g h = before_by f.line g.line (number_of f.code) (number_of g.code) h
+one_first : (f g : Refusal) → IsNotBehind f g ⊎ IsNotBehind g f
+one_first f g = first_by f.line g.line (number_of f.code) (number_of g.code) (nat_lt f.line g.line || ((f.line == g.line) && nat_le (number_of f.code) (number_of g.code))) refl
 
 trans_by : (l m n a b c : ℕ) → (l < m) ⊎ ((l ≡ m) × (a ≤ b)) → (m < n) ⊎ ((m ≡ n) × (b ≤ c)) → (l < n) ⊎ ((l ≡ n) × (a ≤ c))
 trans_by l m n a b c h i = grind arith
@@ -94,39 +83,41 @@ behind_all : (f g : Refusal) (fs : List Refusal) → IsNotBehind f g → IsBehin
 behind_all f g [] h i = tt
 behind_all f g (x ∷ xs) h i = (behind_trans f g x h i.0, behind_all f g xs h i.1)
 
--- of two, the lesser is one of them, and behind neither
-record IsLesser (f g h : Refusal) : Type 0 where
-  one : (h ≡ f) ⊎ (h ≡ g)
-  first : IsNotBehind h f
-  second : IsNotBehind h g
+-- the least of a list and of one more
 
-lesser_by : (f g : Refusal) (b : Bool) → is_before g f ≡ b → IsLesser f g (if b then g else f)
-lesser_by f g true e = record { one = inr refl; first = before f g e; second = behind_self g }
-lesser_by f g false e = record { one = inl refl; first = behind_self f; second = not_before f g e }
+behind_more : (f g : Refusal) (fs : List Refusal) → IsBehindNone f fs → IsNotBehind f g → IsBehindNone f (fs ++ g ∷ [])
+behind_more f g [] h i = (i, tt)
+behind_more f g (x ∷ xs) h i = (h.0, behind_more f g xs h.1 i)
 
-lesser_is : (f g : Refusal) → IsLesser f g (lesser (Some f) g)
-lesser_is f g = lesser_by f g (is_before g f) refl
+among_before : (f g : Refusal) (fs : List Refusal) → IsAmong f fs → IsAmong f (fs ++ g ∷ [])
+among_before f g [] h = absurd h
+among_before f g (x ∷ xs) (inl e) = inl e
+among_before f g (x ∷ xs) (inr h) = inr (among_before f g xs h)
 
-among_more : (f g h x : Refusal) (fs : List Refusal) → (h ≡ f) ⊎ (h ≡ g) → (x ≡ h) ⊎ IsAmong x fs → (x ≡ f) ⊎ ((x ≡ g) ⊎ IsAmong x fs)
-among_more f g h x fs o i = elim i [ inl e ↦ elim o [ inl p ↦ inl (e ∙ p) | inr p ↦ inr (inl (e ∙ p)) ] | inr r ↦ inr (inr r) ]
+among_last : (g : Refusal) (fs : List Refusal) → IsAmong g (fs ++ g ∷ [])
+among_last g [] = inl refl
+among_last g (x ∷ xs) = inr (among_last g xs)
 
-IsLeast-more : (f g h x : Refusal) (fs : List Refusal) → IsLesser f g h → IsLeast (h ∷ fs) x → IsLeast (f ∷ g ∷ fs) x
-IsLeast-more f g h x fs l i =
-    (among_more f g h x fs l.one i.0, (behind_trans x h f i.1.0 l.first, (behind_trans x h g i.1.0 l.second, i.1.1)))
+-- the least so far stays, or gives way to one that is before it
+pub IsLeast-stays : (fs : List Refusal) (f g : Refusal) → IsLeast fs f → IsNotBehind f g → IsLeast (fs ++ g ∷ []) f
+IsLeast-stays fs f g h i = (among_before f g fs h.0, behind_more f g fs h.1 i)
 
-pub least_from-is : (f : Refusal) (fs : List Refusal) → (x : Refusal) × (least_from (Some f) fs ≡ Some x) × IsLeast (f ∷ fs) x
-least_from-is f [] = (f, refl, (inl refl, (behind_self f, tt)))
-least_from-is f (g ∷ gs) =
-    let rest = least_from-is (lesser (Some f) g) gs in
-    (rest.0, rest.1, IsLeast-more f g (lesser (Some f) g) rest.0 gs (lesser_is f g) rest.2)
+pub IsLeast-yields : (fs : List Refusal) (f g : Refusal) → IsLeast fs f → IsNotBehind g f → IsLeast (fs ++ g ∷ []) g
+IsLeast-yields fs f g h i = (among_last g fs, behind_more g g fs (behind_all g f fs i h.1) (behind_self g))
+
+pub IsLeast-lone : (fs : List Refusal) (g : Refusal) → fs ≡ [] → IsLeast (fs ++ g ∷ []) g
+IsLeast-lone fs g h = subst (λ (xs : List Refusal). IsLeast (xs ++ g ∷ []) g) (sym h) (inl refl, (behind_self g, tt))
 
 -- there is one to tell exactly where there is a fault
-pub least_from-none : (fs : List Refusal) → least_from None fs ≡ None → fs ≡ []
-least_from-none [] h = refl
-least_from-none (f ∷ fs) h = absurd (none_some (least_from-is f fs).0 (sym h ∙ (least_from-is f fs).1))
 
-pub least_from-some : (fs : List Refusal) (x : Refusal) → least_from None fs ≡ Some x → IsLeast fs x
-least_from-some [] x h = absurd (none_some x h)
-least_from-some (f ∷ fs) x h =
-    let found = least_from-is f fs in
-    subst (IsLeast (f ∷ fs)) (some_one found.0 x (sym found.1 ∙ h)) found.2
+least_of_two : (f g : Refusal) (fs : List Refusal) → IsLeast fs g → IsNotBehind f g ⊎ IsNotBehind g f → (x : Refusal) × IsLeast (f ∷ fs) x
+least_of_two f g fs h (inl i) = (f, (inl refl, (behind_self f, behind_all f g fs i h.1)))
+least_of_two f g fs h (inr i) = (g, (inr h.0, (i, h.1)))
+
+least_more : (f : Refusal) (fs : List Refusal) → (fs ≡ []) ⊎ ((g : Refusal) × IsLeast fs g) → (x : Refusal) × IsLeast (f ∷ fs) x
+least_more f fs (inl e) = subst (λ (xs : List Refusal). (x : Refusal) × IsLeast (f ∷ xs) x) (sym e) (f, (inl refl, (behind_self f, tt)))
+least_more f fs (inr h) = least_of_two f h.0 fs h.1 (one_first f h.0)
+
+pub none_or_least : (fs : List Refusal) → (fs ≡ []) ⊎ ((f : Refusal) × IsLeast fs f)
+none_or_least [] = inl refl
+none_or_least (f ∷ fs) = inr (least_more f fs (none_or_least fs))

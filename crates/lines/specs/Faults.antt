@@ -1,5 +1,5 @@
 -- Which of a text's faults is told (own): the least by line, then by the number of its code.
-use Rattle.std.specs.Prelude.{◌≡◌, ◌<◌, ◌≤◌, ◌⊎◌, ℕ, Bool, List, [], ◌∷◌, Option, Some, None, ◌==◌, ◌||◌, ◌&&◌, nat_lt, if◌then◌else◌}
+use Rattle.std.specs.Prelude.{◌≡◌, ◌<◌, ◌≤◌, ◌⊎◌, ℕ, List, [], ◌∷◌, Option, Some, None}
 use Rattle.plain.specs.Codes.{number_of}
 use Rattle.plain.specs.declared.refusal.Code.{Code}
 use Rattle.plain.specs.declared.refusal.Refusal.{Refusal}
@@ -26,16 +26,7 @@ IsBehindNone f (g ∷ gs) = IsNotBehind f g × IsBehindNone f gs
 abbrev pub IsLeast : List Refusal → Refusal → Type 0
 IsLeast fs f = IsAmong f fs × IsBehindNone f fs
 
--- whether g is told before f: by line, then by number (own)
-abbrev pub is_before : Refusal → Refusal → Bool
-is_before g f = nat_lt g.line f.line || ((g.line == f.line) && nat_lt (number_of g.code) (number_of f.code))
-
--- the one of two that is told, the first one where neither is before the other; the other one where there is no first (own)
-abbrev pub lesser : Option Refusal → Refusal → Refusal
-lesser None g = g
-lesser (Some f) g = if is_before g f then g else f
-
--- the one that is told of one and of those behind it: one after another, the later one only where it is before the one so far (own)
-abbrev pub least_from : Option Refusal → List Refusal → Option Refusal
-least_from o [] = o
-least_from o (g ∷ gs) = least_from (Some (lesser o g)) gs
+-- what is told of these: nothing where there are none, and else the least (own)
+abbrev pub IsTold : List Refusal → Option Refusal → Type 0
+IsTold fs None = fs ≡ []
+IsTold fs (Some f) = IsLeast fs f

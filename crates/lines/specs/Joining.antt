@@ -1,9 +1,9 @@
--- What each kind of line adds to what the lines before it have given (own, but where a definition names its source). The rules by
--- which lines are labelled, and the program's steps, both speak in these words.
-use Rattle.std.specs.Prelude.{ℕ, ◌+◌, Bool, true, false, List, [], ◌∷◌, ◌++◌, ◌==◌, ◌||◌, if◌then◌else◌, length, slice_get, Option, Some, None, bytes_eq}
+-- What each kind of line adds to what the lines before it have given (own, but where a definition names its source), in
+-- which the program's steps speak.
+use Rattle.std.specs.Prelude.{ℕ, ◌+◌, Bool, true, false, List, [], ◌∷◌, ◌++◌, ◌==◌, if◌then◌else◌, length, slice_get, Option, Some, None}
 use Rattle.plain.specs.declared.refusal.Code.{Code}
 use Rattle.plain.specs.declared.refusal.Code.TheVariants.{R02, R03, R08, R18}
-use Rattle.lines.specs.Blanks.{trimmed, after_tabs, continued_part, is_blank_line, is_comment}
+use Rattle.lines.specs.Blanks.{trimmed, continued_part}
 use Rattle.lines.specs.Escapes.{byte_of}
 use Rattle.lines.specs.Marks.{marks_of}
 use Rattle.lines.specs.declared.line.Escape.TheVariants.{Backslash}
@@ -16,7 +16,7 @@ use Rattle.lines.specs.declared.state.Unclosed.{Unclosed}
 use Rattle.lines.specs.declared.state.Stage.{Stage}
 use Rattle.lines.specs.declared.state.Stage.TheVariants.{Top, Between, Within, Bodies}
 use Rattle.lines.specs.declared.state.Reading.{Reading}
-use Rattle.lines.specs.declared.steps.TheConstants.{MAX_LINES}
+use Rattle.lines.specs.File.{most_lines}
 
 -- before the first line: the escape character is a backslash (Dockerfile reference, `escape`)
 abbrev pub initial : Reading
@@ -63,7 +63,7 @@ directed reading seen directive = at_stage (with_value (told_twice reading seen 
 
 -- a logical line behind 4,096 others is refused, the first such one (own)
 abbrev pub limited : Reading → ℕ → Reading
-limited reading number = if length reading.lines == MAX_LINES then noted reading R18 number else reading
+limited reading number = if length reading.lines == most_lines then noted reading R18 number else reading
 
 -- a logical line is complete
 abbrev pub completed : Reading → ℕ → List ℕ → List Heredoc → Reading
@@ -89,14 +89,6 @@ joined_part reading number before line (Some part) = at_stage reading (Within (r
 abbrev pub joined : Reading → ℕ → List ℕ → List ℕ → Reading
 joined reading number before line = joined_part reading number before line (continued_part (byte_of reading.escape) line)
 
--- what a line is to a heredoc of this mark: `<<-` drops its leading tabs (Dockerfile reference, here-documents)
-abbrev pub body_line : Mark → List ℕ → List ℕ
-body_line mark line = if mark.strips then after_tabs line else line
-
--- whether a line closes the heredoc of this mark (Dockerfile reference, here-documents)
-abbrev pub closes : Mark → List ℕ → Bool
-closes mark line = bytes_eq (body_line mark line) mark.name
-
 -- the heredoc of the next mark is read, if there is one
 abbrev pub heredoc_next : Reading → Unclosed → List Heredoc → Option Mark → Reading
 heredoc_next reading unclosed heredocs None = completed reading unclosed.number unclosed.text heredocs
@@ -109,10 +101,6 @@ heredoc_closed reading unclosed = heredoc_next reading unclosed (unclosed.heredo
 -- a heredoc's body has one more line, with its LF
 abbrev pub body_grown : Reading → Unclosed → List ℕ → Reading
 body_grown reading unclosed line = at_stage reading (Bodies (record unclosed { body = unclosed.body ++ (line ++ 10 ∷ []) }))
-
--- comments and blank lines, which are dropped, also inside a continuation (Dockerfile reference, comments)
-abbrev pub is_skipped : List ℕ → Bool
-is_skipped line = is_blank_line line || is_comment line
 
 -- the end of the text ends a continuation (as in BuildKit's parser)
 abbrev pub stopped : Reading → Stage → Reading

@@ -5,9 +5,11 @@ pub mod Directives
 pub mod Marks
 pub mod Joining
 pub mod Steps
-pub mod Labels
-pub mod LabelLaws
 pub mod Faults
+pub mod File
+pub mod CutLaws
+pub mod BlockLaws
+pub mod FileLaws
 pub mod FaultLaws
 pub mod Text
 pub mod Holds

@@ -1,6 +1,6 @@
 -- The marks of heredocs in a logical line, as `<<-"EOF"` (own, but where a definition names its source).
-use Rattle.std.specs.Prelude.{ℕ, ◌-◌, Bool, true, false, List, [], ◌∷◌, ◌==◌, ◌||◌, ◌&&◌, nat_le, if◌then◌else◌, Option, Some, None, length, take, drop, filter_map, codes}
-use Rattle.lines.specs.Blanks.{pieces, starts_with, ends_with}
+use Rattle.std.specs.Prelude.{ℕ, ◌-◌, Bool, true, false, List, [], ◌∷◌, ◌==◌, ◌||◌, ◌&&◌, nat_le, if◌then◌else◌, Option, Some, None, length, take, drop, filter_map, bytes_eq, codes}
+use Rattle.lines.specs.Blanks.{after_tabs, starts_with, ends_with, pieces}
 use Rattle.lines.specs.Directives.{is_word}
 use Rattle.lines.specs.declared.line.Mark.{Mark}
 
@@ -80,3 +80,11 @@ marks_in (name ∷ rest) = if is_word (codes "run") name || is_word (codes "copy
 -- the marks of a logical line's heredocs, in order
 abbrev pub marks_of : List ℕ → List Mark
 marks_of text = marks_in (pieces text)
+
+-- what a line is to a heredoc of this mark: `<<-` drops its leading tabs (Dockerfile reference, here-documents)
+abbrev pub body_line : Mark → List ℕ → List ℕ
+body_line mark line = if mark.strips then after_tabs line else line
+
+-- whether a line closes the heredoc of this mark (Dockerfile reference, here-documents)
+abbrev pub closes : Mark → List ℕ → Bool
+closes mark line = bytes_eq (body_line mark line) mark.name

@@ -2,14 +2,14 @@
 use Rattle.std.specs.Prelude.{◌≡◌, ℕ, ◌+◌, ◌==◌, Bool, true, false, List, [], ◌∷◌, ◌++◌, Option, Some, None, length, slice_get, if◌then◌else◌, refl}
 use Rattle.std.proofs.Common.{◌∙◌}
 use Rattle.plain.specs.declared.refusal.Code.TheVariants.{R02, R18}
-use Rattle.lines.specs.Blanks.{trimmed, continued_part}
+use Rattle.lines.specs.Blanks.{trimmed, continued_part, is_skipped}
 use Rattle.lines.specs.Escapes.{byte_of}
 use Rattle.lines.specs.Directives.{directive_of}
-use Rattle.lines.specs.Marks.{marks_of}
-use Rattle.lines.specs.Joining.{at_stage, counted, noted, has_stood, with_value, told_twice, directed, limited, opened, closed, joined_part, joined, closes, body_line, heredoc_next, heredoc_closed, body_grown, is_skipped}
+use Rattle.lines.specs.Marks.{marks_of, closes, body_line}
+use Rattle.lines.specs.File.{most_lines}
+use Rattle.lines.specs.Joining.{at_stage, counted, noted, has_stood, with_value, told_twice, directed, limited, opened, closed, joined_part, joined, heredoc_next, heredoc_closed, body_grown}
 use Rattle.lines.specs.Steps.{between_step, top_chosen, within_step, body_step, stage_step, line_step}
 use Rattle.lines.specs.declared.line.Mark.{Mark}
-use Rattle.lines.specs.declared.steps.TheConstants.{MAX_LINES}
 use Rattle.lines.specs.declared.line.Heredoc.{Heredoc}
 use Rattle.lines.specs.declared.state.Directive.{Directive}
 use Rattle.lines.specs.declared.state.Directive.TheVariants.{Escape, Syntax, Check}
@@ -26,13 +26,13 @@ either_count n a b true h i = h
 either_count n a b false h i = i
 
 limited-count : (r : Reading) (n : ℕ) → (limited r n).count ≡ r.count
-limited-count r n = either_count r.count (noted r R18 n) r (length r.lines == MAX_LINES) refl refl
+limited-count r n = either_count r.count (noted r R18 n) r (length r.lines == most_lines) refl refl
 
 opened-count : (r : Reading) (n : ℕ) (text : List ℕ) (ms : List Mark) → (opened r n text ms).count ≡ r.count
 opened-count r n text [] = refl
 opened-count r n text (m ∷ ms) = refl
 
-pub closed-count : (r : Reading) (n : ℕ) (text : List ℕ) → (closed r n text).count ≡ r.count
+closed-count : (r : Reading) (n : ℕ) (text : List ℕ) → (closed r n text).count ≡ r.count
 closed-count r n [] = refl
 closed-count r n (c ∷ cs) = opened-count (limited r n) n (c ∷ cs) (marks_of (c ∷ cs)) ∙ limited-count r n
 

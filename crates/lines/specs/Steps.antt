@@ -1,8 +1,10 @@
--- A text's lines read one by one: what the program does with each, by the stage at which it stands (own). `Labels` says what the
--- lines join to with no order of reading, and StepLaws and LabelLaws that the two are the same.
+-- A text's lines read one by one: what the program does with each, by the stage at which it stands (own). `File` says what a file is
+-- with no order of reading, and FileLaws that reading it line by line gives that.
 use Rattle.std.specs.Prelude.{ℕ, List, [], ◌∷◌, if◌then◌else◌, Option, Some, None}
 use Rattle.lines.specs.Directives.{directive_of}
-use Rattle.lines.specs.Joining.{at_stage, directed, joined, is_skipped, closes, body_line, heredoc_closed, body_grown, counted}
+use Rattle.lines.specs.Blanks.{is_skipped}
+use Rattle.lines.specs.Marks.{closes, body_line}
+use Rattle.lines.specs.Joining.{at_stage, directed, joined, heredoc_closed, body_grown, counted}
 use Rattle.lines.specs.declared.state.Directive.{Directive}
 use Rattle.lines.specs.declared.state.Seen.{Seen}
 use Rattle.lines.specs.declared.state.Pending.{Pending}

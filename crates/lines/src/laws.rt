@@ -1,21 +1,24 @@
 // What is proved of the definition alone. The functions do nothing: their contracts are laws.
 
-ghost use Rattle.std.specs.Prelude.{◌≡◌, ◌≢◌, ◌⊎◌, ◌^◌, ◌<◌, ◌≤◌, ◌∷◌, ◌++◌, ℕ, List, [], Some, None, slice_get};
+ghost use Rattle.std.specs.Prelude.{◌≡◌, ◌≢◌, ◌⊎◌, ◌^◌, ◌<◌, ◌≤◌, ◌+◌, ◌∷◌, ◌++◌, ℕ, List, [], Some, None, length, map, slice_get};
 ghost use Rattle.std.specs.List.{concat};
 ghost use Rattle.plain.specs.declared.refusal.Refusal.{Refusal};
 ghost use Rattle.lines.specs.Blanks.{trimmed, continued_part};
-ghost use Rattle.lines.specs.Continued.{IsKept, AreContinued, first_line};
-ghost use Rattle.lines.specs.Joining.{initial};
-ghost use Rattle.lines.specs.Labels.{Label, Obeys, IsReadAs};
+ghost use Rattle.lines.specs.Continued.{AreContinued, plain_line};
+ghost use Rattle.lines.specs.Escapes.{byte_of};
+ghost use Rattle.lines.specs.File.{AreDirectives, escape_below, directive_faults, IsKept, IsFile};
 ghost use Rattle.lines.specs.Marks.{marks_of};
 ghost use Rattle.lines.specs.Text.{AreLines, IsRefused};
+ghost use Rattle.lines.specs.declared.line.Escape.{Escape};
+ghost use Rattle.lines.specs.declared.line.Escape.TheVariants.{Backslash};
 ghost use Rattle.lines.specs.declared.line.Line.{Line};
-ghost use Rattle.lines.specs.declared.state.Reading.{Reading};
+ghost use Rattle.lines.specs.declared.state.Directive.{Directive};
 
-/// The lines of a file can be labelled by the rules in just one way.
-pub fn labels_are_unique()
-    ensures some { (lines : List (List ℕ)) → (labels : List Label) × Obeys initial labels lines }
-    ensures one { (lines : List (List ℕ)) (labels others : List Label) → Obeys initial labels lines → Obeys initial others lines → labels ≡ others }
+/// Each list of lines has a structure, and all its structures give the same logical lines and the same faults.
+pub fn structures_agree()
+    ensures some { (lines : List (List ℕ)) → (found : List Line) × (faults : List Refusal) × IsFile lines found faults }
+    ensures one { (lines : List (List ℕ)) (found others : List Line) (faults wrong : List Refusal)
+        → IsFile lines found faults → IsFile lines others wrong → (found ≡ others) × (faults ≡ wrong) }
 {}
 
 /// Each text has its logical lines, or it is refused.
@@ -45,13 +48,28 @@ pub fn texts_are_trimmed()
         → (k : ℕ) (line : Line) → slice_get found k ≡ Some line → (line.text ≢ []) × (trimmed line.text ≡ line.text) }
 {}
 
-/// Lines of which each but the last one continues join to one logical line: what stands before the escape character of each, and
-/// then the last line, without the blanks around it all. It stands at the first line. That is so where no line is blank or a
-/// comment, and where the text isn't empty and has no mark of a heredoc.
+/// A file of directives and of lines of which each but the last one continues has one logical line: what stands before the escape
+/// character of each, and then the last line, without the blanks around it all. It stands at the first line below the directives.
+/// That is so under the escape character that the directives set, where no line is blank or a comment, and where the text isn't
+/// empty and has no mark of a heredoc.
 pub fn continued_lines_join()
-    ensures { (fronts parts : List (List ℕ)) (last : List ℕ) (found : Reading)
-        → AreContinued fronts parts → IsKept last → continued_part 92 last ≡ None
+    ensures { (top : List (List ℕ)) (directives : List Directive) (escape : Escape) (fronts parts : List (List ℕ)) (last : List ℕ)
+        → AreDirectives top directives → escape ≡ escape_below Backslash directives
+        → AreContinued (byte_of escape) fronts parts → IsKept last → continued_part (byte_of escape) last ≡ None
         → trimmed (concat parts ++ last) ≢ [] → marks_of (trimmed (concat parts ++ last)) ≡ []
-        → IsReadAs (fronts ++ last ∷ []) found
-        → (found.faults ≡ []) × (found.lines ≡ first_line (trimmed (concat parts ++ last)) ∷ []) }
+        → (found : List Line) (faults : List Refusal) → IsFile (top ++ (fronts ++ last ∷ [])) found faults
+        → (faults ≡ directive_faults [] directives) × (found ≡ plain_line (length top + 1) escape (trimmed (concat parts ++ last)) ∷ []) }
+{}
+
+/// The heredocs of a logical line are those of the marks in its text, in their order.
+pub fn heredocs_are_those_of_the_marks()
+    ensures { (text : List ℕ) (found : List Line) → AreLines text found
+        → (k : ℕ) (line : Line) → slice_get found k ≡ Some line → map (λ heredoc. heredoc.mark) line.heredocs ≡ marks_of line.text }
+{}
+
+/// All logical lines of a text have one escape character.
+pub fn lines_have_one_escape()
+    ensures { (text : List ℕ) (found : List Line) → AreLines text found
+        → (j k : ℕ) (line other : Line) → slice_get found j ≡ Some line → slice_get found k ≡ Some other
+        → line.escape ≡ other.escape }
 {}

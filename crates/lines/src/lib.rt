@@ -1,12 +1,12 @@
-// The logical lines of a Dockerfile: its text, fed in pieces, as instructions with their heredocs.
+// The logical lines of a Dockerfile, each with its heredocs, from a text that is fed in pieces.
 //
 // It knows lines and no instructions: what a line's words mean is told by the crates above, and of an instruction's
 // name it asks only whether it is RUN or COPY, which alone have heredocs. It reads no file and keeps no comments.
 //
-// The central definition is `AreLines` in specs/Text.antt: each line of the text can be labelled directive, comment,
-// blank, first, continued, body or closing, so that the labels obey the rules of specs/Labels.antt, and the logical
-// lines are what the labelled lines join to. There is just one such labelling. `IsRefused` says beside it which one
-// fault of a text is told, and `Answers` is both: what `Reader::finish` gives, however the text was cut. `laws` says what follows.
+// The central definition is `AreLines` in specs/Text.antt, and what a file is says specs/File.antt: directives at the top, then
+// blocks, each of them a line that is dropped or a logical line with the bodies of its heredocs. Each list of lines has such a
+// structure, and just one list of logical lines by it. `IsRefused` says beside it which one fault of a text is told, and `Answers`
+// is both: what `Reader::finish` gives, however the text was cut. `laws` says what follows.
 //
 // ```
 // let mut reader = Reader::new(alloc);

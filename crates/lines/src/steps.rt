@@ -1,5 +1,7 @@
 ghost use Rattle.std.specs.Prelude.{◌≡◌, ◌++◌, ◌<◌, ◌-◌, ◌^◌, IfOk};
-ghost use Rattle.lines.specs.Joining.{initial, at_stage, noted, has_stood, with_seen, with_value, told_twice, directed, limited, completed, opened, closed, joined, body_line, closes, heredoc_closed, body_grown, is_skipped, stopped, note_unclosed, ended};
+ghost use Rattle.lines.specs.Blanks.{is_skipped};
+ghost use Rattle.lines.specs.Marks.{body_line, closes};
+ghost use Rattle.lines.specs.Joining.{initial, at_stage, noted, has_stood, with_seen, with_value, told_twice, directed, limited, completed, opened, closed, joined, heredoc_closed, body_grown, stopped, note_unclosed, ended};
 ghost use Rattle.lines.specs.Steps.{between_step, top_step, within_step, body_step, line_step};
 
 use crate::blanks::{after_tabs, continued_part, is_blank_line, is_comment, trimmed};

@@ -1,8 +1,9 @@
 ghost use Rattle.std.specs.Prelude.{◌<◌};
 
 use crate::laws::{
-    answers_are_unique, continued_lines_join, labels_are_unique, numbers_ascend,
-    texts_are_read_or_refused, texts_are_trimmed,
+    answers_are_unique, continued_lines_join, heredocs_are_those_of_the_marks,
+    lines_have_one_escape, numbers_ascend, structures_agree, texts_are_read_or_refused,
+    texts_are_trimmed,
 };
 use crate::*;
 use plain::{Code, Exact, Memory, Refusal};
@@ -411,10 +412,12 @@ fn lines_are_exact(rt: HostRuntime) -> Result<(), Fail> {
         LineFault::Memory.to_string(alloc)?.as_str(),
         "out of memory"
     );
-    labels_are_unique();
+    structures_agree();
     texts_are_read_or_refused();
     answers_are_unique();
     continued_lines_join();
+    heredocs_are_those_of_the_marks();
+    lines_have_one_escape();
     numbers_ascend();
     texts_are_trimmed();
     Ok(())
