@@ -20,5 +20,7 @@ pub bytewise_no_plain : (ts : List Token) (text : List ℕ) → length text ≡ 
 bytewise_no_plain ts [] h = sym (append-nil (bytewise ts))
 bytewise_no_plain ts (b ∷ bs) h = absurd (omega arith)
 
-pub bytewise_more : (ts made : List Token) (token : Token) → bytewise ts ≡ made → bytewise (ts ++ token ∷ []) ++ [] ≡ made ++ bytewise (token ∷ [])
-bytewise_more ts made token h = append-nil (bytewise (ts ++ token ∷ [])) ∙ bytewise-append ts (token ∷ []) ∙ ap (λ (vs : List Token). vs ++ bytewise (token ∷ [])) h
+pub bytewise_more : (ts made : List Token) (text : List ℕ) (token : Token) → bytewise ts ≡ made → text ≡ [] → bytewise (ts ++ token ∷ []) ++ plain_bytes text ≡ made ++ bytewise (token ∷ [])
+bytewise_more ts made text token h i =
+    ap (λ t. bytewise (ts ++ token ∷ []) ++ plain_bytes t) i ∙ append-nil (bytewise (ts ++ token ∷ []))
+    ∙ bytewise-append ts (token ∷ []) ∙ ap (λ (vs : List Token). vs ++ bytewise (token ∷ [])) h

@@ -7,7 +7,7 @@ use Rattle.expand.specs.Grammar.{Piece, itself, bare, braced, or_else, if_set, c
 use Rattle.std.proofs.Common.{drop, get_or}
 use Rattle.std.specs.Prelude.{if◌then◌else◌}
 use Rattle.std.proofs.lemmas.List.{at_drop_more}
-use Rattle.expand.specs.Output.{bytewise, made}
+use Rattle.expand.specs.Output.{bytewise}
 use Rattle.expand.specs.Steps.{IsStep}
 use Rattle.expand.specs.declared.state.Reading.{Reading}
 use Rattle.std.specs.Str.{chars}
@@ -123,9 +123,9 @@ pub made_none : (front : List Token) (o : Option (List Piece)) → front ≡ [] 
 made_none front None h = refl
 made_none front (Some ps) h = ap (λ (ts : List Token). Some (ts ++ tokens ps)) h
 
-pub made_first : (front : List Token) (cs : List Character) → front ≡ [] → option_map (λ (ps : List Piece). front ++ tokens ps) (pieces_from 0 Nothing cs) ≡ option_map tokens (pieces cs)
+pub made_first : (front : List Token) (n : ℕ) (b : Begun) (cs : List Character) → front ≡ [] → n ≡ 0 → b ≡ Nothing → option_map (λ (ps : List Piece). front ++ tokens ps) (pieces_from n b cs) ≡ option_map tokens (pieces cs)
 unfolding pieces
-made_first front cs h = made_none front (pieces_from 0 Nothing cs) h
+made_first front n b cs h i j = ap₂ (λ m (d : Begun). option_map (λ (ps : List Piece). front ++ tokens ps) (pieces_from m d cs)) i j ∙ made_none front (pieces_from 0 Nothing cs) h
 
 step_by : (out front : List Token) (m : ℕ) (d : Begun) (s : Step) (cs : List Character) (all : Option (List Token)) → s.is_bad ≡ false → front ≡ out ++ tokens s.ended → m ≡ s.depth → d ≡ s.begun
     → option_map (λ (ps : List Piece). out ++ tokens ps) (if s.is_bad then None else option_map (λ (ps : List Piece). s.ended ++ ps) (pieces_from s.depth s.begun cs)) ≡ all
@@ -136,13 +136,13 @@ step_by out front m d s cs all g h i j k =
     ∙ ap (λ (b : Bool). option_map (λ (ps : List Piece). out ++ tokens ps) (if b then None else option_map (λ (ps : List Piece). s.ended ++ ps) (pieces_from s.depth s.begun cs))) (sym g)
     ∙ k
 
-pub read_more : (out : List Token) (n : ℕ) (b : Begun) (cs : List Character) (i : ℕ) (e : Character) (all : Option (List Token)) (o : Option Reading) (next : Reading) → o ≡ Some next → i < length cs
-    → IsStep out (step n b (sign_of (get_or cs i e)) (get_or cs i e)) o
+pub read_more : (out more : List Token) (n : ℕ) (b : Begun) (cs : List Character) (i : ℕ) (e : Character) (all : Option (List Token)) (o : Option Reading) (next : Reading) → o ≡ Some next → i < length cs
+    → IsStep out more (step n b (sign_of (get_or cs i e)) (get_or cs i e)) o
     → option_map (λ (ps : List Piece). out ++ tokens ps) (pieces_from n b (drop i cs)) ≡ all
-    → option_map (λ (ps : List Piece). made next.output ++ tokens ps) (pieces_from next.depth next.begun (drop (i + 1) cs)) ≡ all
-read_more out n b cs i e all o next is lt s h =
-    let t : IsStep out (step n b (sign_of (get_or cs i e)) (get_or cs i e)) (Some next) = subst (λ (u : Option Reading). IsStep out (step n b (sign_of (get_or cs i e)) (get_or cs i e)) u) is s in
-    step_by out (made next.output) next.depth next.begun (step n b (sign_of (get_or cs i e)) (get_or cs i e)) (drop (i + 1) cs) all t.0 t.1 t.2 t.3
+    → option_map (λ (ps : List Piece). more ++ tokens ps) (pieces_from next.depth next.begun (drop (i + 1) cs)) ≡ all
+read_more out more n b cs i e all o next is lt s h =
+    let t : IsStep out more (step n b (sign_of (get_or cs i e)) (get_or cs i e)) (Some next) = subst (λ (u : Option Reading). IsStep out more (step n b (sign_of (get_or cs i e)) (get_or cs i e)) u) is s in
+    step_by out more next.depth next.begun (step n b (sign_of (get_or cs i e)) (get_or cs i e)) (drop (i + 1) cs) all t.0 t.1 t.2 t.3
     (sym (at_drop_more (λ (ds : List Character). option_map (λ (ps : List Piece). out ++ tokens ps) (pieces_from n b ds)) cs i e lt) ∙ h)
 
 pub read_some_word : (kind : Kind) (e : Escape) (text cs : List ℕ) (ts : List Token) (o : Option (List Token)) → cs ≡ chars text → o ≡ Some ts

@@ -1,12 +1,12 @@
 -- What the scan of each kind of text gives.
 use Rattle.std.proofs.Common.{◌≡◌, ℕ, List, Option, Some, false, ap, ◌∙◌, sym}
 use Rattle.lines.specs.declared.line.Escape.{Escape}
-use Rattle.expand.specs.Places.{quoted_from}
+use Rattle.expand.specs.Emitted.{quoted_from}
 use Rattle.expand.specs.Reading.{scanned, bare_from}
 use Rattle.expand.specs.ScanLaws.{quoted_from-is}
 use Rattle.expand.specs.declared.kind.Kind.{Kind}
 use Rattle.expand.specs.declared.kind.Kind.TheVariants.{Quoted, Json, Body}
-use Rattle.expand.specs.declared.scan.Place.TheVariants.{Outside}
+use Rattle.words.specs.declared.class.Place.TheVariants.{Outside}
 use Rattle.expand.specs.declared.character.Character.{Character}
 
 pub scanned_quoted : (kind : Kind) (e : Escape) (text : List ℕ) (found : Option (List Character)) → kind ≡ Quoted → found ≡ quoted_from e Outside text → found ≡ scanned kind e text

@@ -1,12 +1,10 @@
 use Rattle.std.specs.Prelude.{ℕ}
 use Rattle.expand.specs.declared.state.Begun.{Begun}
-use Rattle.expand.specs.declared.state.Begun.TheVariants.{Nothing, Started, Bare, Opened, Named, Coloned}
+use Rattle.expand.specs.declared.state.Begun.TheVariants.{Opened, Named, Coloned}
 
 -- how many `${` are begun that no word is open of yet
 abbrev pub opening : Begun → ℕ
-opening Nothing = 0
-opening Started = 0
-opening (Bare v) = 0
 opening Opened = 1
 opening (Named v) = 1
 opening (Coloned v) = 1
+opening _ = 0

@@ -1,10 +1,10 @@
 pub mod Depth
+pub mod Emitted
 pub mod Expanding
 pub mod Grammar
 pub mod Levels
 pub mod Meaning
 pub mod Output
-pub mod Places
 pub mod Reading
 pub mod ReadLaws
 pub mod Scan

@@ -1,5 +1,6 @@
 -- The tokens that an output stands for, plain text byte by byte.
 use Rattle.std.specs.Prelude.{List, [], ◌∷◌, ◌++◌}
+use Rattle.std.specs.String.{string_bytes}
 use Rattle.expand.specs.Grammar.{plain_bytes}
 use Rattle.expand.specs.declared.output.Output.{Output}
 use Rattle.expand.specs.declared.token.Token.{Token}
@@ -15,4 +16,4 @@ bytewise (Alternative v ∷ ts) = Alternative v ∷ bytewise ts
 bytewise (Close ∷ ts) = Close ∷ bytewise ts
 
 abbrev pub made : Output → List Token
-made o = bytewise o.tokens ++ plain_bytes o.plain
+made o = bytewise o.tokens ++ plain_bytes (string_bytes o.plain)

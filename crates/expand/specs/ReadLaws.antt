@@ -43,15 +43,8 @@ SignIs Plus (Active c) = c ≡ 43
 SignIs Letter (Active c) = IsLetter c
 SignIs Digit (Active c) = IsDigit c
 SignIs Other (Active c) = IsOther c
-SignIs Dollar (Literal c) = ⊥
-SignIs OpenBrace (Literal c) = ⊥
-SignIs CloseBrace (Literal c) = ⊥
-SignIs Colon (Literal c) = ⊥
-SignIs Dash (Literal c) = ⊥
-SignIs Plus (Literal c) = ⊥
-SignIs Letter (Literal c) = ⊥
-SignIs Digit (Literal c) = ⊥
 SignIs Other (Literal c) = Unit {0}
+SignIs _ (Literal c) = ⊥
 
 letter_goes_on : (c : ℕ) → begins_name c ≡ true → is_in_name c ≡ true
 letter_goes_on c h = grind (arith, nat_tests)
@@ -154,18 +147,6 @@ unequal c d h i = absurd (true≢false (sym (eqb_self d) ∙ sym (ap (λ x. x ==
 quiet_stands : (n c : ℕ) (behind : List Character) → IsQuiet c → StandsForItself n (Active c) behind
 quiet_stands n c behind q = (λ h. absurd (unequal c 36 q.0 h), λ h. absurd (unequal c 125 q.1 h))
 
-other_stands : (n : ℕ) (c : Character) (behind : List Character) → SignIs Other c → StandsForItself n c behind
-other_stands n (Active c) behind h = quiet_stands n c behind h.2
-other_stands n (Literal c) behind h = tt
-
-letter_stands : (n : ℕ) (c : Character) (behind : List Character) → SignIs Letter c → StandsForItself n c behind
-letter_stands n (Active c) behind h = quiet_stands n c behind h.2
-letter_stands n (Literal c) behind h = absurd h
-
-digit_stands : (n : ℕ) (c : Character) (behind : List Character) → SignIs Digit c → StandsForItself n c behind
-digit_stands n (Active c) behind h = quiet_stands n c behind h.2
-digit_stands n (Literal c) behind h = absurd h
-
 -- a character that is known stands for itself, if it is neither `$` nor `}`
 known_stands : (n c d : ℕ) (behind : List Character) → c ≡ d → (d == 36) ≡ false → (d == 125) ≡ false → StandsForItself n (Active c) behind
 known_stands n c d behind e h i = (λ j. absurd (unequal d 36 h (sym e ∙ j)), λ j. absurd (unequal d 125 i (sym e ∙ j)))
@@ -173,101 +154,50 @@ known_stands n c d behind e h i = (λ j. absurd (unequal d 36 h (sym e ∙ j)), 
 -- signs of characters that stand for themselves wherever nothing is begun
 abbrev is_quiet : Sign → Bool
 is_quiet Dollar = false
-is_quiet OpenBrace = true
 is_quiet CloseBrace = false
-is_quiet Colon = true
-is_quiet Dash = true
-is_quiet Plus = true
-is_quiet Letter = true
-is_quiet Digit = true
-is_quiet Other = true
+is_quiet _ = true
 
 sign_stands : (n : ℕ) (c : Character) (behind : List Character) (k : Sign) → is_quiet k ≡ true → SignIs k c → StandsForItself n c behind
 sign_stands n (Active c) behind Dollar q h = absurd (true≢false (sym q))
-sign_stands n (Literal c) behind Dollar q h = absurd (true≢false (sym q))
-sign_stands n (Active c) behind OpenBrace q h = known_stands n c 123 behind h refl refl
-sign_stands n (Literal c) behind OpenBrace q h = absurd h
 sign_stands n (Active c) behind CloseBrace q h = absurd (true≢false (sym q))
-sign_stands n (Literal c) behind CloseBrace q h = absurd (true≢false (sym q))
-sign_stands n (Active c) behind Colon q h = known_stands n c 58 behind h refl refl
-sign_stands n (Literal c) behind Colon q h = absurd h
-sign_stands n (Active c) behind Dash q h = known_stands n c 45 behind h refl refl
-sign_stands n (Literal c) behind Dash q h = absurd h
-sign_stands n (Active c) behind Plus q h = known_stands n c 43 behind h refl refl
-sign_stands n (Literal c) behind Plus q h = absurd h
-sign_stands n (Active c) behind Letter q h = letter_stands n (Active c) behind h
-sign_stands n (Literal c) behind Letter q h = letter_stands n (Literal c) behind h
-sign_stands n (Active c) behind Digit q h = digit_stands n (Active c) behind h
-sign_stands n (Literal c) behind Digit q h = digit_stands n (Literal c) behind h
-sign_stands n (Active c) behind Other q h = other_stands n (Active c) behind h
-sign_stands n (Literal c) behind Other q h = other_stands n (Literal c) behind h
+sign_stands n (Active c) behind Letter q h = quiet_stands n c behind h.2
+sign_stands n (Active c) behind Digit q h = quiet_stands n c behind h.2
+sign_stands n (Active c) behind Other q h = quiet_stands n c behind h.2
+sign_stands n (Active c) behind _ q h = known_stands n c _ behind h refl refl
+sign_stands n (Literal c) behind Other q h = tt
+sign_stands n (Literal c) behind _ q h = absurd h
 
 -- signs of characters that begin something behind a `$`
 abbrev starts : Sign → Bool
-starts Dollar = false
 starts OpenBrace = true
-starts CloseBrace = false
-starts Colon = false
-starts Dash = false
-starts Plus = false
 starts Letter = true
-starts Digit = false
-starts Other = false
+starts _ = false
 
 known_alone : (c d : ℕ) → c ≡ d → begins_name d ≡ false → (d == 123) ≡ false → (begins_name c ≡ false) × ((c == 123) ≡ false)
 known_alone c d e h i = (ap begins_name e ∙ h, ap (λ x. x == 123) e ∙ i)
 
 is_alone : (c : Character) (cs : List Character) (k : Sign) → starts k ≡ false → SignIs k c → IsDollarAlone (c ∷ cs)
-is_alone (Active c) cs Dollar s h = known_alone c 36 h refl refl
-is_alone (Literal c) cs Dollar s h = absurd h
 is_alone (Active c) cs OpenBrace s h = absurd (true≢false s)
-is_alone (Literal c) cs OpenBrace s h = absurd (true≢false s)
-is_alone (Active c) cs CloseBrace s h = known_alone c 125 h refl refl
-is_alone (Literal c) cs CloseBrace s h = absurd h
-is_alone (Active c) cs Colon s h = known_alone c 58 h refl refl
-is_alone (Literal c) cs Colon s h = absurd h
-is_alone (Active c) cs Dash s h = known_alone c 45 h refl refl
-is_alone (Literal c) cs Dash s h = absurd h
-is_alone (Active c) cs Plus s h = known_alone c 43 h refl refl
-is_alone (Literal c) cs Plus s h = absurd h
 is_alone (Active c) cs Letter s h = absurd (true≢false s)
-is_alone (Literal c) cs Letter s h = absurd (true≢false s)
 is_alone (Active c) cs Digit s h = (h.0, h.2.2)
-is_alone (Literal c) cs Digit s h = absurd h
 is_alone (Active c) cs Other s h = (h.0, h.2.2)
+is_alone (Active c) cs _ s h = known_alone c _ h refl refl
 is_alone (Literal c) cs Other s h = tt
+is_alone (Literal c) cs _ s h = absurd h
 
 -- signs of characters that a name goes on with
 abbrev names : Sign → Bool
-names Dollar = false
-names OpenBrace = false
-names CloseBrace = false
-names Colon = false
-names Dash = false
-names Plus = false
 names Letter = true
 names Digit = true
-names Other = false
+names _ = false
 
 goes_on-is : (c : Character) (cs : List Character) (k : Sign) → SignIs k c → goes_on (c ∷ cs) ≡ names k
-goes_on-is (Active c) cs Dollar h = ap is_in_name h
-goes_on-is (Literal c) cs Dollar h = absurd h
-goes_on-is (Active c) cs OpenBrace h = ap is_in_name h
-goes_on-is (Literal c) cs OpenBrace h = absurd h
-goes_on-is (Active c) cs CloseBrace h = ap is_in_name h
-goes_on-is (Literal c) cs CloseBrace h = absurd h
-goes_on-is (Active c) cs Colon h = ap is_in_name h
-goes_on-is (Literal c) cs Colon h = absurd h
-goes_on-is (Active c) cs Dash h = ap is_in_name h
-goes_on-is (Literal c) cs Dash h = absurd h
-goes_on-is (Active c) cs Plus h = ap is_in_name h
-goes_on-is (Literal c) cs Plus h = absurd h
 goes_on-is (Active c) cs Letter h = h.1
-goes_on-is (Literal c) cs Letter h = absurd h
 goes_on-is (Active c) cs Digit h = h.1
-goes_on-is (Literal c) cs Digit h = absurd h
 goes_on-is (Active c) cs Other h = h.1
+goes_on-is (Active c) cs _ h = ap is_in_name h
 goes_on-is (Literal c) cs Other h = refl
+goes_on-is (Literal c) cs _ h = absurd h
 
 -- the character that is known by its sign
 
@@ -349,14 +279,8 @@ close_good (suc n) c cs h f =
 
 at_good : (n : ℕ) (c : Character) (cs : List Character) (k : Sign) → SignIs k c → Follows cs → IsGood n (c ∷ cs) (taken (step_at n k c) cs)
 at_good n c cs Dollar h f = good_same n _ _ _ (sym (taken-on n Started cs)) (good_text n _ _ _ (ap (λ (d : Character). d ∷ cs) (sym (Dollar_is c h))) (f n Started tt))
-at_good n c cs OpenBrace h f = good_itself n c cs _ (sign_stands n c cs OpenBrace refl h) (f n Nothing tt)
 at_good n c cs CloseBrace h f = close_good n c cs h f
-at_good n c cs Colon h f = good_itself n c cs _ (sign_stands n c cs Colon refl h) (f n Nothing tt)
-at_good n c cs Dash h f = good_itself n c cs _ (sign_stands n c cs Dash refl h) (f n Nothing tt)
-at_good n c cs Plus h f = good_itself n c cs _ (sign_stands n c cs Plus refl h) (f n Nothing tt)
-at_good n c cs Letter h f = good_itself n c cs _ (sign_stands n c cs Letter refl h) (f n Nothing tt)
-at_good n c cs Digit h f = good_itself n c cs _ (sign_stands n c cs Digit refl h) (f n Nothing tt)
-at_good n c cs Other h f = good_itself n c cs _ (sign_stands n c cs Other refl h) (f n Nothing tt)
+at_good n c cs k h f = good_itself n c cs _ (sign_stands n c cs k refl h) (f n Nothing tt)
 
 alone_good : (n : ℕ) (c : Character) (cs : List Character) (k : Sign) → starts k ≡ false → SignIs k c → Follows cs → IsGood n (Active 36 ∷ c ∷ cs) (taken (behind (itself (Active 36)) (step_at n k c)) cs)
 alone_good n c cs k s h f =
@@ -379,59 +303,23 @@ if_set_text v cs = ap (λ (t : List Character). Active 36 ∷ Active 123 ∷ t) 
 
 step_good : (n : ℕ) (b : Begun) (c : Character) (cs : List Character) (k : Sign) → SignIs k c → IsSound n b → Follows cs → IsGood n (begun_text b ++ (c ∷ cs)) (taken (step n b k c) cs)
 step_good n Nothing c cs Dollar h i f = at_good n c cs Dollar h f
-step_good n Nothing c cs OpenBrace h i f = at_good n c cs OpenBrace h f
-step_good n Nothing c cs CloseBrace h i f = at_good n c cs CloseBrace h f
-step_good n Nothing c cs Colon h i f = at_good n c cs Colon h f
-step_good n Nothing c cs Dash h i f = at_good n c cs Dash h f
-step_good n Nothing c cs Plus h i f = at_good n c cs Plus h f
-step_good n Nothing c cs Letter h i f = at_good n c cs Letter h f
-step_good n Nothing c cs Digit h i f = at_good n c cs Digit h f
-step_good n Nothing c cs Other h i f = at_good n c cs Other h f
-step_good n Started c cs Dollar h i f = alone_good n c cs Dollar refl h f
+step_good n Nothing c cs k h i f = at_good n c cs k h f
 step_good n Started c cs OpenBrace h i f = nest_by n (nat_lt n 32) refl _ cs (λ j. good_same n _ _ _ (sym (taken-on n Opened cs)) (good_text n _ _ _ (ap (λ (d : Character). Active 36 ∷ d ∷ cs) (sym (OpenBrace_is c h))) (f n Opened j)))
-step_good n Started c cs CloseBrace h i f = alone_good n c cs CloseBrace refl h f
-step_good n Started c cs Colon h i f = alone_good n c cs Colon refl h f
-step_good n Started c cs Dash h i f = alone_good n c cs Dash refl h f
-step_good n Started c cs Plus h i f = alone_good n c cs Plus refl h f
 step_good n Started c cs Letter h i f = good_same n _ _ _ (sym (taken-on n (Bare (code_point c ∷ [])) cs)) (good_text n _ _ _ (ap (λ (d : Character). Active 36 ∷ d ∷ cs) (sym (Letter_is c h).0)) (f n (Bare (code_point c ∷ [])) (name_of_one (code_point c) (begins_by c h))))
-step_good n Started c cs Digit h i f = alone_good n c cs Digit refl h f
-step_good n Started c cs Other h i f = alone_good n c cs Other refl h f
-step_good n (Bare v) c cs Dollar h i f = ended_good n v c cs Dollar i refl h f
-step_good n (Bare v) c cs OpenBrace h i f = ended_good n v c cs OpenBrace i refl h f
-step_good n (Bare v) c cs CloseBrace h i f = ended_good n v c cs CloseBrace i refl h f
-step_good n (Bare v) c cs Colon h i f = ended_good n v c cs Colon i refl h f
-step_good n (Bare v) c cs Dash h i f = ended_good n v c cs Dash i refl h f
-step_good n (Bare v) c cs Plus h i f = ended_good n v c cs Plus i refl h f
+step_good n Started c cs k h i f = alone_good n c cs k refl h f
 step_good n (Bare v) c cs Letter h i f = good_same n _ _ _ (sym (taken-on n (Bare (v ++ code_point c ∷ [])) cs)) (good_text n _ _ _ (ap (λ (t : List Character). Active 36 ∷ t) (name_more v c cs (Letter_is c h).0)) (f n (Bare (v ++ code_point c ∷ [])) (is_name-more v (code_point c) i (Letter_is c h).1)))
 step_good n (Bare v) c cs Digit h i f = good_same n _ _ _ (sym (taken-on n (Bare (v ++ code_point c ∷ [])) cs)) (good_text n _ _ _ (ap (λ (t : List Character). Active 36 ∷ t) (name_more v c cs (Digit_is c h).0)) (f n (Bare (v ++ code_point c ∷ [])) (is_name-more v (code_point c) i (Digit_is c h).1)))
-step_good n (Bare v) c cs Other h i f = ended_good n v c cs Other i refl h f
-step_good n Opened c cs Dollar h i f = tt
-step_good n Opened c cs OpenBrace h i f = tt
-step_good n Opened c cs CloseBrace h i f = tt
-step_good n Opened c cs Colon h i f = tt
-step_good n Opened c cs Dash h i f = tt
-step_good n Opened c cs Plus h i f = tt
+step_good n (Bare v) c cs k h i f = ended_good n v c cs k i refl h f
 step_good n Opened c cs Letter h i f = good_same n _ _ _ (sym (taken-on n (Named (code_point c ∷ [])) cs)) (good_text n _ _ _ (ap (λ (d : Character). Active 36 ∷ Active 123 ∷ d ∷ cs) (sym (Letter_is c h).0)) (f n (Named (code_point c ∷ [])) (name_of_one (code_point c) (begins_by c h), i)))
-step_good n Opened c cs Digit h i f = tt
-step_good n Opened c cs Other h i f = tt
-step_good n (Named v) c cs Dollar h i f = tt
-step_good n (Named v) c cs OpenBrace h i f = tt
+step_good n Opened c cs _ h i f = tt
 step_good n (Named v) c cs CloseBrace h i f = good_text n _ _ _ (braced_text v cs ∙ ap (λ (d : Character). Active 36 ∷ Active 123 ∷ (active v ++ (d ∷ cs))) (sym (CloseBrace_is c h))) (good_more n n (braced v) cs _ (λ ps j k. (i.0, i.1, j)) (f n Nothing tt))
 step_good n (Named v) c cs Colon h i f = good_same n _ _ _ (sym (taken-on n (Coloned v) cs)) (good_text n _ _ _ (ap (λ (t : List Character). Active 36 ∷ Active 123 ∷ t) (append_assoc (active v) (Active 58 ∷ []) cs ∙ ap (λ (d : Character). active v ++ (d ∷ cs)) (sym (Colon_is c h)))) (f n (Coloned v) i))
-step_good n (Named v) c cs Dash h i f = tt
-step_good n (Named v) c cs Plus h i f = tt
 step_good n (Named v) c cs Letter h i f = good_same n _ _ _ (sym (taken-on n (Named (v ++ code_point c ∷ [])) cs)) (good_text n _ _ _ (ap (λ (t : List Character). Active 36 ∷ Active 123 ∷ t) (name_more v c cs (Letter_is c h).0)) (f n (Named (v ++ code_point c ∷ [])) (is_name-more v (code_point c) i.0 (Letter_is c h).1, i.1)))
 step_good n (Named v) c cs Digit h i f = good_same n _ _ _ (sym (taken-on n (Named (v ++ code_point c ∷ [])) cs)) (good_text n _ _ _ (ap (λ (t : List Character). Active 36 ∷ Active 123 ∷ t) (name_more v c cs (Digit_is c h).0)) (f n (Named (v ++ code_point c ∷ [])) (is_name-more v (code_point c) i.0 (Digit_is c h).1, i.1)))
-step_good n (Named v) c cs Other h i f = tt
-step_good n (Coloned v) c cs Dollar h i f = tt
-step_good n (Coloned v) c cs OpenBrace h i f = tt
-step_good n (Coloned v) c cs CloseBrace h i f = tt
-step_good n (Coloned v) c cs Colon h i f = tt
+step_good n (Named v) c cs _ h i f = tt
 step_good n (Coloned v) c cs Dash h i f = good_text n _ _ _ (or_else_text v cs ∙ ap (λ (d : Character). Active 36 ∷ Active 123 ∷ ((active v ++ Active 58 ∷ []) ++ (d ∷ cs))) (sym (Dash_is c h))) (good_more n (suc n) (or_else v) cs _ (λ ps j k. (i.0, i.1, j)) (f (suc n) Nothing tt))
 step_good n (Coloned v) c cs Plus h i f = good_text n _ _ _ (if_set_text v cs ∙ ap (λ (d : Character). Active 36 ∷ Active 123 ∷ ((active v ++ Active 58 ∷ []) ++ (d ∷ cs))) (sym (Plus_is c h))) (good_more n (suc n) (if_set v) cs _ (λ ps j k. (i.0, i.1, j)) (f (suc n) Nothing tt))
-step_good n (Coloned v) c cs Letter h i f = tt
-step_good n (Coloned v) c cs Digit h i f = tt
-step_good n (Coloned v) c cs Other h i f = tt
+step_good n (Coloned v) c cs _ h i f = tt
 
 end_good : (n : ℕ) (b : Begun) → IsSound n b → IsGood n (begun_text b ++ []) (ended_at_end n b)
 end_good zero Nothing i = (refl, refl)
@@ -484,57 +372,28 @@ unfolding sign_at
 sign-43 = refl
 
 sign_letter : (c : ℕ) → begins_name c ≡ true → (k : Sign) → SignIs k (Active c) → k ≡ Letter
-sign_letter c h Dollar i = absurd (true≢false (sym h ∙ ap begins_name i))
-sign_letter c h OpenBrace i = absurd (true≢false (sym h ∙ ap begins_name i))
-sign_letter c h CloseBrace i = absurd (true≢false (sym h ∙ ap begins_name i))
-sign_letter c h Colon i = absurd (true≢false (sym h ∙ ap begins_name i))
-sign_letter c h Dash i = absurd (true≢false (sym h ∙ ap begins_name i))
-sign_letter c h Plus i = absurd (true≢false (sym h ∙ ap begins_name i))
 sign_letter c h Letter i = refl
 sign_letter c h Digit i = absurd (true≢false (sym h ∙ i.0))
 sign_letter c h Other i = absurd (true≢false (sym h ∙ i.0))
+sign_letter c h _ i = absurd (true≢false (sym h ∙ ap begins_name i))
 
 sign_named : (c : ℕ) → is_in_name c ≡ true → (k : Sign) → SignIs k (Active c) → (k ≡ Letter) ⊎ (k ≡ Digit)
-sign_named c h Dollar i = absurd (true≢false (sym h ∙ ap is_in_name i))
-sign_named c h OpenBrace i = absurd (true≢false (sym h ∙ ap is_in_name i))
-sign_named c h CloseBrace i = absurd (true≢false (sym h ∙ ap is_in_name i))
-sign_named c h Colon i = absurd (true≢false (sym h ∙ ap is_in_name i))
-sign_named c h Dash i = absurd (true≢false (sym h ∙ ap is_in_name i))
-sign_named c h Plus i = absurd (true≢false (sym h ∙ ap is_in_name i))
 sign_named c h Letter i = inl refl
 sign_named c h Digit i = inr refl
 sign_named c h Other i = absurd (true≢false (sym h ∙ i.1))
+sign_named c h _ i = absurd (true≢false (sym h ∙ ap is_in_name i))
 
 alone_started : (c : Character) (cs : List Character) (k : Sign) → SignIs k c → IsDollarAlone (c ∷ cs) → starts k ≡ false
-alone_started (Active c) cs Dollar h i = refl
-alone_started (Literal c) cs Dollar h i = refl
 alone_started (Active c) cs OpenBrace h i = absurd (true≢false (sym (ap (λ x. x == 123) h) ∙ i.1))
-alone_started (Literal c) cs OpenBrace h i = absurd h
-alone_started (Active c) cs CloseBrace h i = refl
-alone_started (Literal c) cs CloseBrace h i = refl
-alone_started (Active c) cs Colon h i = refl
-alone_started (Literal c) cs Colon h i = refl
-alone_started (Active c) cs Dash h i = refl
-alone_started (Literal c) cs Dash h i = refl
-alone_started (Active c) cs Plus h i = refl
-alone_started (Literal c) cs Plus h i = refl
 alone_started (Active c) cs Letter h i = absurd (true≢false (sym h.0 ∙ i.0))
+alone_started (Literal c) cs OpenBrace h i = absurd h
 alone_started (Literal c) cs Letter h i = absurd h
-alone_started (Active c) cs Digit h i = refl
-alone_started (Literal c) cs Digit h i = refl
-alone_started (Active c) cs Other h i = refl
-alone_started (Literal c) cs Other h i = refl
+alone_started _ cs _ h i = refl
 
 started_by : (n : ℕ) (c : Character) (cs : List Character) (k : Sign) → starts k ≡ false → taken (step_started n k c) cs ≡ option_map (λ (ps : List Piece). itself (Active 36) ∷ ps) (taken (step_at n k c) cs)
-started_by n c cs Dollar s = taken-behind (itself (Active 36)) (step_at n Dollar c) cs
 started_by n c cs OpenBrace s = absurd (true≢false s)
-started_by n c cs CloseBrace s = taken-behind (itself (Active 36)) (step_at n CloseBrace c) cs
-started_by n c cs Colon s = taken-behind (itself (Active 36)) (step_at n Colon c) cs
-started_by n c cs Dash s = taken-behind (itself (Active 36)) (step_at n Dash c) cs
-started_by n c cs Plus s = taken-behind (itself (Active 36)) (step_at n Plus c) cs
 started_by n c cs Letter s = absurd (true≢false s)
-started_by n c cs Digit s = taken-behind (itself (Active 36)) (step_at n Digit c) cs
-started_by n c cs Other s = taken-behind (itself (Active 36)) (step_at n Other c) cs
+started_by n c cs k s = taken-behind (itself (Active 36)) (step_at n k c) cs
 
 ended_started : (n : ℕ) → ended_at_end n Started ≡ option_map (λ (ps : List Piece). itself (Active 36) ∷ ps) (ended_at_end n Nothing)
 ended_started zero = refl
@@ -545,15 +404,9 @@ started_alone n [] h = ended_started n
 started_alone n (c ∷ cs) h = started_by n c cs (sign_of c) (alone_started c cs (sign_of c) (sign_is c) h)
 
 bare_by : (n : ℕ) (v : List ℕ) (c : Character) (cs : List Character) (k : Sign) → names k ≡ false → taken (step_bare v n k c) cs ≡ option_map (λ (ps : List Piece). bare v ∷ ps) (taken (step_at n k c) cs)
-bare_by n v c cs Dollar s = taken-behind (bare v) (step_at n Dollar c) cs
-bare_by n v c cs OpenBrace s = taken-behind (bare v) (step_at n OpenBrace c) cs
-bare_by n v c cs CloseBrace s = taken-behind (bare v) (step_at n CloseBrace c) cs
-bare_by n v c cs Colon s = taken-behind (bare v) (step_at n Colon c) cs
-bare_by n v c cs Dash s = taken-behind (bare v) (step_at n Dash c) cs
-bare_by n v c cs Plus s = taken-behind (bare v) (step_at n Plus c) cs
 bare_by n v c cs Letter s = absurd (true≢false s)
 bare_by n v c cs Digit s = absurd (true≢false s)
-bare_by n v c cs Other s = taken-behind (bare v) (step_at n Other c) cs
+bare_by n v c cs k s = taken-behind (bare v) (step_at n k c) cs
 
 ended_bare : (n : ℕ) (v : List ℕ) → ended_at_end n (Bare v) ≡ option_map (λ (ps : List Piece). bare v ∷ ps) (ended_at_end n Nothing)
 ended_bare zero v = refl
@@ -636,14 +489,8 @@ brace_itself n (Active c) cs ps e h s j = pieces_from-at n Nothing (Active c) cs
 
 itself_read : (n : ℕ) (c : Character) (cs : List Character) (ps : List Piece) (k : Sign) → sign_of c ≡ k → SignIs k c → StandsForItself n c cs → pieces_from n Nothing cs ≡ Some ps → pieces_from n Nothing (c ∷ cs) ≡ Some (itself c ∷ ps)
 itself_read n c cs ps Dollar e h s j = dollar_itself n c cs ps e h s j
-itself_read n c cs ps OpenBrace e h s j = pieces_from-at n Nothing c cs OpenBrace e ∙ ap (λ (o : Option (List Piece)). option_map (λ (qs : List Piece). itself c ∷ qs) o) j
 itself_read n c cs ps CloseBrace e h s j = brace_itself n c cs ps e h s j
-itself_read n c cs ps Colon e h s j = pieces_from-at n Nothing c cs Colon e ∙ ap (λ (o : Option (List Piece)). option_map (λ (qs : List Piece). itself c ∷ qs) o) j
-itself_read n c cs ps Dash e h s j = pieces_from-at n Nothing c cs Dash e ∙ ap (λ (o : Option (List Piece)). option_map (λ (qs : List Piece). itself c ∷ qs) o) j
-itself_read n c cs ps Plus e h s j = pieces_from-at n Nothing c cs Plus e ∙ ap (λ (o : Option (List Piece)). option_map (λ (qs : List Piece). itself c ∷ qs) o) j
-itself_read n c cs ps Letter e h s j = pieces_from-at n Nothing c cs Letter e ∙ ap (λ (o : Option (List Piece)). option_map (λ (qs : List Piece). itself c ∷ qs) o) j
-itself_read n c cs ps Digit e h s j = pieces_from-at n Nothing c cs Digit e ∙ ap (λ (o : Option (List Piece)). option_map (λ (qs : List Piece). itself c ∷ qs) o) j
-itself_read n c cs ps Other e h s j = pieces_from-at n Nothing c cs Other e ∙ ap (λ (o : Option (List Piece)). option_map (λ (qs : List Piece). itself c ∷ qs) o) j
+itself_read n c cs ps k e h s j = pieces_from-at n Nothing c cs k e ∙ ap (λ (o : Option (List Piece)). option_map (λ (qs : List Piece). itself c ∷ qs) o) j
 
 piece_text-at : (p : Piece) (ps : List Piece) (v : List ℕ) (ends : List Character) (front : List Character) → written (p ∷ ps) ≡ front ++ ((active v ++ ends) ++ written ps) → written (p ∷ ps) ≡ front ++ (active v ++ (ends ++ written ps))
 piece_text-at p ps v ends front h = h ∙ ap (λ (t : List Character). front ++ t) (append_assoc (active v) ends (written ps))

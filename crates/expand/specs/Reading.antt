@@ -64,74 +64,39 @@ step_close (suc n) c = on (close ∷ []) n Nothing
 -- where nothing is begun
 abbrev pub step_at : ℕ → Sign → Character → Step
 step_at n Dollar c = on [] n Started
-step_at n OpenBrace c = on (itself c ∷ []) n Nothing
 step_at n CloseBrace c = step_close n c
-step_at n Colon c = on (itself c ∷ []) n Nothing
-step_at n Dash c = on (itself c ∷ []) n Nothing
-step_at n Plus c = on (itself c ∷ []) n Nothing
-step_at n Letter c = on (itself c ∷ []) n Nothing
-step_at n Digit c = on (itself c ∷ []) n Nothing
-step_at n Other c = on (itself c ∷ []) n Nothing
+step_at n _ c = on (itself c ∷ []) n Nothing
 
 -- behind a `$`
 abbrev pub step_started : ℕ → Sign → Character → Step
-step_started n Dollar c = behind (itself (Active 36)) (step_at n Dollar c)
 step_started n OpenBrace c = if nat_lt n 32 then on [] n Opened else bad
-step_started n CloseBrace c = behind (itself (Active 36)) (step_at n CloseBrace c)
-step_started n Colon c = behind (itself (Active 36)) (step_at n Colon c)
-step_started n Dash c = behind (itself (Active 36)) (step_at n Dash c)
-step_started n Plus c = behind (itself (Active 36)) (step_at n Plus c)
 step_started n Letter c = on [] n (Bare (code_point c ∷ []))
-step_started n Digit c = behind (itself (Active 36)) (step_at n Digit c)
-step_started n Other c = behind (itself (Active 36)) (step_at n Other c)
+step_started n k c = behind (itself (Active 36)) (step_at n k c)
 
 -- behind `$v`, which goes on with a letter or a digit
 abbrev pub step_bare : List ℕ → ℕ → Sign → Character → Step
-step_bare v n Dollar c = behind (bare v) (step_at n Dollar c)
-step_bare v n OpenBrace c = behind (bare v) (step_at n OpenBrace c)
-step_bare v n CloseBrace c = behind (bare v) (step_at n CloseBrace c)
-step_bare v n Colon c = behind (bare v) (step_at n Colon c)
-step_bare v n Dash c = behind (bare v) (step_at n Dash c)
-step_bare v n Plus c = behind (bare v) (step_at n Plus c)
 step_bare v n Letter c = on [] n (Bare (v ++ code_point c ∷ []))
 step_bare v n Digit c = on [] n (Bare (v ++ code_point c ∷ []))
-step_bare v n Other c = behind (bare v) (step_at n Other c)
+step_bare v n k c = behind (bare v) (step_at n k c)
 
 -- behind `${`, where a name has to begin
 abbrev pub step_opened : ℕ → Sign → Character → Step
-step_opened n Dollar c = bad
-step_opened n OpenBrace c = bad
-step_opened n CloseBrace c = bad
-step_opened n Colon c = bad
-step_opened n Dash c = bad
-step_opened n Plus c = bad
 step_opened n Letter c = on [] n (Named (code_point c ∷ []))
-step_opened n Digit c = bad
-step_opened n Other c = bad
+step_opened n _ c = bad
 
 -- behind `${v`, where the name goes on or ends
 abbrev pub step_named : List ℕ → ℕ → Sign → Character → Step
-step_named v n Dollar c = bad
-step_named v n OpenBrace c = bad
 step_named v n CloseBrace c = on (braced v ∷ []) n Nothing
 step_named v n Colon c = on [] n (Coloned v)
-step_named v n Dash c = bad
-step_named v n Plus c = bad
 step_named v n Letter c = on [] n (Named (v ++ code_point c ∷ []))
 step_named v n Digit c = on [] n (Named (v ++ code_point c ∷ []))
-step_named v n Other c = bad
+step_named v n _ c = bad
 
 -- behind `${v:`
 abbrev pub step_coloned : List ℕ → ℕ → Sign → Character → Step
-step_coloned v n Dollar c = bad
-step_coloned v n OpenBrace c = bad
-step_coloned v n CloseBrace c = bad
-step_coloned v n Colon c = bad
 step_coloned v n Dash c = on (or_else v ∷ []) (suc n) Nothing
 step_coloned v n Plus c = on (if_set v ∷ []) (suc n) Nothing
-step_coloned v n Letter c = bad
-step_coloned v n Digit c = bad
-step_coloned v n Other c = bad
+step_coloned v n _ c = bad
 
 abbrev pub step : ℕ → Begun → Sign → Character → Step
 step n Nothing k c = step_at n k c

@@ -1,28 +1,27 @@
 -- Laws of the scan: each text leaves just one list of marked characters, or none.
-use Rattle.std.specs.Prelude.{◌≡◌, ℕ, ◌==◌, ◌||◌, Bool, true, false, List, [], ◌∷◌, ◌++◌, if◌then◌else◌, Option, Some, None, option_map, map, refl}
+use Rattle.std.specs.Prelude.{◌↔◌, ◌≡◌, ℕ, ◌==◌, ◌||◌, Bool, true, false, List, [], ◌∷◌, ◌++◌, if◌then◌else◌, Option, Some, None, option_map, map, refl}
 use Rattle.std.proofs.Common.{sym, ◌∙◌, ap, ap₂, subst, append_assoc, append-nil, arith}
 use Rattle.std.proofs.lemmas.Bool.{true≢false}
 use Rattle.std.proofs.lemmas.Bool.Decides.{nat_tests}
-use Rattle.lines.specs.Blanks.{is_blank}
+use Rattle.std.specs.Str.{IsUtf8, chars}
 use Rattle.lines.specs.Escapes.{byte_of}
 use Rattle.lines.specs.declared.line.Escape.{Escape}
-use Rattle.lines.specs.declared.line.Escape.TheVariants.{Backslash, Backtick}
 use Rattle.words.specs.declared.class.Class.{Class}
-use Rattle.words.specs.declared.class.Class.TheVariants.{Blank, SingleQuote, DoubleQuote, Dollar, Equals, EscapeCharacter, Other}
-use Rattle.words.specs.Parts.{class_of, Held, kept, freed, Part, blank, plain, escaped, single, double, open_single, open_double, held_text, has_open}
-use Rattle.words.specs.Reading.{Begun, nothing, escaping, in_single, in_double, in_double_escaping, ended_by, begun_by, ended_at_end, parts_from, parts}
+use Rattle.words.specs.declared.class.Class.TheVariants.{Blank, SingleQuote, DoubleQuote, Dollar, EscapeCharacter}
+use Rattle.words.specs.Parts.{class_of, Held, kept, freed, Part, held_text, has_open}
+use Rattle.words.specs.Reading.{Begun, nothing, escaping, in_single, in_double, in_double_escaping, ended_by, begun_by, ended_at_end, parts_from, parts, ends_open}
 use Rattle.words.specs.PartLaws.{parts-made, parts-only}
+use Rattle.words.specs.Places.{place_after}
+use Rattle.words.specs.PlaceLaws.{place_of, place_more, has_open-more, ends_open-chars}
+use Rattle.words.specs.declared.class.Place.{Place}
+use Rattle.words.specs.declared.class.Place.TheVariants.{Outside}
 use Rattle.expand.specs.Scan.{marked_held, marked_part, marked, is_freed, IsIdleBefore, AreFreed, IsScannedBare, IsScannedQuoted, IsScanned}
-use Rattle.expand.specs.Places.{role_of, place_after, emitted, emitted_at_end, quoted_from}
+use Rattle.expand.specs.Emitted.{emitted, emitted_at_end, quoted_from}
 use Rattle.expand.specs.Reading.{bare_from, quoted_unless, scanned}
 use Rattle.expand.specs.declared.character.Character.{Character}
 use Rattle.expand.specs.declared.character.Character.TheVariants.{Active, Literal}
 use Rattle.expand.specs.declared.kind.Kind.{Kind}
 use Rattle.expand.specs.declared.kind.Kind.TheVariants.{Quoted, Json, Body}
-use Rattle.expand.specs.declared.scan.Role.{Role}
-use Rattle.expand.specs.declared.scan.Role.TheVariants.{SingleQuote as SingleRole, DoubleQuote as DoubleRole, Dollar as DollarRole, Escape as EscapeRole, Other as OtherRole}
-use Rattle.expand.specs.declared.scan.Place.{Place}
-use Rattle.expand.specs.declared.scan.Place.TheVariants.{Outside, Escaped, Single, Double, DoubleEscaped}
 
 eqb_equal : (a b : ℕ) → (a == b) ≡ true → a ≡ b
 eqb_equal a b h = grind (arith, nat_tests)
@@ -30,64 +29,11 @@ eqb_equal a b h = grind (arith, nat_tests)
 eqb_same : (a b : ℕ) → a ≡ b → (a == b) ≡ true
 eqb_same a b h = grind (arith, nat_tests)
 
--- what a class is where quotes are known
-abbrev role_by : Class → Role
-role_by Blank = OtherRole
-role_by SingleQuote = SingleRole
-role_by DoubleQuote = DoubleRole
-role_by Dollar = DollarRole
-role_by Equals = OtherRole
-role_by EscapeCharacter = EscapeRole
-role_by Other = OtherRole
-
-abbrev class_at : Bool → Bool → Bool → Bool → Bool → Bool → Class
-class_at b s d m q x = if b then Blank else (if s then SingleQuote else (if d then DoubleQuote else (if m then Dollar else (if q then Equals else (if x then EscapeCharacter else Other)))))
-
-abbrev role_at : Bool → Bool → Bool → Bool → Role
-role_at s d m x = if s then SingleRole else (if d then DoubleRole else (if m then DollarRole else (if x then EscapeRole else OtherRole)))
-
-blank_escape : (e : Escape) → is_blank (byte_of e) ≡ false
-blank_escape Backslash = refl
-blank_escape Backtick = refl
-
-equals_escape : (e : Escape) → (byte_of e == 61) ≡ false
-equals_escape Backslash = refl
-equals_escape Backtick = refl
-
-role_by_tests : (e : Escape) (c : ℕ) (b s d m q x : Bool) → is_blank c ≡ b → (c == 39) ≡ s → (c == 34) ≡ d → (c == 36) ≡ m → (c == 61) ≡ q → (c == byte_of e) ≡ x
-    → role_at s d m x ≡ role_by (class_at b s d m q x)
-role_by_tests e c true true d m q x hb hs hd hm hq hx = absurd (true≢false (sym hb ∙ ap is_blank (eqb_equal c 39 hs)))
-role_by_tests e c true false true m q x hb hs hd hm hq hx = absurd (true≢false (sym hb ∙ ap is_blank (eqb_equal c 34 hd)))
-role_by_tests e c true false false true q x hb hs hd hm hq hx = absurd (true≢false (sym hb ∙ ap is_blank (eqb_equal c 36 hm)))
-role_by_tests e c true false false false q true hb hs hd hm hq hx = absurd (true≢false (sym hb ∙ ap is_blank (eqb_equal c (byte_of e) hx) ∙ blank_escape e))
-role_by_tests e c true false false false q false hb hs hd hm hq hx = refl
-role_by_tests e c false true d m q x hb hs hd hm hq hx = refl
-role_by_tests e c false false true m q x hb hs hd hm hq hx = refl
-role_by_tests e c false false false true q x hb hs hd hm hq hx = refl
-role_by_tests e c false false false false true true hb hs hd hm hq hx = absurd (true≢false (sym hq ∙ ap (λ n. n == 61) (eqb_equal c (byte_of e) hx) ∙ equals_escape e))
-role_by_tests e c false false false false true false hb hs hd hm hq hx = refl
-role_by_tests e c false false false false false true hb hs hd hm hq hx = refl
-role_by_tests e c false false false false false false hb hs hd hm hq hx = refl
-
-role_of-class : (e : Escape) (c : ℕ) → role_of e c ≡ role_by (class_of e c)
-unfolding role_of class_of
-role_of-class e c = role_by_tests e c (is_blank c) (c == 39) (c == 34) (c == 36) (c == 61) (c == byte_of e) refl refl refl refl refl refl
-
 -- parts, one after another
 
 marked-append : (ps qs : List Part) → marked (ps ++ qs) ≡ marked ps ++ marked qs
 marked-append [] qs = refl
 marked-append (p ∷ ps) qs = ap (λ (t : List Character). marked_part p ++ t) (marked-append ps qs) ∙ sym (append_assoc (marked_part p) (marked ps) (marked qs))
-
-has_open-append : (ps qs : List Part) → has_open ps ≡ false → has_open (ps ++ qs) ≡ has_open qs
-has_open-append [] qs h = refl
-has_open-append (blank c ∷ ps) qs h = has_open-append ps qs h
-has_open-append (plain c ∷ ps) qs h = has_open-append ps qs h
-has_open-append (escaped c ∷ ps) qs h = has_open-append ps qs h
-has_open-append (single cs ∷ ps) qs h = has_open-append ps qs h
-has_open-append (double hs ∷ ps) qs h = has_open-append ps qs h
-has_open-append (open_single cs ∷ ps) qs h = absurd (true≢false h)
-has_open-append (open_double hs ∷ ps) qs h = absurd (true≢false h)
 
 abbrev found : List Part → Option (List Character)
 found ps = quoted_unless (has_open ps) (marked ps)
@@ -96,8 +42,8 @@ unless_map : (b : Bool) (ms ns : List Character) → quoted_unless b (ms ++ ns) 
 unless_map true ms ns = refl
 unless_map false ms ns = refl
 
-found-append : (ps qs : List Part) → has_open ps ≡ false → found (ps ++ qs) ≡ option_map (λ (t : List Character). marked ps ++ t) (found qs)
-found-append ps qs h = ap₂ (λ (b : Bool) (t : List Character). quoted_unless b t) (has_open-append ps qs h) (marked-append ps qs) ∙ unless_map (has_open qs) (marked ps) (marked qs)
+found_more : (b : Begun) (k : Class) (c : ℕ) (ps : List Part) → found (ended_by b k c ++ ps) ≡ option_map (λ (t : List Character). marked (ended_by b k c) ++ t) (found ps)
+found_more b k c ps = ap₂ (λ (b : Bool) (t : List Character). quoted_unless b t) (has_open-more b k c ps) (marked-append (ended_by b k c) ps) ∙ unless_map (has_open ps) (marked (ended_by b k c)) (marked ps)
 
 map_twice : (ms ns : List Character) (o : Option (List Character))
     → option_map (λ (t : List Character). ms ++ t) (option_map (λ (t : List Character). ns ++ t) o) ≡ option_map (λ (t : List Character). (ms ++ ns) ++ t) o
@@ -111,13 +57,6 @@ begun_marks escaping = []
 begun_marks (in_single cs) = map (λ c. Literal c) cs
 begun_marks (in_double hs) = map marked_held hs
 begun_marks (in_double_escaping hs) = map marked_held hs
-
-abbrev place_of : Begun → Place
-place_of nothing = Outside
-place_of escaping = Escaped
-place_of (in_single cs) = Single
-place_of (in_double hs) = Double
-place_of (in_double_escaping hs) = DoubleEscaped
 
 literal-more : (cs : List ℕ) (c : ℕ) → map (λ d. Literal d) cs ++ Literal c ∷ [] ≡ map (λ d. Literal d) (cs ++ c ∷ [])
 literal-more [] c = refl
@@ -133,104 +72,20 @@ held-idle e hs c = held-more hs (kept (byte_of e) ∷ kept c ∷ []) ∙ ap (λ 
 quotes_end : (ms : List Character) → ms ++ [] ≡ (ms ++ []) ++ []
 quotes_end ms = sym (append-nil (ms ++ []))
 
-ended_closed : (b : Begun) (k : Class) (c : ℕ) → has_open (ended_by b k c) ≡ false
-ended_closed nothing Blank c = refl
-ended_closed nothing SingleQuote c = refl
-ended_closed nothing DoubleQuote c = refl
-ended_closed nothing Dollar c = refl
-ended_closed nothing Equals c = refl
-ended_closed nothing EscapeCharacter c = refl
-ended_closed nothing Other c = refl
-ended_closed escaping k c = refl
-ended_closed (in_single cs) Blank c = refl
-ended_closed (in_single cs) SingleQuote c = refl
-ended_closed (in_single cs) DoubleQuote c = refl
-ended_closed (in_single cs) Dollar c = refl
-ended_closed (in_single cs) Equals c = refl
-ended_closed (in_single cs) EscapeCharacter c = refl
-ended_closed (in_single cs) Other c = refl
-ended_closed (in_double hs) Blank c = refl
-ended_closed (in_double hs) SingleQuote c = refl
-ended_closed (in_double hs) DoubleQuote c = refl
-ended_closed (in_double hs) Dollar c = refl
-ended_closed (in_double hs) Equals c = refl
-ended_closed (in_double hs) EscapeCharacter c = refl
-ended_closed (in_double hs) Other c = refl
-ended_closed (in_double_escaping hs) k c = refl
-
-place_more : (e : Escape) (b : Begun) (k : Class) (c : ℕ) → place_after (place_of b) (role_by k) ≡ place_of (begun_by e b k c)
-place_more e nothing Blank c = refl
-place_more e nothing SingleQuote c = refl
-place_more e nothing DoubleQuote c = refl
-place_more e nothing Dollar c = refl
-place_more e nothing Equals c = refl
-place_more e nothing EscapeCharacter c = refl
-place_more e nothing Other c = refl
-place_more e escaping Blank c = refl
-place_more e escaping SingleQuote c = refl
-place_more e escaping DoubleQuote c = refl
-place_more e escaping Dollar c = refl
-place_more e escaping Equals c = refl
-place_more e escaping EscapeCharacter c = refl
-place_more e escaping Other c = refl
-place_more e (in_single cs) Blank c = refl
-place_more e (in_single cs) SingleQuote c = refl
-place_more e (in_single cs) DoubleQuote c = refl
-place_more e (in_single cs) Dollar c = refl
-place_more e (in_single cs) Equals c = refl
-place_more e (in_single cs) EscapeCharacter c = refl
-place_more e (in_single cs) Other c = refl
-place_more e (in_double hs) Blank c = refl
-place_more e (in_double hs) SingleQuote c = refl
-place_more e (in_double hs) DoubleQuote c = refl
-place_more e (in_double hs) Dollar c = refl
-place_more e (in_double hs) Equals c = refl
-place_more e (in_double hs) EscapeCharacter c = refl
-place_more e (in_double hs) Other c = refl
-place_more e (in_double_escaping hs) Blank c = refl
-place_more e (in_double_escaping hs) SingleQuote c = refl
-place_more e (in_double_escaping hs) DoubleQuote c = refl
-place_more e (in_double_escaping hs) Dollar c = refl
-place_more e (in_double_escaping hs) Equals c = refl
-place_more e (in_double_escaping hs) EscapeCharacter c = refl
-place_more e (in_double_escaping hs) Other c = refl
-
-marks_more : (e : Escape) (b : Begun) (k : Class) (c : ℕ) → begun_marks b ++ emitted e (place_of b) (role_by k) c ≡ marked (ended_by b k c) ++ begun_marks (begun_by e b k c)
+marks_more : (e : Escape) (b : Begun) (k : Class) (c : ℕ) → begun_marks b ++ emitted e (place_of b) k c ≡ marked (ended_by b k c) ++ begun_marks (begun_by e b k c)
 marks_more e nothing Blank c = refl
-marks_more e nothing SingleQuote c = refl
-marks_more e nothing DoubleQuote c = refl
-marks_more e nothing Dollar c = refl
-marks_more e nothing Equals c = refl
-marks_more e nothing EscapeCharacter c = refl
-marks_more e nothing Other c = refl
+marks_more e nothing _ c = refl
 marks_more e escaping Blank c = refl
-marks_more e escaping SingleQuote c = refl
-marks_more e escaping DoubleQuote c = refl
-marks_more e escaping Dollar c = refl
-marks_more e escaping Equals c = refl
-marks_more e escaping EscapeCharacter c = refl
-marks_more e escaping Other c = refl
-marks_more e (in_single cs) Blank c = literal-more cs c
+marks_more e escaping _ c = refl
 marks_more e (in_single cs) SingleQuote c = quotes_end (map (λ d. Literal d) cs)
-marks_more e (in_single cs) DoubleQuote c = literal-more cs c
-marks_more e (in_single cs) Dollar c = literal-more cs c
-marks_more e (in_single cs) Equals c = literal-more cs c
-marks_more e (in_single cs) EscapeCharacter c = literal-more cs c
-marks_more e (in_single cs) Other c = literal-more cs c
-marks_more e (in_double hs) Blank c = held-more hs (kept c ∷ [])
-marks_more e (in_double hs) SingleQuote c = held-more hs (kept c ∷ [])
+marks_more e (in_single cs) _ c = literal-more cs c
 marks_more e (in_double hs) DoubleQuote c = quotes_end (map marked_held hs)
-marks_more e (in_double hs) Dollar c = held-more hs (kept c ∷ [])
-marks_more e (in_double hs) Equals c = held-more hs (kept c ∷ [])
 marks_more e (in_double hs) EscapeCharacter c = append-nil (map marked_held hs)
-marks_more e (in_double hs) Other c = held-more hs (kept c ∷ [])
-marks_more e (in_double_escaping hs) Blank c = held-idle e hs c
-marks_more e (in_double_escaping hs) SingleQuote c = held-idle e hs c
+marks_more e (in_double hs) _ c = held-more hs (kept c ∷ [])
 marks_more e (in_double_escaping hs) DoubleQuote c = held-more hs (freed c ∷ [])
 marks_more e (in_double_escaping hs) Dollar c = held-more hs (freed c ∷ [])
-marks_more e (in_double_escaping hs) Equals c = held-idle e hs c
 marks_more e (in_double_escaping hs) EscapeCharacter c = held-more hs (freed c ∷ [])
-marks_more e (in_double_escaping hs) Other c = held-idle e hs c
+marks_more e (in_double_escaping hs) _ c = held-idle e hs c
 
 at_end : (e : Escape) (b : Begun) → found (ended_at_end e b) ≡ option_map (λ (t : List Character). begun_marks b ++ t) (emitted_at_end e (place_of b))
 at_end e nothing = refl
@@ -245,12 +100,11 @@ quoted_from-found e b [] = at_end e b
 quoted_from-found e b (c ∷ cs) =
     let k : Class = class_of e c in
     let next : Begun = begun_by e b k c in
-    found-append (ended_by b k c) (parts_from e next cs) (ended_closed b k c)
+    found_more b k c (parts_from e next cs)
     ∙ ap (λ (o : Option (List Character)). option_map (λ (t : List Character). marked (ended_by b k c) ++ t) o) (quoted_from-found e next cs)
     ∙ map_twice (marked (ended_by b k c)) (begun_marks next) (quoted_from e (place_of next) cs)
     ∙ ap₂ (λ (ms : List Character) (p : Place). option_map (λ (t : List Character). ms ++ t) (quoted_from e p cs)) (sym (marks_more e b k c)) (sym (place_more e b k c))
-    ∙ sym (map_twice (begun_marks b) (emitted e (place_of b) (role_by k) c) (quoted_from e (place_after (place_of b) (role_by k)) cs))
-    ∙ ap (λ (r : Role). option_map (λ (t : List Character). begun_marks b ++ t) (option_map (λ (t : List Character). emitted e (place_of b) r c ++ t) (quoted_from e (place_after (place_of b) r) cs))) (sym (role_of-class e c))
+    ∙ sym (map_twice (begun_marks b) (emitted e (place_of b) k c) (quoted_from e (place_after (place_of b) k) cs))
 
 map_none : (o : Option (List Character)) → option_map (λ (t : List Character). t) o ≡ o
 map_none None = refl
@@ -382,3 +236,15 @@ unfolding scanned
 scanned-only Quoted e text ms h = quoted-only e text ms h
 scanned-only Json e text ms h = ap (λ (t : List Character). Some t) (bare-only e text ms h)
 scanned-only Body e text ms h = ap (λ (t : List Character). Some t) (bare-only e text ms h)
+
+-- a text leaves none exactly where a quote is open
+
+unless_none : (b : Bool) (ms : List Character) → quoted_unless b ms ≡ None → b ≡ true
+unless_none true ms h = refl
+unless_none false ms h = cc
+
+pub open_not_scanned : (e : Escape) (text : List ℕ) → IsUtf8 text → (ends_open e text ≡ true) ↔ (scanned Quoted e (chars text) ≡ None)
+unfolding scanned ends_open
+open_not_scanned e text u =
+    let marks : List Character = marked (parts e (chars text)) in
+    (λ h. ap (λ (b : Bool). quoted_unless b marks) (sym (ends_open-chars e text u) ∙ h), λ h. ends_open-chars e text u ∙ unless_none (has_open (parts e (chars text))) marks h)

@@ -1,15 +1,14 @@
 -- What one more character makes of what is read so far.
 use Rattle.std.specs.Prelude.{◌≡◌, true, false, List, ◌++◌, Option, Some, None}
 use Rattle.expand.specs.Grammar.{Piece, tokens}
-use Rattle.expand.specs.Output.{made}
 use Rattle.expand.specs.Reading.{Step}
 use Rattle.expand.specs.declared.state.Reading.{Reading}
 use Rattle.expand.specs.declared.token.Token.{Token}
 
--- what a step makes of tokens: none where there is a bad substitution
-abbrev pub IsStep : List Token → Step → Option Reading → Type 0
-IsStep out s None = s.is_bad ≡ true
-IsStep out s (Some r) = (s.is_bad ≡ false) × (made r.output ≡ out ++ tokens s.ended) × (r.depth ≡ s.depth) × (r.begun ≡ s.begun)
+-- what a step makes of the tokens so far: none where there is a bad substitution
+abbrev pub IsStep : List Token → List Token → Step → Option Reading → Type 0
+IsStep out more s None = s.is_bad ≡ true
+IsStep out more s (Some r) = (s.is_bad ≡ false) × (more ≡ out ++ tokens s.ended) × (r.depth ≡ s.depth) × (r.begun ≡ s.begun)
 
 -- what the end of the text makes of them
 abbrev pub finished : List Token → Option (List Piece) → Option (List Token)

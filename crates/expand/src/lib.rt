@@ -24,7 +24,7 @@ mod token;
 mod word;
 
 pub use kind::Kind;
-pub use laws::words_are_unique;
+pub use laws::{open_quotes_are_not_scanned, words_are_unique};
 pub use lookup::Lookup;
 pub use word::{Word, expand};
 

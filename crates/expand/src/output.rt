@@ -1,16 +1,19 @@
 ghost use Rattle.std.specs.Prelude.{◌≡◌, [], ◌∷◌, ◌++◌, IfOk, encode_utf8};
+ghost use Rattle.std.specs.String.{string_bytes};
 ghost use Rattle.expand.specs.Grammar.{plain_bytes};
 ghost use Rattle.expand.specs.Output.{bytewise, made};
 
 use crate::token::Token;
 use plain::{Items, Memory, Text};
 use std::alloc::Global;
+use std::mem;
 
-/// The tokens of a word in the making, of which the last plain text may still grow.
+/// The tokens of a word in the making, of which the last plain text may still grow. Want of memory ends the making, so what
+/// an output holds behind it doesn't count.
 #[derive(Drop)]
 pub struct Output {
     pub tokens: Items<Token>,
-    pub plain: Text,
+    pub plain: String,
 }
 
 impl Output {
@@ -19,46 +22,46 @@ impl Output {
     {
         Output {
             tokens: Items::new(alloc),
-            plain: Text::from_string(String::new(alloc)),
+            plain: String::new(alloc),
         }
     }
 
     /// Adds a character of plain text.
-    pub fn push_character(self, character: char) -> Result<Output, Memory>
-        ensures { IfOk result (λ output. made output ≡ made self ++ plain_bytes (encode_utf8 character)) }
+    pub fn push_character(&mut self, character: char) -> Result<(), Memory>
+        ensures { IfOk result (λ _. made self.new ≡ made self.old ++ plain_bytes (encode_utf8 character)) }
     {
-        let Output { tokens, plain } = self;
-        let mut text = plain.into_string();
-        text.push(character)?;
-        Ok(Output {
-            tokens,
-            plain: Text::from_string(text),
-        })
+        self.plain.push(character)?;
+        Ok(())
     }
 
     /// Adds a token behind the plain text.
     #[tactic(auto, using(crate::proofs::OutputLemmas::bytewise_more))]
-    pub fn push_token(self, alloc: Global, token: Token) -> Result<Output, Memory>
-        ensures { IfOk result (λ output. made output ≡ made self ++ bytewise (token ∷ [])) }
+    pub fn push_token(&mut self, alloc: Global, token: Token) -> Result<(), Memory>
+        ensures { IfOk result (λ _. made self.new ≡ made self.old ++ bytewise (token ∷ [])) }
     {
-        let mut tokens = self.into_tokens()?;
-        tokens.push(token)?;
-        Ok(Output {
-            tokens,
-            plain: Text::from_string(String::new(alloc)),
-        })
+        self.end_plain(alloc)?;
+        self.tokens.push(token)?;
+        Ok(())
     }
 
     /// The tokens.
-    #[tactic(auto, using(crate::proofs::OutputLemmas::bytewise_plain, crate::proofs::OutputLemmas::bytewise_no_plain))]
-    pub fn into_tokens(self) -> Result<Items<Token>, Memory>
+    pub fn into_tokens(mut self, alloc: Global) -> Result<Items<Token>, Memory>
         ensures { IfOk result (λ tokens. bytewise tokens ≡ made self) }
     {
-        let Output { mut tokens, plain } = self;
-        if plain.len() == 0 {
-            return Ok(tokens);
+        self.end_plain(alloc)?;
+        Ok(self.tokens)
+    }
+
+    /// Makes a token of the plain text.
+    #[tactic(auto, using(crate::proofs::OutputLemmas::bytewise_plain, crate::proofs::OutputLemmas::bytewise_no_plain))]
+    fn end_plain(&mut self, alloc: Global) -> Result<(), Memory>
+        ensures tokens { IfOk result (λ _. bytewise self.new.tokens ≡ made self.old) }
+        ensures plain { IfOk result (λ _. string_bytes self.new.plain ≡ []) }
+    {
+        if !self.plain.is_empty() {
+            let plain = mem::replace(&mut self.plain, String::new(alloc));
+            self.tokens.push(Token::Plain(Text::from_string(plain)))?;
         }
-        tokens.push(Token::Plain(plain))?;
-        Ok(tokens)
+        Ok(())
     }
 }

@@ -15,29 +15,27 @@ use std::alloc::Global;
 pub fn read(alloc: Global, characters: &[Character]) -> Result<Option<Items<Token>>, Memory>
     ensures { IfOk result (λ found. option_map bytewise found ≡ option_map tokens (pieces characters.now)) }
 {
-    let mut reading = Reading {
-        output: Output::new(alloc),
-        depth: 0,
-        begun: Begun::Nothing,
-    };
+    let mut output = Output::new(alloc);
+    let mut reading = Reading::new(0, Begun::Nothing);
     for character in characters {
-        match step(alloc, reading, *character)? {
+        match step(alloc, &mut output, reading, *character)? {
             Some(next) => reading = next,
             None => return Ok(None),
         }
     }
-    finish(alloc, reading)
+    finish(alloc, output, reading)
 }
 
-/// What one more character makes of a reading; none where there is a bad substitution.
-fn step(alloc: Global, reading: Reading, character: Character) -> Result<Option<Reading>, Memory>
-    ensures { IfOk result (IsStep (made reading.output) (step reading.depth reading.begun (sign_of character) character)) }
+/// What one more character makes of a reading and its output; none where there is a bad substitution.
+fn step(
+    alloc: Global,
+    output: &mut Output,
+    reading: Reading,
+    character: Character,
+) -> Result<Option<Reading>, Memory>
+    ensures { IfOk result (IsStep (made output.old) (made output.new) (step reading.depth reading.begun (sign_of character) character)) }
 {
-    let Reading {
-        output,
-        depth,
-        begun,
-    } = reading;
+    let Reading { depth, begun } = reading;
     match begun {
         Begun::Nothing => step_at(alloc, output, depth, character),
         Begun::Started => step_started(alloc, output, depth, character),
@@ -51,34 +49,22 @@ fn step(alloc: Global, reading: Reading, character: Character) -> Result<Option<
 /// Where nothing is begun: a `}` closes the word that was opened last, and is plain text where none is open.
 fn step_at(
     alloc: Global,
-    output: Output,
+    output: &mut Output,
     depth: u8,
     character: Character,
 ) -> Result<Option<Reading>, Memory>
     requires { depth ≤ 32 }
-    ensures { IfOk result (IsStep (made output) (step_at depth (sign_of character) character)) }
+    ensures { IfOk result (IsStep (made output.old) (made output.new) (step_at depth (sign_of character) character)) }
 {
     match character.sign() {
-        Sign::Dollar => Ok(Some(Reading {
-            output,
-            depth,
-            begun: Begun::Started,
-        })),
+        Sign::Dollar => Ok(Some(Reading::new(depth, Begun::Started))),
         Sign::CloseBrace if depth > 0 => {
-            let output = output.push_token(alloc, Token::Close)?;
-            Ok(Some(Reading {
-                output,
-                depth: depth - 1,
-                begun: Begun::Nothing,
-            }))
+            output.push_token(alloc, Token::Close)?;
+            Ok(Some(Reading::new(depth - 1, Begun::Nothing)))
         }
         _ => {
-            let output = output.push_character(character.value())?;
-            Ok(Some(Reading {
-                output,
-                depth,
-                begun: Begun::Nothing,
-            }))
+            output.push_character(character.value())?;
+            Ok(Some(Reading::new(depth, Begun::Nothing)))
         }
     }
 }
@@ -86,30 +72,22 @@ fn step_at(
 /// Behind a `$`, which stands for itself where neither a name nor `{` follows.
 fn step_started(
     alloc: Global,
-    output: Output,
+    output: &mut Output,
     depth: u8,
     character: Character,
 ) -> Result<Option<Reading>, Memory>
     requires { depth ≤ 32 }
-    ensures { IfOk result (IsStep (made output) (step_started depth (sign_of character) character)) }
+    ensures { IfOk result (IsStep (made output.old) (made output.new) (step_started depth (sign_of character) character)) }
 {
     match character.sign() {
         Sign::Letter => {
             let name = one_letter(alloc, character.value())?;
-            Ok(Some(Reading {
-                output,
-                depth,
-                begun: Begun::Bare(name),
-            }))
+            Ok(Some(Reading::new(depth, Begun::Bare(name))))
         }
-        Sign::OpenBrace if depth < DEEPEST => Ok(Some(Reading {
-            output,
-            depth,
-            begun: Begun::Opened,
-        })),
+        Sign::OpenBrace if depth < DEEPEST => Ok(Some(Reading::new(depth, Begun::Opened))),
         Sign::OpenBrace => Ok(None),
         _ => {
-            let output = output.push_character('$')?;
+            output.push_character('$')?;
             step_at(alloc, output, depth, character)
         }
     }
@@ -118,25 +96,21 @@ fn step_started(
 /// Behind `$` and a name so far: the name is the longest.
 fn step_bare(
     alloc: Global,
-    output: Output,
+    output: &mut Output,
     depth: u8,
     name: Text,
     character: Character,
 ) -> Result<Option<Reading>, Memory>
     requires { depth ≤ 32 }
-    ensures { IfOk result (IsStep (made output) (step_bare name depth (sign_of character) character)) }
+    ensures { IfOk result (IsStep (made output.old) (made output.new) (step_bare name depth (sign_of character) character)) }
 {
     match character.sign() {
         Sign::Letter | Sign::Digit => {
             let name = longer(name, character.value())?;
-            Ok(Some(Reading {
-                output,
-                depth,
-                begun: Begun::Bare(name),
-            }))
+            Ok(Some(Reading::new(depth, Begun::Bare(name))))
         }
         _ => {
-            let output = output.push_token(alloc, Token::Variable(name))?;
+            output.push_token(alloc, Token::Variable(name))?;
             step_at(alloc, output, depth, character)
         }
     }
@@ -145,21 +119,17 @@ fn step_bare(
 /// Behind `${`, where a name has to begin.
 fn step_opened(
     alloc: Global,
-    output: Output,
+    output: &mut Output,
     depth: u8,
     character: Character,
 ) -> Result<Option<Reading>, Memory>
     requires { depth < 32 }
-    ensures { IfOk result (IsStep (made output) (step_opened depth (sign_of character) character)) }
+    ensures { IfOk result (IsStep (made output.old) (made output.new) (step_opened depth (sign_of character) character)) }
 {
     match character.sign() {
         Sign::Letter => {
             let name = one_letter(alloc, character.value())?;
-            Ok(Some(Reading {
-                output,
-                depth,
-                begun: Begun::Named(name),
-            }))
+            Ok(Some(Reading::new(depth, Begun::Named(name))))
         }
         _ => Ok(None),
     }
@@ -168,35 +138,23 @@ fn step_opened(
 /// Behind `${` and a name so far, which goes on, or ends before `}` or `:`.
 fn step_named(
     alloc: Global,
-    output: Output,
+    output: &mut Output,
     depth: u8,
     name: Text,
     character: Character,
 ) -> Result<Option<Reading>, Memory>
     requires { depth < 32 }
-    ensures { IfOk result (IsStep (made output) (step_named name depth (sign_of character) character)) }
+    ensures { IfOk result (IsStep (made output.old) (made output.new) (step_named name depth (sign_of character) character)) }
 {
     match character.sign() {
         Sign::Letter | Sign::Digit => {
             let name = longer(name, character.value())?;
-            Ok(Some(Reading {
-                output,
-                depth,
-                begun: Begun::Named(name),
-            }))
+            Ok(Some(Reading::new(depth, Begun::Named(name))))
         }
-        Sign::Colon => Ok(Some(Reading {
-            output,
-            depth,
-            begun: Begun::Coloned(name),
-        })),
+        Sign::Colon => Ok(Some(Reading::new(depth, Begun::Coloned(name)))),
         Sign::CloseBrace => {
-            let output = output.push_token(alloc, Token::Variable(name))?;
-            Ok(Some(Reading {
-                output,
-                depth,
-                begun: Begun::Nothing,
-            }))
+            output.push_token(alloc, Token::Variable(name))?;
+            Ok(Some(Reading::new(depth, Begun::Nothing)))
         }
         _ => Ok(None),
     }
@@ -205,46 +163,42 @@ fn step_named(
 /// Behind `${`, a name and `:`, where a word of its own begins.
 fn step_coloned(
     alloc: Global,
-    output: Output,
+    output: &mut Output,
     depth: u8,
     name: Text,
     character: Character,
 ) -> Result<Option<Reading>, Memory>
     requires { depth < 32 }
-    ensures { IfOk result (IsStep (made output) (step_coloned name depth (sign_of character) character)) }
+    ensures { IfOk result (IsStep (made output.old) (made output.new) (step_coloned name depth (sign_of character) character)) }
 {
     let opening = match character.sign() {
         Sign::Dash => Token::Default(name),
         Sign::Plus => Token::Alternative(name),
         _ => return Ok(None),
     };
-    let output = output.push_token(alloc, opening)?;
-    Ok(Some(Reading {
-        output,
-        depth: depth + 1,
-        begun: Begun::Nothing,
-    }))
+    output.push_token(alloc, opening)?;
+    Ok(Some(Reading::new(depth + 1, Begun::Nothing)))
 }
 
 /// The tokens at the end of the text, where each word has to be closed.
-fn finish(alloc: Global, reading: Reading) -> Result<Option<Items<Token>>, Memory>
-    ensures { IfOk result (λ found. option_map bytewise found ≡ finished (made reading.output) (ended_at_end reading.depth reading.begun)) }
+fn finish(
+    alloc: Global,
+    mut output: Output,
+    reading: Reading,
+) -> Result<Option<Items<Token>>, Memory>
+    ensures { IfOk result (λ found. option_map bytewise found ≡ finished (made output) (ended_at_end reading.depth reading.begun)) }
 {
-    let Reading {
-        output,
-        depth,
-        begun,
-    } = reading;
+    let Reading { depth, begun } = reading;
     if depth > 0 {
         return Ok(None);
     }
-    let output = match begun {
-        Begun::Nothing => output,
+    match begun {
+        Begun::Nothing => {}
         Begun::Started => output.push_character('$')?,
         Begun::Bare(name) => output.push_token(alloc, Token::Variable(name))?,
         Begun::Opened | Begun::Named(_) | Begun::Coloned(_) => return Ok(None),
-    };
-    let tokens = output.into_tokens()?;
+    }
+    let tokens = output.into_tokens(alloc)?;
     Ok(Some(tokens))
 }
 

@@ -1,13 +1,15 @@
 ghost use Rattle.std.specs.Prelude.{◌≡◌, ◌++◌, false, Some, IfOk, option_map};
 ghost use Rattle.expand.specs.Scan.{is_freed};
 ghost use Rattle.expand.specs.Reading.{scanned, bare_from};
-ghost use Rattle.expand.specs.Places.{role_of, place_after, emitted, quoted_from};
+ghost use Rattle.expand.specs.Emitted.{emitted, quoted_from};
+ghost use Rattle.words.specs.declared.class.Place.{Place};
 
 use crate::character::Character;
 use crate::kind::Kind;
 use lines::Escape;
 use plain::Memory;
 use std::alloc::Global;
+use words::{Class, Place};
 
 /// The characters that a text leaves, each marked; none where a quote is open.
 ///
@@ -25,88 +27,29 @@ pub fn scan(
 {
     match kind {
         Kind::Quoted => scan_quoted(alloc, escape, text),
-        Kind::Json => scan_bare(alloc, escape, text),
-        Kind::Body => scan_bare(alloc, escape, text),
+        Kind::Json | Kind::Body => scan_bare(alloc, escape, text),
     }
 }
 
-/// Where a character of a text with quotes stands.
-#[derive(Clone, Copy, Debug, PartialEq, Eq)]
-pub enum Place {
-    Outside,
-    Escaped,
-    Single,
-    Double,
-    DoubleEscaped,
-}
-
-/// What a character is where quotes are known.
-#[derive(Clone, Copy, Debug, PartialEq, Eq)]
-pub enum Role {
-    SingleQuote,
-    DoubleQuote,
-    Dollar,
-    Escape,
-    Other,
-}
-
-#[tactic(auto, unfolding(crate::specs::Places::role_of))]
-fn role_of(escape: Escape, character: char) -> Role
-    ensures { result ≡ role_of escape character }
-{
-    if character == '\'' {
-        Role::SingleQuote
-    } else if character == '"' {
-        Role::DoubleQuote
-    } else if character == '$' {
-        Role::Dollar
-    } else if character == char::from(escape.byte()) {
-        Role::Escape
-    } else {
-        Role::Other
-    }
-}
-
-impl Place {
-    /// Where the character behind one of this role stands.
-    fn after(self, role: Role) -> Place
-        ensures { result ≡ place_after self role }
-    {
-        match (self, role) {
-            (Place::Outside, Role::SingleQuote) => Place::Single,
-            (Place::Outside, Role::DoubleQuote) => Place::Double,
-            (Place::Outside, Role::Escape) => Place::Escaped,
-            (Place::Outside, _) => Place::Outside,
-            (Place::Escaped, _) => Place::Outside,
-            (Place::Single, Role::SingleQuote) => Place::Outside,
-            (Place::Single, _) => Place::Single,
-            (Place::Double, Role::DoubleQuote) => Place::Outside,
-            (Place::Double, Role::Escape) => Place::DoubleEscaped,
-            (Place::Double, _) => Place::Double,
-            (Place::DoubleEscaped, _) => Place::Double,
-        }
-    }
-}
-
-/// Adds what one more character of this role leaves. An escape character is held back until it is known whether it acts.
+/// Adds what one more character of this class leaves. An escape character is held back until it is known whether it acts.
 fn emit(
     found: &mut Vec<Character>,
     escape: Escape,
     place: Place,
-    role: Role,
+    class: Class,
     character: char,
 ) -> Result<(), Memory>
-    ensures { IfOk result (λ _. found.new.items ≡ found.old.items ++ emitted escape place role character) }
+    ensures { IfOk result (λ _. found.new.items ≡ found.old.items ++ emitted escape place class character) }
 {
-    match (place, role) {
-        (Place::Outside, Role::SingleQuote | Role::DoubleQuote | Role::Escape) => {}
+    match (place, class) {
+        (Place::Outside, Class::SingleQuote | Class::DoubleQuote | Class::EscapeCharacter) => {}
         (Place::Outside, _) => found.push(Character::Active(character))?,
         (Place::Escaped, _) => found.push(Character::Literal(character))?,
-        (Place::Single, Role::SingleQuote) => {}
+        (Place::Single, Class::SingleQuote) => {}
         (Place::Single, _) => found.push(Character::Literal(character))?,
-        (Place::Double, Role::DoubleQuote | Role::Escape) => {}
+        (Place::Double, Class::DoubleQuote | Class::EscapeCharacter) => {}
         (Place::Double, _) => found.push(Character::Active(character))?,
-        (Place::DoubleEscaped, Role::DoubleQuote | Role::Dollar | Role::Escape) => {
+        (Place::DoubleEscaped, Class::DoubleQuote | Class::Dollar | Class::EscapeCharacter) => {
             found.push(Character::Literal(character))?
         }
         (Place::DoubleEscaped, _) => {
@@ -124,12 +67,12 @@ fn scan_quoted(
 ) -> Result<Option<Vec<Character>>, Memory>
     ensures { IfOk result (λ found. option_map (λ v. v.items) found ≡ quoted_from escape Place.Outside text.now) }
 {
-    let mut found = Vec::new(alloc);
+    let mut found = Vec::with_capacity(alloc, text.len())?;
     let mut place = Place::Outside;
     for character in text {
-        let role = role_of(escape, *character);
-        emit(&mut found, escape, place, role, *character)?;
-        place = place.after(role);
+        let class = Class::of(escape, *character);
+        emit(&mut found, escape, place, class, *character)?;
+        place = place.after(class);
     }
     match place {
         Place::Outside => Ok(Some(found)),
@@ -137,9 +80,7 @@ fn scan_quoted(
             found.push(Character::Active(char::from(escape.byte())))?;
             Ok(Some(found))
         }
-        Place::Single => Ok(None),
-        Place::Double => Ok(None),
-        Place::DoubleEscaped => Ok(None),
+        Place::Single | Place::Double | Place::DoubleEscaped => Ok(None),
     }
 }
 
@@ -154,7 +95,7 @@ fn scan_bare(alloc: Global, escape: Escape, text: &[char]) -> Result<Option<Vec<
     ensures { IfOk result (λ found. option_map (λ v. v.items) found ≡ Some (bare_from escape false text.now)) }
 {
     let byte = char::from(escape.byte());
-    let mut found = Vec::new(alloc);
+    let mut found = Vec::with_capacity(alloc, text.len())?;
     let mut is_escaped = false;
     for character in text {
         if is_escaped {

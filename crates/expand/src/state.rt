@@ -1,7 +1,6 @@
-ghost use Rattle.std.specs.Prelude.{◌+◌, ◌≤◌};
+ghost use Rattle.std.specs.Prelude.{◌≡◌, ◌+◌, ◌≤◌};
 ghost use Rattle.expand.specs.Depth.{opening};
 
-use crate::output::Output;
 use plain::Text;
 
 /// How deep `${` may stand within one another.
@@ -23,12 +22,22 @@ pub enum Begun {
     Coloned(Text),
 }
 
-/// A word that is read as far as its characters have come.
+/// How far a word is read.
 #[derive(Drop)]
 pub struct Reading {
-    pub output: Output,
     /// How many words are open.
     pub depth: u8,
     pub begun: Begun,
     ghost within: { depth + opening begun ≤ 32 },
+}
+
+impl Reading {
+    /// So many words are open, and this is begun.
+    pub fn new(depth: u8, begun: Begun) -> Reading
+        requires { depth + opening begun ≤ 32 }
+        ensures depth { result.depth ≡ depth }
+        ensures begun { result.begun ≡ begun }
+    {
+        Reading { depth, begun }
+    }
 }

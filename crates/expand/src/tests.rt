@@ -351,3 +351,9 @@ fn a_value_of_a_mebibyte(rt: HostRuntime) -> Result<(), Fail> {
     assert!(rt; matches!(past, Err(Fault::Refused(Code::R18))));
     Ok(())
 }
+
+#[test]
+fn laws_hold(_rt: HostRuntime) {
+    words_are_unique();
+    open_quotes_are_not_scanned();
+}

@@ -6,14 +6,14 @@ use crate::Escape;
 use plain::Memory;
 use std::alloc::Global;
 
-/// Whether a byte is a blank: a space or a tab.
+/// Whether a byte is a blank: a space or a tab, and no other (own).
 pub fn is_blank(byte: u8) -> bool
     ensures { result ≡ is_blank byte }
 {
     byte == b' ' || byte == b'\t'
 }
 
-/// A text without its leading blanks.
+/// A text without its leading blanks. Of a text of blanks alone it is empty.
 pub fn after_blanks(text: &str) -> &str
     ensures { result.now ≡ after_blanks text.now }
 {

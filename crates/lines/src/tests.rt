@@ -393,6 +393,21 @@ fn largest_dockerfile(rt: HostRuntime) -> Result<(), Fail> {
 }
 
 #[test]
+fn blanks_are_spaces_and_tabs(rt: HostRuntime) {
+    for (text, wanted) in [
+        ("", ""),
+        (" \t ", ""),
+        ("\t a b ", "a b "),
+        ("\ra", "\ra"),
+        ("\u{a0} a", "\u{a0} a"),
+    ] {
+        assert!(rt; after_blanks(text) == wanted, "at {text}");
+    }
+    assert!(rt; is_blank(b'\t'));
+    assert!(rt; !is_blank(b'\n'));
+}
+
+#[test]
 fn lines_are_exact(rt: HostRuntime) -> Result<(), Fail> {
     let alloc = rt.alloc();
     let lines = answer(alloc, b"COPY <<-'E' <<F /d\nx\nE\nF".as_slice(), 4096)?;

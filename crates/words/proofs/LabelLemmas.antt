@@ -5,15 +5,15 @@ use Rattle.std.proofs.lemmas.List.{take_more, at_drop_more}
 use Rattle.lines.specs.declared.line.Escape.{Escape}
 use Rattle.lines.specs.declared.line.Escape.TheVariants.{Backslash, Backtick}
 use Rattle.words.specs.declared.class.Class.{Class}
-use Rattle.words.specs.declared.class.Class.TheVariants.{Blank, SingleQuote, DoubleQuote, Dollar, Equals, EscapeCharacter, Other}
+use Rattle.words.specs.declared.class.Class.TheVariants.{Blank, SingleQuote, DoubleQuote, Dollar, Equals, Other}
 use Rattle.words.specs.declared.class.Place.{Place}
-use Rattle.words.specs.declared.class.Place.TheVariants.{Outside, Escaped, Single, Double, DoubleEscaped}
+use Rattle.words.specs.declared.class.Place.TheVariants.{Outside}
 use Rattle.words.specs.Parts.{class_of, Part, part_text, written}
 use Rattle.words.specs.Reading.{Begun, nothing, escaping, in_single, in_double, in_double_escaping, ended_by, begun_by, ended_at_end, parts_from, parts}
 use Rattle.words.specs.PartLaws.{Means, means, means_at, begun_text, begun_more, written-parts_from}
 use Rattle.words.specs.Places.{place_after, splits}
 use Rattle.words.specs.Pairs.{is_equals, cut_parts, label_pair}
-use Rattle.words.proofs.WordLemmas.{place_of, place_more}
+use Rattle.words.specs.PlaceLaws.{place_of, place_more}
 
 -- a word cut, of which `front` was read
 abbrev pub label_from : Escape → Place → List ℕ → List ℕ → Option (List ℕ × List ℕ)
@@ -50,40 +50,16 @@ is_dollar c h = ap (λ x. x == 61) h
 
 uncut_more : (e : Escape) (b : Begun) (k : Class) (c : ℕ) → Means e k c → splits (place_of b) k ≡ false → AreUncut (ended_by b k c)
 uncut_more e nothing Blank c m h = (refl, tt)
-uncut_more e nothing SingleQuote c m h = tt
-uncut_more e nothing DoubleQuote c m h = tt
 uncut_more e nothing Dollar c m h = (is_dollar c m, tt)
 uncut_more e nothing Equals c m h = absurd (true≢false h)
-uncut_more e nothing EscapeCharacter c m h = tt
 uncut_more e nothing Other c m h = (m, tt)
-uncut_more e escaping Blank c m h = (refl, tt)
-uncut_more e escaping SingleQuote c m h = (refl, tt)
-uncut_more e escaping DoubleQuote c m h = (refl, tt)
-uncut_more e escaping Dollar c m h = (refl, tt)
-uncut_more e escaping Equals c m h = (refl, tt)
-uncut_more e escaping EscapeCharacter c m h = (refl, tt)
-uncut_more e escaping Other c m h = (refl, tt)
-uncut_more e (in_single ds) Blank c m h = tt
+uncut_more e nothing _ c m h = tt
+uncut_more e escaping k c m h = (refl, tt)
 uncut_more e (in_single ds) SingleQuote c m h = (refl, tt)
-uncut_more e (in_single ds) DoubleQuote c m h = tt
-uncut_more e (in_single ds) Dollar c m h = tt
-uncut_more e (in_single ds) Equals c m h = tt
-uncut_more e (in_single ds) EscapeCharacter c m h = tt
-uncut_more e (in_single ds) Other c m h = tt
-uncut_more e (in_double hs) Blank c m h = tt
-uncut_more e (in_double hs) SingleQuote c m h = tt
+uncut_more e (in_single ds) _ c m h = tt
 uncut_more e (in_double hs) DoubleQuote c m h = (refl, tt)
-uncut_more e (in_double hs) Dollar c m h = tt
-uncut_more e (in_double hs) Equals c m h = tt
-uncut_more e (in_double hs) EscapeCharacter c m h = tt
-uncut_more e (in_double hs) Other c m h = tt
-uncut_more e (in_double_escaping hs) Blank c m h = tt
-uncut_more e (in_double_escaping hs) SingleQuote c m h = tt
-uncut_more e (in_double_escaping hs) DoubleQuote c m h = tt
-uncut_more e (in_double_escaping hs) Dollar c m h = tt
-uncut_more e (in_double_escaping hs) Equals c m h = tt
-uncut_more e (in_double_escaping hs) EscapeCharacter c m h = tt
-uncut_more e (in_double_escaping hs) Other c m h = tt
+uncut_more e (in_double hs) _ c m h = tt
+uncut_more e (in_double_escaping hs) k c m h = tt
 
 uncut_at_end : (e : Escape) (b : Begun) → AreUncut (ended_at_end e b)
 uncut_at_end e nothing = tt
@@ -111,41 +87,8 @@ equals_at : (c : ℕ) → c ≡ 61 → (c == 61) ≡ true
 equals_at c h = ap (λ x. x == 61) h
 
 label_splits : (e : Escape) (front : List ℕ) (b : Begun) (k : Class) (c : ℕ) (cs : List ℕ) → Means e k c → splits (place_of b) k ≡ true → LabelsTo e true front b k c cs
-label_splits e front nothing Blank c cs m h = absurd (true≢false (sym h))
-label_splits e front nothing SingleQuote c cs m h = absurd (true≢false (sym h))
-label_splits e front nothing DoubleQuote c cs m h = absurd (true≢false (sym h))
-label_splits e front nothing Dollar c cs m h = absurd (true≢false (sym h))
 label_splits e front nothing Equals c cs m h = splits_at e front c cs (c == 61) refl (equals_at c m)
-label_splits e front nothing EscapeCharacter c cs m h = absurd (true≢false (sym h))
-label_splits e front nothing Other c cs m h = absurd (true≢false (sym h))
-label_splits e front escaping Blank c cs m h = absurd (true≢false (sym h))
-label_splits e front escaping SingleQuote c cs m h = absurd (true≢false (sym h))
-label_splits e front escaping DoubleQuote c cs m h = absurd (true≢false (sym h))
-label_splits e front escaping Dollar c cs m h = absurd (true≢false (sym h))
-label_splits e front escaping Equals c cs m h = absurd (true≢false (sym h))
-label_splits e front escaping EscapeCharacter c cs m h = absurd (true≢false (sym h))
-label_splits e front escaping Other c cs m h = absurd (true≢false (sym h))
-label_splits e front (in_single ds) Blank c cs m h = absurd (true≢false (sym h))
-label_splits e front (in_single ds) SingleQuote c cs m h = absurd (true≢false (sym h))
-label_splits e front (in_single ds) DoubleQuote c cs m h = absurd (true≢false (sym h))
-label_splits e front (in_single ds) Dollar c cs m h = absurd (true≢false (sym h))
-label_splits e front (in_single ds) Equals c cs m h = absurd (true≢false (sym h))
-label_splits e front (in_single ds) EscapeCharacter c cs m h = absurd (true≢false (sym h))
-label_splits e front (in_single ds) Other c cs m h = absurd (true≢false (sym h))
-label_splits e front (in_double hs) Blank c cs m h = absurd (true≢false (sym h))
-label_splits e front (in_double hs) SingleQuote c cs m h = absurd (true≢false (sym h))
-label_splits e front (in_double hs) DoubleQuote c cs m h = absurd (true≢false (sym h))
-label_splits e front (in_double hs) Dollar c cs m h = absurd (true≢false (sym h))
-label_splits e front (in_double hs) Equals c cs m h = absurd (true≢false (sym h))
-label_splits e front (in_double hs) EscapeCharacter c cs m h = absurd (true≢false (sym h))
-label_splits e front (in_double hs) Other c cs m h = absurd (true≢false (sym h))
-label_splits e front (in_double_escaping hs) Blank c cs m h = absurd (true≢false (sym h))
-label_splits e front (in_double_escaping hs) SingleQuote c cs m h = absurd (true≢false (sym h))
-label_splits e front (in_double_escaping hs) DoubleQuote c cs m h = absurd (true≢false (sym h))
-label_splits e front (in_double_escaping hs) Dollar c cs m h = absurd (true≢false (sym h))
-label_splits e front (in_double_escaping hs) Equals c cs m h = absurd (true≢false (sym h))
-label_splits e front (in_double_escaping hs) EscapeCharacter c cs m h = absurd (true≢false (sym h))
-label_splits e front (in_double_escaping hs) Other c cs m h = absurd (true≢false (sym h))
+label_splits e front _ _ c cs m h = absurd (true≢false (sym h))
 
 label_goes_on : (e : Escape) (front : List ℕ) (b : Begun) (k : Class) (c : ℕ) (cs : List ℕ) → Means e k c → splits (place_of b) k ≡ false
     → label_from e (place_of (begun_by e b k c)) ((front ++ written e (ended_by b k c)) ++ begun_text e (begun_by e b k c)) cs ≡ behind (front ++ written e (ended_by b k c)) (cut_parts e (parts_from e (begun_by e b k c) cs))
@@ -193,41 +136,8 @@ label_from-more e p q k word i is h to l =
 
 -- a character that splits is an `=`
 split_by : (p : Place) (k : Class) → splits p k ≡ true → k ≡ Equals
-split_by Outside Blank h = absurd (true≢false (sym h))
-split_by Outside SingleQuote h = absurd (true≢false (sym h))
-split_by Outside DoubleQuote h = absurd (true≢false (sym h))
-split_by Outside Dollar h = absurd (true≢false (sym h))
 split_by Outside Equals h = refl
-split_by Outside EscapeCharacter h = absurd (true≢false (sym h))
-split_by Outside Other h = absurd (true≢false (sym h))
-split_by Escaped Blank h = absurd (true≢false (sym h))
-split_by Escaped SingleQuote h = absurd (true≢false (sym h))
-split_by Escaped DoubleQuote h = absurd (true≢false (sym h))
-split_by Escaped Dollar h = absurd (true≢false (sym h))
-split_by Escaped Equals h = absurd (true≢false (sym h))
-split_by Escaped EscapeCharacter h = absurd (true≢false (sym h))
-split_by Escaped Other h = absurd (true≢false (sym h))
-split_by Single Blank h = absurd (true≢false (sym h))
-split_by Single SingleQuote h = absurd (true≢false (sym h))
-split_by Single DoubleQuote h = absurd (true≢false (sym h))
-split_by Single Dollar h = absurd (true≢false (sym h))
-split_by Single Equals h = absurd (true≢false (sym h))
-split_by Single EscapeCharacter h = absurd (true≢false (sym h))
-split_by Single Other h = absurd (true≢false (sym h))
-split_by Double Blank h = absurd (true≢false (sym h))
-split_by Double SingleQuote h = absurd (true≢false (sym h))
-split_by Double DoubleQuote h = absurd (true≢false (sym h))
-split_by Double Dollar h = absurd (true≢false (sym h))
-split_by Double Equals h = absurd (true≢false (sym h))
-split_by Double EscapeCharacter h = absurd (true≢false (sym h))
-split_by Double Other h = absurd (true≢false (sym h))
-split_by DoubleEscaped Blank h = absurd (true≢false (sym h))
-split_by DoubleEscaped SingleQuote h = absurd (true≢false (sym h))
-split_by DoubleEscaped DoubleQuote h = absurd (true≢false (sym h))
-split_by DoubleEscaped Dollar h = absurd (true≢false (sym h))
-split_by DoubleEscaped Equals h = absurd (true≢false (sym h))
-split_by DoubleEscaped EscapeCharacter h = absurd (true≢false (sym h))
-split_by DoubleEscaped Other h = absurd (true≢false (sym h))
+split_by _ _ h = absurd (true≢false (sym h))
 
 ascii_equals : (c : ℕ) → c ≡ 61 → c < 128
 ascii_equals c h = omega arith

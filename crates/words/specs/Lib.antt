@@ -5,5 +5,6 @@ pub mod PartLaws
 pub mod Parts
 pub mod PieceLaws
 pub mod Pieces
+pub mod PlaceLaws
 pub mod Places
 pub mod Reading

@@ -1,7 +1,7 @@
 use Rattle.std.specs.Prelude.{◌≡◌, ℕ, Bool, false, List, [], ◌∷◌, ◌++◌, ◌==◌, if◌then◌else◌, Option, Some, None, option_map, length}
 use Rattle.std.specs.List.{position_or_len, before_first, after_first}
 use Rattle.lines.specs.declared.line.Escape.{Escape}
-use Rattle.words.specs.Parts.{Part, IsMadeOf, blank, plain, escaped, single, double, open_single, open_double, part_text, written}
+use Rattle.words.specs.Parts.{Part, IsMadeOf, plain, part_text, written}
 use Rattle.words.specs.Reading.{parts}
 
 -- a word cut at its first `=` (Dockerfile reference, ENV and ARG)
@@ -10,13 +10,8 @@ pair word = if position_or_len (λ c. c == 61) word == length word then None els
 
 -- whether a part is an `=` outside quotes that isn't escaped
 abbrev pub is_equals : Part → Bool
-is_equals (blank c) = false
 is_equals (plain c) = c == 61
-is_equals (escaped c) = false
-is_equals (single cs) = false
-is_equals (double hs) = false
-is_equals (open_single cs) = false
-is_equals (open_double hs) = false
+is_equals _ = false
 
 -- parts cut at the first such `=`: what is written before it, and behind it
 abbrev pub cut_parts : Escape → List Part → Option (List ℕ × List ℕ)

@@ -93,41 +93,20 @@ double_ended ts c h = ap (λ x. 34 ∷ (ts ++ x ∷ [])) h ∙ sym (append-nil _
 
 -- one more character is written once
 pub begun_more : (e : Escape) (b : Begun) (k : Class) (c : ℕ) → Means e k c → begun_text e b ++ c ∷ [] ≡ written e (ended_by b k c) ++ begun_text e (begun_by e b k c)
-begun_more e nothing Blank c m = refl
 begun_more e nothing SingleQuote c m = ap (λ x. x ∷ []) m
 begun_more e nothing DoubleQuote c m = ap (λ x. x ∷ []) m
-begun_more e nothing Dollar c m = refl
-begun_more e nothing Equals c m = refl
 begun_more e nothing EscapeCharacter c m = ap (λ x. x ∷ []) m
-begun_more e nothing Other c m = refl
-begun_more e escaping Blank c m = refl
-begun_more e escaping SingleQuote c m = refl
-begun_more e escaping DoubleQuote c m = refl
-begun_more e escaping Dollar c m = refl
-begun_more e escaping Equals c m = refl
-begun_more e escaping EscapeCharacter c m = refl
-begun_more e escaping Other c m = refl
-begun_more e (in_single cs) Blank c m = refl
+begun_more e nothing _ c m = refl
+begun_more e escaping k c m = refl
 begun_more e (in_single cs) SingleQuote c m = single_ended cs c m
-begun_more e (in_single cs) DoubleQuote c m = refl
-begun_more e (in_single cs) Dollar c m = refl
-begun_more e (in_single cs) Equals c m = refl
-begun_more e (in_single cs) EscapeCharacter c m = refl
-begun_more e (in_single cs) Other c m = refl
-begun_more e (in_double hs) Blank c m = held_more e hs (kept c)
-begun_more e (in_double hs) SingleQuote c m = held_more e hs (kept c)
+begun_more e (in_single cs) _ c m = refl
 begun_more e (in_double hs) DoubleQuote c m = double_ended (held_text e hs) c m
-begun_more e (in_double hs) Dollar c m = held_more e hs (kept c)
-begun_more e (in_double hs) Equals c m = held_more e hs (kept c)
 begun_more e (in_double hs) EscapeCharacter c m = ap (λ x. 34 ∷ (held_text e hs ++ x ∷ [])) m
-begun_more e (in_double hs) Other c m = held_more e hs (kept c)
-begun_more e (in_double_escaping hs) Blank c m = held_two e hs c
-begun_more e (in_double_escaping hs) SingleQuote c m = held_two e hs c
+begun_more e (in_double hs) _ c m = held_more e hs (kept c)
 begun_more e (in_double_escaping hs) DoubleQuote c m = held_freed e hs c
 begun_more e (in_double_escaping hs) Dollar c m = held_freed e hs c
-begun_more e (in_double_escaping hs) Equals c m = held_two e hs c
 begun_more e (in_double_escaping hs) EscapeCharacter c m = held_freed e hs c
-begun_more e (in_double_escaping hs) Other c m = held_two e hs c
+begun_more e (in_double_escaping hs) _ c m = held_two e hs c
 
 begun_at_end : (e : Escape) (b : Begun) → written e (ended_at_end e b) ≡ begun_text e b ++ []
 begun_at_end e nothing = refl
@@ -186,81 +165,34 @@ idle_more e hs c k h a j i behind =
     (subst (λ (l : Class). IsKept e l behind) (sym h) (j behind), tt)
 
 sound_more : (e : Escape) (b : Begun) (c : ℕ) (k : Class) → class_of e c ≡ k → IsSound e b → IsSound e (begun_by e b k c)
-sound_more e nothing c Blank h i = tt
-sound_more e nothing c SingleQuote h i = tt
 sound_more e nothing c DoubleQuote h i = λ behind. tt
-sound_more e nothing c Dollar h i = tt
-sound_more e nothing c Equals h i = tt
-sound_more e nothing c EscapeCharacter h i = tt
-sound_more e nothing c Other h i = tt
-sound_more e escaping c Blank h i = tt
-sound_more e escaping c SingleQuote h i = tt
-sound_more e escaping c DoubleQuote h i = tt
-sound_more e escaping c Dollar h i = tt
-sound_more e escaping c Equals h i = tt
-sound_more e escaping c EscapeCharacter h i = tt
-sound_more e escaping c Other h i = tt
-sound_more e (in_single cs) c Blank h i = AreInSingle-more e cs c (ap is_single h) i
+sound_more e nothing c _ h i = tt
+sound_more e escaping c k h i = tt
 sound_more e (in_single cs) c SingleQuote h i = tt
-sound_more e (in_single cs) c DoubleQuote h i = AreInSingle-more e cs c (ap is_single h) i
-sound_more e (in_single cs) c Dollar h i = AreInSingle-more e cs c (ap is_single h) i
-sound_more e (in_single cs) c Equals h i = AreInSingle-more e cs c (ap is_single h) i
-sound_more e (in_single cs) c EscapeCharacter h i = AreInSingle-more e cs c (ap is_single h) i
-sound_more e (in_single cs) c Other h i = AreInSingle-more e cs c (ap is_single h) i
-sound_more e (in_double hs) c Blank h i = kept_more e hs c Blank h i (λ behind. tt)
-sound_more e (in_double hs) c SingleQuote h i = kept_more e hs c SingleQuote h i (λ behind. tt)
+sound_more e (in_single cs) c _ h i = AreInSingle-more e cs c (ap is_single h) i
 sound_more e (in_double hs) c DoubleQuote h i = tt
-sound_more e (in_double hs) c Dollar h i = kept_more e hs c Dollar h i (λ behind. tt)
-sound_more e (in_double hs) c Equals h i = kept_more e hs c Equals h i (λ behind. tt)
 sound_more e (in_double hs) c EscapeCharacter h i = i
-sound_more e (in_double hs) c Other h i = kept_more e hs c Other h i (λ behind. tt)
-sound_more e (in_double_escaping hs) c Blank h i = idle_more e hs c Blank h refl (λ behind. tt) i
-sound_more e (in_double_escaping hs) c SingleQuote h i = idle_more e hs c SingleQuote h refl (λ behind. tt) i
+sound_more e (in_double hs) c k h i = kept_more e hs c k h i (λ behind. tt)
 sound_more e (in_double_escaping hs) c DoubleQuote h i = freed_more e hs c (ap acts_before h) i
 sound_more e (in_double_escaping hs) c Dollar h i = freed_more e hs c (ap acts_before h) i
-sound_more e (in_double_escaping hs) c Equals h i = idle_more e hs c Equals h refl (λ behind. tt) i
 sound_more e (in_double_escaping hs) c EscapeCharacter h i = freed_more e hs c (ap acts_before h) i
-sound_more e (in_double_escaping hs) c Other h i = idle_more e hs c Other h refl (λ behind. tt) i
+sound_more e (in_double_escaping hs) c k h i = idle_more e hs c k h refl (λ behind. tt) i
 
 stand_plain : (e : Escape) (c : ℕ) (k : Class) (ps : List Part) → class_of e c ≡ k → IsPlain k ps → IsPlain (class_of e c) ps
 stand_plain e c k ps h i = subst (λ (l : Class). IsPlain l ps) (sym h) i
 
 stand_more : (e : Escape) (b : Begun) (c : ℕ) (k : Class) (ps : List Part) → class_of e c ≡ k → IsSound e b → AllStand e ps → AllStand e (ended_by b k c ++ ps)
 stand_more e nothing c Blank ps h i j = (h, j)
-stand_more e nothing c SingleQuote ps h i j = j
-stand_more e nothing c DoubleQuote ps h i j = j
 stand_more e nothing c Dollar ps h i j = (stand_plain e c Dollar ps h tt, j)
 stand_more e nothing c Equals ps h i j = (stand_plain e c Equals ps h tt, j)
-stand_more e nothing c EscapeCharacter ps h i j = j
 stand_more e nothing c Other ps h i j = (stand_plain e c Other ps h tt, j)
-stand_more e escaping c Blank ps h i j = (tt, j)
-stand_more e escaping c SingleQuote ps h i j = (tt, j)
-stand_more e escaping c DoubleQuote ps h i j = (tt, j)
-stand_more e escaping c Dollar ps h i j = (tt, j)
-stand_more e escaping c Equals ps h i j = (tt, j)
-stand_more e escaping c EscapeCharacter ps h i j = (tt, j)
-stand_more e escaping c Other ps h i j = (tt, j)
-stand_more e (in_single cs) c Blank ps h i j = j
+stand_more e nothing c _ ps h i j = j
+stand_more e escaping c k ps h i j = (tt, j)
 stand_more e (in_single cs) c SingleQuote ps h i j = (i, j)
-stand_more e (in_single cs) c DoubleQuote ps h i j = j
-stand_more e (in_single cs) c Dollar ps h i j = j
-stand_more e (in_single cs) c Equals ps h i j = j
-stand_more e (in_single cs) c EscapeCharacter ps h i j = j
-stand_more e (in_single cs) c Other ps h i j = j
-stand_more e (in_double hs) c Blank ps h i j = j
-stand_more e (in_double hs) c SingleQuote ps h i j = j
+stand_more e (in_single cs) c _ ps h i j = j
 stand_more e (in_double hs) c DoubleQuote ps h i j = (i (34 ∷ written e ps), j)
-stand_more e (in_double hs) c Dollar ps h i j = j
-stand_more e (in_double hs) c Equals ps h i j = j
-stand_more e (in_double hs) c EscapeCharacter ps h i j = j
-stand_more e (in_double hs) c Other ps h i j = j
-stand_more e (in_double_escaping hs) c Blank ps h i j = j
-stand_more e (in_double_escaping hs) c SingleQuote ps h i j = j
-stand_more e (in_double_escaping hs) c DoubleQuote ps h i j = j
-stand_more e (in_double_escaping hs) c Dollar ps h i j = j
-stand_more e (in_double_escaping hs) c Equals ps h i j = j
-stand_more e (in_double_escaping hs) c EscapeCharacter ps h i j = j
-stand_more e (in_double_escaping hs) c Other ps h i j = j
+stand_more e (in_double hs) c _ ps h i j = j
+stand_more e (in_double_escaping hs) c k ps h i j = j
 
 stand_at_end : (e : Escape) (b : Begun) → IsSound e b → AllStand e (ended_at_end e b)
 stand_at_end e nothing i = tt
@@ -286,13 +218,8 @@ pub parts_from-at : (e : Escape) (b : Begun) (c : ℕ) (cs : List ℕ) (k : Clas
 parts_from-at e b c cs k h = ap (λ (l : Class). ended_by b l c ++ parts_from e (begun_by e b l c) cs) h
 
 single_one : (e : Escape) (ds : List ℕ) (c : ℕ) (cs : List ℕ) (k : Class) → class_of e c ≡ k → is_single k ≡ false → parts_from e (in_single ds) (c ∷ cs) ≡ parts_from e (in_single (ds ++ c ∷ [])) cs
-single_one e ds c cs Blank h i = parts_from-at e (in_single ds) c cs Blank h
 single_one e ds c cs SingleQuote h i = absurd (true≢false i)
-single_one e ds c cs DoubleQuote h i = parts_from-at e (in_single ds) c cs DoubleQuote h
-single_one e ds c cs Dollar h i = parts_from-at e (in_single ds) c cs Dollar h
-single_one e ds c cs Equals h i = parts_from-at e (in_single ds) c cs Equals h
-single_one e ds c cs EscapeCharacter h i = parts_from-at e (in_single ds) c cs EscapeCharacter h
-single_one e ds c cs Other h i = parts_from-at e (in_single ds) c cs Other h
+single_one e ds c cs k h i = parts_from-at e (in_single ds) c cs k h
 
 single_read : (e : Escape) (ds cs rest : List ℕ) → AreInSingle e cs → parts_from e (in_single ds) (cs ++ rest) ≡ parts_from e (in_single (ds ++ cs)) rest
 single_read e ds [] rest h = ap (λ t. parts_from e (in_single t) rest) (sym (append-nil ds))
@@ -302,35 +229,25 @@ single_read e ds (c ∷ cs) rest h =
 
 idle_one : (e : Escape) (gs : List Held) (c : ℕ) (cs : List ℕ) (k : Class) → class_of e c ≡ k → acts_before k ≡ false
     → parts_from e (in_double_escaping gs) (c ∷ cs) ≡ parts_from e (in_double (gs ++ kept (byte_of e) ∷ [])) (c ∷ cs)
-idle_one e gs c cs Blank h i = parts_from-at e (in_double_escaping gs) c cs Blank h ∙ sym (parts_from-at e (in_double (gs ++ kept (byte_of e) ∷ [])) c cs Blank h)
-idle_one e gs c cs SingleQuote h i = parts_from-at e (in_double_escaping gs) c cs SingleQuote h ∙ sym (parts_from-at e (in_double (gs ++ kept (byte_of e) ∷ [])) c cs SingleQuote h)
 idle_one e gs c cs DoubleQuote h i = absurd (true≢false i)
 idle_one e gs c cs Dollar h i = absurd (true≢false i)
-idle_one e gs c cs Equals h i = parts_from-at e (in_double_escaping gs) c cs Equals h ∙ sym (parts_from-at e (in_double (gs ++ kept (byte_of e) ∷ [])) c cs Equals h)
 idle_one e gs c cs EscapeCharacter h i = absurd (true≢false i)
-idle_one e gs c cs Other h i = parts_from-at e (in_double_escaping gs) c cs Other h ∙ sym (parts_from-at e (in_double (gs ++ kept (byte_of e) ∷ [])) c cs Other h)
+idle_one e gs c cs k h i = parts_from-at e (in_double_escaping gs) c cs k h ∙ sym (parts_from-at e (in_double (gs ++ kept (byte_of e) ∷ [])) c cs k h)
 
 idle_read : (e : Escape) (gs : List Held) (rest : List ℕ) → IsIdleBefore e rest → parts_from e (in_double_escaping gs) rest ≡ parts_from e (in_double (gs ++ kept (byte_of e) ∷ [])) rest
 idle_read e gs [] h = refl
 idle_read e gs (c ∷ cs) h = idle_one e gs c cs (class_of e c) refl h
 
 kept_one : (e : Escape) (gs : List Held) (c : ℕ) (rest : List ℕ) (k : Class) → class_of e c ≡ k → IsKept e k rest → parts_from e (in_double gs) (c ∷ rest) ≡ parts_from e (in_double (gs ++ kept c ∷ [])) rest
-kept_one e gs c rest Blank h i = parts_from-at e (in_double gs) c rest Blank h
-kept_one e gs c rest SingleQuote h i = parts_from-at e (in_double gs) c rest SingleQuote h
 kept_one e gs c rest DoubleQuote h i = absurd i
-kept_one e gs c rest Dollar h i = parts_from-at e (in_double gs) c rest Dollar h
-kept_one e gs c rest Equals h i = parts_from-at e (in_double gs) c rest Equals h
 kept_one e gs c rest EscapeCharacter h i = parts_from-at e (in_double gs) c rest EscapeCharacter h ∙ idle_read e gs rest i ∙ ap (λ x. parts_from e (in_double (gs ++ kept x ∷ [])) rest) (sym (means_at e c EscapeCharacter h))
-kept_one e gs c rest Other h i = parts_from-at e (in_double gs) c rest Other h
+kept_one e gs c rest k h i = parts_from-at e (in_double gs) c rest k h
 
 freed_one : (e : Escape) (gs : List Held) (c : ℕ) (rest : List ℕ) (k : Class) → class_of e c ≡ k → acts_before k ≡ true → parts_from e (in_double_escaping gs) (c ∷ rest) ≡ parts_from e (in_double (gs ++ freed c ∷ [])) rest
-freed_one e gs c rest Blank h i = absurd (true≢false (sym i))
-freed_one e gs c rest SingleQuote h i = absurd (true≢false (sym i))
 freed_one e gs c rest DoubleQuote h i = parts_from-at e (in_double_escaping gs) c rest DoubleQuote h
 freed_one e gs c rest Dollar h i = parts_from-at e (in_double_escaping gs) c rest Dollar h
-freed_one e gs c rest Equals h i = absurd (true≢false (sym i))
 freed_one e gs c rest EscapeCharacter h i = parts_from-at e (in_double_escaping gs) c rest EscapeCharacter h
-freed_one e gs c rest Other h i = absurd (true≢false (sym i))
+freed_one e gs c rest _ h i = absurd (true≢false (sym i))
 
 double_read : (e : Escape) (gs hs : List Held) (rest : List ℕ) → AreInDouble e hs rest → parts_from e (in_double gs) (held_text e hs ++ rest) ≡ parts_from e (in_double (gs ++ hs)) rest
 double_read e gs [] rest h = ap (λ t. parts_from e (in_double t) rest) (sym (append-nil gs))
@@ -343,13 +260,11 @@ double_read e gs (freed c ∷ hs) rest h =
     ∙ ap (λ t. parts_from e (in_double t) rest) (append_assoc gs (freed c ∷ []) hs)
 
 plain_read : (e : Escape) (c : ℕ) (ps : List Part) (k : Class) → class_of e c ≡ k → IsPlain k ps → parts_from e nothing (written e ps) ≡ ps → parts_from e nothing (c ∷ written e ps) ≡ plain c ∷ ps
-plain_read e c ps Blank h i j = absurd i
-plain_read e c ps SingleQuote h i j = absurd i
-plain_read e c ps DoubleQuote h i j = absurd i
 plain_read e c ps Dollar h i j = parts_from-at e nothing c (written e ps) Dollar h ∙ ap (λ (qs : List Part). plain c ∷ qs) j
 plain_read e c ps Equals h i j = parts_from-at e nothing c (written e ps) Equals h ∙ ap (λ (qs : List Part). plain c ∷ qs) j
 plain_read e c ps EscapeCharacter h i j = parts_from-at e nothing c (written e ps) EscapeCharacter h ∙ ap (λ (qs : List Part). parts_from e escaping (written e qs)) i ∙ ap₂ (λ x (qs : List Part). plain x ∷ qs) (sym (means_at e c EscapeCharacter h)) (sym i)
 plain_read e c ps Other h i j = parts_from-at e nothing c (written e ps) Other h ∙ ap (λ (qs : List Part). plain c ∷ qs) j
+plain_read e c ps _ h i j = absurd i
 
 part_read : (e : Escape) (p : Part) (ps : List Part) → Stands e p ps → parts_from e nothing (written e ps) ≡ ps → parts_from e nothing (part_text e p ++ written e ps) ≡ p ∷ ps
 part_read e (blank c) ps h j = parts_from-at e nothing c (written e ps) Blank h ∙ ap (λ (qs : List Part). blank c ∷ qs) j
@@ -429,12 +344,10 @@ blank_only e c h b = true≢false (sym (means_at e c Blank h) ∙ b)
 
 bare_other : (e : Escape) (c : ℕ) (cs : List ℕ) (k : Class) → class_of e c ≡ k → is_bare k ≡ true → is_blank c ≡ false → parts_from e nothing (c ∷ cs) ≡ plain c ∷ parts_from e nothing cs
 bare_other e c cs Blank h i b = absurd (blank_only e c h b)
-bare_other e c cs SingleQuote h i b = absurd (true≢false (sym i))
-bare_other e c cs DoubleQuote h i b = absurd (true≢false (sym i))
 bare_other e c cs Dollar h i b = parts_from-at e nothing c cs Dollar h
 bare_other e c cs Equals h i b = parts_from-at e nothing c cs Equals h
-bare_other e c cs EscapeCharacter h i b = absurd (true≢false (sym i))
 bare_other e c cs Other h i b = parts_from-at e nothing c cs Other h
+bare_other e c cs _ h i b = absurd (true≢false (sym i))
 
 bare_by : (e : Escape) (word : List ℕ) (c : ℕ) (cs : List ℕ) (b : Bool) → is_blank c ≡ b → is_bare (class_of e c) ≡ true
     → words_among e [] (parts_from e nothing cs) ≡ pieces_from [] cs → words_among e (word ++ c ∷ []) (parts_from e nothing cs) ≡ pieces_from (word ++ c ∷ []) cs

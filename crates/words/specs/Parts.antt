@@ -54,23 +54,16 @@ written e (p ∷ ps) = part_text e p ++ written e ps
 -- a character that stands for itself outside quotes is no blank and no quote, and the escape character only where
 -- nothing follows it
 abbrev pub IsPlain : Class → List Part → Type 0
-IsPlain Blank ps = ⊥
-IsPlain SingleQuote ps = ⊥
-IsPlain DoubleQuote ps = ⊥
 IsPlain Dollar ps = Unit {0}
 IsPlain Equals ps = Unit {0}
 IsPlain EscapeCharacter ps = ps ≡ []
 IsPlain Other ps = Unit {0}
+IsPlain _ ps = ⊥
 
 -- whether a character ends single quotes
 abbrev pub is_single : Class → Bool
-is_single Blank = false
 is_single SingleQuote = true
-is_single DoubleQuote = false
-is_single Dollar = false
-is_single Equals = false
-is_single EscapeCharacter = false
-is_single Other = false
+is_single _ = false
 
 -- in single quotes each character is kept, and the next single quote ends them
 abbrev pub AreInSingle : Escape → List ℕ → Type 0
@@ -79,13 +72,10 @@ AreInSingle e (c ∷ cs) = (is_single (class_of e c) ≡ false) × AreInSingle e
 
 -- in double quotes the escape character acts before a double quote, `$` and itself (own)
 abbrev pub acts_before : Class → Bool
-acts_before Blank = false
-acts_before SingleQuote = false
 acts_before DoubleQuote = true
 acts_before Dollar = true
-acts_before Equals = false
 acts_before EscapeCharacter = true
-acts_before Other = false
+acts_before _ = false
 
 -- in double quotes the escape character doesn't act before what follows
 abbrev pub IsIdleBefore : Escape → List ℕ → Type 0
@@ -95,13 +85,9 @@ IsIdleBefore e (c ∷ cs) = acts_before (class_of e c) ≡ false
 -- a character that is kept in double quotes, before what follows, is no double quote, and the escape character only
 -- where it doesn't act
 abbrev pub IsKept : Escape → Class → List ℕ → Type 0
-IsKept e Blank behind = Unit {0}
-IsKept e SingleQuote behind = Unit {0}
 IsKept e DoubleQuote behind = ⊥
-IsKept e Dollar behind = Unit {0}
-IsKept e Equals behind = Unit {0}
 IsKept e EscapeCharacter behind = IsIdleBefore e behind
-IsKept e Other behind = Unit {0}
+IsKept e _ behind = Unit {0}
 
 -- what stands in double quotes, before what follows
 abbrev pub AreInDouble : Escape → List Held → List ℕ → Type 0
@@ -133,12 +119,7 @@ IsMadeOf e text ps = AllStand e ps × (text ≡ written e ps)
 abbrev pub words_among : Escape → List ℕ → List Part → List (List ℕ)
 words_among e word [] = if_any word
 words_among e word (blank c ∷ ps) = if_any word ++ words_among e [] ps
-words_among e word (plain c ∷ ps) = words_among e (word ++ part_text e (plain c)) ps
-words_among e word (escaped c ∷ ps) = words_among e (word ++ part_text e (escaped c)) ps
-words_among e word (single cs ∷ ps) = words_among e (word ++ part_text e (single cs)) ps
-words_among e word (double hs ∷ ps) = words_among e (word ++ part_text e (double hs)) ps
-words_among e word (open_single cs ∷ ps) = words_among e (word ++ part_text e (open_single cs)) ps
-words_among e word (open_double hs ∷ ps) = words_among e (word ++ part_text e (open_double hs)) ps
+words_among e word (p ∷ ps) = words_among e (word ++ part_text e p) ps
 
 -- these are the words of a text: what stands between its blanks (Dockerfile reference, escaping and quoting)
 abbrev pub AreWords : Escape → List ℕ → List (List ℕ) → Type 0
@@ -147,13 +128,9 @@ AreWords e text found = (ps : List Part) × IsMadeOf e text ps × (found ≡ wor
 -- whether a quote among parts is open
 abbrev pub has_open : List Part → Bool
 has_open [] = false
-has_open (blank c ∷ ps) = has_open ps
-has_open (plain c ∷ ps) = has_open ps
-has_open (escaped c ∷ ps) = has_open ps
-has_open (single cs ∷ ps) = has_open ps
-has_open (double hs ∷ ps) = has_open ps
 has_open (open_single cs ∷ ps) = true
 has_open (open_double hs ∷ ps) = true
+has_open (_ ∷ ps) = has_open ps
 
 -- a text has an open quote
 abbrev pub IsOpen : Escape → List ℕ → Type 0
@@ -161,13 +138,10 @@ IsOpen e text = (ps : List Part) × IsMadeOf e text ps × (has_open ps ≡ true)
 
 -- a character that neither begins a quote nor is an escape character
 abbrev pub is_bare : Class → Bool
-is_bare Blank = true
 is_bare SingleQuote = false
 is_bare DoubleQuote = false
-is_bare Dollar = true
-is_bare Equals = true
 is_bare EscapeCharacter = false
-is_bare Other = true
+is_bare _ = true
 
 -- a text without quotes and escape characters
 abbrev pub AreUnquoted : Escape → List ℕ → Type 0

@@ -17,60 +17,33 @@ pub data Begun : Type 0 where
 -- the parts that one more character ends, by what was begun and what the character is
 abbrev pub ended_by : Begun → Class → ℕ → List Part
 ended_by nothing Blank c = blank c ∷ []
-ended_by nothing SingleQuote c = []
-ended_by nothing DoubleQuote c = []
 ended_by nothing Dollar c = plain c ∷ []
 ended_by nothing Equals c = plain c ∷ []
-ended_by nothing EscapeCharacter c = []
 ended_by nothing Other c = plain c ∷ []
+ended_by nothing _ c = []
 ended_by escaping k c = escaped c ∷ []
-ended_by (in_single cs) Blank c = []
 ended_by (in_single cs) SingleQuote c = single cs ∷ []
-ended_by (in_single cs) DoubleQuote c = []
-ended_by (in_single cs) Dollar c = []
-ended_by (in_single cs) Equals c = []
-ended_by (in_single cs) EscapeCharacter c = []
-ended_by (in_single cs) Other c = []
-ended_by (in_double hs) Blank c = []
-ended_by (in_double hs) SingleQuote c = []
+ended_by (in_single cs) _ c = []
 ended_by (in_double hs) DoubleQuote c = double hs ∷ []
-ended_by (in_double hs) Dollar c = []
-ended_by (in_double hs) Equals c = []
-ended_by (in_double hs) EscapeCharacter c = []
-ended_by (in_double hs) Other c = []
+ended_by (in_double hs) _ c = []
 ended_by (in_double_escaping hs) k c = []
 
 -- what is begun then
 abbrev pub begun_by : Escape → Begun → Class → ℕ → Begun
-begun_by e nothing Blank c = nothing
 begun_by e nothing SingleQuote c = in_single []
 begun_by e nothing DoubleQuote c = in_double []
-begun_by e nothing Dollar c = nothing
-begun_by e nothing Equals c = nothing
 begun_by e nothing EscapeCharacter c = escaping
-begun_by e nothing Other c = nothing
+begun_by e nothing _ c = nothing
 begun_by e escaping k c = nothing
-begun_by e (in_single cs) Blank c = in_single (cs ++ c ∷ [])
 begun_by e (in_single cs) SingleQuote c = nothing
-begun_by e (in_single cs) DoubleQuote c = in_single (cs ++ c ∷ [])
-begun_by e (in_single cs) Dollar c = in_single (cs ++ c ∷ [])
-begun_by e (in_single cs) Equals c = in_single (cs ++ c ∷ [])
-begun_by e (in_single cs) EscapeCharacter c = in_single (cs ++ c ∷ [])
-begun_by e (in_single cs) Other c = in_single (cs ++ c ∷ [])
-begun_by e (in_double hs) Blank c = in_double (hs ++ kept c ∷ [])
-begun_by e (in_double hs) SingleQuote c = in_double (hs ++ kept c ∷ [])
+begun_by e (in_single cs) _ c = in_single (cs ++ c ∷ [])
 begun_by e (in_double hs) DoubleQuote c = nothing
-begun_by e (in_double hs) Dollar c = in_double (hs ++ kept c ∷ [])
-begun_by e (in_double hs) Equals c = in_double (hs ++ kept c ∷ [])
 begun_by e (in_double hs) EscapeCharacter c = in_double_escaping hs
-begun_by e (in_double hs) Other c = in_double (hs ++ kept c ∷ [])
-begun_by e (in_double_escaping hs) Blank c = in_double ((hs ++ kept (byte_of e) ∷ []) ++ kept c ∷ [])
-begun_by e (in_double_escaping hs) SingleQuote c = in_double ((hs ++ kept (byte_of e) ∷ []) ++ kept c ∷ [])
+begun_by e (in_double hs) _ c = in_double (hs ++ kept c ∷ [])
 begun_by e (in_double_escaping hs) DoubleQuote c = in_double (hs ++ freed c ∷ [])
 begun_by e (in_double_escaping hs) Dollar c = in_double (hs ++ freed c ∷ [])
-begun_by e (in_double_escaping hs) Equals c = in_double ((hs ++ kept (byte_of e) ∷ []) ++ kept c ∷ [])
 begun_by e (in_double_escaping hs) EscapeCharacter c = in_double (hs ++ freed c ∷ [])
-begun_by e (in_double_escaping hs) Other c = in_double ((hs ++ kept (byte_of e) ∷ []) ++ kept c ∷ [])
+begun_by e (in_double_escaping hs) _ c = in_double ((hs ++ kept (byte_of e) ∷ []) ++ kept c ∷ [])
 
 -- the parts that the end of the text ends
 abbrev pub ended_at_end : Escape → Begun → List Part

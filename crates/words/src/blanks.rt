@@ -1,25 +1,7 @@
 ghost use Rattle.std.specs.Prelude.{◌≡◌};
-ghost use Rattle.lines.specs.Blanks.{is_blank, after_blanks};
 ghost use Rattle.words.specs.Pieces.{until_blank, from_blank, first_piece, behind_piece};
 
-/// Whether a byte is a blank: a space or a tab, and no other.
-fn is_blank(byte: u8) -> bool
-    ensures { result ≡ is_blank byte }
-{
-    byte == b' ' || byte == b'\t'
-}
-
-/// A text without its leading blanks.
-pub fn after_blanks(text: &str) -> &str
-    ensures { result.now ≡ after_blanks text.now }
-{
-    let bytes = text.as_bytes();
-    let mut at = 0;
-    while at < bytes.len() && is_blank(bytes[at]) {
-        at += 1;
-    }
-    &text[at..]
-}
+use lines::{after_blanks, is_blank};
 
 /// A text's first piece, up to its first blank, and what stands behind it from the next character on that isn't blank.
 ///

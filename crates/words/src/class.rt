@@ -16,20 +16,29 @@ pub enum Class {
     Other,
 }
 
-/// What a byte is. The bytes of a character beyond ASCII are `Other`, each of them.
-#[tactic(auto, unfolding(crate::specs::Parts::class_of))]
+impl Class {
+    /// What a character is, by the file's escape character. One beyond ASCII is `Other`.
+    #[tactic(auto, unfolding(crate::specs::Parts::class_of))]
+    pub fn of(escape: Escape, character: char) -> Class
+        ensures { result ≡ class_of escape character }
+    {
+        match character {
+            ' ' | '\t' => Class::Blank,
+            '\'' => Class::SingleQuote,
+            '"' => Class::DoubleQuote,
+            '$' => Class::Dollar,
+            '=' => Class::Equals,
+            _ if character == char::from(escape.byte()) => Class::EscapeCharacter,
+            _ => Class::Other,
+        }
+    }
+}
+
+/// What a byte of a text is. The bytes of a character beyond ASCII are `Other`, each of them.
 pub fn class_of(escape: Escape, byte: u8) -> Class
     ensures { result ≡ class_of escape byte }
 {
-    match byte {
-        b' ' | b'\t' => Class::Blank,
-        b'\'' => Class::SingleQuote,
-        b'"' => Class::DoubleQuote,
-        b'$' => Class::Dollar,
-        b'=' => Class::Equals,
-        _ if byte == escape.byte() => Class::EscapeCharacter,
-        _ => Class::Other,
-    }
+    Class::of(escape, char::from(byte))
 }
 
 /// Where a text's next character stands.
@@ -69,14 +78,14 @@ impl Place {
     }
 
     /// Whether a character of this class ends a word here: a blank outside quotes does.
-    pub fn cuts(self, class: Class) -> bool
+    pub(crate) fn cuts(self, class: Class) -> bool
         ensures { result ≡ cuts self class }
     {
         matches!((self, class), (Place::Outside, Class::Blank))
     }
 
     /// Whether a character of this class splits a word into a key and a value here: an `=` outside quotes does.
-    pub fn splits(self, class: Class) -> bool
+    pub(crate) fn splits(self, class: Class) -> bool
         ensures { result ≡ splits self class }
     {
         matches!((self, class), (Place::Outside, Class::Equals))

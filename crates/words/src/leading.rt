@@ -2,8 +2,9 @@ ghost use Rattle.std.specs.Prelude.{◌≡◌, true, IfOk};
 ghost use Rattle.lines.specs.Marks.{is_flag};
 ghost use Rattle.words.specs.Flags.{flag_of, flags, behind_flags};
 
-use crate::blanks::{after_blanks, first_piece};
+use crate::blanks::first_piece;
 use crate::pairs::pair;
+use lines::after_blanks;
 use plain::{Items, Memory, Text};
 use std::alloc::Global;
 

@@ -5,7 +5,8 @@
 //
 // The central definition is `IsMadeOf` in specs/Parts.antt: a text is a list of parts, each a blank, a character that
 // stands for itself, an escaped character or a quoted run, so that the parts obey the rules and are written as the text.
-// There is just one such list, and the words are its runs between blanks.
+// There is just one such list, and the words are its runs between blanks. Where a character stands, as in quotes or behind an
+// escape character, is all that the code keeps of the characters before it: `Place`, which the crates above use too.
 //
 // ```
 // split(alloc, Escape::Backslash, "a 'b c' \\ d")?        // "a", "'b c'", "\\ d"
@@ -24,6 +25,7 @@ mod leading;
 mod pairs;
 
 pub use blanks::first_piece;
+pub use class::{Class, Place};
 pub use cutting::{closed, split};
 pub use fault::Fault;
 pub use form::json_form;

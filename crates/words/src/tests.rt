@@ -91,6 +91,25 @@ fn open_quotes_are_refused(rt: HostRuntime) -> Result<(), Fail> {
 }
 
 #[test]
+fn characters_move_the_place(rt: HostRuntime) {
+    for (text, wanted) in [
+        ("a 'b' \"c\" \\'=", Place::Outside),
+        ("é\\", Place::Escaped),
+        ("'\"\\", Place::Single),
+        ("\"'$\\\"é", Place::Double),
+        ("\"\\", Place::DoubleEscaped),
+    ] {
+        let mut place = Place::Outside;
+        for character in text.chars() {
+            place = place.after(Class::of(Escape::Backslash, character));
+        }
+        assert!(rt; place == wanted, "at {text}");
+    }
+    assert!(rt; Place::DoubleEscaped.is_quote());
+    assert!(rt; !Place::Escaped.is_quote());
+}
+
+#[test]
 fn a_piece_is_cut_off(rt: HostRuntime) {
     for (text, piece, behind) in [
         ("", "", ""),

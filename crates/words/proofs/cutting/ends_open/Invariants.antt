@@ -1,6 +1,6 @@
 use Rattle.std.proofs.Common.{drop, ◌≡◌}
 use Rattle.words.specs.Reading.{ends_open}
-use Rattle.words.proofs.WordLemmas.{open_from}
+use Rattle.words.specs.PlaceLaws.{open_from}
 use Rattle.words.proofs.cutting.ends_open.Given as goal
 
 abbrev pub invariant-loop-byte : goal.invariant-loop-byte
