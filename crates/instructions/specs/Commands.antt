@@ -3,20 +3,20 @@ use Rattle.std.specs.Prelude.{ℕ, ◌==◌, Bool, false, not, List, Option, Som
 use Rattle.plain.specs.declared.refusal.Code.{Code}
 use Rattle.plain.specs.declared.refusal.Code.TheVariants.{R06}
 use Rattle.words.specs.Form.{json_form}
-use Rattle.instructions.specs.declared.instruction.Instruction.{Instruction}
-use Rattle.instructions.specs.declared.instruction.Instruction.TheVariants.{Shell}
+use Rattle.instructions.specs.declared.instruction.InstructionKind.{InstructionKind}
+use Rattle.instructions.specs.declared.instruction.InstructionKind.TheVariants.{Shell}
 use Rattle.instructions.specs.declared.instruction.Command.{Command}
 use Rattle.instructions.specs.declared.instruction.Command.TheVariants.{Exec, Shell as Script}
 
 -- SHELL has a list in JSON with one word at least (Dockerfile reference)
 
 -- the SHELL of a list in JSON, where there is one with a word
-abbrev pub shell_words : Option (List (List ℕ)) → Option Instruction
+abbrev pub shell_words : Option (List (List ℕ)) → Option InstructionKind
 shell_words None = None
 shell_words (Some ws) = if length ws == 0 then None else Some (Shell ws)
 
 -- what a text behind SHELL is read as
-abbrev pub shell_read : List ℕ → Option Instruction
+abbrev pub shell_read : List ℕ → Option InstructionKind
 shell_read text = shell_words (json_form text)
 
 -- the codes that are due for SHELL and what stands behind it

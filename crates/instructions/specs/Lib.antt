@@ -1,11 +1,16 @@
 pub mod Commands
 pub mod Copy
+pub mod Expanded
+pub mod ExpandedLaws
 pub mod From
 pub mod Keywords
 pub mod Least
 pub mod LeastLaws
+pub mod ListLaws
+pub mod Lists
 pub mod Names
 pub mod Run
+pub mod Shown
 pub mod Spells
 pub mod SpellsLaws
 pub mod Variables

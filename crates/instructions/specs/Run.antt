@@ -9,8 +9,8 @@ use Rattle.words.specs.Form.{json_form}
 use Rattle.words.specs.Pieces.{behind_piece}
 use Rattle.options.specs.Mounts.{are_mount_flags, mounts}
 use Rattle.instructions.specs.Commands.{command_of}
-use Rattle.instructions.specs.declared.instruction.Instruction.{Instruction}
-use Rattle.instructions.specs.declared.instruction.Instruction.TheVariants.{Run}
+use Rattle.instructions.specs.declared.instruction.InstructionKind.{InstructionKind}
+use Rattle.instructions.specs.declared.instruction.InstructionKind.TheVariants.{Run}
 use Rattle.instructions.specs.declared.instruction.Command.{Command}
 use Rattle.instructions.specs.declared.instruction.Command.TheVariants.{Shell as Script}
 
@@ -39,7 +39,7 @@ names_interpreter (c ∷ []) = false
 names_interpreter (c ∷ d ∷ rest) = (c == 35) && (d == 33)
 
 -- what a text behind RUN is read as, in a line with these heredocs
-abbrev pub run_read : List Heredoc → List ℕ → Option Instruction
+abbrev pub run_read : List Heredoc → List ℕ → Option InstructionKind
 run_read hs text = option_map (λ ms. Run ms (run_command hs (behind_flags text))) (mounts (flags text))
 
 -- the codes that are due for RUN with these heredocs and what stands behind it

@@ -15,12 +15,13 @@ use Rattle.instructions.specs.Variables.{arg_read, arg_due, env_read, env_due, l
 use Rattle.instructions.specs.declared.fault.Fault.{Fault}
 use Rattle.instructions.specs.declared.fault.Fault.TheVariants.{Refused, Memory}
 use Rattle.instructions.specs.declared.instruction.Instruction.{Instruction}
-use Rattle.instructions.specs.declared.instruction.Instruction.TheVariants as instruction
+use Rattle.instructions.specs.declared.instruction.InstructionKind.{InstructionKind}
+use Rattle.instructions.specs.declared.instruction.InstructionKind.TheVariants as instruction
 use Rattle.instructions.specs.declared.keyword.Keyword.{Keyword}
 use Rattle.instructions.specs.declared.keyword.Keyword.TheVariants.{From, Arg, Env, Label, Expose, User, Workdir, StopSignal, Volume, Shell, Cmd, Entrypoint, Run, Copy}
 
 -- the instruction of a line's name and what stands behind it, by the rules of that name
-abbrev pub named_read : Option Keyword → Line → List ℕ → Option Instruction
+abbrev pub named_read : Option Keyword → Line → List ℕ → Option InstructionKind
 named_read None line rest = None
 named_read (Some From) line rest = from_read line.escape rest
 named_read (Some Arg) line rest = arg_read line.escape rest
@@ -68,9 +69,9 @@ keyword_in line = keyword_of (first_piece line.text)
 abbrev pub is_due : Line → Code → Bool
 is_due line = named_due (keyword_in line) line (behind_piece line.text)
 
--- a line spells an instruction: it is made so, and no code is due
+-- a line spells an instruction: it has the line's number, its kind is made so, and no code is due
 abbrev pub Spells : Line → Instruction → Type 0
-Spells line i = (named_read (keyword_in line) line (behind_piece line.text) ≡ Some i) × (least (is_due line) ≡ None)
+Spells line i = (named_read (keyword_in line) line (behind_piece line.text) ≡ Some i.kind) × (i.line ≡ line.number) × (least (is_due line) ≡ None)
 
 -- what reading a line answers: the instruction that it spells, or the least code that is due with the line's number; want of
 -- memory says nothing of the line

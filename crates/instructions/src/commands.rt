@@ -2,13 +2,13 @@ ghost use Rattle.std.specs.Prelude.{◌≡◌, IfOk};
 ghost use Rattle.instructions.specs.Commands.{shell_read, shell_due, command_of, command_read, command_due};
 ghost use Rattle.instructions.specs.Least.{Meets};
 
-use crate::{Command, Instruction};
+use crate::{Command, InstructionKind};
 use plain::{Code, Memory, Text};
 use std::alloc::Global;
 use words::{Fault, json_form};
 
 /// SHELL: a list in JSON with one word at least.
-pub fn read_shell(alloc: Global, text: &str) -> Result<Instruction, Fault>
+pub fn read_shell(alloc: Global, text: &str) -> Result<InstructionKind, Fault>
     ensures { Meets (shell_read text.now) (shell_due text.now) result }
 {
     let Some(words) = json_form(alloc, text)? else {
@@ -17,7 +17,7 @@ pub fn read_shell(alloc: Global, text: &str) -> Result<Instruction, Fault>
     if words.is_empty() {
         return Err(Fault::Refused(Code::R06));
     }
-    Ok(Instruction::Shell { words })
+    Ok(InstructionKind::Shell { words })
 }
 
 /// The command that a text is: a list in JSON, else a text for the shell.

@@ -1,15 +1,23 @@
-use crate::Template;
+use expand::Word;
 use options::{CopyFlags, Mount};
 use plain::{Items, Text};
 
 /// An instruction of a Dockerfile, as a logical line spells it.
-///
-/// Texts that are expanded stand in it as they are written (`Template`); a `Text` is never expanded.
 #[derive(Debug, Drop)]
-pub enum Instruction {
+pub struct Instruction {
+    /// The logical line's number: that of its first line in the file, from 1 on.
+    pub line: u32,
+    pub kind: InstructionKind,
+}
+
+/// Which instruction it is, with its arguments.
+///
+/// A text that is expanded where the instruction is evaluated is a `Word`; a `Text` is never expanded.
+#[derive(Debug, Drop)]
+pub enum InstructionKind {
     /// `FROM image` or `FROM image AS name`: a stage begins.
     From {
-        image: Template,
+        image: Word,
         /// A letter followed by letters, digits, `-`, `_` and `.`, and not `scratch` in any case.
         name: Option<Text>,
     },
@@ -27,23 +35,23 @@ pub enum Instruction {
     },
     /// `EXPOSE port` or `EXPOSE port/protocol`, one or more of them.
     Expose {
-        ports: Items<Template>,
+        ports: Items<Word>,
     },
     /// `USER user`.
     User {
-        user: Template,
+        user: Word,
     },
     /// `WORKDIR path`.
     Workdir {
-        path: Template,
+        path: Word,
     },
     /// `STOPSIGNAL signal`.
     StopSignal {
-        signal: Template,
+        signal: Word,
     },
     /// `VOLUME path`, one or more of them, or a list in JSON.
     Volume {
-        paths: Items<Template>,
+        paths: Items<Word>,
     },
     /// `SHELL ["word", ..]`, with a word at least.
     Shell {
@@ -65,7 +73,7 @@ pub enum Instruction {
     /// `COPY source .. destination`, with at least one source.
     Copy {
         sources: Items<Source>,
-        destination: Template,
+        destination: Word,
         flags: CopyFlags,
     },
 }
@@ -75,7 +83,7 @@ pub enum Instruction {
 pub struct Argument {
     /// A letter or `_` followed by letters, digits and `_`.
     pub name: Text,
-    pub default: Option<Template>,
+    pub default: Option<Word>,
 }
 
 /// A variable that ENV sets.
@@ -83,14 +91,14 @@ pub struct Argument {
 pub struct Variable {
     /// A letter or `_` followed by letters, digits and `_`.
     pub name: Text,
-    pub value: Template,
+    pub value: Word,
 }
 
 /// A label that LABEL sets.
 #[derive(Debug, Drop)]
 pub struct Label {
-    pub key: Template,
-    pub value: Template,
+    pub key: Word,
+    pub value: Word,
 }
 
 /// A command, which is never expanded here.
@@ -106,7 +114,16 @@ pub enum Command {
 #[derive(Debug, Drop)]
 pub enum Source {
     /// A pattern of files and folders.
-    Files(Template),
+    Files(Word),
     /// A heredoc: a file of this name with this body.
-    Document { name: Text, body: Template },
+    Document { name: Text, body: Body },
+}
+
+/// The body of a heredoc that COPY makes a file of.
+#[derive(Debug, Drop)]
+pub enum Body {
+    /// The mark's name is bare: the body is expanded.
+    Expanded(Word),
+    /// The mark's name stands in quotes: the body is its own value.
+    Literal(Text),
 }

@@ -1,8 +1,8 @@
 // The instructions of a Dockerfile: what a logical line spells.
 //
-// It knows the table of instructions and which flags each takes; what a flag says is read by `options`. It gives no text a
-// value: variables are expanded by the crates above, and a stage, an image or a path that an instruction names is looked
-// for there. ADD, ONBUILD, HEALTHCHECK and MAINTAINER are unknown.
+// It knows the table of instructions and which flags each takes; what a flag says is read by `options`. A text that is
+// expanded is read as a `Word`, and gets no value here: the crates above expand it, and look for the stage, the image or the
+// path that an instruction names. ADD, ONBUILD, HEALTHCHECK and MAINTAINER are unknown.
 //
 // The central definition is `Spells` in specs/Spells.antt: by cases of the line's name, what the rest of the line is read
 // as, and which codes are due for it. A line for which no code is due spells just one instruction, and of any other the
@@ -13,26 +13,29 @@
 // ```
 #![tactic(auto)]
 
+mod arguments;
 mod commands;
 mod copy;
+mod expanded;
 mod fault;
 mod instruction;
 mod keyword;
+mod labels;
 mod laws;
 mod names;
 mod parsing;
 mod run;
 mod stage;
-mod template;
 mod texts;
 mod variables;
 
 pub use fault::Fault;
-pub use instruction::{Argument, Command, Instruction, Label, Source, Variable};
+pub use instruction::{
+    Argument, Body, Command, Instruction, InstructionKind, Label, Source, Variable,
+};
 pub use laws::{a_line_spells_one, lines_are_spelled_or_refused, the_least_code_is_told};
 pub use options::{CopyFlags, Mount, MountKind, Owner};
 pub use parsing::parse;
-pub use template::Template;
 
 #[cfg(test)]
 mod tests;

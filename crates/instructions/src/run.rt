@@ -5,7 +5,7 @@ ghost use Rattle.instructions.specs.Least.{Meets};
 ghost use Rattle.instructions.specs.Run.{run_command, is_wordless, is_mark_beside, names_interpreter, run_read, run_due};
 
 use crate::commands::command_of;
-use crate::{Command, Instruction};
+use crate::{Command, InstructionKind};
 use lines::Heredoc;
 use options::{are_mount_flags, mounts};
 use plain::{Code, Exact, Memory};
@@ -78,7 +78,7 @@ fn have_interpreter(heredocs: &[Heredoc]) -> bool
 }
 
 /// RUN: mounts, then one heredoc's mark, or a list in JSON, or a text for the shell.
-pub fn read_run(alloc: Global, heredocs: &[Heredoc], text: &str) -> Result<Instruction, Fault>
+pub fn read_run(alloc: Global, heredocs: &[Heredoc], text: &str) -> Result<InstructionKind, Fault>
     ensures { Meets (run_read heredocs.now text.now) (run_due heredocs.now text.now) result }
 {
     let (flags, rest) = flags(alloc, text)?;
@@ -98,5 +98,5 @@ pub fn read_run(alloc: Global, heredocs: &[Heredoc], text: &str) -> Result<Instr
         return Err(Fault::Refused(Code::R18));
     }
     let command = run_command(alloc, heredocs, rest)?;
-    Ok(Instruction::Run { mounts, command })
+    Ok(InstructionKind::Run { mounts, command })
 }

@@ -1,10 +1,13 @@
-ghost use Rattle.std.specs.Prelude.{◌≡◌, map, option_map, IfOk};
-ghost use Rattle.instructions.specs.From.{from_read, from_due, stage_words, stage_from};
+ghost use Rattle.std.specs.Prelude.{◌≡◌, option_map, IfOk};
+ghost use Rattle.instructions.specs.From.{from_read, from_due, stage_words, is_bad_name};
 ghost use Rattle.instructions.specs.Least.{Meets};
+ghost use Rattle.instructions.specs.Shown.{shown};
 
+use crate::InstructionKind;
+use crate::expanded::word_of;
 use crate::keyword::is_word;
 use crate::names::is_stage_name;
-use crate::{Instruction, Template};
+use expand::Kind;
 use lines::Escape;
 use plain::{Code, Memory, Text};
 use std::alloc::Global;
@@ -12,7 +15,7 @@ use words::{Fault, closed, flags, split};
 
 /// The image and the name of a FROM's words, where they are as it wants them.
 fn stage_words<'a>(words: &'a [&'a str]) -> Option<(&'a str, Option<&'a str>)>
-    ensures { option_map (λ found. (found.0.now, option_map (λ name. name.now) found.1)) result ≡ stage_words (map (λ word. word.now) words.now) }
+    ensures { option_map (λ found. (found.0.now, option_map (λ name. name.now) found.1)) result ≡ stage_words (shown words.now) }
 {
     match words {
         [image] => Some((image, None)),
@@ -27,20 +30,28 @@ fn stage_words<'a>(words: &'a [&'a str]) -> Option<(&'a str, Option<&'a str>)>
     }
 }
 
-/// The instruction that begins a stage.
-fn stage(alloc: Global, image: &str, name: Option<&str>) -> Result<Instruction, Memory>
-    ensures { IfOk result (λ read. read ≡ stage_from (image.now, option_map (λ n. n.now) name.entry)) }
+/// Whether a stage's name is there, and is none.
+fn is_bad_name(name: Option<&str>) -> bool
+    ensures { result ≡ is_bad_name (option_map (λ n. n.now) name.entry) }
 {
-    let image = Template::Word(Text::from_str(alloc, image)?);
-    let name = match name {
-        Some(name) => Some(Text::from_str(alloc, name)?),
-        None => None,
-    };
-    Ok(Instruction::From { image, name })
+    match name {
+        Some(name) => !is_stage_name(name),
+        None => false,
+    }
+}
+
+/// A stage's name, where there is one.
+fn copied_name(alloc: Global, name: Option<&str>) -> Result<Option<Text>, Memory>
+    ensures { IfOk result (λ copied. copied ≡ option_map (λ n. n.now) name.entry) }
+{
+    match name {
+        Some(name) => Ok(Some(Text::from_str(alloc, name)?)),
+        None => Ok(None),
+    }
 }
 
 /// FROM: `image` or `image AS name`.
-pub fn read_from(alloc: Global, escape: Escape, text: &str) -> Result<Instruction, Fault>
+pub fn read_from(alloc: Global, escape: Escape, text: &str) -> Result<InstructionKind, Fault>
     ensures { Meets (from_read escape text.now) (from_due escape text.now) result }
 {
     let (flags, rest) = flags(alloc, text)?;
@@ -52,10 +63,12 @@ pub fn read_from(alloc: Global, escape: Escape, text: &str) -> Result<Instructio
         return Err(Fault::Refused(Code::R07));
     }
     closed(escape, rest)?;
-    if let Some(name) = name {
-        if !is_stage_name(name) {
-            return Err(Fault::Refused(Code::R10));
-        }
+    let Some(image) = word_of(alloc, Kind::Quoted, escape, image)? else {
+        return Err(Fault::Refused(Code::R09));
+    };
+    if is_bad_name(name) {
+        return Err(Fault::Refused(Code::R10));
     }
-    Ok(stage(alloc, image, name)?)
+    let name = copied_name(alloc, name)?;
+    Ok(InstructionKind::From { image, name })
 }

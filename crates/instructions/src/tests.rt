@@ -1,9 +1,11 @@
 use crate::*;
+use expand::{Lookup, Word, expand};
 use lines::{Line, LineFault, Reader};
-use plain::{Items, Sharing, Text};
+use plain::{Items, Memory, Sharing, Text};
 use std::alloc::{AllocError, Global};
 use std::process::Abort;
 use std::test::Fail;
+use words::Fault as WordFault;
 
 /// The logical lines of a text.
 fn lines_of(alloc: Global, text: &str) -> Result<Vec<Line>, LineFault> {
@@ -12,34 +14,64 @@ fn lines_of(alloc: Global, text: &str) -> Result<Vec<Line>, LineFault> {
     reader.finish(alloc)
 }
 
+/// A scope in which `v` has the value `<v>`, and nothing else is set.
+#[derive(Drop)]
+struct Names {
+    v: Text,
+}
+
+impl Lookup for Names {
+    ghost use Rattle.std.specs.Prelude.{◌∷◌, [], Some, None, bytes_eq, if◌then◌else◌};
+
+    ghost value_of = { λ names name. if bytes_eq name (118 ∷ []) then Some names.v else None };
+
+    fn find(&self, name: &str) -> Option<&Text> {
+        if name == "v" { Some(&self.v) } else { None }
+    }
+}
+
+/// What was shown so far, and the scope under which words are.
+#[derive(Drop)]
+struct Page {
+    text: String,
+    names: Names,
+}
+
+fn nothing_shown(alloc: Global) -> Result<Page, Memory> {
+    let names = Names {
+        v: Text::from_str(alloc, "<v>")?,
+    };
+    Ok(Page {
+        text: String::new(alloc),
+        names,
+    })
+}
+
 /// Adds texts, one behind another.
-fn add(shown: &mut String, texts: &[&str]) -> Result<(), AllocError> {
+fn add(shown: &mut Page, texts: &[&str]) -> Result<(), WordFault> {
     for text in texts {
-        shown.push_str(text)?;
+        shown.text.push_str(text)?;
     }
     Ok(())
 }
 
-/// Adds a text that is expanded later: a word as it is, any other behind `p:` or `l:`.
-fn add_template(shown: &mut String, template: &Template) -> Result<(), AllocError> {
-    match template {
-        Template::Word(text) => add(shown, &[text.as_str()]),
-        Template::Plain(text) => add(shown, &["p:", text.as_str()]),
-        Template::Literal(text) => add(shown, &["l:", text.as_str()]),
-    }
+/// Adds a word, as its value.
+fn add_word(alloc: Global, shown: &mut Page, word: &Word) -> Result<(), WordFault> {
+    let value = expand(alloc, word, &shown.names)?;
+    add(shown, &[value.as_str()])
 }
 
-/// Adds texts that are expanded later, each behind `|`.
-fn add_templates(shown: &mut String, templates: &[Template]) -> Result<(), AllocError> {
-    for template in templates {
+/// Adds words, each behind `|`.
+fn add_expanded(alloc: Global, shown: &mut Page, words: &[Word]) -> Result<(), WordFault> {
+    for word in words {
         add(shown, &["|"])?;
-        add_template(shown, template)?;
+        add_word(alloc, shown, word)?;
     }
     Ok(())
 }
 
 /// Adds a name and its text, where there is one, as `,id=k`.
-fn add_option(shown: &mut String, name: &str, text: &Option<Text>) -> Result<(), AllocError> {
+fn add_option(shown: &mut Page, name: &str, text: &Option<Text>) -> Result<(), WordFault> {
     match text {
         Some(text) => add(shown, &[name, text.as_str()]),
         None => Ok(()),
@@ -47,39 +79,39 @@ fn add_option(shown: &mut String, name: &str, text: &Option<Text>) -> Result<(),
 }
 
 /// Adds ARG's variables, as `|a=1|b`.
-fn add_arguments(shown: &mut String, arguments: &[Argument]) -> Result<(), AllocError> {
+fn add_arguments(alloc: Global, shown: &mut Page, arguments: &[Argument]) -> Result<(), WordFault> {
     for argument in arguments {
         add(shown, &["|", argument.name.as_str()])?;
         if let Some(default) = &argument.default {
             add(shown, &["="])?;
-            add_template(shown, default)?;
+            add_word(alloc, shown, default)?;
         }
     }
     Ok(())
 }
 
 /// Adds ENV's variables, as `|a=1`.
-fn add_variables(shown: &mut String, variables: &[Variable]) -> Result<(), AllocError> {
+fn add_variables(alloc: Global, shown: &mut Page, variables: &[Variable]) -> Result<(), WordFault> {
     for variable in variables {
         add(shown, &["|", variable.name.as_str(), "="])?;
-        add_template(shown, &variable.value)?;
+        add_word(alloc, shown, &variable.value)?;
     }
     Ok(())
 }
 
 /// Adds labels, as `|a=1`.
-fn add_labels(shown: &mut String, labels: &[Label]) -> Result<(), AllocError> {
+fn add_labels(alloc: Global, shown: &mut Page, labels: &[Label]) -> Result<(), WordFault> {
     for label in labels {
         add(shown, &["|"])?;
-        add_template(shown, &label.key)?;
+        add_word(alloc, shown, &label.key)?;
         add(shown, &["="])?;
-        add_template(shown, &label.value)?;
+        add_word(alloc, shown, &label.value)?;
     }
     Ok(())
 }
 
 /// Adds a command: `|[a][b]`, or `|$` and the text for the shell.
-fn add_command(shown: &mut String, command: &Command) -> Result<(), AllocError> {
+fn add_command(shown: &mut Page, command: &Command) -> Result<(), WordFault> {
     match command {
         Command::Exec(words) => {
             add(shown, &["|"])?;
@@ -93,7 +125,7 @@ fn add_command(shown: &mut String, command: &Command) -> Result<(), AllocError> 
 }
 
 /// Adds how a cache is shared, unless it is plainly shared.
-fn add_sharing(shown: &mut String, sharing: Sharing) -> Result<(), AllocError> {
+fn add_sharing(shown: &mut Page, sharing: Sharing) -> Result<(), WordFault> {
     match sharing {
         Sharing::Shared => Ok(()),
         Sharing::Private => add(shown, &[",private"]),
@@ -102,7 +134,7 @@ fn add_sharing(shown: &mut String, sharing: Sharing) -> Result<(), AllocError> {
 }
 
 /// Adds a mount, as `|bind:/m,source=/s,rw` or `|cache:/c,id=k`.
-fn add_mount(shown: &mut String, mount: &Mount) -> Result<(), AllocError> {
+fn add_mount(shown: &mut Page, mount: &Mount) -> Result<(), WordFault> {
     match &mount.kind {
         MountKind::Bind {
             source,
@@ -123,22 +155,30 @@ fn add_mount(shown: &mut String, mount: &Mount) -> Result<(), AllocError> {
 }
 
 /// Adds mounts.
-fn add_mounts(shown: &mut String, mounts: &[Mount]) -> Result<(), AllocError> {
+fn add_mounts(shown: &mut Page, mounts: &[Mount]) -> Result<(), WordFault> {
     for mount in mounts {
         add_mount(shown, mount)?;
     }
     Ok(())
 }
 
-/// Adds COPY's sources: a pattern as it is, a heredoc as `<NAME=BODY>`.
-fn add_sources(shown: &mut String, sources: &[Source]) -> Result<(), AllocError> {
+/// Adds the body of a heredoc, that of a quoted mark behind `l:`.
+fn add_body(alloc: Global, shown: &mut Page, body: &Body) -> Result<(), WordFault> {
+    match body {
+        Body::Expanded(word) => add_word(alloc, shown, word),
+        Body::Literal(text) => add(shown, &["l:", text.as_str()]),
+    }
+}
+
+/// Adds COPY's sources: a pattern as its value, a heredoc as `<NAME=BODY>`.
+fn add_sources(alloc: Global, shown: &mut Page, sources: &[Source]) -> Result<(), WordFault> {
     for source in sources {
         add(shown, &["|"])?;
         match source {
-            Source::Files(pattern) => add_template(shown, pattern)?,
+            Source::Files(pattern) => add_word(alloc, shown, pattern)?,
             Source::Document { name, body } => {
                 add(shown, &["<", name.as_str(), "="])?;
-                add_template(shown, body)?;
+                add_body(alloc, shown, body)?;
                 add(shown, &[">"])?;
             }
         }
@@ -147,7 +187,7 @@ fn add_sources(shown: &mut String, sources: &[Source]) -> Result<(), AllocError>
 }
 
 /// Adds an owner, as `|owner=1:2`.
-fn add_owner(alloc: Global, shown: &mut String, owner: &Option<Owner>) -> Result<(), AllocError> {
+fn add_owner(alloc: Global, shown: &mut Page, owner: &Option<Owner>) -> Result<(), WordFault> {
     match owner {
         Some(owner) => {
             let text = format!(in alloc; "|owner={}:{}", owner.user, owner.group)?;
@@ -158,7 +198,7 @@ fn add_owner(alloc: Global, shown: &mut String, owner: &Option<Owner>) -> Result
 }
 
 /// Adds a mode as a decimal number, as `|mode=493`.
-fn add_mode(alloc: Global, shown: &mut String, mode: &Option<u16>) -> Result<(), AllocError> {
+fn add_mode(alloc: Global, shown: &mut Page, mode: &Option<u16>) -> Result<(), WordFault> {
     match mode {
         Some(mode) => {
             let text = format!(in alloc; "|mode={}", mode)?;
@@ -169,7 +209,7 @@ fn add_mode(alloc: Global, shown: &mut String, mode: &Option<u16>) -> Result<(),
 }
 
 /// Adds what COPY's flags say.
-fn add_flags(alloc: Global, shown: &mut String, flags: &CopyFlags) -> Result<(), AllocError> {
+fn add_flags(alloc: Global, shown: &mut Page, flags: &CopyFlags) -> Result<(), WordFault> {
     add_option(shown, "|from=", &flags.from)?;
     add_owner(alloc, shown, &flags.owner)?;
     add_mode(alloc, shown, &flags.mode)?;
@@ -177,20 +217,25 @@ fn add_flags(alloc: Global, shown: &mut String, flags: &CopyFlags) -> Result<(),
 }
 
 /// Adds the image and the name of a stage.
-fn add_stage(shown: &mut String, image: &Template, name: &Option<Text>) -> Result<(), AllocError> {
+fn add_stage(
+    alloc: Global,
+    shown: &mut Page,
+    image: &Word,
+    name: &Option<Text>,
+) -> Result<(), WordFault> {
     add(shown, &["FROM|"])?;
-    add_template(shown, image)?;
+    add_word(alloc, shown, image)?;
     add_option(shown, "|", name)
 }
 
 /// Adds the name of an instruction of one argument, and that.
-fn add_only(shown: &mut String, name: &str, argument: &Template) -> Result<(), AllocError> {
+fn add_only(alloc: Global, shown: &mut Page, name: &str, argument: &Word) -> Result<(), WordFault> {
     add(shown, &[name])?;
-    add_template(shown, argument)
+    add_word(alloc, shown, argument)
 }
 
 /// Adds SHELL's words.
-fn add_words(shown: &mut String, words: &Items<Text>) -> Result<(), AllocError> {
+fn add_words(shown: &mut Page, words: &Items<Text>) -> Result<(), WordFault> {
     for word in words.as_slice() {
         add(shown, &["|", word.as_str()])?;
     }
@@ -198,27 +243,31 @@ fn add_words(shown: &mut String, words: &Items<Text>) -> Result<(), AllocError> 
 }
 
 /// Adds an instruction whose arguments are variables, labels or words.
-fn add_setting(shown: &mut String, instruction: &Instruction) -> Result<(), AllocError> {
+fn add_setting(
+    alloc: Global,
+    shown: &mut Page,
+    instruction: &InstructionKind,
+) -> Result<(), WordFault> {
     match instruction {
-        Instruction::Arg { arguments } => {
+        InstructionKind::Arg { arguments } => {
             add(shown, &["ARG"])?;
-            add_arguments(shown, arguments.as_slice())
+            add_arguments(alloc, shown, arguments.as_slice())
         }
-        Instruction::Env { variables } => {
+        InstructionKind::Env { variables } => {
             add(shown, &["ENV"])?;
-            add_variables(shown, variables.as_slice())
+            add_variables(alloc, shown, variables.as_slice())
         }
-        Instruction::Label { labels } => {
+        InstructionKind::Label { labels } => {
             add(shown, &["LABEL"])?;
-            add_labels(shown, labels.as_slice())
+            add_labels(alloc, shown, labels.as_slice())
         }
-        Instruction::Expose { ports } => {
+        InstructionKind::Expose { ports } => {
             add(shown, &["EXPOSE"])?;
-            add_templates(shown, ports.as_slice())
+            add_expanded(alloc, shown, ports.as_slice())
         }
-        Instruction::Volume { paths } => {
+        InstructionKind::Volume { paths } => {
             add(shown, &["VOLUME"])?;
-            add_templates(shown, paths.as_slice())
+            add_expanded(alloc, shown, paths.as_slice())
         }
         _ => Ok(()),
     }
@@ -227,59 +276,59 @@ fn add_setting(shown: &mut String, instruction: &Instruction) -> Result<(), Allo
 /// Adds an instruction.
 fn add_instruction(
     alloc: Global,
-    shown: &mut String,
-    instruction: &Instruction,
-) -> Result<(), AllocError> {
+    shown: &mut Page,
+    instruction: &InstructionKind,
+) -> Result<(), WordFault> {
     match instruction {
-        Instruction::From { image, name } => add_stage(shown, image, name),
-        Instruction::User { user } => add_only(shown, "USER|", user),
-        Instruction::Workdir { path } => add_only(shown, "WORKDIR|", path),
-        Instruction::StopSignal { signal } => add_only(shown, "STOPSIGNAL|", signal),
-        Instruction::Shell { words } => {
+        InstructionKind::From { image, name } => add_stage(alloc, shown, image, name),
+        InstructionKind::User { user } => add_only(alloc, shown, "USER|", user),
+        InstructionKind::Workdir { path } => add_only(alloc, shown, "WORKDIR|", path),
+        InstructionKind::StopSignal { signal } => add_only(alloc, shown, "STOPSIGNAL|", signal),
+        InstructionKind::Shell { words } => {
             add(shown, &["SHELL"])?;
             add_words(shown, words)
         }
-        Instruction::Cmd { command } => {
+        InstructionKind::Cmd { command } => {
             add(shown, &["CMD"])?;
             add_command(shown, command)
         }
-        Instruction::Entrypoint { command } => {
+        InstructionKind::Entrypoint { command } => {
             add(shown, &["ENTRYPOINT"])?;
             add_command(shown, command)
         }
-        Instruction::Run { mounts, command } => {
+        InstructionKind::Run { mounts, command } => {
             add(shown, &["RUN"])?;
             add_mounts(shown, mounts.as_slice())?;
             add_command(shown, command)
         }
-        Instruction::Copy {
+        InstructionKind::Copy {
             sources,
             destination,
             flags,
         } => {
             add(shown, &["COPY"])?;
-            add_sources(shown, sources.as_slice())?;
-            add_only(shown, "|>", destination)?;
+            add_sources(alloc, shown, sources.as_slice())?;
+            add_only(alloc, shown, "|>", destination)?;
             add_flags(alloc, shown, flags)
         }
-        other => add_setting(shown, other),
+        other => add_setting(alloc, shown, other),
     }
 }
 
 /// What a text's lines spell, as a text: the instructions, or `R06 at line 1`, with `;` between them.
 fn shown(alloc: Global, text: &str) -> Result<String, Fail> {
     let lines = lines_of(alloc, text)?;
-    let mut shown = String::new(alloc);
+    let mut shown = nothing_shown(alloc)?;
     for line in &lines {
-        if !shown.is_empty() {
-            shown.push_str(";")?;
+        if !shown.text.is_empty() {
+            add(&mut shown, &[";"])?;
         }
         match parse(alloc, line) {
-            Ok(instruction) => add_instruction(alloc, &mut shown, &instruction)?,
-            Err(fault) => shown.push_str(fault.to_string(alloc)?.as_str())?,
+            Ok(instruction) => add_instruction(alloc, &mut shown, &instruction.kind)?,
+            Err(fault) => add(&mut shown, &[fault.to_string(alloc)?.as_str()])?,
         }
     }
-    Ok(shown)
+    Ok(shown.text)
 }
 
 /// Compares what texts spell with what they ought to.
@@ -300,10 +349,10 @@ fn from_begins_a_stage(rt: HostRuntime) -> Result<(), Fail> {
             ("FROM scratch", "FROM|scratch"),
             ("from a AS b", "FROM|a|b"),
             ("From a aS B-1_.x", "FROM|a|B-1_.x"),
-            ("FROM img$V as a", "FROM|img$V|a"),
-            ("FROM 'a b'", "FROM|'a b'"),
-            ("FROM a\\ b AS c", "FROM|a\\ b|c"),
-            ("FROM ''", "FROM|''"),
+            ("FROM img$v as a", "FROM|img<v>|a"),
+            ("FROM 'a b'", "FROM|a b"),
+            ("FROM a\\ b AS c", "FROM|a b|c"),
+            ("FROM ''", "FROM|"),
             ("FROM", "R06 at line 1"),
             ("FROM a b", "R06 at line 1"),
             ("FROM a AS", "R06 at line 1"),
@@ -321,6 +370,13 @@ fn from_begins_a_stage(rt: HostRuntime) -> Result<(), Fail> {
             ("FROM a AS \"b\"", "R10 at line 1"),
             ("FROM a AS b/c", "R10 at line 1"),
             ("FROM a AS é", "R10 at line 1"),
+            ("FROM ${v:-a}:${n:-1}", "FROM|<v>:1"),
+            ("FROM $1$", "FROM|$1$"),
+            ("FROM ${x AS 1", "R09 at line 1"),
+            ("FROM a${}", "R09 at line 1"),
+            ("FROM a ${ b", "R06 at line 1"),
+            ("FROM --x ${", "R07 at line 1"),
+            ("FROM a AS ${", "R10 at line 1"),
         ],
     )
 }
@@ -334,7 +390,7 @@ fn arg_declares_variables(rt: HostRuntime) -> Result<(), Fail> {
             ("ARG a", "ARG|a"),
             ("ARG a=1 b c=", "ARG|a=1|b|c="),
             ("ARG a=b=c", "ARG|a=b=c"),
-            ("ARG _a1=\"x y\"", "ARG|_a1=\"x y\""),
+            ("ARG _a1=\"x y\"", "ARG|_a1=x y"),
             ("ARG --x a", "R10 at line 1"),
             ("ARG", "R06 at line 1"),
             ("arg \\\n\\\n", "R06 at line 1"),
@@ -344,6 +400,12 @@ fn arg_declares_variables(rt: HostRuntime) -> Result<(), Fail> {
             ("ARG =1", "R10 at line 1"),
             ("ARG 'a'=1", "R10 at line 1"),
             ("ARG 1a", "R10 at line 1"),
+            ("ARG a=$v b=${n:+x}", "ARG|a=<v>|b="),
+            ("ARG a b=${", "R09 at line 1"),
+            ("ARG a=${v:=x}", "R09 at line 1"),
+            ("ARG 1=${v b", "R09 at line 1"),
+            ("ARG \"a=b\"=c", "R09 at line 1"),
+            ("ARG ${=1", "R10 at line 1"),
         ],
     )
 }
@@ -354,7 +416,7 @@ fn env_sets_variables(rt: HostRuntime) -> Result<(), Fail> {
         &rt,
         rt.alloc(),
         &[
-            ("ENV a=1 b='x y'", "ENV|a=1|b='x y'"),
+            ("ENV a=1 b='x y'", "ENV|a=1|b=x y"),
             ("ENV a=", "ENV|a="),
             ("ENV a=b=c", "ENV|a=b=c"),
             ("ENV ONE TWO= THREE=world", "ENV|ONE=TWO= THREE=world"),
@@ -370,6 +432,17 @@ fn env_sets_variables(rt: HostRuntime) -> Result<(), Fail> {
             ("ENV \"a\"=b", "R10 at line 1"),
             ("ENV a=1 =2", "R10 at line 1"),
             ("ENV a-b c", "R10 at line 1"),
+            ("ENV a=$v b='$v'", "ENV|a=<v>|b=$v"),
+            ("ENV a $v 'b  c'", "ENV|a=<v> b  c"),
+            ("ENV a=1 b=${", "R09 at line 1"),
+            ("ENV 1=${v?x}", "R09 at line 1"),
+            ("ENV \"a=b\"=c", "R09 at line 1"),
+            ("ENV a ${v", "R09 at line 1"),
+            ("ENV a b 'c", "R09 at line 1"),
+            ("ENV \"a 'b", "R09 at line 1"),
+            ("ENV \"a b", "R10 at line 1"),
+            ("ENV a=${ b", "R06 at line 1"),
+            ("ENV ${=1", "R10 at line 1"),
         ],
     )
 }
@@ -381,8 +454,8 @@ fn label_sets_labels(rt: HostRuntime) -> Result<(), Fail> {
         rt.alloc(),
         &[
             ("LABEL a=b", "LABEL|a=b"),
-            ("LABEL \"a b\"=c d=\"e=f\"", "LABEL|\"a b\"=c|d=\"e=f\""),
-            ("LABEL \"a=b\"=c a\\=b=c", "LABEL|\"a=b\"=c|a\\=b=c"),
+            ("LABEL \"a b\"=c d=\"e=f\"", "LABEL|a b=c|d=e=f"),
+            ("LABEL \"a=b\"=c a\\=b=c", "LABEL|a=b=c|a=b=c"),
             ("LABEL =c", "LABEL|=c"),
             ("LABEL", "R06 at line 1"),
             ("LABEL a b", "R06 at line 1"),
@@ -391,7 +464,14 @@ fn label_sets_labels(rt: HostRuntime) -> Result<(), Fail> {
             ("LABEL a\\=b", "R06 at line 1"),
             ("LABEL a='b", "R09 at line 1"),
             ("LABEL a=b c=\"d e", "R09 at line 1"),
-            ("LABEL a='b\\'", "LABEL|a='b\\'"),
+            ("LABEL a='b\\'", "LABEL|a=b\\"),
+            ("LABEL $v=$v", "LABEL|<v>=<v>"),
+            ("LABEL a=\\$b", "LABEL|a=$b"),
+            ("# escape=`\nLABEL a=\\$b c=`$b", "LABEL|a=\\|c=$b"),
+            ("LABEL ${=b", "R09 at line 1"),
+            ("LABEL a=b c=${v:?x}", "R09 at line 1"),
+            ("LABEL ${v:-=}", "R09 at line 1"),
+            ("LABEL a=b ${", "R06 at line 1"),
         ],
     )
 }
@@ -403,35 +483,51 @@ fn settings_have_words(rt: HostRuntime) -> Result<(), Fail> {
         rt.alloc(),
         &[
             ("EXPOSE 80 53/UDP", "EXPOSE|80|53/UDP"),
-            ("EXPOSE $P", "EXPOSE|$P"),
-            ("EXPOSE ''", "EXPOSE|''"),
+            ("EXPOSE $v/tcp", "EXPOSE|<v>/tcp"),
+            ("EXPOSE ''", "EXPOSE|"),
             ("EXPOSE", "R06 at line 1"),
             ("EXPOSE 80 '", "R09 at line 1"),
             ("EXPOSE \"8 0", "R09 at line 1"),
+            ("EXPOSE 80 ${1}", "R09 at line 1"),
+            ("EXPOSE ${v-80}", "R09 at line 1"),
             ("USER u", "USER|u"),
-            ("USER \"a b\"", "USER|\"a b\""),
+            ("USER \"a b\"", "USER|a b"),
             ("USER", "R06 at line 1"),
             ("USER a b", "R06 at line 1"),
             ("USER 'a", "R09 at line 1"),
+            ("USER ${v:?x}", "R09 at line 1"),
+            ("USER ${ a", "R06 at line 1"),
             ("WORKDIR /a/../b", "WORKDIR|/a/../b"),
-            ("WORKDIR /a\\ b", "WORKDIR|/a\\ b"),
+            ("WORKDIR /a\\ b", "WORKDIR|/a b"),
             ("WORKDIR", "R06 at line 1"),
             ("WORKDIR /a b", "R06 at line 1"),
             ("WORKDIR \"/a", "R09 at line 1"),
+            ("WORKDIR /$v/$", "WORKDIR|/<v>/$"),
+            ("WORKDIR /${v", "R09 at line 1"),
             ("STOPSIGNAL SIGKILL", "STOPSIGNAL|SIGKILL"),
             ("stopsignal 9", "STOPSIGNAL|9"),
             ("STOPSIGNAL", "R06 at line 1"),
             ("STOPSIGNAL 9 9", "R06 at line 1"),
             ("STOPSIGNAL '9", "R09 at line 1"),
+            ("STOPSIGNAL ${}", "R09 at line 1"),
             ("VOLUME /a /b", "VOLUME|/a|/b"),
-            ("VOLUME [\"/a\", \"/b c\"]", "VOLUME|p:/a|p:/b c"),
+            ("VOLUME [\"/a\", \"/b c\"]", "VOLUME|/a|/b c"),
             ("VOLUME [x]", "VOLUME|[x]"),
             ("VOLUME [1]", "VOLUME|[1]"),
-            ("VOLUME [\"/a\"] b", "VOLUME|[\"/a\"]|b"),
+            ("VOLUME [\"/a\"] b", "VOLUME|[/a]|b"),
             ("VOLUME", "R06 at line 1"),
             ("VOLUME []", "R06 at line 1"),
             ("VOLUME [\"/a", "R09 at line 1"),
             ("VOLUME /a '", "R09 at line 1"),
+            ("VOLUME '$v' $v", "VOLUME|$v|<v>"),
+            ("VOLUME [\"'$v'\", \"it's\"]", "VOLUME|'<v>'|it's"),
+            ("VOLUME [\"\\\\$v\", \"`$v\"]", "VOLUME|$v|`<v>"),
+            (
+                "# escape=`\nVOLUME [\"\\\\$v\", \"`$v\"]",
+                "VOLUME|\\<v>|$v",
+            ),
+            ("VOLUME /a ${", "R09 at line 1"),
+            ("VOLUME [\"/a\", \"${\"]", "R09 at line 1"),
         ],
     )
 }
@@ -448,15 +544,18 @@ fn commands_have_two_forms(rt: HostRuntime) -> Result<(), Fail> {
             ("SHELL", "R06 at line 1"),
             ("SHELL a -c", "R06 at line 1"),
             ("SHELL [\"a\", 1]", "R06 at line 1"),
+            ("SHELL [\"${\"]", "SHELL|${"),
             ("CMD [\"a\", \"b c\"]", "CMD|[a][b c]"),
             ("CMD []", "CMD|"),
             ("CMD a 'b", "CMD|$a 'b"),
             ("CMD [\"a\"] x", "CMD|$[\"a\"] x"),
             ("CMD --a b", "CMD|$--a b"),
+            ("CMD ${", "CMD|$${"),
             ("CMD", "R06 at line 1"),
             ("ENTRYPOINT [\"a\"]", "ENTRYPOINT|[a]"),
             ("ENTRYPOINT []", "ENTRYPOINT|"),
             ("ENTRYPOINT a $b", "ENTRYPOINT|$a $b"),
+            ("ENTRYPOINT [\"${\"]", "ENTRYPOINT|[${]"),
             ("entrypoint \\\n # c\n", "R06 at line 1"),
             ("ENTRYPOINT", "R06 at line 1"),
         ],
@@ -493,6 +592,7 @@ fn run_has_mounts(rt: HostRuntime) -> Result<(), Fail> {
             ),
             ("RUN --mount=target=a=b x", "RUN|bind:a=b|$x"),
             ("RUN a --mount=b", "RUN|$a --mount=b"),
+            ("RUN --mount=target=${ ${", "RUN|bind:${|$${"),
             ("RUN", "R06 at line 1"),
             ("RUN []", "R06 at line 1"),
             ("RUN --foo", "R06 at line 1"),
@@ -582,8 +682,8 @@ fn copy_has_flags(rt: HostRuntime) -> Result<(), Fail> {
         rt.alloc(),
         &[
             ("COPY a b", "COPY|a|>b"),
-            ("COPY a 'b c' /d/", "COPY|a|'b c'|>/d/"),
-            ("COPY [\"a b\", \"/d\"]", "COPY|p:a b|>p:/d"),
+            ("COPY a 'b c' /d/", "COPY|a|b c|>/d/"),
+            ("COPY [\"a b\", \"/d\"]", "COPY|a b|>/d"),
             ("COPY [x-] /d", "COPY|[x-]|>/d"),
             ("COPY --link a b", "COPY|a|>b|link"),
             ("COPY --link=true a b", "COPY|a|>b|link"),
@@ -602,7 +702,7 @@ fn copy_has_flags(rt: HostRuntime) -> Result<(), Fail> {
             ),
             ("COPY --from=a=b a b", "COPY|a|>b|from=a=b"),
             ("COPY a --link b", "COPY|a|--link|>b"),
-            ("COPY [\"\", \"\"]", "COPY|p:|>p:"),
+            ("COPY [\"\", \"\"]", "COPY||>"),
             ("COPY", "R06 at line 1"),
             ("COPY a", "R06 at line 1"),
             ("COPY --foo a", "R06 at line 1"),
@@ -621,7 +721,7 @@ fn copy_has_flags(rt: HostRuntime) -> Result<(), Fail> {
             ("COPY --chmod=9 --chmod=9 a b", "R07 at line 1"),
             ("COPY a 'b", "R09 at line 1"),
             ("COPY --chmod=9 a 'b", "R09 at line 1"),
-            ("COPY [\"a\", \"b'\"]", "COPY|p:a|>p:b'"),
+            ("COPY [\"a\", \"b'\"]", "COPY|a|>b'"),
             ("COPY --chmod=9 a b", "R16 at line 1"),
             ("COPY --chmod=75 a b", "R16 at line 1"),
             ("COPY --chmod=00755 a b", "R16 at line 1"),
@@ -634,6 +734,14 @@ fn copy_has_flags(rt: HostRuntime) -> Result<(), Fail> {
             ("COPY --chown=+1 a b", "R16 at line 1"),
             ("COPY --chown=4294967296 a b", "R16 at line 1"),
             ("COPY --chown=42949672950 a b", "R16 at line 1"),
+            ("COPY $v '$v' /$v/", "COPY|<v>|$v|>/<v>/"),
+            ("COPY --from=${ a b", "COPY|a|>b|from=${"),
+            ("COPY --link=no ${x /d", "R07 at line 1"),
+            ("COPY --chown=x ${x /d", "R09 at line 1"),
+            ("COPY a ${x", "R09 at line 1"),
+            ("COPY ${", "R06 at line 1"),
+            ("COPY [\"${\", \"/d\"]", "R09 at line 1"),
+            ("COPY [\"a\", \"/${1}\"]", "R09 at line 1"),
         ],
     )
 }
@@ -644,13 +752,13 @@ fn copy_has_heredocs(rt: HostRuntime) -> Result<(), Fail> {
         &rt,
         rt.alloc(),
         &[
-            ("COPY <<E /d\na\nE", "COPY|<E=p:a\n>|>/d"),
+            ("COPY <<E /d\na\nE", "COPY|<E=a\n>|>/d"),
             (
-                "COPY <<-\"E\" <<F /d/\n\ta$V\n\tE\nb$V\nF",
-                "COPY|<E=l:a$V\n>|<F=p:b$V\n>|>/d/",
+                "COPY <<-\"E\" <<F /d/\n\ta$v\n\tE\nb$v\nF",
+                "COPY|<E=l:a$v\n>|<F=b<v>\n>|>/d/",
             ),
-            ("COPY a <<E b /d/\nE", "COPY|a|<E=p:>|b|>/d/"),
-            ("COPY --link <<E /d\nE", "COPY|<E=p:>|>/d|link"),
+            ("COPY a <<E b /d/\nE", "COPY|a|<E=>|b|>/d/"),
+            ("COPY --link <<E /d\nE", "COPY|<E=>|>/d|link"),
             ("COPY [x <<E /d", "COPY|[x|<<E|>/d"),
             ("COPY a x<<E", "COPY|a|>x<<E"),
             ("COPY a <<E\nE", "R08 at line 1"),
@@ -663,6 +771,16 @@ fn copy_has_heredocs(rt: HostRuntime) -> Result<(), Fail> {
             ("COPY \r[\"a <<E b\", \"/d\"]\nE", "R08 at line 1"),
             ("COPY <<E 'd\nE", "R09 at line 1"),
             ("COPY --chmod=8 a <<E\nE", "R08 at line 1"),
+            ("COPY <<E /d\n'$v' \\$v \"\nE", "COPY|<E='<v>' $v \"\n>|>/d"),
+            (
+                "# escape=`\nCOPY <<E /d\n`$v \\$v\nE",
+                "COPY|<E=$v \\<v>\n>|>/d",
+            ),
+            ("COPY <<'E' /d\n${\nE", "COPY|<E=l:${\n>|>/d"),
+            ("COPY <<E /d\n${\nE", "R09 at line 1"),
+            ("COPY <<'E' <<F /d/\n${\nE\n${v:=}\nF", "R09 at line 1"),
+            ("COPY --from=a <<E /d\n${\nE", "R08 at line 1"),
+            ("COPY --chmod=9 <<E /d\n${\nE", "R09 at line 1"),
         ],
     )
 }
@@ -699,7 +817,7 @@ fn other_names_are_unknown(rt: HostRuntime) -> Result<(), Fail> {
             ("FROMA a", "R04 at line 1"),
             ("é", "R04 at line 1"),
             ("RUN a\nENVY a\n", "RUN|$a;R04 at line 2"),
-            ("# escape=`\nENV a=`\" b=\\", "ENV|a=`\"|b=\\"),
+            ("# escape=`\nENV a=`\" b=\\", "ENV|a=\"|b=\\"),
             ("# escape=`\nCOPY f `\n# note\n /d\\e", "COPY|f|>/d\\e"),
             ("cOpY a b", "COPY|a|>b"),
         ],
@@ -712,7 +830,8 @@ fn many_mounts(alloc: Global, count: usize, last: &str) -> Result<String, AllocE
     for _ in 0..count {
         text.push_str(" --mount=target=/m")?;
     }
-    add(&mut text, &[last, " x"])?;
+    text.push_str(last)?;
+    text.push_str(" x")?;
     Ok(text)
 }
 
@@ -733,6 +852,43 @@ fn a_run_has_sixteen_mounts(rt: HostRuntime) -> Result<(), Fail> {
     let text = many_mounts(rt.alloc(), 15, " --mount=target=/n")?;
     let found = shown(rt.alloc(), text.as_str())?;
     assert!(rt; found.as_str().ends_with("|bind:/m|bind:/n|$x"));
+    Ok(())
+}
+
+/// USER with so many `${` within one another, each closed.
+fn nested(alloc: Global, depth: usize) -> Result<String, AllocError> {
+    let mut text = String::from_str(alloc, "USER ")?;
+    for _ in 0..depth {
+        text.push_str("${n:-")?;
+    }
+    text.push_str("u")?;
+    for _ in 0..depth {
+        text.push_str("}")?;
+    }
+    Ok(text)
+}
+
+#[test]
+fn thirty_two_substitutions_nest(rt: HostRuntime) -> Result<(), Fail> {
+    for (depth, wanted) in [(32, "USER|u"), (33, "R09 at line 1")] {
+        let text = nested(rt.alloc(), depth)?;
+        let found = shown(rt.alloc(), text.as_str())?;
+        assert_eq!(rt; found.as_str(), wanted);
+    }
+    Ok(())
+}
+
+#[test]
+fn instructions_know_their_lines(rt: HostRuntime) -> Result<(), Fail> {
+    let text = "# c\nFROM a\n\nRUN b \\\n c\nCOPY <<E /d\nUSER u\nE\nUSER u\n";
+    let lines = lines_of(rt.alloc(), text)?;
+    let mut found = String::new(rt.alloc());
+    for line in &lines {
+        let instruction = parse(rt.alloc(), line)?;
+        let number = format!(in rt.alloc(); " {}", instruction.line)?;
+        found.push_str(number.as_str())?;
+    }
+    assert_eq!(rt; found.as_str(), " 2 4 6 9");
     Ok(())
 }
 
