@@ -12,8 +12,8 @@ use Rattle.instructions.specs.Least.{least}
 use Rattle.instructions.specs.Run.{run_read, run_due}
 use Rattle.instructions.specs.Words.{expose_read, expose_due, only_read, only_due, volume_read, volume_due}
 use Rattle.instructions.specs.Variables.{arg_read, arg_due, env_read, env_due, label_read, label_due}
-use Rattle.instructions.specs.declared.fault.Fault.{Fault}
-use Rattle.instructions.specs.declared.fault.Fault.TheVariants.{Refused, Memory}
+use Rattle.lines.specs.declared.fault.LineFault.{LineFault}
+use Rattle.lines.specs.declared.fault.LineFault.TheVariants.{Refused, Memory}
 use Rattle.instructions.specs.declared.instruction.Instruction.{Instruction}
 use Rattle.instructions.specs.declared.instruction.InstructionKind.{InstructionKind}
 use Rattle.instructions.specs.declared.instruction.InstructionKind.TheVariants as instruction
@@ -75,7 +75,7 @@ Spells line i = (named_read (keyword_in line) line (behind_piece line.text) ≡ 
 
 -- what reading a line answers: the instruction that it spells, or the least code that is due with the line's number; want of
 -- memory says nothing of the line
-abbrev pub IsParsed : Line → Result Instruction Fault → Type 0
+abbrev pub IsParsed : Line → Result Instruction LineFault → Type 0
 IsParsed line (Ok i) = Spells line i
 IsParsed line (Err (Refused f)) = (f.line ≡ line.number) × (least (is_due line) ≡ Some f.code)
 IsParsed line (Err Memory) = Unit {0}

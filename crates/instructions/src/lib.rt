@@ -17,7 +17,6 @@ mod arguments;
 mod commands;
 mod copy;
 mod expanded;
-mod fault;
 mod instruction;
 mod keyword;
 mod labels;
@@ -29,11 +28,11 @@ mod stage;
 mod texts;
 mod variables;
 
-pub use fault::Fault;
 pub use instruction::{
     Argument, Body, Command, Instruction, InstructionKind, Label, Source, Variable,
 };
 pub use laws::{a_line_spells_one, lines_are_spelled_or_refused, the_least_code_is_told};
+pub use lines::LineFault as Fault;
 pub use options::{CopyFlags, Mount, MountKind, Owner};
 pub use parsing::parse;
 

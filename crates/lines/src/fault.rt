@@ -3,13 +3,13 @@ use std::alloc::AllocError;
 use std::error::Error;
 use std::fmt;
 
-/// Why a text gives no logical lines.
+/// Why a text gives no logical lines, or a line no instruction (the crate `instructions` tells it so too).
 #[derive(Clone, Copy, Debug, PartialEq, Eq)]
 pub enum LineFault {
-    /// The text is refused: it has more than 1,048,576 bytes, is not UTF-8, has a directive twice, an escape
+    /// It is refused. A text is where it has more than 1,048,576 bytes, is not UTF-8, has a directive twice, an escape
     /// directive with a bad value, an unclosed heredoc, or more than 4,096 logical lines.
     Refused(Refusal),
-    /// There was no memory for the lines. Nothing is said of the text.
+    /// There was no memory for it. Nothing is said of the text or the line.
     Memory,
 }
 
