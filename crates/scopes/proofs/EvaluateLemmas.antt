@@ -1,0 +1,46 @@
+-- One variable more of an ENV line.
+use Rattle.std.proofs.Common.{◌≡◌, ℕ, ◌+◌, ◌<◌, ◌≤◌, Bool, List, [], ◌∷◌, ◌++◌, length, get_or, drop, refl, ap, ap₂, sym, subst, ◌∙◌, append_assoc}
+use Rattle.std.specs.Prelude.{Result, Ok, Err}
+use Rattle.std.specs.Result.{IsErrAnd}
+use Rattle.std.proofs.lemmas.Bool.{lt-ltb, le-ltb}
+use Rattle.std.proofs.lemmas.List.{at_drop_more}
+use Rattle.words.specs.declared.fault.Fault.{Fault}
+use Rattle.words.specs.declared.fault.Fault.TheVariants.{Refused, Memory}
+use Rattle.expand.specs.Value.{value}
+use Rattle.expand.specs.Expanding.{Expands, longest}
+use Rattle.instructions.specs.declared.instruction.Variable.{Variable}
+use Rattle.scopes.specs.Evaluating.{Says}
+use Rattle.scopes.specs.Lines.{Values, env_line, env_texts, is_one_long}
+use Rattle.scopes.specs.declared.declaration.Declaration.{Declaration}
+use Rattle.scopes.specs.declared.declaration.Declaration.TheVariants.{Env}
+
+texts-step : (b : Values) (vs : List Variable) (i : ℕ) (v : Variable) → i < length vs → v ≡ get_or vs i v → env_texts b (drop i vs) ≡ value b v.value ∷ env_texts b (drop (i + 1) vs)
+texts-step b vs i v lt is = at_drop_more (env_texts b) vs i v lt ∙ ap (λ (u : Variable). value b u.value ∷ env_texts b (drop (i + 1) vs)) (sym is)
+
+line-step : (b : Values) (vs : List Variable) (i : ℕ) (v : Variable) → i < length vs → v ≡ get_or vs i v → env_line b (drop i vs) ≡ Env v.name (value b v.value) ∷ env_line b (drop (i + 1) vs)
+line-step b vs i v lt is = at_drop_more (env_line b) vs i v lt ∙ ap (λ (u : Variable). Env u.name (value b u.value) ∷ env_line b (drop (i + 1) vs)) (sym is)
+
+-- a text that isn't too long is passed
+pub long-step : (b : Values) (vs : List Variable) (i : ℕ) (v : Variable) (all : Bool) → i < length vs → v ≡ get_or vs i v → length (value b v.value) ≤ longest
+    → is_one_long (env_texts b (drop i vs)) ≡ all → is_one_long (env_texts b (drop (i + 1) vs)) ≡ all
+long-step b vs i v all lt is le h =
+    let short : is_one_long (value b v.value ∷ env_texts b (drop (i + 1) vs)) ≡ is_one_long (env_texts b (drop (i + 1) vs)) = rw (le-ltb longest (length (value b v.value)) le) refl in
+    sym short ∙ ap is_one_long (sym (texts-step b vs i v lt is)) ∙ h
+
+pub said-step : (b : Values) (vs : List Variable) (i : ℕ) (v : Variable) (line new all : List Declaration) (n t : List ℕ) → i < length vs → v ≡ get_or vs i v → n ≡ v.name → t ≡ value b v.value
+    → new ≡ line ++ Env n t ∷ [] → line ++ env_line b (drop i vs) ≡ all → new ++ env_line b (drop (i + 1) vs) ≡ all
+said-step b vs i v line new all n t lt is h j k m =
+    ap (λ (ds : List Declaration). ds ++ env_line b (drop (i + 1) vs)) (k ∙ ap₂ (λ (x y : List ℕ). line ++ Env x y ∷ []) h j)
+    ∙ append_assoc line (Env v.name (value b v.value) ∷ []) (env_line b (drop (i + 1) vs)) ∙ ap (λ (ds : List Declaration). line ++ ds) (sym (line-step b vs i v lt is)) ∙ m
+
+-- one that is ends the line
+says-long : (line : List Declaration) (texts rest : List (List ℕ)) (text : List ℕ) (f : Fault) → Expands longest text (Err f) → is_one_long (text ∷ rest) ≡ is_one_long texts → Says line texts (Err f)
+says-long line texts rest text (Refused code) h i = (h.0, sym i ∙ rw (lt-ltb longest (length text) h.1) refl)
+says-long line texts rest text Memory h i = tt
+
+pub says-refused : (b : Values) (vs : List Variable) (i : ℕ) (v : Variable) (line : List Declaration) (f : Fault) (r : Result (List Declaration) Fault) → IsErrAnd r (λ e. e ≡ f) → i < length vs → v ≡ get_or vs i v
+    → Expands longest (value b v.value) (Err f) → is_one_long (env_texts b (drop i vs)) ≡ is_one_long (env_texts b vs) → Says line (env_texts b vs) r
+says-refused b vs i v line f (Ok found) same lt is h j = absurd same
+says-refused b vs i v line f (Err e) same lt is h j =
+    subst (λ (d : Fault). Says line (env_texts b vs) (Err d)) (sym same)
+    (says-long line (env_texts b vs) (env_texts b (drop (i + 1) vs)) (value b v.value) f h (ap is_one_long (sym (texts-step b vs i v lt is)) ∙ j))

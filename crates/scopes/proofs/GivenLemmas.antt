@@ -1,0 +1,48 @@
+-- What the map of build arguments gives names.
+use Rattle.std.proofs.Common.{◌≡◌, ℕ, Bool, true, false, cond, List, [], ◌∷◌, map, Option, Some, refl, ap, sym, ◌∙◌}
+use Rattle.std.specs.Cmp.Lexicographic.{slice_cmp, nat_list_cmp_total}
+use Rattle.std.specs.FinMap.{get, insert, find, from_entries, get-insert, get-from_entries, same_map, slice_cmp-IsAntisymmetric, nat_cmp-IsAntisymmetric}
+use Rattle.std.specs.Map.{lookup}
+use Rattle.std.specs.Ordering.{nat_cmp}
+use Rattle.std.specs.Str.{bytes_eq}
+use Rattle.std.specs.declared.string.String.{String}
+use Rattle.std.specs.String.{string_bytes, string_eq}
+use Rattle.std.proofs.lemmas.Map.Text.{is_eq-slice_cmp}
+use Rattle.indexmap.specs.IndexMap.{insert_entry}
+use Rattle.scopes.specs.Given.{Given}
+use Rattle.scopes.specs.SaidLaws.{either, turned}
+
+taken_first : (b : Bool) (x y z : Option (List ℕ)) → cond b x z ≡ cond b x (cond b y z)
+taken_first true x y z = refl
+taken_first false x y z = refl
+
+module _ {Z : Type 0} where
+  abbrev pub given : List (String Z × List ℕ) → Given
+  given es = from_entries (map (λ e. (string_bytes e.0, e.1)) es)
+
+  find-given : (n : List ℕ) (es : List (String Z × List ℕ)) → find (slice_cmp nat_cmp) n (map (λ e. (string_bytes e.0, e.1)) es) ≡ lookup (λ l. bytes_eq n (string_bytes l)) es
+  find-given n [] = refl
+  find-given n (e ∷ es) = rw (is_eq-slice_cmp n (string_bytes e.0), find-given n es) refl
+
+  pub get-given : (n : List ℕ) (es : List (String Z × List ℕ)) → get (given es) n ≡ lookup (λ l. bytes_eq n (string_bytes l)) es
+  get-given n es = get-from_entries nat_list_cmp_total (map (λ e. (string_bytes e.0, e.1)) es) n ∙ find-given n es
+
+  lookup-insert : (n : List ℕ) (es : List (String Z × List ℕ)) (k : String Z) (v : List ℕ)
+      → lookup (λ l. bytes_eq n (string_bytes l)) (insert_entry string_eq es k v) ≡ cond (bytes_eq n (string_bytes k)) (Some v) (lookup (λ l. bytes_eq n (string_bytes l)) es)
+  lookup-insert n [] k v = refl
+  lookup-insert n (e ∷ es) k v =
+      either (string_bytes k) (string_bytes e.0)
+      (λ s h. rw h (taken_first (bytes_eq n (string_bytes e.0)) (Some v) (Some e.1) (lookup (λ l. bytes_eq n (string_bytes l)) es)
+      ∙ ap (λ t. cond (bytes_eq n t) (Some v) (cond (bytes_eq n (string_bytes e.0)) (Some e.1) (lookup (λ l. bytes_eq n (string_bytes l)) es))) (sym s)))
+      (λ h. rw h (either n (string_bytes e.0)
+      (λ s i. let f : bytes_eq n (string_bytes k) ≡ false = ap (λ t. bytes_eq t (string_bytes k)) s ∙ turned (string_bytes k) (string_bytes e.0) false h in rw (i, f) refl)
+      (λ i. rw i (lookup-insert n es k v))))
+
+  pub given-insert : (es fs : List (String Z × List ℕ)) (k : String Z) (n v : List ℕ) → string_bytes k ≡ n → fs ≡ insert_entry string_eq es k v → given fs ≡ insert (given es) n v
+  given-insert es fs k n v h i =
+      ap given i
+      ∙ same_map nat_list_cmp_total (slice_cmp-IsAntisymmetric nat_cmp-IsAntisymmetric) (given (insert_entry string_eq es k v)) (insert (given es) (string_bytes k) v)
+      (λ q. get-given q (insert_entry string_eq es k v) ∙ lookup-insert q es k v
+      ∙ sym (get-insert nat_list_cmp_total (given es) (string_bytes k) v q ∙ ap (λ b. cond b (Some v) (get (given es) q)) (is_eq-slice_cmp q (string_bytes k))
+      ∙ ap (cond (bytes_eq q (string_bytes k)) (Some v)) (get-given q es)))
+      ∙ ap (λ t. insert (given es) t v) h

@@ -1,0 +1,4 @@
+pub mod EntryLemmas
+pub mod LineLemmas
+pub mod GivenLemmas
+pub mod EvaluateLemmas

@@ -1,0 +1,9 @@
+pub mod Declarations
+pub mod Lines
+pub mod Given
+pub mod Evaluating
+pub mod ScopeValue
+pub mod GivenValue
+pub mod Said
+pub mod SaidLaws
+pub mod ScopeLaws

@@ -1,0 +1,60 @@
+-- What an ENV or ARG line says, and what a call on it answers.
+use Rattle.std.specs.Prelude.{◌≡◌, ℕ, Bool, true, false, List, ◌++◌, map, Option, Some, None, length, Result, Ok, Err, nat_lt}
+use Rattle.std.specs.List.{filter_map, list_any}
+use Rattle.plain.specs.declared.refusal.Code.TheVariants.{R18}
+use Rattle.words.specs.declared.fault.Fault.{Fault}
+use Rattle.words.specs.declared.fault.Fault.TheVariants.{Refused, Memory}
+use Rattle.expand.specs.Value.{Parts, value}
+use Rattle.expand.specs.Expanding.{longest}
+use Rattle.instructions.specs.declared.instruction.Argument.{Argument}
+use Rattle.instructions.specs.declared.instruction.Variable.{Variable}
+use Rattle.scopes.specs.declared.declaration.Declaration.{Declaration}
+use Rattle.scopes.specs.declared.declaration.Declaration.TheVariants.{Env, Arg}
+use Rattle.scopes.specs.Declarations.{or_else, kept}
+
+-- what gives names their values
+abbrev pub Values : Type 0
+Values = List ℕ → Option (List ℕ)
+
+-- what an ENV line says: each variable has the value of its word under the scope before the line, which the line itself
+-- doesn't change (Dockerfile reference, environment replacement)
+abbrev pub env_line : Values → List Variable → List Declaration
+env_line before variables = map (λ v. Env v.name (value before v.value)) variables
+
+-- what an argument has without a build argument: the value of its default under the scope before the line; where it is bare,
+-- the value that its name had before the first FROM, which is none for a line that stands there itself (Dockerfile reference,
+-- how ARG and FROM interact)
+abbrev pub fallback : Values → Option (List ℕ) → Option Parts → Option (List ℕ)
+fallback before outer_value (Some word) = Some (value before word)
+fallback before outer_value None = outer_value
+
+-- what an ARG line says: each argument has the build argument of its name, or else its fallback; it may have none. Of a name
+-- that stands twice on a line the last value counts (Dockerfile reference, ARG)
+abbrev pub arg_line : Values → Values → Values → List Argument → List Declaration
+arg_line before given outer arguments = map (λ a. Arg a.name (or_else (given a.name) (fallback before (outer a.name) a.default))) arguments
+
+-- the texts that an ENV line expands
+abbrev pub env_texts : Values → List Variable → List (List ℕ)
+env_texts before variables = map (λ v. value before v.value) variables
+
+-- the text that an argument expands, which is the one that is judged: its default, where it has one and no build argument,
+-- also where an ENV of its name beats it (own)
+abbrev pub expanded_default : Values → Option (List ℕ) → Option Parts → Option (List ℕ)
+expanded_default before (Some text) default = None
+expanded_default before None (Some word) = Some (value before word)
+expanded_default before None None = None
+
+-- the texts that an ARG line expands
+abbrev pub arg_texts : Values → Values → List Argument → List (List ℕ)
+arg_texts before given arguments = filter_map (λ a. expanded_default before (given a.name) a.default) arguments
+
+-- one of the texts is longer than an expanded text may be
+abbrev pub is_one_long : List (List ℕ) → Bool
+is_one_long texts = list_any (λ text. nat_lt longest (length text)) texts
+
+-- what a call on a line answers, and the scope after it, `texts` being those that the line expands, perhaps none: the line is
+-- added where none of them is too long; else R18, and the scope is as it was, as it is for want of memory
+abbrev pub Declares : List Declaration → List Declaration → List (List ℕ) → List Declaration → Result (Unit {0}) Fault → Type 0
+Declares old line texts new (Ok u) = (new ≡ kept (old ++ line)) × (is_one_long texts ≡ false)
+Declares old line texts new (Err (Refused code)) = (new ≡ old) × (code ≡ R18) × (is_one_long texts ≡ true)
+Declares old line texts new (Err Memory) = new ≡ old

@@ -1,0 +1,67 @@
+ghost use Rattle.std.specs.Prelude.{◌≡◌, Option, OnOk, OnErr, option_map};
+ghost use Rattle.std.specs.FinMap as map;
+
+use expand::Lookup;
+use indexmap::IndexMap;
+use plain::{Memory, Text};
+use std::alloc::Global;
+use std::marker::Model;
+
+/// The build arguments: a value for each name that has one.
+///
+/// Contracts see a finite map from names to values.
+#[derive(Drop)]
+pub struct Args {
+    values: IndexMap<String, Text>,
+}
+
+impl Model for Args {
+    ghost use Rattle.scopes.specs.Given.{Given, given_code};
+
+    ghost Value = { Given };
+
+    ghost coded = { given_code };
+
+    ghost use Rattle.scopes.specs.GivenValue.{given_of};
+
+    ghost view = { given_of };
+}
+
+impl Args {
+    /// No build arguments. It takes no memory.
+    pub fn new(alloc: Global) -> Args
+        ensures { result ≡ map.empty }
+    {
+        Args {
+            values: IndexMap::new(alloc),
+        }
+    }
+
+    /// Gives a name a value, in place of the one that it has. After `Memory` the arguments are as they were.
+    pub fn set(&mut self, alloc: Global, name: &str, value: &str) -> Result<(), Memory>
+        ensures ok { OnOk result (self.new ≡ map.insert self.old name.now value.now) }
+        ensures err { OnErr result (self.new ≡ self.old) }
+    {
+        let name = String::from_str(alloc, name)?;
+        let value = Text::from_str(alloc, value)?;
+        self.values.insert(name, value)?;
+        Ok(())
+    }
+
+    /// The value of a name; none where it has none.
+    pub fn get(&self, name: &str) -> Option<&Text>
+        ensures { option_map (λ text. text.now) result ≡ map.get self.now name.now }
+    {
+        self.values.get(name)
+    }
+}
+
+impl Lookup for Args {
+    ghost use Rattle.std.specs.FinMap as map;
+
+    ghost value_of = { map.get };
+
+    fn find(&self, name: &str) -> Option<&Text> {
+        self.get(name)
+    }
+}

@@ -1,0 +1,77 @@
+ghost use Rattle.std.specs.FinMap.{get as given_value};
+ghost use Rattle.scopes.specs.Declarations.{or_else, value_in};
+ghost use Rattle.scopes.specs.Lines.{env_line, env_texts, arg_line, arg_texts, fallback, expanded_default};
+ghost use Rattle.scopes.specs.Evaluating.{Says, Gives};
+
+use crate::args::Args;
+use crate::declaration::Declaration;
+use crate::scope::Scope;
+use expand::expand;
+use instructions::{Argument, Variable};
+use plain::{Exact, Items, Text};
+use std::alloc::Global;
+use words::Fault;
+
+/// What an ENV line says under the scope before it; R18 exactly where a value is too long.
+pub fn variable_declarations(
+    alloc: Global,
+    variables: &[Variable],
+    before: &Scope,
+) -> Result<Items<Declaration>, Fault>
+    ensures { Says (env_line (value_in before.now) variables.now) (env_texts (value_in before.now) variables.now) result }
+{
+    let mut line = Items::new(alloc);
+    for variable in variables {
+        let name = variable.name.copy(alloc)?;
+        let value = expand(alloc, &variable.value, before)?;
+        line.push(Declaration::Env { name, value })?;
+    }
+    Ok(line)
+}
+
+/// What an ARG line says under the scope before it; R18 exactly where a default that counts is too long.
+pub fn argument_declarations(
+    alloc: Global,
+    arguments: &[Argument],
+    before: &Scope,
+    given: &Args,
+    outer: &Scope,
+) -> Result<Items<Declaration>, Fault>
+    ensures { Says (arg_line (value_in before.now) (given_value given.now) (value_in outer.now) arguments.now) (arg_texts (value_in before.now) (given_value given.now) arguments.now) result }
+{
+    let mut line = Items::new(alloc);
+    for argument in arguments {
+        let name = argument.name.copy(alloc)?;
+        let value = argument_value(alloc, argument, before, given, outer)?;
+        line.push(Declaration::Arg { name, value })?;
+    }
+    Ok(line)
+}
+
+/// The value that an argument has: the build argument, else its default, else what it has before the first FROM.
+fn argument_value(
+    alloc: Global,
+    argument: &Argument,
+    before: &Scope,
+    given: &Args,
+    outer: &Scope,
+) -> Result<Option<Text>, Fault>
+    ensures { Gives (expanded_default (value_in before.now) (given_value given.now argument.now.name) argument.now.default) (or_else (given_value given.now argument.now.name) (fallback (value_in before.now) (value_in outer.now argument.now.name) argument.now.default)) result }
+{
+    let name = argument.name.as_str();
+    if let Some(value) = given.get(name) {
+        let value = value.copy(alloc)?;
+        return Ok(Some(value));
+    }
+    if let Some(word) = &argument.default {
+        let value = expand(alloc, word, before)?;
+        return Ok(Some(value));
+    }
+    match outer.get(name) {
+        Some(value) => {
+            let value = value.copy(alloc)?;
+            Ok(Some(value))
+        }
+        None => Ok(None),
+    }
+}

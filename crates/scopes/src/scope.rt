@@ -1,0 +1,153 @@
+ghost use Rattle.std.specs.Prelude.{◌≡◌, [], ◌∷◌, ◌++◌, option_map, OnOk, OnErr, IfOk};
+ghost use Rattle.std.specs.FinMap.{get as given_value};
+ghost use Rattle.scopes.specs.Declarations.{value_in, kept, run_env};
+ghost use Rattle.scopes.specs.Lines.{env_line, env_texts, arg_line, arg_texts, Declares};
+ghost use Rattle.scopes.specs.declared.declaration.Declaration.TheVariants.{Env};
+
+use crate::args::Args;
+use crate::declaration::Declaration;
+use crate::env_row::EnvRow;
+use crate::evaluate::{argument_declarations, variable_declarations};
+use crate::maps::{env_count, listed, push_arguments, push_variables, put_all};
+use expand::Lookup;
+use indexmap::IndexMap;
+use instructions::{Argument, Variable};
+use plain::{Items, Memory, Text};
+use std::alloc::Global;
+use std::marker::Model;
+use words::Fault;
+
+/// What names have values by the ENV and ARG lines so far.
+///
+/// Contracts see a list of declarations that means the same: an ENV for each name that one has set, in the order in which these
+/// names came first, then an ARG for each name that one has declared, in the order in which these were first declared.
+#[derive(Drop)]
+pub struct Scope {
+    variables: IndexMap<String, Text>,
+    arguments: IndexMap<String, Option<Text>>,
+}
+
+impl Model for Scope {
+    ghost use Rattle.std.specs.Prelude.{◌≡◌, List};
+    ghost use Rattle.scopes.specs.declared.declaration.Declaration.{Declaration};
+
+    ghost Value = { List Declaration };
+
+    ghost use Rattle.scopes.specs.Declarations.{kept};
+    ghost use Rattle.scopes.specs.ScopeValue.{declared};
+
+    ghost view = { λ s. declared s.variables.entries s.arguments.entries };
+
+    ghost invariant = { λ s. kept (declared s.variables.entries s.arguments.entries) ≡ declared s.variables.entries s.arguments.entries };
+}
+
+impl Scope {
+    /// The scope before any ENV or ARG. It takes no memory.
+    pub fn new(alloc: Global) -> Scope
+        ensures { result ≡ [] }
+    {
+        Scope {
+            variables: IndexMap::new(alloc),
+            arguments: IndexMap::new(alloc),
+        }
+    }
+
+    /// Adds an ARG line: each name is declared, and has the build argument of its name, else the value of its default, else,
+    /// where it has no default, the value that it has in `outer`, the scope before the first FROM (Dockerfile reference, ARG).
+    /// One that has no value by this leaves the name as it was (own).
+    ///
+    /// R18 exactly where a default whose name has no build argument has a value of more than 1,048,576 bytes. After a fault
+    /// the scope is as it was.
+    pub fn declare(
+        &mut self,
+        alloc: Global,
+        arguments: &[Argument],
+        given: &Args,
+        outer: &Scope,
+    ) -> Result<(), Fault>
+        ensures { Declares self.old (arg_line (value_in self.old) (given_value given.now) (value_in outer.now) arguments.now) (arg_texts (value_in self.old) (given_value given.now) arguments.now) self.new result }
+    {
+        let line = argument_declarations(alloc, arguments, self, given, outer)?;
+        self.add(line)?;
+        Ok(())
+    }
+
+    /// Adds an ENV line: each variable has the value of its word under the scope before the line (Dockerfile reference,
+    /// environment replacement).
+    ///
+    /// R18 exactly where a value has more than 1,048,576 bytes. After a fault the scope is as it was.
+    pub fn set_env(&mut self, alloc: Global, variables: &[Variable]) -> Result<(), Fault>
+        ensures { Declares self.old (env_line (value_in self.old) variables.now) (env_texts (value_in self.old) variables.now) self.new result }
+    {
+        let line = variable_declarations(alloc, variables, self)?;
+        self.add(line)?;
+        Ok(())
+    }
+
+    /// Adds a variable of a base image, whose value is taken as it stands. After `Memory` the scope is as it was.
+    pub fn inherit(&mut self, alloc: Global, name: &str, value: &str) -> Result<(), Memory>
+        ensures ok { OnOk result (self.new ≡ kept (self.old ++ Env name.now value.now ∷ [])) }
+        ensures err { OnErr result (self.new ≡ self.old) }
+    {
+        let mut line = Items::new(alloc);
+        let name = Text::from_str(alloc, name)?;
+        let value = Text::from_str(alloc, value)?;
+        line.push(Declaration::Env { name, value })?;
+        self.add(line)
+    }
+
+    /// Adds declarations. After `Memory` the scope is as it was.
+    fn add(&mut self, line: Items<Declaration>) -> Result<(), Memory>
+        ensures ok { OnOk result (self.new ≡ kept (self.old ++ line)) }
+        ensures err { OnErr result (self.new ≡ self.old) }
+    {
+        let line = line.into_vec();
+        let variables = env_count(line.as_slice());
+        self.variables.reserve(variables)?;
+        self.arguments.reserve(line.len() - variables)?;
+        put_all(&mut self.variables, &mut self.arguments, line);
+        Ok(())
+    }
+
+    /// The value of a name: that of its last ENV, else of the last ARG that gives it one; none where it is unset.
+    pub fn get(&self, name: &str) -> Option<&Text>
+        ensures { option_map (λ text. text.now) result ≡ value_in self.now name.now }
+    {
+        match self.variables.get(name) {
+            Some(value) => Some(value),
+            None => self.arguments.get(name)?.as_ref(),
+        }
+    }
+
+    /// The environment of RUN: the names that ENVs set, in the order in which they came first, with their last values; then
+    /// the names that have a value by an ARG and no ENV, in the order in which they were first declared (own). There is no
+    /// `PATH` among them unless one was set (own).
+    pub fn run_env(&self, alloc: Global) -> Result<Items<EnvRow>, Memory>
+        ensures { IfOk result (λ rows. rows ≡ run_env self.now) }
+    {
+        let mut rows = Items::new(alloc);
+        push_variables(alloc, &mut rows, &self.variables)?;
+        push_arguments(alloc, &mut rows, &self.arguments, &self.variables)?;
+        Ok(rows)
+    }
+
+    /// A scope of its own with the same declarations, with which a stage from a stage begins.
+    pub fn copy(&self, alloc: Global) -> Result<Scope, Memory>
+        ensures { IfOk result (λ copied. copied ≡ self.now) }
+    {
+        let line = listed(alloc, &self.variables, &self.arguments)?;
+        let mut copied = Scope::new(alloc);
+        copied.add(line)?;
+        Ok(copied)
+    }
+}
+
+impl Lookup for Scope {
+    ghost use Rattle.scopes.specs.Declarations.{value_in};
+
+    ghost value_of = { λ scope name. value_in scope name };
+
+    fn find(&self, name: &str) -> Option<&Text> {
+        self.get(name)
+    }
+}
