@@ -62,6 +62,16 @@ pub record IsNext (problem : Problem) (history : List Happened) (worker vertex :
   pub ready : IsReady problem history vertex
   pub least : (lower : ℕ) → lower < vertex → ¬ IsReady problem history lower
 
+-- What a worker's claim is given after a history: the next vertex, or none where the worker holds one or no vertex is ready. (own)
+abbrev pub IsGiven : Problem → List Happened → ℕ → Option ℕ → Type 0
+IsGiven problem history worker (Some vertex) = IsNext problem history worker vertex
+IsGiven problem history worker None = (held history worker ≢ None) ⊎ ((vertex : ℕ) → ¬ IsReady problem history vertex)
+
+-- Nothing more is to be claimed: the target is settled, or some vertex is settled with a cause. (own)
+abbrev pub IsOver : Problem → List Happened → Type 0
+IsOver problem history =
+    IsSettled history problem.target ⊎ ((vertex : ℕ) × IsSettled history vertex × HasCause problem vertex)
+
 -- What may happen after a history: the claim of the least ready vertex by a worker that holds none, and a settle or an abandon of
 -- the vertex that the worker holds. (own)
 abbrev pub Possible : Problem → List Happened → Happened → Type 0

@@ -3,7 +3,7 @@ use Rattle.std.proofs.Common.{◌≡◌, ◌≢◌, ℕ, zero, suc, ◌+◌, ◌
 use Rattle.std.specs.Option.{IfSome}
 use Rattle.std.proofs.lemmas.Bool.{eqb-true, eqb-false, eq-eqb, ne_eqb, cases_lt, cases_eq, or_parts, or_from}
 use Rattle.board.specs.Play.{least, or_last, claim_of, without, is_claimed}
-use Rattle.board.specs.declared.event.Out.{Out}
+use Rattle.board.specs.declared.event.Holding.{Holding}
 
 -- The least number below n that passes a test, or that there is none.
 pub record IsLeast (test : ℕ → Bool) (n k : ℕ) : Type 0 where
@@ -70,22 +70,22 @@ least-passes test n (Some k) e = (least-some test n k (sym e)).passes
 least-passes test n None e = tt
 
 -- The vertex of a claim that may be out.
-abbrev pub vertex_of : Option Out → Option ℕ
+abbrev pub vertex_of : Option Holding → Option ℕ
 vertex_of (Some claim) = Some claim.vertex
 vertex_of None = None
 
 -- No worker has two claims out.
-abbrev pub AreApart : List Out → Type 0
+abbrev pub AreApart : List Holding → Type 0
 AreApart [] = Unit {0}
 AreApart (claim ∷ claims) = (claim_of claim.worker claims ≡ None) × AreApart claims
 
-at_head : (worker : ℕ) (claim : Out) (claims : List Out) → (claim.worker == worker) ≡ true → claim_of worker (claim ∷ claims) ≡ Some claim
+at_head : (worker : ℕ) (claim : Holding) (claims : List Holding) → (claim.worker == worker) ≡ true → claim_of worker (claim ∷ claims) ≡ Some claim
 at_head worker claim claims e = rw e refl
 
-past_head : (worker : ℕ) (claim : Out) (claims : List Out) → (claim.worker == worker) ≡ false → claim_of worker (claim ∷ claims) ≡ claim_of worker claims
+past_head : (worker : ℕ) (claim : Holding) (claims : List Holding) → (claim.worker == worker) ≡ false → claim_of worker (claim ∷ claims) ≡ claim_of worker claims
 past_head worker claim claims e = rw e refl
 
-pub claim_of-worker : (worker : ℕ) (claims : List Out) (claim : Out) → claim_of worker claims ≡ Some claim → claim.worker ≡ worker
+pub claim_of-worker : (worker : ℕ) (claims : List Holding) (claim : Holding) → claim_of worker claims ≡ Some claim → claim.worker ≡ worker
 claim_of-worker worker [] claim e = cc
 claim_of-worker worker (first ∷ claims) claim e = by_test (first.worker == worker) refl (claim_of-worker worker claims claim)
   where
@@ -96,7 +96,7 @@ claim_of-worker worker (first ∷ claims) claim e = by_test (first.worker == wor
     by_test false t rest = rest (sym (past_head worker first claims t) ∙ e)
 
 -- One claim more, of a worker that has none.
-pub claim_of-push : (worker : ℕ) (claims : List Out) (claim : Out) → claim_of claim.worker claims ≡ None → claim_of worker (claims ++ claim ∷ []) ≡ cond (claim.worker == worker) (Some claim) (claim_of worker claims)
+pub claim_of-push : (worker : ℕ) (claims : List Holding) (claim : Holding) → claim_of claim.worker claims ≡ None → claim_of worker (claims ++ claim ∷ []) ≡ cond (claim.worker == worker) (Some claim) (claim_of worker claims)
 claim_of-push worker [] claim free = refl
 claim_of-push worker (first ∷ claims) claim free = by_test (claim_of-push worker claims claim) (first.worker == claim.worker) refl (first.worker == worker) refl
   where
@@ -107,8 +107,8 @@ claim_of-push worker (first ∷ claims) claim free = by_test (claim_of-push work
         rw (s, other) refl
     by_test rest false t false s = rw s (rest (sym (past_head claim.worker first claims t) ∙ free))
 
-pub claim_of-without : (worker gone : ℕ) (claims : List Out) → claim_of worker (without gone claims) ≡ cond (gone == worker) None (claim_of worker claims)
-claim_of-without worker gone [] = elim (gone == worker) as (λ b. None ≡ cond {A = Option Out} b None None) [ true ↦ refl | false ↦ refl ]
+pub claim_of-without : (worker gone : ℕ) (claims : List Holding) → claim_of worker (without gone claims) ≡ cond (gone == worker) None (claim_of worker claims)
+claim_of-without worker gone [] = elim (gone == worker) as (λ b. None ≡ cond {A = Option Holding} b None None) [ true ↦ refl | false ↦ refl ]
 claim_of-without worker gone (first ∷ claims) = by_test (claim_of-without worker gone claims) (first.worker == gone) refl (first.worker == worker) refl (gone == worker) refl
   where
     by_test : claim_of worker (without gone claims) ≡ cond (gone == worker) None (claim_of worker claims) → (b : Bool) → (first.worker == gone) ≡ b → (d : Bool) → (first.worker == worker) ≡ d → (c : Bool) → (gone == worker) ≡ c → claim_of worker (without gone (first ∷ claims)) ≡ cond (gone == worker) None (claim_of worker (first ∷ claims))
@@ -121,7 +121,7 @@ claim_of-without worker gone (first ∷ claims) = by_test (claim_of-without work
     by_test rest false t false s true g = rw (t, s, g) (rest ∙ rw g refl)
     by_test rest false t false s false g = rw (t, s, g) (rest ∙ rw g refl)
 
-pub AreApart-push : (claims : List Out) (claim : Out) → AreApart claims → claim_of claim.worker claims ≡ None → AreApart (claims ++ claim ∷ [])
+pub AreApart-push : (claims : List Holding) (claim : Holding) → AreApart claims → claim_of claim.worker claims ≡ None → AreApart (claims ++ claim ∷ [])
 AreApart-push [] claim apart free = (refl, tt)
 AreApart-push (first ∷ claims) claim apart free = by_test (AreApart-push claims claim apart.1) (first.worker == claim.worker) refl
   where
@@ -132,11 +132,11 @@ AreApart-push (first ∷ claims) claim apart free = by_test (AreApart-push claim
         let other : (claim.worker == first.worker) ≡ false = ne_eqb claim.worker first.worker (λ q. eqb-false first.worker claim.worker t (sym q)) in
         (claim_of-push first.worker claims claim free_after ∙ rw other apart.0, rest free_after)
 
-none_without : (worker gone : ℕ) (claims : List Out) → claim_of worker claims ≡ None → claim_of worker (without gone claims) ≡ None
+none_without : (worker gone : ℕ) (claims : List Holding) → claim_of worker claims ≡ None → claim_of worker (without gone claims) ≡ None
 none_without worker gone claims none =
-    claim_of-without worker gone claims ∙ (rw none (elim (gone == worker) as (λ b. cond {A = Option Out} b None None ≡ None) [ true ↦ refl | false ↦ refl ]))
+    claim_of-without worker gone claims ∙ (rw none (elim (gone == worker) as (λ b. cond {A = Option Holding} b None None ≡ None) [ true ↦ refl | false ↦ refl ]))
 
-pub AreApart-without : (gone : ℕ) (claims : List Out) → AreApart claims → AreApart (without gone claims)
+pub AreApart-without : (gone : ℕ) (claims : List Holding) → AreApart claims → AreApart (without gone claims)
 AreApart-without gone [] apart = tt
 AreApart-without gone (first ∷ claims) apart = by_test (AreApart-without gone claims apart.1) (first.worker == gone) refl
   where
@@ -145,7 +145,7 @@ AreApart-without gone (first ∷ claims) apart = by_test (AreApart-without gone 
     by_test rest false t = rw t (none_without first.worker gone claims apart.0, rest)
 
 -- A vertex of which no claim is out is held by no worker, and the other way round.
-pub is_claimed-false : (vertex : ℕ) (claims : List Out) → is_claimed vertex claims ≡ false → (worker : ℕ) → vertex_of (claim_of worker claims) ≢ Some vertex
+pub is_claimed-false : (vertex : ℕ) (claims : List Holding) → is_claimed vertex claims ≡ false → (worker : ℕ) → vertex_of (claim_of worker claims) ≢ Some vertex
 is_claimed-false vertex [] none worker e = cc
 is_claimed-false vertex (first ∷ claims) none worker e = by_test (is_claimed-false vertex claims) (first.worker == worker) refl
   where
@@ -159,7 +159,7 @@ is_claimed-false vertex (first ∷ claims) none worker e = by_test (is_claimed-f
         eqb-false first.vertex vertex parts.0 g
     by_test rest false t = rest parts.1 worker (ap vertex_of (sym (past_head worker first claims t)) ∙ e)
 
-pub is_claimed-none : (vertex : ℕ) (claims : List Out) → AreApart claims → ((worker : ℕ) → vertex_of (claim_of worker claims) ≢ Some vertex) → is_claimed vertex claims ≡ false
+pub is_claimed-none : (vertex : ℕ) (claims : List Holding) → AreApart claims → ((worker : ℕ) → vertex_of (claim_of worker claims) ≢ Some vertex) → is_claimed vertex claims ≡ false
 is_claimed-none vertex [] apart free = refl
 is_claimed-none vertex (first ∷ claims) apart free = or_from (first.vertex == vertex) (is_claimed vertex claims) here (is_claimed-none vertex claims apart.1 (λ worker. by_test worker (first.worker == worker) refl))
   where
@@ -174,7 +174,7 @@ is_claimed-none vertex (first ∷ claims) apart free = or_from (first.vertex == 
         cc
     by_test worker false t e = free worker (ap vertex_of (past_head worker first claims t) ∙ e)
 
-without-le : (gone : ℕ) (claims : List Out) → length (without gone claims) ≤ length claims
+without-le : (gone : ℕ) (claims : List Holding) → length (without gone claims) ≤ length claims
 without-le gone [] = omega arith
 without-le gone (first ∷ claims) = by_test (without-le gone claims) (first.worker == gone) refl
   where
@@ -183,7 +183,7 @@ without-le gone (first ∷ claims) = by_test (without-le gone claims) (first.wor
     by_test rest false t = rw t (omega (arith, rest))
 
 -- Without a worker's claim there is one claim fewer.
-pub without-shorter : (gone : ℕ) (claims : List Out) (claim : Out) → claim_of gone claims ≡ Some claim → length (without gone claims) < length claims
+pub without-shorter : (gone : ℕ) (claims : List Holding) (claim : Holding) → claim_of gone claims ≡ Some claim → length (without gone claims) < length claims
 without-shorter gone [] claim e = cc
 without-shorter gone (first ∷ claims) claim e = by_test (without-shorter gone claims claim) (first.worker == gone) refl
   where

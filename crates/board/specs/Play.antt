@@ -1,20 +1,21 @@
 -- The machine of a board: which events can happen, and what they leave.
 --
--- It is plain data and functions. What may happen by the rules is said in words in `Legal`, and `LegalLaws` proves that the two agree.
+-- It is plain data and functions. What may happen by the rules is said in words in `Legal`. That the two agree is proved in
+-- `ReadyLaws` (which vertices are ready), `StepLaws` (one step) and `PlayLaws` (all of them).
 use Rattle.std.specs.Prelude.{◌≡◌, ℕ, zero, suc, ◌==◌, Bool, true, false, not, ◌&&◌, ◌||◌, if◌then◌else◌, List, [], ◌∷◌, ◌++◌, length, map, Option, Some, None, is_some, Ok, Err, slice_get, slice_set, replicate, filter, find}
 use Rattle.std.specs.List.{count_by, list_any, list_all, slice_index_or}
 use Rattle.std.specs.Option.{option_map, option_map_or}
-use Rattle.board.specs.Words.{TreeMap, Value, Vertex, Problem, vertex_value}
+use Rattle.board.specs.Words.{TreeMap, Worth, Vertex, Problem, vertex_value}
 use Rattle.board.specs.declared.event.Event.{Event}
 use Rattle.board.specs.declared.event.Event.TheVariants as event
 use Rattle.board.specs.declared.event.Happened.{Happened}
 use Rattle.board.specs.declared.event.Happened.TheVariants.{Claimed, Settled, Abandoned}
-use Rattle.board.specs.declared.event.Out.{Out}
+use Rattle.board.specs.declared.event.Holding.{Holding}
 
 -- What a board has at a moment: for each vertex the value with which it is settled, if it is, and the claims that are out, the oldest first.
 pub record State : Type 0 where
-  pub settled : List (Option Value)
-  pub claims : List Out
+  pub settled : List (Option Worth)
+  pub claims : List Holding
 
 -- What a board has been through, and what it has now.
 pub record Run : Type 0 where
@@ -33,6 +34,12 @@ plain (Claim worker) = event.Claim worker
 plain (Settle worker given) = event.Settle worker
 plain (Abandon worker) = event.Abandon worker
 
+-- The worker that asks for a step.
+abbrev pub worker_of : Step → ℕ
+worker_of (Claim worker) = worker
+worker_of (Settle worker given) = worker
+worker_of (Abandon worker) = worker
+
 -- The step that something which happened was.
 abbrev pub step_of : Happened → Step
 step_of (Claimed worker vertex) = Claim worker
@@ -40,43 +47,43 @@ step_of (Settled worker vertex given) = Settle worker given
 step_of (Abandoned worker vertex) = Abandon worker
 
 -- The value with which a vertex is settled.
-abbrev pub value_at : List (Option Value) → ℕ → Option Value
+abbrev pub value_at : List (Option Worth) → ℕ → Option Worth
 value_at settled vertex = slice_index_or settled vertex None
 
 -- Whether that is a tree.
-abbrev pub has_tree : Option Value → Bool
+abbrev pub has_tree : Option Worth → Bool
 has_tree (Some (Ok tree)) = true
 has_tree (Some (Err cause)) = false
 has_tree None = false
 
 -- Whether that is a cause.
-abbrev pub has_cause : Option Value → Bool
+abbrev pub has_cause : Option Worth → Bool
 has_cause (Some (Ok tree)) = false
 has_cause (Some (Err cause)) = true
 has_cause None = false
 
 -- How many vertices are not settled.
-abbrev pub waiting : List (Option Value) → ℕ
+abbrev pub waiting : List (Option Worth) → ℕ
 waiting settled = count_by (λ value. not (is_some value)) settled
 
 -- The claim that a worker has out.
-abbrev pub claim_of : ℕ → List Out → Option Out
+abbrev pub claim_of : ℕ → List Holding → Option Holding
 claim_of worker claims = find (λ claim. claim.worker == worker) claims
 
 -- The claims of the other workers.
-abbrev pub without : ℕ → List Out → List Out
+abbrev pub without : ℕ → List Holding → List Holding
 without worker claims = filter (λ claim. not (claim.worker == worker)) claims
 
 -- Whether a claim of a vertex is out.
-abbrev pub is_claimed : ℕ → List Out → Bool
+abbrev pub is_claimed : ℕ → List Holding → Bool
 is_claimed vertex claims = list_any (λ claim. claim.vertex == vertex) claims
 
 -- Whether nothing more is to be claimed: the target is settled, or some vertex is settled with a cause.
-abbrev pub is_over : ℕ → List (Option Value) → Bool
+abbrev pub is_over : ℕ → List (Option Worth) → Bool
 is_over target settled = is_some (value_at settled target) || list_any has_cause settled
 
 -- Whether each input is settled with a tree.
-abbrev pub have_trees : List (Option Value) → List ℕ → Bool
+abbrev pub have_trees : List (Option Worth) → List ℕ → Bool
 have_trees settled inputs = list_all (λ input. has_tree (value_at settled input)) inputs
 
 -- Whether a vertex waits for a worker and for nothing else.
@@ -118,13 +125,14 @@ abbrev pub claim_move : State → ℕ → ℕ → Move
 claim_move state worker vertex =
     record { state = record { settled = state.settled; claims = state.claims ++ record { worker = worker; vertex = vertex } ∷ [] }; happened = Claimed worker vertex }
 
--- A settle: the vertex is settled with its value, and the claim is out no more.
-abbrev pub settle_move : Problem → State → List TreeMap → Out → Move
+-- A settle: the vertex is settled with its value, and the claim is out no more. The machine takes the value from the problem, so
+-- it says nothing of what a worker brings: that this is the vertex's value is proved where `Board::settle` stores it.
+abbrev pub settle_move : Problem → State → List TreeMap → Holding → Move
 settle_move problem state given claim =
     record { state = record { settled = slice_set state.settled claim.vertex (vertex_value problem claim.vertex); claims = without claim.worker state.claims }; happened = Settled claim.worker claim.vertex given }
 
 -- An abandon: the claim is out no more.
-abbrev pub abandon_move : State → Out → Move
+abbrev pub abandon_move : State → Holding → Move
 abandon_move state claim =
     record { state = record { settled = state.settled; claims = without claim.worker state.claims }; happened = Abandoned claim.worker claim.vertex }
 

@@ -1,19 +1,19 @@
 -- What holds of every replay: its history is legal, what is settled are the vertices' values, each once, and it never gets stuck.
 use Rattle.std.proofs.Common.{◌≡◌, ◌≢◌, ℕ, suc, ◌<◌, ◌≤◌, Bool, true, false, not, cond, ◌⊎◌, inl, inr, List, [], ◌∷◌, ◌++◌, length, map, Option, Some, None, is_some, Ok, Err, refl, sym, ap, ◌∙◌, subst, arith, append_assoc, append-nil}
 use Rattle.std.specs.Prelude.{slice_get}
-use Rattle.std.specs.Option.{option_map, MatchOption}
+use Rattle.std.specs.Option.{option_map}
 use Rattle.std.specs.List.{list_any, slice_index_or}
 use Rattle.std.proofs.lemmas.Bool.{both_ways, not-false, not-true, or_parts}
 use Rattle.std.proofs.lemmas.Option.{slice_get_cases}
-use Rattle.board.specs.Words.{Value, Vertex, Problem, vertex_value}
-use Rattle.board.specs.Play.{State, Run, Step, Claim, Settle, Abandon, Move, plain, step_of, value_at, claim_of, has_cause, is_over, least, least_ready, can_claim, claim_move, settle_move, abandon_move, next, moved, go, go_all, begun, play, IsReplay}
-use Rattle.board.specs.Legal.{event_of, held, settles, IsSettled, HasTree, HasCause, IsReady, IsNext, Possible, GoesOn, IsLegal, PlaysOn, Plays}
+use Rattle.board.specs.Words.{Worth, Vertex, Problem, vertex_value}
+use Rattle.board.specs.Play.{State, Run, Step, Claim, Settle, Abandon, Move, plain, worker_of, step_of, value_at, claim_of, has_cause, is_over, least, least_ready, can_claim, claim_move, settle_move, abandon_move, next, moved, go, go_all, begun, play, IsReplay}
+use Rattle.board.specs.Legal.{event_of, held, settles, IsSettled, HasTree, HasCause, IsReady, IsGiven, IsOver, Possible, GoesOn, IsLegal, PlaysOn, Plays}
 use Rattle.board.specs.ListLaws.{vertex_of, IsLeast, least-some, least-none, claim_of-worker}
-use Rattle.board.specs.ReadyLaws.{IsSound, Agrees, can_claim-some, can_claim-none, settled-is, no_cause-is}
-use Rattle.board.specs.StepLaws.{next-some, next-none, Agrees-begun}
+use Rattle.board.specs.ReadyLaws.{IsSound, Agrees, can_claim-some, can_claim-none, settled-is, no_cause-is, cause-is}
+use Rattle.board.specs.StepLaws.{next-some, next-none, other-stays, Agrees-begun}
 use Rattle.board.specs.declared.event.Happened.{Happened}
 use Rattle.board.specs.declared.event.Happened.TheVariants.{Claimed, Settled, Abandoned}
-use Rattle.board.specs.declared.event.Out.{Out}
+use Rattle.board.specs.declared.event.Holding.{Holding}
 
 -- A run whose history is legal, and whose state is that of its history.
 pub record IsRight (problem : Problem) (run : Run) : Type 0 where
@@ -74,14 +74,14 @@ asked problem state (Claim worker) move e = by_vertex (can_claim problem state w
     by_vertex (Some vertex) e = (let same : claim_move state worker vertex ≡ move = cc in rw (← same) refl)
 asked problem state (Settle worker given) move e = by_claim (claim_of worker state.claims) refl e
   where
-    by_claim : (o : Option Out) → claim_of worker state.claims ≡ o → option_map (settle_move problem state given) o ≡ Some move → step_of move.happened ≡ Settle worker given
+    by_claim : (o : Option Holding) → claim_of worker state.claims ≡ o → option_map (settle_move problem state given) o ≡ Some move → step_of move.happened ≡ Settle worker given
     by_claim None o e = cc
     by_claim (Some claim) o e =
         let same : settle_move problem state given claim ≡ move = cc in
         rw (← same) (ap (λ w. Settle w given) (claim_of-worker worker state.claims claim o))
 asked problem state (Abandon worker) move e = by_claim (claim_of worker state.claims) refl e
   where
-    by_claim : (o : Option Out) → claim_of worker state.claims ≡ o → option_map (abandon_move state) o ≡ Some move → step_of move.happened ≡ Abandon worker
+    by_claim : (o : Option Holding) → claim_of worker state.claims ≡ o → option_map (abandon_move state) o ≡ Some move → step_of move.happened ≡ Abandon worker
     by_claim None o e = cc
     by_claim (Some claim) o e =
         let same : abandon_move state claim ≡ move = cc in
@@ -99,9 +99,6 @@ map-push : (history : List Happened) (happened : Happened) → map step_of (hist
 map-push [] happened = refl
 map-push (first ∷ history) happened = ap (λ steps. step_of first ∷ steps) (map-push history happened)
 
-pub begun-replay : (problem : Problem) → IsReplay problem (begun problem)
-begun-replay problem = refl
-
 pub go-replay : (problem : Problem) (run : Run) (step : Step) → IsReplay problem run → IsReplay problem (go problem run step)
 go-replay problem run step replay = by_move (next problem run.state step) refl
   where
@@ -115,7 +112,7 @@ go-replay problem run step replay = by_move (next problem run.state step) refl
         split ∙ (here ∙ ap (moved run) e)
 
 -- Each settled value is the vertex's value.
-pub replay-value : (problem : Problem) (run : Run) → IsSound problem → IsReplay problem run → (vertex : ℕ) (value : Value) → value_at run.state.settled vertex ≡ Some value → vertex_value problem vertex ≡ Some value
+pub replay-value : (problem : Problem) (run : Run) → IsSound problem → IsReplay problem run → (vertex : ℕ) (value : Worth) → value_at run.state.settled vertex ≡ Some value → vertex_value problem vertex ≡ Some value
 replay-value problem run sound replay vertex value e =
     by_test (list_any (settles vertex) run.history) (sym ((replay-right problem run sound replay).agrees.settled vertex) ∙ e)
   where
@@ -127,7 +124,7 @@ replay-value problem run sound replay vertex value e =
 abbrev pub HasTarget : Problem → Type 0
 HasTarget problem = problem.target < length problem.vertices
 
-tree_or_cause : (problem : Problem) (vertex : ℕ) (o : Option Value) → vertex_value problem vertex ≡ o → is_some o ≡ true → ¬ HasCause problem vertex → HasTree problem vertex
+tree_or_cause : (problem : Problem) (vertex : ℕ) (o : Option Worth) → vertex_value problem vertex ≡ o → is_some o ≡ true → ¬ HasCause problem vertex → HasTree problem vertex
 tree_or_cause problem vertex (Some (Ok tree)) e s none = (tree, e)
 tree_or_cause problem vertex (Some (Err cause)) e s none = absurd (none (cause, e))
 tree_or_cause problem vertex None e s none = cc
@@ -194,12 +191,31 @@ replay-ends problem run sound has_target replay free none = by_test (is_over pro
     by_test false e = absurd (refute (can_claim-none problem run.history run.state right.agrees 0 nothing) e)
 
 -- What a worker's claim is given: the next vertex, or none where it may claim none.
-pub replay-claims : (problem : Problem) (run : Run) (worker : ℕ) → IsSound problem → IsReplay problem run → MatchOption (can_claim problem run.state worker) ((held run.history worker ≢ None) ⊎ ((vertex : ℕ) → ¬ IsReady problem run.history vertex)) (IsNext problem run.history worker)
+pub replay-claims : (problem : Problem) (run : Run) (worker : ℕ) → IsSound problem → IsReplay problem run → IsGiven problem run.history worker (can_claim problem run.state worker)
 replay-claims problem run worker sound replay = by_vertex (can_claim problem run.state worker) refl
   where
     agrees : Agrees problem run.history run.state
     agrees = (replay-right problem run sound replay).agrees
 
-    by_vertex : (o : Option ℕ) → can_claim problem run.state worker ≡ o → MatchOption o ((held run.history worker ≢ None) ⊎ ((vertex : ℕ) → ¬ IsReady problem run.history vertex)) (IsNext problem run.history worker)
+    by_vertex : (o : Option ℕ) → can_claim problem run.state worker ≡ o → IsGiven problem run.history worker o
     by_vertex (Some vertex) e = can_claim-some problem run.history run.state agrees worker vertex e
     by_vertex None e = can_claim-none problem run.history run.state agrees worker e
+
+-- Where no worker holds a vertex and none is ready, it is over.
+pub idle-over : (problem : Problem) (run : Run) → IsSound problem → HasTarget problem → IsRight problem run → ((worker : ℕ) → held run.history worker ≡ None) → ((vertex : ℕ) → ¬ IsReady problem run.history vertex) → IsOver problem run.history
+idle-over problem run sound has_target right idle none = by_test (list_any (settles problem.target) run.history) refl (list_any has_cause run.state.settled) refl
+  where
+    by_test : (b : Bool) → list_any (settles problem.target) run.history ≡ b → (d : Bool) → list_any has_cause run.state.settled ≡ d → IsOver problem run.history
+    by_test true e d f = inl e
+    by_test false e true f = inr (cause-is problem run.history run.state right.agrees f)
+    by_test false e false f =
+        let ready = never-stuck problem run sound has_target right idle (both_ways (list_any (settles problem.target) run.history) e) (no_cause-is problem run.history run.state right.agrees f) in
+        absurd (none ready.0 ready.1)
+
+-- A step of one worker leaves the claim of another one out.
+pub others-leave : (problem : Problem) (run : Run) (step : Step) (worker : ℕ) (claim : Holding) → claim_of worker run.state.claims ≡ Some claim → worker_of step ≢ worker → claim_of worker (go problem run step).state.claims ≡ Some claim
+others-leave problem run step worker claim out other = by_move (next problem run.state step) refl
+  where
+    by_move : (o : Option Move) → next problem run.state step ≡ o → claim_of worker (moved run o).state.claims ≡ Some claim
+    by_move None e = out
+    by_move (Some move) e = other-stays problem run.state step move worker e other ∙ out

@@ -8,12 +8,12 @@ use Rattle.std.proofs.lemmas.List.Sums.{AllPass-from_list_all, list_all-from_All
 use Rattle.std.proofs.lemmas.List.Folds.{list_any_at, Any-from_list_any}
 use Rattle.std.proofs.lemmas.List.{get_or_past, get_or_default}
 use Rattle.std.proofs.lemmas.Option.{slice_get_within}
-use Rattle.board.specs.Words.{TreeMap, Value, Vertex, Problem, vertex_value, Cause}
+use Rattle.board.specs.Words.{TreeMap, Worth, Vertex, Problem, vertex_value, Cause}
 use Rattle.board.specs.Play.{State, value_at, has_tree, has_cause, claim_of, is_claimed, is_over, have_trees, is_open, least, can_claim}
 use Rattle.board.specs.Legal.{held, settles, IsSettled, HasTree, HasCause, IsReady, IsNext, IsSettledOnce}
 use Rattle.board.specs.ListLaws.{vertex_of, AreApart, is_claimed-false, is_claimed-none, least-some, least-none}
 use Rattle.board.specs.declared.event.Happened.{Happened}
-use Rattle.board.specs.declared.event.Out.{Out}
+use Rattle.board.specs.declared.event.Holding.{Holding}
 
 -- What a problem's graph gives: inputs are smaller, and a vertex whose inputs have trees has a value.
 pub record IsSound (problem : Problem) : Type 0 where
@@ -37,7 +37,7 @@ pub record Agrees (problem : Problem) (history : List Happened) (state : State) 
   pub alone : (worker other vertex : ℕ) → held history worker ≡ Some vertex → held history other ≡ Some vertex → worker ≡ other
   pub once : IsSettledOnce history
 
-value_some : (b : Bool) (value here : Option Value) → here ≡ cond b value None → (b ≡ true → is_some value ≡ true) → is_some here ≡ b
+value_some : (b : Bool) (value here : Option Worth) → here ≡ cond b value None → (b ≡ true → is_some value ≡ true) → is_some here ≡ b
 value_some true value here e known = rw e (known refl)
 value_some false value here e known = rw e refl
 
@@ -46,29 +46,29 @@ pub settled-is : (problem : Problem) (history : List Happened) (state : State) �
 settled-is problem history state agrees vertex =
     value_some (list_any (settles vertex) history) (vertex_value problem vertex) (value_at state.settled vertex) (agrees.settled vertex) (agrees.valued vertex)
 
-tree_of : (o : Option Value) → has_tree o ≡ true → (tree : TreeMap) × (o ≡ Some (Ok tree))
+tree_of : (o : Option Worth) → has_tree o ≡ true → (tree : TreeMap) × (o ≡ Some (Ok tree))
 tree_of (Some (Ok tree)) e = (tree, refl)
 tree_of (Some (Err cause)) e = cc
 tree_of None e = cc
 
-cause_of : (o : Option Value) → has_cause o ≡ true → (cause : Cause) × (o ≡ Some (Err cause))
+cause_of : (o : Option Worth) → has_cause o ≡ true → (cause : Cause) × (o ≡ Some (Err cause))
 cause_of (Some (Ok tree)) e = cc
 cause_of (Some (Err cause)) e = (cause, refl)
 cause_of None e = cc
 
-tree_there : (b : Bool) (value here : Option Value) → here ≡ cond b value None → has_tree here ≡ true → (b ≡ true) × ((tree : TreeMap) × (value ≡ Some (Ok tree)))
+tree_there : (b : Bool) (value here : Option Worth) → here ≡ cond b value None → has_tree here ≡ true → (b ≡ true) × ((tree : TreeMap) × (value ≡ Some (Ok tree)))
 tree_there true value here e t = (refl, tree_of value (rw e at t))
 tree_there false value here e t = (let f : false ≡ true = rw e at t in cc)
 
-tree_back : (b : Bool) (value here : Option Value) (tree : TreeMap) → here ≡ cond b value None → b ≡ true → value ≡ Some (Ok tree) → has_tree here ≡ true
+tree_back : (b : Bool) (value here : Option Worth) (tree : TreeMap) → here ≡ cond b value None → b ≡ true → value ≡ Some (Ok tree) → has_tree here ≡ true
 tree_back true value here tree e t v = rw (e, v) refl
 tree_back false value here tree e t v = cc
 
-cause_there : (b : Bool) (value here : Option Value) → here ≡ cond b value None → has_cause here ≡ true → (b ≡ true) × ((cause : Cause) × (value ≡ Some (Err cause)))
+cause_there : (b : Bool) (value here : Option Worth) → here ≡ cond b value None → has_cause here ≡ true → (b ≡ true) × ((cause : Cause) × (value ≡ Some (Err cause)))
 cause_there true value here e t = (refl, cause_of value (rw e at t))
 cause_there false value here e t = (let f : false ≡ true = rw e at t in cc)
 
-cause_back : (b : Bool) (value here : Option Value) (cause : Cause) → here ≡ cond b value None → b ≡ true → value ≡ Some (Err cause) → has_cause here ≡ true
+cause_back : (b : Bool) (value here : Option Worth) (cause : Cause) → here ≡ cond b value None → b ≡ true → value ≡ Some (Err cause) → has_cause here ≡ true
 cause_back true value here cause e t v = rw (e, v) refl
 cause_back false value here cause e t v = cc
 
@@ -89,7 +89,7 @@ have_trees-from : (problem : Problem) (history : List Happened) (state : State) 
 have_trees-from problem history state agrees inputs all =
     list_all-from_AllPass (λ input. has_tree (value_at state.settled input)) inputs (λ k d l. tree-from problem history state agrees (slice_index_or inputs k d) (all k d l).0 (all k d l).1)
 
-within_if_some : (settled : List (Option Value)) (vertex : ℕ) → has_cause (value_at settled vertex) ≡ true → vertex < length settled
+within_if_some : (settled : List (Option Worth)) (vertex : ℕ) → has_cause (value_at settled vertex) ≡ true → vertex < length settled
 within_if_some settled vertex e =
     elim (cases_lt vertex (length settled)) [
       | inl l ↦ l
@@ -105,18 +105,22 @@ no_cause-is problem history state agrees none other settled cause =
     let here : has_cause (value_at state.settled other) ≡ true = cause_back (list_any (settles other) history) (vertex_value problem other) (value_at state.settled other) cause.0 (agrees.settled other) settled cause.1 in
     both_ways _ none (list_any_at has_cause state.settled other None (within_if_some state.settled other here) here)
 
+-- A vertex that is settled with a cause in a state is so by its history.
+pub cause-is : (problem : Problem) (history : List Happened) (state : State) → Agrees problem history state → list_any has_cause state.settled ≡ true → (vertex : ℕ) × IsSettled history vertex × HasCause problem vertex
+cause-is problem history state agrees e =
+    let some = Any-from_list_any has_cause state.settled e in
+    let same : value_at state.settled some.0 ≡ some.1 = get_or_default state.settled some.0 None some.1 some.2 ∙ some.3 in
+    let here : has_cause (value_at state.settled some.0) ≡ true = rw same some.4 in
+    let there = cause_there (list_any (settles some.0) history) (vertex_value problem some.0) (value_at state.settled some.0) (agrees.settled some.0) here in
+    (some.0, there.0, there.1)
+
 pub no_cause-from : (problem : Problem) (history : List Happened) (state : State) → Agrees problem history state → ((other : ℕ) → IsSettled history other → ¬ HasCause problem other) → list_any has_cause state.settled ≡ false
 no_cause-from problem history state agrees none = false_from_ne_true (list_any has_cause state.settled) refute
   where
     refute : list_any has_cause state.settled ≡ true → ⊥
-    refute e =
-        let some = Any-from_list_any has_cause state.settled e in
-        let same : value_at state.settled some.0 ≡ some.1 = get_or_default state.settled some.0 None some.1 some.2 ∙ some.3 in
-        let here : has_cause (value_at state.settled some.0) ≡ true = rw same some.4 in
-        let there = cause_there (list_any (settles some.0) history) (vertex_value problem some.0) (value_at state.settled some.0) (agrees.settled some.0) here in
-        none some.0 there.0 there.1
+    refute e = (let cause = cause-is problem history state agrees e in none cause.0 cause.1 cause.2)
 
-over_parts : (target : ℕ) (settled : List (Option Value)) → is_over target settled ≡ false → (is_some (value_at settled target) ≡ false) × (list_any has_cause settled ≡ false)
+over_parts : (target : ℕ) (settled : List (Option Worth)) → is_over target settled ≡ false → (is_some (value_at settled target) ≡ false) × (list_any has_cause settled ≡ false)
 over_parts target settled e = or_parts (is_some (value_at settled target)) (list_any has_cause settled) e
 
 -- A vertex that the machine finds open, with nothing over, is ready.
@@ -171,11 +175,11 @@ open-from problem history state agrees vertex ready =
 pub ready-within : (problem : Problem) (history : List Happened) (vertex : ℕ) → IsReady problem history vertex → vertex < length problem.vertices
 ready-within problem history vertex ready = slice_get_within problem.vertices vertex ready.inputs.0 ready.inputs.1
 
-idle_from : (o : Option Out) → is_some o ≡ false → vertex_of o ≡ None
+idle_from : (o : Option Holding) → is_some o ≡ false → vertex_of o ≡ None
 idle_from None e = refl
 idle_from (Some claim) e = cc
 
-busy_from : (o : Option Out) → is_some o ≡ true → vertex_of o ≢ None
+busy_from : (o : Option Holding) → is_some o ≡ true → vertex_of o ≢ None
 busy_from None e h = cc
 busy_from (Some claim) e h = cc
 
@@ -205,11 +209,3 @@ can_claim-none problem history state agrees worker e = by_claim (is_some (claim_
     by_claim false idle false over =
         let f : least (is_open problem.vertices state) (length problem.vertices) ≡ None = rw (idle, over) at e in
         inr (λ vertex ready. both_ways _ (least-none (is_open problem.vertices state) (length problem.vertices) f vertex (ready-within problem history vertex ready)) (open-from problem history state agrees vertex ready))
-
--- A vertex that the machine finds open is in the graph, and each of its inputs is settled with a tree.
-pub open-parts : (vertices : List Vertex) (state : State) (vertex : ℕ) → is_open vertices state vertex ≡ true → (vertex < length vertices) × ((v : Vertex) → slice_get vertices vertex ≡ Some v → have_trees state.settled v.inputs ≡ true)
-open-parts vertices state vertex e = by_vertex (slice_get vertices vertex) refl (and_parts _ _ e).0
-  where
-    by_vertex : (o : Option Vertex) → slice_get vertices vertex ≡ o → option_map_or (λ v. have_trees state.settled v.inputs) o false ≡ true → (vertex < length vertices) × ((v : Vertex) → slice_get vertices vertex ≡ Some v → have_trees state.settled v.inputs ≡ true)
-    by_vertex None there all = cc
-    by_vertex (Some v) there all = (slice_get_within vertices vertex v there, λ w f. (let same : v ≡ w = cc in rw (← same) all))

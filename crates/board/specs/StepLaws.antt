@@ -8,14 +8,14 @@ use Rattle.std.proofs.lemmas.List.Folds.{list_any-append}
 use Rattle.std.proofs.lemmas.List.Sums.{fold-append, sum_by-append}
 use Rattle.std.proofs.lemmas.List.{length-set, get_or-set_same, get_or-set_other, get_or-replicate, get_or_past, length-replicate}
 use Rattle.std.proofs.Math.Bool.{or-false}
-use Rattle.board.specs.Words.{TreeMap, Value, Problem, vertex_value}
-use Rattle.board.specs.Play.{State, Step, Claim, Settle, Abandon, Move, plain, step_of, claim_of, can_claim, claim_move, settle_move, abandon_move, next, begun}
+use Rattle.board.specs.Words.{TreeMap, Worth, Problem, vertex_value}
+use Rattle.board.specs.Play.{State, Step, Claim, Settle, Abandon, Move, plain, worker_of, step_of, claim_of, can_claim, claim_move, settle_move, abandon_move, next, begun}
 use Rattle.board.specs.Legal.{event_of, held, held_then, settles, IsReady, IsNext, Possible, IsSettledOnce}
 use Rattle.board.specs.ListLaws.{vertex_of, AreApart-push, AreApart-without, claim_of-push, claim_of-without, claim_of-worker}
 use Rattle.board.specs.ReadyLaws.{IsSound, IsPending, Agrees, can_claim-some, can_claim-none, ready-within}
 use Rattle.board.specs.declared.event.Happened.{Happened}
 use Rattle.board.specs.declared.event.Happened.TheVariants.{Claimed, Settled, Abandoned}
-use Rattle.board.specs.declared.event.Out.{Out}
+use Rattle.board.specs.declared.event.Holding.{Holding}
 
 pub held-push : (history : List Happened) (happened : Happened) (worker : ℕ) → held (history ++ happened ∷ []) worker ≡ held_then worker (held history worker) happened
 held-push history happened worker = fold-append (held_then worker) None history (happened ∷ [])
@@ -44,21 +44,21 @@ count-none vertex history e = count_none_from vertex history 0 e ∙ refl
         let zero_more : n + cond (settles vertex x) 1 0 ≡ n = rw parts.0 (omega arith) in
         h ∙ zero_more
 
-none_from : (o : Option Out) → vertex_of o ≡ None → o ≡ None
+none_from : (o : Option Holding) → vertex_of o ≡ None → o ≡ None
 none_from None e = refl
 none_from (Some claim) e = cc
 
-vertex_is : (o : Option Out) (claim : Out) (h : Option ℕ) → o ≡ Some claim → vertex_of o ≡ h → h ≡ Some claim.vertex
+vertex_is : (o : Option Holding) (claim : Holding) (h : Option ℕ) → o ≡ Some claim → vertex_of o ≡ h → h ≡ Some claim.vertex
 vertex_is o claim h e v = sym v ∙ ap vertex_of e
 
-no_vertex : (o : Option Out) (h : Option ℕ) (vertex : ℕ) → o ≡ None → vertex_of o ≡ h → h ≡ Some vertex → ⊥
+no_vertex : (o : Option Holding) (h : Option ℕ) (vertex : ℕ) → o ≡ None → vertex_of o ≡ h → h ≡ Some vertex → ⊥
 no_vertex o h vertex e v s = (let f : None ≡ Some vertex = sym (ap vertex_of e) ∙ (v ∙ s) in cc)
 
-vertex_of-cond : (b : Bool) (claim : Out) (o : Option Out) (h : Option ℕ) → vertex_of o ≡ h → vertex_of (cond b (Some claim) o) ≡ cond b (Some claim.vertex) h
+vertex_of-cond : (b : Bool) (claim : Holding) (o : Option Holding) (h : Option ℕ) → vertex_of o ≡ h → vertex_of (cond b (Some claim) o) ≡ cond b (Some claim.vertex) h
 vertex_of-cond true claim o h e = refl
 vertex_of-cond false claim o h e = e
 
-vertex_of-none : (b : Bool) (o : Option Out) (h : Option ℕ) → vertex_of o ≡ h → vertex_of (cond b None o) ≡ cond b None h
+vertex_of-none : (b : Bool) (o : Option Holding) (h : Option ℕ) → vertex_of o ≡ h → vertex_of (cond b None o) ≡ cond b None h
 vertex_of-none true o h e = refl
 vertex_of-none false o h e = e
 
@@ -75,10 +75,10 @@ Agrees-begun problem = record {
   once = λ vertex. omega arith;
 }
   where
-    none_at : (vertex : ℕ) → slice_index_or {A = Option Value} (replicate (length problem.vertices) None) vertex None ≡ None
+    none_at : (vertex : ℕ) → slice_index_or {A = Option Worth} (replicate (length problem.vertices) None) vertex None ≡ None
     none_at vertex = elim (cases_lt vertex (length problem.vertices)) [
       | inl l ↦ get_or-replicate (length problem.vertices) vertex None None l
-      | inr past ↦ get_or_past (replicate (length problem.vertices) None) vertex None (rw (length-replicate {A = Option Value} (length problem.vertices) None) past)
+      | inr past ↦ get_or_past (replicate (length problem.vertices) None) vertex None (rw (length-replicate {A = Option Worth} (length problem.vertices) None) past)
     ]
 
 -- What a worker holds after a claim.
@@ -145,7 +145,7 @@ Agrees-claim problem history state worker vertex sound agrees is_next = record {
     alone_after by other u (inr h) (inr k) = agrees.alone by other u h.1 k.1
 
 -- A settle of what a worker holds leaves a state that agrees.
-Agrees-settle : (problem : Problem) (history : List Happened) (state : State) (given : List TreeMap) (claim : Out) → Agrees problem history state → held history claim.worker ≡ Some claim.vertex → Agrees problem (history ++ Settled claim.worker claim.vertex given ∷ []) (settle_move problem state given claim).state
+Agrees-settle : (problem : Problem) (history : List Happened) (state : State) (given : List TreeMap) (claim : Holding) → Agrees problem history state → held history claim.worker ≡ Some claim.vertex → Agrees problem (history ++ Settled claim.worker claim.vertex given ∷ []) (settle_move problem state given claim).state
 Agrees-settle problem history state given claim agrees holds = record {
   long = length-set state.settled claim.vertex (vertex_value problem claim.vertex) ∙ agrees.long;
   holds = λ by. ap vertex_of (claim_of-without by claim.worker state.claims) ∙ (vertex_of-none (claim.worker == by) (claim_of by state.claims) (held history by) (agrees.holds by) ∙ sym (held-push history now by));
@@ -190,7 +190,7 @@ Agrees-settle problem history state given claim agrees holds = record {
         omega (arith, e, o)
 
 -- An abandon of what a worker holds leaves a state that agrees.
-Agrees-abandon : (problem : Problem) (history : List Happened) (state : State) (claim : Out) → Agrees problem history state → held history claim.worker ≡ Some claim.vertex → Agrees problem (history ++ Abandoned claim.worker claim.vertex ∷ []) (abandon_move state claim).state
+Agrees-abandon : (problem : Problem) (history : List Happened) (state : State) (claim : Holding) → Agrees problem history state → held history claim.worker ≡ Some claim.vertex → Agrees problem (history ++ Abandoned claim.worker claim.vertex ∷ []) (abandon_move state claim).state
 Agrees-abandon problem history state claim agrees holds = record {
   long = agrees.long;
   holds = λ by. ap vertex_of (claim_of-without by claim.worker state.claims) ∙ (vertex_of-none (claim.worker == by) (claim_of by state.claims) (held history by) (agrees.holds by) ∙ sym (held-push history now by));
@@ -215,11 +215,11 @@ moved_claim : (state : State) (worker : ℕ) (o : Option ℕ) (move : Move) → 
 moved_claim state worker None move e = cc
 moved_claim state worker (Some vertex) move e = (vertex, refl, cc)
 
-moved_settle : (problem : Problem) (state : State) (given : List TreeMap) (o : Option Out) (move : Move) → option_map (settle_move problem state given) o ≡ Some move → (claim : Out) × (o ≡ Some claim) × (settle_move problem state given claim ≡ move)
+moved_settle : (problem : Problem) (state : State) (given : List TreeMap) (o : Option Holding) (move : Move) → option_map (settle_move problem state given) o ≡ Some move → (claim : Holding) × (o ≡ Some claim) × (settle_move problem state given claim ≡ move)
 moved_settle problem state given None move e = cc
 moved_settle problem state given (Some claim) move e = (claim, refl, cc)
 
-moved_abandon : (state : State) (o : Option Out) (move : Move) → option_map (abandon_move state) o ≡ Some move → (claim : Out) × (o ≡ Some claim) × (abandon_move state claim ≡ move)
+moved_abandon : (state : State) (o : Option Holding) (move : Move) → option_map (abandon_move state) o ≡ Some move → (claim : Holding) × (o ≡ Some claim) × (abandon_move state claim ≡ move)
 moved_abandon state None move e = cc
 moved_abandon state (Some claim) move e = (claim, refl, cc)
 
@@ -243,11 +243,11 @@ unmoved_claim : (state : State) (worker : ℕ) (o : Option ℕ) → option_map (
 unmoved_claim state worker None e = refl
 unmoved_claim state worker (Some vertex) e = cc
 
-unmoved_settle : (problem : Problem) (state : State) (given : List TreeMap) (o : Option Out) → option_map (settle_move problem state given) o ≡ None → o ≡ None
+unmoved_settle : (problem : Problem) (state : State) (given : List TreeMap) (o : Option Holding) → option_map (settle_move problem state given) o ≡ None → o ≡ None
 unmoved_settle problem state given None e = refl
 unmoved_settle problem state given (Some claim) e = cc
 
-unmoved_abandon : (state : State) (o : Option Out) → option_map (abandon_move state) o ≡ None → o ≡ None
+unmoved_abandon : (state : State) (o : Option Holding) → option_map (abandon_move state) o ≡ None → o ≡ None
 unmoved_abandon state None e = refl
 unmoved_abandon state (Some claim) e = cc
 
@@ -275,3 +275,26 @@ next-none problem history state (Abandon worker) agrees e (Abandoned by vertex) 
     let none = unmoved_abandon state (claim_of worker state.claims) e in
     let same : by ≡ worker = cc in
     no_vertex (claim_of worker state.claims) (held history worker) vertex none (agrees.holds worker) (rw (← same) possible)
+
+-- A worker that is given a vertex has no claim out.
+pub claim-free : (problem : Problem) (state : State) (worker vertex : ℕ) → can_claim problem state worker ≡ Some vertex → claim_of worker state.claims ≡ None
+claim-free problem state worker vertex e = by_claim (claim_of worker state.claims) refl
+  where
+    by_claim : (o : Option Holding) → claim_of worker state.claims ≡ o → claim_of worker state.claims ≡ None
+    by_claim (Some claim) o = (let f : None ≡ Some vertex = rw o at e in cc)
+    by_claim None o = o
+
+-- A step of one worker leaves the claim of another one out.
+pub other-stays : (problem : Problem) (state : State) (step : Step) (move : Move) (worker : ℕ) → next problem state step ≡ Some move → worker_of step ≢ worker → claim_of worker move.state.claims ≡ claim_of worker state.claims
+other-stays problem state (Claim by) move worker e other =
+    let m = moved_claim state by (can_claim problem state by) move e in
+    let pushed = claim_of-push worker state.claims (record { worker = by; vertex = m.0 }) (claim-free problem state by m.0 m.1) in
+    rw (← m.2) (pushed ∙ rw (ne_eqb by worker other) refl)
+other-stays problem state (Settle by given) move worker e other =
+    let m = moved_settle problem state given (claim_of by state.claims) move e in
+    let apart : (m.0.worker == worker) ≡ false = ne_eqb m.0.worker worker (λ q. other (sym (claim_of-worker by state.claims m.0 m.1) ∙ q)) in
+    rw (← m.2) (claim_of-without worker m.0.worker state.claims ∙ rw apart refl)
+other-stays problem state (Abandon by) move worker e other =
+    let m = moved_abandon state (claim_of by state.claims) move e in
+    let apart : (m.0.worker == worker) ≡ false = ne_eqb m.0.worker worker (λ q. other (sym (claim_of-worker by state.claims m.0 m.1) ∙ q)) in
+    rw (← m.2) (claim_of-without worker m.0.worker state.claims ∙ rw apart refl)

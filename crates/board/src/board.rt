@@ -1,13 +1,15 @@
 ghost use Rattle.std.specs.Prelude.{◌≡◌, ◌↔◌, ◌<◌, [], Some, IsTrue, IfOk, IfSome, IfErr, OnOk, OnErr, slice_get};
 ghost use Rattle.std.specs.Option.{option_map};
-ghost use Rattle.board.specs.Play.{begun, IsReplay, can_claim, go, waiting};
+ghost use Rattle.board.specs.BoardValue.{board_problem, IsStep};
+ghost use Rattle.board.specs.Play.{begun, IsReplay, can_claim, waiting};
 ghost use Rattle.board.specs.Play.{Claim as Claiming, Settle as Settling, Abandon as Abandoning};
 ghost use Rattle.board.specs.Claims.{IsClaim, IsOut, IsResult};
+ghost use Rattle.board.specs.Legal.{IsGiven};
 ghost use Rattle.llb.specs.Plan.{problem_of};
 ghost use Rattle.board.specs.Words.{IsProblem};
 
-use crate::state::{self, Taken};
-use crate::{Claim, Happened, Out, Refused, Settled};
+use crate::state::{self, NextClaim};
+use crate::{Claim, Happened, Holding, Refused, Settled, growth};
 use executor::Executor;
 use llb::Plan;
 use plain::{Items, Memory};
@@ -18,8 +20,8 @@ use trees::Tree;
 /// What has become of a plan's vertices so far, for one executor.
 ///
 /// What it owes, the most important first: a vertex is settled with its value and with nothing else; a vertex is held by one
-/// worker at a time and settled once; a worker that asks is given the least vertex that is ready; and no call that ends a claim
-/// but a settle wants memory.
+/// worker at a time and settled once; a worker that asks is given the least vertex that is ready; and an abandon never wants memory,
+/// so a worker can always give up what it holds.
 ///
 /// Contracts see the plan, the executor, and a run: the history with the state that it leaves. What stands in the fields is the
 /// replay of the history (`IsReplay`).
@@ -32,8 +34,9 @@ pub struct Board<'a, C, E: Executor> {
     /// For each vertex with what it is settled, if it is.
     settled: Vec<Option<Settled>>,
     /// The claims that are out, the oldest first: no worker twice, no vertex twice.
-    claims: Vec<Out>,
-    /// All that happened, in order. There is room in it for the end of each claim that is out.
+    claims: Vec<Holding>,
+    /// All that happened, in order. There is room in it for the end of each claim that is out. It is kept at run time since a
+    /// contract sees fields alone, and since `follow` is compared with it.
     history: Vec<Happened>,
 }
 
@@ -77,21 +80,23 @@ impl<'a, C, E: Executor> Board<'a, C, E> {
 
     /// Claims the ready vertex of least id for a worker, with the trees of its inputs. It gives none exactly where no vertex is
     /// ready or the worker has a claim out. Ready is a vertex that is neither claimed nor settled, with every input settled with
-    /// a tree, while the target isn't settled and no vertex is settled with a cause. (own) After `Memory` the board is as it was.
+    /// a tree, while the target isn't settled and no vertex is settled with a cause. (own) The target may not need it: a board knows
+    /// no order but that of inputs. After `Memory` the board is as it was.
     ///
     /// It makes the room in the history for the event that ends the claim.
     pub fn claim(&mut self, alloc: Global, worker: u32) -> Result<Option<Claim>, Memory>
-        ensures which { IfOk result (λ claim. option_map (λ c. c.vertex) claim
-            ≡ can_claim (problem_of (E.out self.old.executor) self.old.plan) self.old.run.state worker) }
+        ensures next { IfOk result (λ claim. IsGiven (board_problem E.out self.old) self.old.run.history worker
+            (option_map (λ c. c.vertex) claim)) }
         ensures worker { IfOk result (λ claim. IfSome claim (λ c. c.worker ≡ worker)) }
-        ensures of { IfOk result (λ claim. IfSome claim (IsClaim (problem_of (E.out self.new.executor) self.new.plan))) }
+        ensures of { IfOk result (λ claim. IfSome claim (IsClaim (board_problem E.out self.new))) }
         ensures out { IfOk result (λ claim. IfSome claim (IsOut self.new.run.state)) }
-        ensures run { OnOk result (self.new ≡ record self.old {
-          run = go (problem_of (E.out self.old.executor) self.old.plan) self.old.run (Claiming worker);
-        }) }
+        ensures run { OnOk result (IsStep E.out (Claiming worker) self.old self.new) }
+        // The same vertex as the machine gives it, from which the next step follows.
+        ensures which { IfOk result (λ claim. option_map (λ c. c.vertex) claim
+            ≡ can_claim (board_problem E.out self.old) self.old.run.state worker) }
         ensures err { OnErr result (self.new ≡ self.old) }
     {
-        let taken = state::take(
+        let next = state::next_claim(
             alloc,
             self.plan.graph().vertices(),
             self.plan.target(),
@@ -99,26 +104,26 @@ impl<'a, C, E: Executor> Board<'a, C, E> {
             self.claims.as_slice(),
             worker,
         )?;
-        let Some(taken) = taken else {
+        let Some(next) = next else {
             return Ok(None);
         };
-        let Taken { vertex, inputs } = taken;
-        state::room(&mut self.claims, 1)?;
-        state::room(&mut self.history, self.claims.len() + 2)?;
-        state::add(&mut self.claims, Out { worker, vertex });
-        state::add(&mut self.history, Happened::Claimed { worker, vertex });
+        let NextClaim { vertex, inputs } = next;
+        growth::room(&mut self.claims, 1)?;
+        // One event for this claim, one for its end, and one for the end of each that is out already.
+        growth::room(&mut self.history, self.claims.len() + 2)?;
+        growth::add(&mut self.claims, Holding { worker, vertex });
+        growth::add(&mut self.history, Happened::Claimed { worker, vertex });
         Ok(Some(Claim::new(worker, vertex, inputs)))
     }
 
-    /// Settles a claim that is out, with the result of its vertex and the trees that are given back. Where memory is refused all
-    /// of it comes back, and the board is as it was.
+    /// Settles a claim that is out, with the result of its vertex and the trees of caches that are given back, of which there are
+    /// none as long as no run takes one. Where memory is refused all of it comes back, and the board is as it was; today none is
+    /// wanted.
     pub fn settle(&mut self, claim: Claim, value: Settled, given: Vec<Tree>) -> Result<(), Refused>
         requires out { IsOut self.old.run.state claim }
-        requires of { IsClaim (problem_of (E.out self.old.executor) self.old.plan) claim }
-        requires value { IsResult (problem_of (E.out self.old.executor) self.old.plan) claim value }
-        ensures run { OnOk result (self.new ≡ record self.old {
-          run = go (problem_of (E.out self.old.executor) self.old.plan) self.old.run (Settling claim.worker given.items);
-        }) }
+        requires of { IsClaim (board_problem E.out self.old) claim }
+        requires value { IsResult (board_problem E.out self.old) claim value }
+        ensures run { OnOk result (IsStep E.out (Settling claim.worker given.items) self.old self.new) }
         ensures value { OnOk result (slice_get self.new.run.state.settled claim.vertex ≡ Some (Some value)) }
         // What a caller's loop gets nearer to its end by.
         ensures nearer { OnOk result (waiting self.new.run.state.settled < waiting self.old.run.state.settled) }
@@ -131,7 +136,7 @@ impl<'a, C, E: Executor> Board<'a, C, E> {
         state::drop_claim(&mut self.claims, worker);
         self.settled[vertex.index()] = Some(value);
         let given = Items::from_vec(given);
-        state::add(
+        growth::add(
             &mut self.history,
             Happened::Settled {
                 worker,
@@ -145,9 +150,7 @@ impl<'a, C, E: Executor> Board<'a, C, E> {
     /// Gives a claim up: its vertex may be claimed again. A claim that isn't out any more is spent and changes nothing. It takes
     /// no memory.
     pub fn abandon(&mut self, claim: Claim)
-        ensures out { IsOut self.old.run.state claim → self.new ≡ record self.old {
-          run = go (problem_of (E.out self.old.executor) self.old.plan) self.old.run (Abandoning claim.worker);
-        } }
+        ensures out { IsOut self.old.run.state claim → IsStep E.out (Abandoning claim.worker) self.old self.new }
         ensures ended { ¬ IsOut self.old.run.state claim → self.new ≡ self.old }
     {
         let worker = claim.worker();
@@ -157,13 +160,13 @@ impl<'a, C, E: Executor> Board<'a, C, E> {
             return;
         }
         state::drop_claim(&mut self.claims, worker);
-        state::add(&mut self.history, Happened::Abandoned { worker, vertex });
+        growth::add(&mut self.history, Happened::Abandoned { worker, vertex });
     }
 
     /// What has happened, in order.
     pub fn history(&self) -> &[Happened]
         ensures value { result.now ≡ self.now.run.history }
-        ensures replay { IsReplay (problem_of (E.out self.now.executor) self.now.plan) self.now.run }
+        ensures replay { IsReplay (board_problem E.out self.now) self.now.run }
     {
         self.history.as_slice()
     }
@@ -171,7 +174,7 @@ impl<'a, C, E: Executor> Board<'a, C, E> {
     /// The history, of a board that is given up.
     pub(crate) fn into_history(self) -> Vec<Happened>
         ensures value { result.items ≡ self.entry.run.history }
-        ensures plan { IsProblem (problem_of (E.out self.entry.executor) self.entry.plan) }
+        ensures plan { IsProblem (board_problem E.out self.entry) }
     {
         let Board {
             plan: _,
@@ -186,8 +189,8 @@ impl<'a, C, E: Executor> Board<'a, C, E> {
     /// For each vertex with what it is settled, if it is.
     pub fn settled(&self) -> &[Option<Settled>]
         ensures value { result.now ≡ self.now.run.state.settled }
-        ensures replay { IsReplay (problem_of (E.out self.now.executor) self.now.plan) self.now.run }
-        ensures plan { IsProblem (problem_of (E.out self.now.executor) self.now.plan) }
+        ensures replay { IsReplay (board_problem E.out self.now) self.now.run }
+        ensures plan { IsProblem (board_problem E.out self.now) }
     {
         self.settled.as_slice()
     }
@@ -195,8 +198,8 @@ impl<'a, C, E: Executor> Board<'a, C, E> {
     /// For each vertex with what it is settled, if it is, of a board that is given up: nothing is copied.
     pub fn into_settled(self) -> Vec<Option<Settled>>
         ensures value { result.items ≡ self.entry.run.state.settled }
-        ensures replay { IsReplay (problem_of (E.out self.entry.executor) self.entry.plan) self.entry.run }
-        ensures plan { IsProblem (problem_of (E.out self.entry.executor) self.entry.plan) }
+        ensures replay { IsReplay (board_problem E.out self.entry) self.entry.run }
+        ensures plan { IsProblem (board_problem E.out self.entry) }
     {
         let Board {
             plan: _,

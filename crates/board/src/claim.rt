@@ -10,8 +10,8 @@ pub type Settled = Result<Tree, Cause>;
 
 /// A vertex that a worker has claimed, with the trees of its inputs.
 ///
-/// It isn't `Drop`: it has to be spent, by `Board::settle` or `Board::abandon` of the board that gave it, so no
-/// vertex is forgotten in the hands of a worker.
+/// It isn't `Drop`, and only `Board::settle` and `Board::abandon` take one, so a caller can't forget a vertex that it holds. Which
+/// board gave it isn't in its type: `Board::holds` tells whether it is out on this one.
 pub struct Claim {
     worker: u32,
     vertex: VertexId,
@@ -19,11 +19,11 @@ pub struct Claim {
 }
 
 impl Model for Claim {
-    ghost use Rattle.board.specs.Claims.{Claiming, claiming_code};
+    ghost use Rattle.board.specs.Claims.{ClaimValue, claim_code};
 
-    ghost Value = { Claiming };
+    ghost Value = { ClaimValue };
 
-    ghost coded = { claiming_code };
+    ghost coded = { claim_code };
 
     ghost view = { λ c. record { worker = c.worker; vertex = c.vertex; inputs = c.inputs } };
 }
@@ -71,7 +71,8 @@ impl Claim {
     }
 }
 
-/// All that was handed to a settle for which there was no memory, given back.
+/// All that was handed to a settle for which there was no memory, given back. Today's settle wants none, so nothing is refused yet;
+/// one that also takes back the trees of caches will want some.
 pub struct Refused {
     pub claim: Claim,
     pub value: Settled,

@@ -21,7 +21,8 @@ pub enum Happened {
         worker: u32,
         vertex: VertexId,
     },
-    /// The worker brought the vertex's result, and gave back these trees of caches that it had taken.
+    /// The worker brought the vertex's result, and gave back these trees of caches that it had taken; none as long as no run takes
+    /// one.
     Settled {
         worker: u32,
         vertex: VertexId,
@@ -36,7 +37,7 @@ pub enum Happened {
 
 /// A claim that is out: what the board notes of it.
 #[derive(Clone, Copy, Debug, PartialEq, Eq)]
-pub struct Out {
+pub struct Holding {
     pub worker: u32,
     pub vertex: VertexId,
 }

@@ -1,10 +1,11 @@
-ghost use Rattle.std.specs.Prelude.{◌≡◌, ◌∷◌, [], ◌++◌, None, length, map, IfOk, IfSome, IfNone, OnOk, vec_len};
+ghost use Rattle.std.specs.Prelude.{◌≡◌, [], None, map, IfOk, IfSome, IfNone, OnOk};
 ghost use Rattle.llb.specs.Plan.{problem_of};
-ghost use Rattle.board.specs.Play.{claim_of, go, Claim as Claiming, Settle as Settling, Abandon as Abandoning};
+ghost use Rattle.board.specs.BoardValue.{board_problem, IsStep};
+ghost use Rattle.board.specs.Play.{claim_of, Claim as Claiming, Settle as Settling, Abandon as Abandoning};
 ghost use Rattle.board.specs.Legal.{Plays};
 ghost use Rattle.board.specs.Desk.{IsDesk, IsPlaced, IsTaken, bare, out_of};
 
-use crate::{Board, Claim, Event, Happened, Refused, running, state};
+use crate::{Board, Claim, Event, Happened, Refused, growth, running};
 use executor::Executor;
 use llb::Plan;
 use plain::{Items, Memory};
@@ -40,18 +41,16 @@ fn claim_next<C, E: Executor>(
     desk: &mut Vec<Claim>,
     worker: u32,
 ) -> Result<(), Memory>
-    requires { IsDesk (problem_of (E.out board.old.executor) board.old.plan) board.old.run.state desk.old.items }
-    ensures run { OnOk result (board.new ≡ record board.old {
-      run = go (problem_of (E.out board.old.executor) board.old.plan) board.old.run (Claiming worker);
-    }) }
-    ensures desk { OnOk result (IsDesk (problem_of (E.out board.old.executor) board.old.plan) board.new.run.state desk.new.items) }
+    requires { IsDesk (board_problem E.out board.old) board.old.run.state desk.old.items }
+    ensures run { OnOk result (IsStep E.out (Claiming worker) board.old board.new) }
+    ensures desk { OnOk result (IsDesk (board_problem E.out board.old) board.new.run.state desk.new.items) }
 {
     desk.reserve(1)?;
     let claimed = board.claim(alloc, worker)?;
     let Some(claim) = claimed else {
         return Ok(());
     };
-    state::add(desk, claim);
+    growth::add(desk, claim);
     Ok(())
 }
 
@@ -62,11 +61,9 @@ fn settle_held<C, E: Executor>(
     desk: &mut Vec<Claim>,
     worker: u32,
 ) -> Result<(), Memory>
-    requires { IsDesk (problem_of (E.out board.old.executor) board.old.plan) board.old.run.state desk.old.items }
-    ensures run { OnOk result (board.new ≡ record board.old {
-      run = go (problem_of (E.out board.old.executor) board.old.plan) board.old.run (Settling worker []);
-    }) }
-    ensures desk { OnOk result (IsDesk (problem_of (E.out board.old.executor) board.old.plan) board.new.run.state desk.new.items) }
+    requires { IsDesk (board_problem E.out board.old) board.old.run.state desk.old.items }
+    ensures run { OnOk result (IsStep E.out (Settling worker []) board.old board.new) }
+    ensures desk { OnOk result (IsDesk (board_problem E.out board.old) board.new.run.state desk.new.items) }
 {
     let Some(claim) = take_from(desk, worker) else {
         return Ok(());
@@ -94,11 +91,9 @@ fn settle_held<C, E: Executor>(
 
 /// An abandon by a worker, where it is possible.
 fn abandon_held<C, E: Executor>(board: &mut Board<C, E>, desk: &mut Vec<Claim>, worker: u32)
-    requires { IsDesk (problem_of (E.out board.old.executor) board.old.plan) board.old.run.state desk.old.items }
-    ensures run { board.new ≡ record board.old {
-      run = go (problem_of (E.out board.old.executor) board.old.plan) board.old.run (Abandoning worker);
-    } }
-    ensures desk { IsDesk (problem_of (E.out board.old.executor) board.old.plan) board.new.run.state desk.new.items }
+    requires { IsDesk (board_problem E.out board.old) board.old.run.state desk.old.items }
+    ensures run { IsStep E.out (Abandoning worker) board.old board.new }
+    ensures desk { IsDesk (board_problem E.out board.old) board.new.run.state desk.new.items }
 {
     let Some(claim) = take_from(desk, worker) else {
         return;
@@ -113,11 +108,9 @@ fn apply<C, E: Executor>(
     desk: &mut Vec<Claim>,
     event: Event,
 ) -> Result<(), Memory>
-    requires { IsDesk (problem_of (E.out board.old.executor) board.old.plan) board.old.run.state desk.old.items }
-    ensures run { OnOk result (board.new ≡ record board.old {
-      run = go (problem_of (E.out board.old.executor) board.old.plan) board.old.run (bare event);
-    }) }
-    ensures desk { OnOk result (IsDesk (problem_of (E.out board.old.executor) board.old.plan) board.new.run.state desk.new.items) }
+    requires { IsDesk (board_problem E.out board.old) board.old.run.state desk.old.items }
+    ensures run { OnOk result (IsStep E.out (bare event) board.old board.new) }
+    ensures desk { OnOk result (IsDesk (board_problem E.out board.old) board.new.run.state desk.new.items) }
 {
     match event {
         Event::Claim(worker) => claim_next(alloc, board, desk, worker),

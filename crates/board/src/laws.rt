@@ -1,12 +1,12 @@
 // What holds of every board, for all lists of events: laws about the definitions alone. A board is a plan's problem and what the
 // board has been through, and `IsReplay` is what `Board`'s type keeps of the two.
-ghost use Rattle.std.specs.Prelude.{◌≡◌, ◌≢◌, ◌⊎◌, ℕ, List, [], Option, Some, None, true, map, MatchOption};
-ghost use Rattle.board.specs.Words.{Problem, IsProblem, IsValue, Value};
-ghost use Rattle.board.specs.Play.{Run, Step, plain, play, value_at, is_over, least_ready, can_claim, IsReplay};
+ghost use Rattle.std.specs.Prelude.{◌≡◌, ◌≢◌, ℕ, List, Some, None, map};
+ghost use Rattle.board.specs.Words.{Problem, IsProblem, IsValue, Worth};
+ghost use Rattle.board.specs.Play.{Run, Step, plain, worker_of, go, play, value_at, can_claim, IsReplay};
+ghost use Rattle.board.specs.Claims.{ClaimValue, IsOut, IsStateOf};
 ghost use Rattle.board.specs.declared.event.Event.{Event};
 ghost use Rattle.board.specs.declared.event.Happened.{Happened};
-ghost use Rattle.board.specs.Legal.{aside, held, IsSettled, HasCause, IsReady, IsNext, IsLegal, Plays, IsSettledOnce};
-ghost use Rattle.board.specs.ReadyLaws.{Agrees};
+ghost use Rattle.board.specs.Legal.{aside, held, IsSettled, HasCause, IsReady, IsGiven, IsOver, IsLegal, Plays, IsSettledOnce};
 
 /// In every board the history is legal: each event was possible after those before it.
 pub fn history_is_legal()
@@ -18,12 +18,12 @@ pub fn history_is_legal()
 /// it settles.
 pub fn state_is_the_history()
     ensures { (problem : Problem) (run : Run) → IsProblem problem → IsReplay problem run
-        → Agrees problem run.history run.state }
+        → IsStateOf run.history run.state }
 {}
 
 /// Each settled value is the value of its vertex, whoever settled it and when.
 pub fn settled_values_are_the_vertices_values()
-    ensures { (problem : Problem) (run : Run) (vertex : ℕ) (value : Value)
+    ensures { (problem : Problem) (run : Run) (vertex : ℕ) (value : Worth)
         → IsProblem problem → IsReplay problem run
         → value_at run.state.settled vertex ≡ Some value → IsValue problem vertex value }
 {}
@@ -38,9 +38,13 @@ pub fn no_vertex_is_settled_twice()
 /// or no vertex is ready.
 pub fn claim_gives_the_least_ready_vertex()
     ensures { (problem : Problem) (run : Run) (worker : ℕ) → IsProblem problem → IsReplay problem run
-        → MatchOption (can_claim problem run.state worker)
-        ((held run.history worker ≢ None) ⊎ ((vertex : ℕ) → ¬ IsReady problem run.history vertex))
-        (IsNext problem run.history worker) }
+        → IsGiven problem run.history worker (can_claim problem run.state worker) }
+{}
+
+/// An event of another worker leaves a claim out.
+pub fn others_leave_a_claim_out()
+    ensures { (problem : Problem) (run : Run) (step : Step) (claim : ClaimValue)
+        → IsOut run.state claim → worker_of step ≢ claim.worker → IsOut (go problem run step).state claim }
 {}
 
 /// A board is never stuck: where no worker holds a claim, the target isn't settled and no vertex is settled with a cause, some
@@ -53,11 +57,12 @@ pub fn some_vertex_is_ready()
         → (vertex : ℕ) × IsReady problem run.history vertex }
 {}
 
-/// So where no claim is out and nothing is given to a claim, the target is settled or some vertex is settled with a cause.
+/// So where no worker holds a claim and no vertex is ready, the target is settled or some vertex is settled with a cause.
 pub fn an_idle_board_is_over()
     ensures { (problem : Problem) (run : Run) → IsProblem problem → IsReplay problem run
-        → run.state.claims ≡ [] → least_ready problem.vertices problem.target run.state ≡ None
-        → is_over problem.target run.state.settled ≡ true }
+        → ((worker : ℕ) → held run.history worker ≡ None)
+        → ((vertex : ℕ) → ¬ IsReady problem run.history vertex)
+        → IsOver problem run.history }
 {}
 
 /// What a list of steps leaves is what the rules leave of its events: those that are possible in their place, and no others.

@@ -1,20 +1,20 @@
 // What a board knows at a moment, as functions over slices: the methods of `Board` only call them.
-ghost use Rattle.std.specs.Prelude.{◌≡◌, ◌≢◌, ◌↔◌, IsTrue, ◌+◌, ◌<◌, ◌≤◌, ◌^◌, ◌∷◌, [], ◌++◌, ℕ, true, false, is_some, length, map, replicate, IfOk, IfSome, OnOk, OnErr, vec_len, vec_capacity};
+ghost use Rattle.std.specs.Prelude.{◌≡◌, ◌↔◌, IsTrue, ◌<◌, ◌^◌, true, false, is_some, length, map, replicate, IfOk, IfSome, vec_len};
 ghost use Rattle.std.specs.List.{list_any};
 ghost use Rattle.board.specs.Play.{value_at, has_tree, has_cause, have_trees, is_over, is_claimed, is_open, claim_of, without, least, least_ready, to_claim};
 ghost use Rattle.board.specs.Claims.{AreInputs};
-ghost use Rattle.board.specs.declared.event.Out.{Out};
+ghost use Rattle.board.specs.declared.event.Holding.{Holding};
 ghost use Rattle.std.specs.Option.{option_map};
 ghost use Rattle.board.specs.Words.{tree_value};
 
-use crate::{Out, Settled};
+use crate::{Holding, Settled};
 use llb::{Vertex, VertexId};
 use plain::{Exact, Memory};
 use std::alloc::Global;
 use trees::Tree;
 
 /// The claim that a worker has out.
-pub fn claim_of(claims: &[Out], worker: u32) -> Option<Out>
+pub fn claim_of(claims: &[Holding], worker: u32) -> Option<Holding>
     ensures { result ≡ claim_of worker claims.now }
 {
     for claim in claims {
@@ -26,16 +26,16 @@ pub fn claim_of(claims: &[Out], worker: u32) -> Option<Out>
 }
 
 /// Whether a claim of the vertex is out.
-pub fn is_claimed(claims: &[Out], vertex: VertexId) -> bool
+pub fn is_claimed(claims: &[Holding], vertex: VertexId) -> bool
     ensures { result ≡ is_claimed vertex claims.now }
 {
     claims.iter().any(|claim| claim.vertex == vertex)
 }
 
 /// Leaves the claims of the other workers.
-pub fn drop_claim(claims: &mut Vec<Out>, worker: u32)
+pub fn drop_claim(claims: &mut Vec<Holding>, worker: u32)
     ensures kept { claims.new.items ≡ without worker claims.old.items }
-    ensures fewer { (claim : Out) → claim_of worker claims.old.items ≡ Some claim → vec_len claims.new < vec_len claims.old }
+    ensures fewer { (claim : Holding) → claim_of worker claims.old.items ≡ Some claim → vec_len claims.new < vec_len claims.old }
 {
     claims.retain(|claim| claim.worker != worker);
 }
@@ -55,7 +55,7 @@ fn has_tree(settled: &[Option<Settled>], vertex: VertexId) -> bool
 }
 
 /// Whether a vertex is settled with a cause.
-fn is_cause(value: &Option<Settled>) -> bool
+fn has_cause(value: &Option<Settled>) -> bool
     ensures { result ≡ has_cause value.now }
 {
     matches!(value, Some(Err(_)))
@@ -65,7 +65,7 @@ fn is_cause(value: &Option<Settled>) -> bool
 fn any_cause(settled: &[Option<Settled>]) -> bool
     ensures { result ≡ list_any has_cause settled.now }
 {
-    settled.iter().any(|value| is_cause(value))
+    settled.iter().any(|value| has_cause(value))
 }
 
 /// Whether every input is settled with a tree.
@@ -86,7 +86,7 @@ pub fn is_over(target: VertexId, settled: &[Option<Settled>]) -> bool
 fn is_open(
     vertices: &[Vertex],
     settled: &[Option<Settled>],
-    claims: &[Out],
+    claims: &[Holding],
     vertex: VertexId,
 ) -> bool
     ensures { result ≡ is_open vertices.now (record { settled = settled.now; claims = claims.now }) vertex }
@@ -100,7 +100,11 @@ fn is_open(
 }
 
 /// The least vertex that waits for a worker and for nothing else.
-fn first_open(vertices: &[Vertex], settled: &[Option<Settled>], claims: &[Out]) -> Option<VertexId>
+fn first_open(
+    vertices: &[Vertex],
+    settled: &[Option<Settled>],
+    claims: &[Holding],
+) -> Option<VertexId>
     requires { length vertices.now < 2 ^ 32 }
     ensures { result ≡ least (is_open vertices.now (record { settled = settled.now; claims = claims.now })) (length vertices.now) }
 {
@@ -118,7 +122,7 @@ pub fn least_ready(
     vertices: &[Vertex],
     target: VertexId,
     settled: &[Option<Settled>],
-    claims: &[Out],
+    claims: &[Holding],
 ) -> Option<VertexId>
     requires { length vertices.now < 2 ^ 32 }
     ensures which { result ≡ least_ready vertices.now target (record { settled = settled.now; claims = claims.now }) }
@@ -158,25 +162,25 @@ pub fn copies(
     Ok(copied)
 }
 
-/// A vertex to be claimed, and its inputs.
+/// A vertex that a worker may claim, with copies of the trees of its inputs.
 #[derive(Drop)]
-pub struct Taken {
+pub struct NextClaim {
     pub vertex: VertexId,
     pub inputs: Vec<Tree>,
 }
 
-/// What a worker's claim is given.
-pub fn take(
+/// What a worker's claim is given: the least vertex that is ready, and nothing where the worker has a claim out.
+pub fn next_claim(
     alloc: Global,
     vertices: &[Vertex],
     target: VertexId,
     settled: &[Option<Settled>],
-    claims: &[Out],
+    claims: &[Holding],
     worker: u32,
-) -> Result<Option<Taken>, Memory>
+) -> Result<Option<NextClaim>, Memory>
     requires { length vertices.now < 2 ^ 32 }
-    ensures which { IfOk result (λ taken. option_map (λ t. t.vertex) taken ≡ to_claim vertices.now target (record { settled = settled.now; claims = claims.now }) worker) }
-    ensures inputs { IfOk result (λ taken. IfSome taken (λ t. AreInputs vertices.now settled.now t.vertex t.inputs.items)) }
+    ensures which { IfOk result (λ next. option_map (λ n. n.vertex) next ≡ to_claim vertices.now target (record { settled = settled.now; claims = claims.now }) worker) }
+    ensures inputs { IfOk result (λ next. IfSome next (λ n. AreInputs vertices.now settled.now n.vertex n.inputs.items)) }
 {
     if claim_of(claims, worker).is_some() {
         return Ok(None);
@@ -185,11 +189,11 @@ pub fn take(
         return Ok(None);
     };
     let inputs = copies(alloc, settled, vertices[vertex.index()].inputs.as_slice())?;
-    Ok(Some(Taken { vertex, inputs }))
+    Ok(Some(NextClaim { vertex, inputs }))
 }
 
 /// Whether a worker's claim of a vertex is out.
-pub fn is_out(claims: &[Out], worker: u32, vertex: VertexId) -> bool
+pub fn is_out(claims: &[Holding], worker: u32, vertex: VertexId) -> bool
     ensures { IsTrue result ↔ (claim_of worker claims.now ≡ Some (record { worker = worker; vertex = vertex })) }
 {
     match claim_of(claims, worker) {
@@ -207,25 +211,4 @@ pub fn unsettled(alloc: Global, count: usize) -> Result<Vec<Option<Settled>>, Me
         settled.push(None)?;
     }
     Ok(settled)
-}
-
-/// Makes room for so many more elements.
-pub fn room<T>(list: &mut Vec<T>, more: usize) -> Result<(), Memory>
-    ensures items { list.new.items ≡ list.old.items }
-    ensures len { vec_len list.new ≡ vec_len list.old }
-    ensures room { OnOk result (vec_len list.new + more ≤ vec_capacity list.new) }
-    ensures capacity { vec_capacity list.old ≤ vec_capacity list.new }
-{
-    list.reserve(more)?;
-    Ok(())
-}
-
-/// Adds an element where there is room for it. It takes no memory.
-pub fn add<T>(list: &mut Vec<T>, item: T)
-    requires { vec_len list.old < vec_capacity list.old }
-    ensures items { list.new.items ≡ list.old.items ++ item ∷ [] }
-    ensures len { vec_len list.new ≡ vec_len list.old + 1 }
-    ensures capacity { vec_capacity list.old ≤ vec_capacity list.new }
-{
-    list.push(item).unwrap();
 }

@@ -7,14 +7,14 @@ use Rattle.std.proofs.lemmas.List.{take_all, length-take, length-take-le, take-a
 use Rattle.counted.specs.declared.fault.EdgeFault.{EdgeFault}
 use Rattle.counted.specs.declared.fault.EdgeFault.TheVariants as edge
 use Rattle.counted.specs.Edges.{AppendsBeginning, LosesBeginning, ReadsFirst, CountsFault}
-use Rattle.bundle.specs.declared.fault.BundleFault.{BundleFault}
-use Rattle.bundle.specs.declared.fault.BundleFault.TheVariants as bundle
 use Rattle.bundle.specs.Bundle.{bundle_of}
 use Rattle.llb.specs.Value.{Out}
 use Rattle.build.specs.declared.limits.Limits.{Limits}
 use Rattle.build.specs.declared.status.Status.{Status}
 use Rattle.build.specs.declared.told.Told.{Told}
-use Rattle.build.specs.Faults.{of_edge, of_bundle}
+use Rattle.build.specs.Faults.{of_edge}
+use Rattle.build.specs.declared.status.BuildFault.{BuildFault}
+use Rattle.build.specs.declared.status.BuildFault.TheVariants as fault
 use Rattle.build.specs.Meaning.{Stage, Serves, Answers}
 use Rattle.build.specs.Telling.{TellsBundle}
 use Rattle.build.specs.Ends.{Devices, IsBundle, IsUnwritten, HasAnswered, Ends}
@@ -94,11 +94,12 @@ has_begun limits out old new bytes line told edge.Device read tells is written r
 })
 
 -- nothing is told
-pub tells_nothing : (limits : Limits) (out : Out) (old new : Devices) (bytes : List ℕ) (fault : BundleFault)
+pub tells_nothing : (limits : Limits) (out : Out) (old new : Devices) (bytes : List ℕ) (fault : BuildFault)
     → IsReadOf limits old.left bytes → TellsBundle limits bytes out (Err fault) → IsUnwritten old new → new.failed_reads ≡ old.failed_reads
-    → Ends limits out old new (Err (of_bundle fault))
-tells_nothing limits out old new bytes bundle.Memory read tells unwritten reads = (unwritten, reads)
-tells_nothing limits out old new bytes bundle.NotYet read tells unwritten reads = (
+    → Ends limits out old new (Err fault)
+tells_nothing limits out old new bytes fault.Device read tells unwritten reads = absurd tells
+tells_nothing limits out old new bytes fault.Memory read tells unwritten reads = (unwritten, reads)
+tells_nothing limits out old new bytes fault.NotYet read tells unwritten reads = (
   record {
     bundle = read.bundle;
     is = read.is;

@@ -1,7 +1,11 @@
--- A bundle asks for one stage at most.
+-- A bundle asks for one stage at most, and has one answer where it asks for one.
 use Rattle.std.proofs.Common.{◌≡◌, ℕ, List, Some, sym, ap, ◌∙◌, subst}
+use Rattle.bundle.specs.Bundle.{bundle_of}
 use Rattle.build.specs.declared.limits.Limits.{Limits}
-use Rattle.build.specs.Meaning.{Stage, Serves, served_stage}
+use Rattle.build.specs.Meaning.{Stage, Serves, Tells, Answers, served_stage}
+use Rattle.build.specs.MeaningLaws.{one_told, some_told}
+use Rattle.build.specs.declared.status.Status.{Status}
+use Rattle.llb.specs.Value.{Out}
 use Rattle.build.specs.Served.{IsServed}
 use Rattle.build.proofs.ServedLemmas.{one_command}
 
@@ -10,3 +14,20 @@ one_stage limits bundle stage other first second =
     let text : first.text ≡ second.text = let both : Some first.text ≡ Some second.text = sym first.reads ∙ second.reads in cc in
     let served : IsServed limits.dockerfile first.text second.command = subst (λ t. IsServed limits.dockerfile t second.command) (sym text) second.served in
     first.is ∙ ap served_stage (one_command limits.dockerfile first.text first.command second.command first.served served) ∙ sym second.is
+
+pub one_answer : (limits : Limits) (bundle : List ℕ) (out : Out) (these those : Status) (text other : List ℕ) → Answers limits bundle out these text → Answers limits bundle out those other → (these ≡ those) × (text ≡ other)
+one_answer limits bundle out these those text other this that =
+    let stage : that.stage ≡ this.stage = one_stage limits bundle that.stage this.stage that.serves this.serves in
+    one_told out this.stage these those text other this.tells (subst (λ s. Tells out s those other) stage that.tells)
+
+pub some_answer : (limits : Limits) (bundle : List ℕ) (out : Out) (stage : Stage) → Serves limits bundle stage → (these : Status) × (text : List ℕ) × Answers limits bundle out these text
+some_answer limits bundle out stage serves =
+    let told = some_told out stage in
+    (told.0, told.1, record { stage = stage; serves = serves; tells = told.2 })
+
+-- a bundle of a text that isn't served asks for no stage
+pub unserved : (limits : Limits) (bundle text : List ℕ) → bundle_of limits.bundle bundle ≡ Some text → ((command : List ℕ) → ¬ IsServed limits.dockerfile text command)
+    → (stage : Stage) → ¬ Serves limits bundle stage
+unserved limits bundle text reads none stage serves =
+    let same : serves.text ≡ text = let both : Some serves.text ≡ Some text = sym serves.reads ∙ reads in cc in
+    none serves.command (subst (λ t. IsServed limits.dockerfile t serves.command) same serves.served)

@@ -1,5 +1,5 @@
 -- How a build ends: what it leaves of its reader and its writer, for each of its results (own).
-use Rattle.std.specs.Prelude.{◌≡◌, ◌⊎◌, ℕ, ◌+◌, List, [], ◌∷◌, ◌++◌, Option, Some, None, Result, Ok, Err, ⊤}
+use Rattle.std.specs.Prelude.{◌≡◌, ◌⊎◌, ℕ, ◌+◌, List, Option, Some, None, Result, Ok, Err, ⊤}
 use Rattle.std.specs.Io.KnownBytes.{Appends}
 use Rattle.counted.specs.Edges.{AppendsBeginning}
 use Rattle.llb.specs.Value.{Out}
@@ -7,10 +7,11 @@ use Rattle.build.specs.declared.limits.Limits.{Limits}
 use Rattle.build.specs.declared.status.Status.{Status}
 use Rattle.build.specs.declared.status.BuildFault.{BuildFault}
 use Rattle.build.specs.declared.status.BuildFault.TheVariants.{Memory, Device, NotYet}
-use Rattle.build.specs.Meaning.{Stage, Serves, Answers}
+use Rattle.build.specs.Meaning.{Stage, Serves, Answers, line_of}
 
--- a reader and a writer: the bytes that are left to be read and those that were written, where they are known, and how many calls
--- of each failed
+-- A reader and a writer: the bytes that are left to be read and those that were written, where they are known, and how many calls
+-- of each failed. Those in memory (std's `Cursor` and `Vec<u8>`) tell their bytes. Of standard input and output std says only how many
+-- bytes a call read or wrote at most, so there the counts are all that is said; the body is the same one.
 pub record Devices : Type 0 where
   pub left : Option (List ℕ)
   pub written : Option (List ℕ)
@@ -22,7 +23,7 @@ abbrev pub devices : Option (List ℕ) → ℕ → Option (List ℕ) → ℕ →
 devices left failed_reads written failed_writes =
     record { left = left; written = written; failed_reads = failed_reads; failed_writes = failed_writes }
 
--- the bundle is all that there was to read, where that is known
+-- the bundle is all that there was to read; where that isn't known, some bytes
 abbrev pub IsBundle : Option (List ℕ) → List ℕ → Type 0
 IsBundle None bundle = ⊤
 IsBundle (Some all) bundle = bundle ≡ all
@@ -38,7 +39,7 @@ pub record HasAnswered (limits : Limits) (out : Out) (old new : Devices) (status
   pub is : IsBundle old.left bundle
   pub text : List ℕ
   pub answers : Answers limits bundle out status text
-  pub written : Appends old.written new.written (text ++ 10 ∷ [])
+  pub written : Appends old.written new.written (line_of text)
   pub failed_reads : new.failed_reads ≡ old.failed_reads
   pub failed_writes : new.failed_writes ≡ old.failed_writes
 
@@ -55,7 +56,7 @@ pub record HasBegun (limits : Limits) (out : Out) (old new : Devices) : Type 0 w
   pub status : Status
   pub text : List ℕ
   pub answers : Answers limits bundle out status text
-  pub written : AppendsBeginning old.written new.written (text ++ 10 ∷ [])
+  pub written : AppendsBeginning old.written new.written (line_of text)
   pub failed_reads : new.failed_reads ≡ old.failed_reads
   pub failed_writes : new.failed_writes ≡ old.failed_writes + 1
 

@@ -4,5 +4,6 @@ pub mod Meaning
 pub mod MeaningLaws
 pub mod Means
 pub mod Served
+pub mod ServedTests
 pub mod Telling
 pub mod Vertices

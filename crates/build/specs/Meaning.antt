@@ -35,11 +35,15 @@ pub record Stage : Type 0 where
 abbrev pub base_tree : Base → Option TreeMap
 base_tree scratch = Some empty_tree
 
--- what RUN in shell form asks of an executor on a tree (Dockerfile reference, RUN and SHELL): the shell runs the rest of the
--- line as one word, in `/`, with no user, environment or mount where none was set
+-- the words of RUN in shell form (Dockerfile reference, RUN and SHELL): the shell runs the rest of the line as one word
+abbrev pub shell_words : List ℕ → List (List ℕ)
+shell_words command = codes "/bin/sh" ∷ (codes "-c" ∷ (command ∷ []))
+
+-- what RUN in shell form asks of an executor on a tree (Dockerfile reference, RUN): those words in `/`, with no user, environment or
+-- mount where none was set
 abbrev pub shell_request : TreeMap → List ℕ → RunRequest
 shell_request tree command =
-    record { root = tree; binds = []; caches = []; env = []; dir = []; user = []; words = codes "/bin/sh" ∷ (codes "-c" ∷ (command ∷ [])) }
+    record { root = tree; binds = []; caches = []; env = []; dir = []; user = []; words = shell_words command }
 
 -- what an instruction gives on the tree that those before it left: a tree or a cause, and nothing where its own input has no
 -- tree
@@ -89,3 +93,7 @@ pub record Answers (limits : Limits) (bundle : List ℕ) (out : Out) (status : S
   pub stage : Stage
   pub serves : Serves limits bundle stage
   pub tells : Tells out stage status text
+
+-- a text as a line: with the LF that ends it (own)
+abbrev pub line_of : List ℕ → List ℕ
+line_of text = text ++ 10 ∷ []

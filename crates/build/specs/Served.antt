@@ -1,38 +1,30 @@
 -- Which Dockerfiles are served today (own): two lines, `FROM scratch` and one RUN in shell form.
-use Rattle.std.specs.Prelude.{◌≡◌, ◌≤◌, ◌⊎◌, ℕ, List, [], ◌∷◌, ◌++◌, Bool, true, false, not, ◌&&◌, ◌||◌, ◌==◌, nat_le, codes, length}
-use Rattle.std.specs.List.{list_all, starts_with}
-use Rattle.std.specs.Prelude.{nat_eq, take, ◌-◌, slice_index, if◌then◌else◌}
+use Rattle.std.specs.Prelude.{◌≡◌, ◌≢◌, ◌≤◌, ◌⊎◌, ℕ, List, [], ◌∷◌, ◌++◌, codes, length}
+use Rattle.std.specs.List.{All}
 
 -- how a served Dockerfile begins
 abbrev pub opening : List ℕ
 opening = codes "FROM scratch\nRUN "
 
--- whether `<<`, which begins a heredoc, is somewhere in a text
-abbrev pub holds_mark : List ℕ → Bool
-holds_mark [] = false
-holds_mark (c ∷ cs) = starts_with nat_eq (c ∷ cs) (codes "<<") || holds_mark cs
+-- a printable character of ASCII, but for the backslash, which may continue a line (own)
+pub record IsPlain (c : ℕ) : Type 0 where
+  pub from_space : 32 ≤ c
+  pub to_tilde : c ≤ 126
+  pub no_backslash : c ≢ 92
 
--- whether a text's last byte is a space
-abbrev pub ends_in_blank : List ℕ → Bool
-ends_in_blank text = slice_index text (length text - 1) == 32
+-- The rest of a RUN line that is served: plain characters that begin neither with a blank, nor as a JSON list (`[`) or a flag (`-`),
+-- don't end with a blank, and hold no `<<`, with which a heredoc begins. (own)
+pub record IsCommand (command : List ℕ) : Type 0 where
+  pub some : command ≢ []
+  pub plain : All IsPlain command
+  pub no_blank_first : (rest : List ℕ) → command ≢ 32 ∷ rest
+  pub no_list : (rest : List ℕ) → command ≢ 91 ∷ rest
+  pub no_flag : (rest : List ℕ) → command ≢ 45 ∷ rest
+  pub no_blank_last : (front : List ℕ) → command ≢ front ++ 32 ∷ []
+  pub no_heredoc : (before after : List ℕ) → command ≢ before ++ (60 ∷ (60 ∷ after))
 
--- a printable character of ASCII that continues no line
-abbrev pub is_plain : ℕ → Bool
-is_plain c = nat_le 32 c && (nat_le c 126 && not (c == 92))
-
--- a byte that a served command may begin with: no blank, and neither a JSON list nor a flag
-abbrev pub is_beginning : List ℕ → Bool
-is_beginning [] = false
-is_beginning (c ∷ cs) = not (c == 32) && (not (c == 91) && not (c == 45))
-
--- the rest of a RUN line that is served
-abbrev pub is_command : List ℕ → Bool
-is_command command = is_beginning command && (list_all is_plain command && (not (ends_in_blank command) && not (holds_mark command)))
-
--- a line without the LF that may end it
-abbrev pub without_line_end : List ℕ → List ℕ
-without_line_end line = if slice_index line (length line - 1) == 10 then take (length line - 1) line else line
-
--- a text is served, with this command: its second line may or may not end in LF
-abbrev pub IsServed : ℕ → List ℕ → List ℕ → Type 0
-IsServed most text command = (length text ≤ most) × (is_command command ≡ true) × ((text ≡ opening ++ command) ⊎ (text ≡ opening ++ (command ++ 10 ∷ [])))
+-- A text of at most so many bytes is served, with this command: its second line may or may not end in LF. (own)
+pub record IsServed (most : ℕ) (text command : List ℕ) : Type 0 where
+  pub short : length text ≤ most
+  pub is : IsCommand command
+  pub lines : (text ≡ opening ++ command) ⊎ (text ≡ opening ++ (command ++ 10 ∷ []))

@@ -1,17 +1,17 @@
 -- What the answer to a plan is told as.
-use Rattle.std.specs.Prelude.{◌≡◌, ℕ, List, [], ◌∷◌, ◌++◌, Result, Ok, Err}
+use Rattle.std.specs.Prelude.{◌≡◌, ℕ, List, Result, Ok, Err}
 use Rattle.std.specs.FinMap.{entries}
 use Rattle.llb.specs.Value.{Out}
 use Rattle.bundle.specs.Answer.{built_text, failed_text}
-use Rattle.bundle.specs.declared.fault.BundleFault.{BundleFault}
-use Rattle.bundle.specs.declared.fault.BundleFault.TheVariants.{NotYet, Memory}
 use Rattle.solver.specs.declared.answer.Answer.{Answer}
 use Rattle.solver.specs.declared.answer.Answer.TheVariants as answer
 use Rattle.build.specs.declared.limits.Limits.{Limits}
 use Rattle.build.specs.declared.status.Status.{Status}
 use Rattle.build.specs.declared.status.Status.TheVariants.{Built, Failed}
+use Rattle.build.specs.declared.status.BuildFault.{BuildFault}
+use Rattle.build.specs.declared.status.BuildFault.TheVariants.{NotYet, Memory, Device}
 use Rattle.build.specs.declared.told.Told.{Told}
-use Rattle.build.specs.Meaning.{Stage, Serves, Tells, Answers}
+use Rattle.build.specs.Meaning.{Stage, Serves, Tells, Answers, line_of}
 
 -- the status that tells an answer
 abbrev pub status_of : {C : Type 0} → Answer C → Status
@@ -25,10 +25,12 @@ text_of (answer.Failed place cause) = failed_text place cause
 
 -- a line tells a stage: it is a text that does, and LF
 abbrev pub TellsStage : Out → Stage → Told → Type 0
-TellsStage out stage told = (text : List ℕ) × Tells out stage told.status text × (told.line ≡ text ++ 10 ∷ [])
+TellsStage out stage told = (text : List ℕ) × Tells out stage told.status text × (told.line ≡ line_of text)
 
--- what is told of a bundle's bytes: an answer, and LF; or that they aren't served, exactly where they aren't
-abbrev pub TellsBundle : Limits → List ℕ → Out → Result Told BundleFault → Type 0
-TellsBundle limits bundle out (Ok told) = (text : List ℕ) × Answers limits bundle out told.status text × (told.line ≡ text ++ 10 ∷ [])
+-- What is told of a bundle's bytes: an answer, and LF; or that they aren't served, and then they aren't. No device is told of: none
+-- is touched.
+abbrev pub TellsBundle : Limits → List ℕ → Out → Result Told BuildFault → Type 0
+TellsBundle limits bundle out (Ok told) = (text : List ℕ) × Answers limits bundle out told.status text × (told.line ≡ line_of text)
 TellsBundle limits bundle out (Err NotYet) = (stage : Stage) → ¬ Serves limits bundle stage
 TellsBundle limits bundle out (Err Memory) = Unit {0}
+TellsBundle limits bundle out (Err Device) = ⊥

@@ -10,9 +10,13 @@ use std::alloc::Global;
 
 /// Reads a bundle, builds it and writes one answer: a line of JSON with the LF that ends it.
 ///
-/// `NotYet` exactly where the bundle isn't served; nothing was written then, and nothing after `Memory`. After `Device` a read
-/// failed, and nothing was written, or a write failed, and a beginning of an answer was written. A call that failed isn't tried
-/// again. No more than one byte past the limit of bundles is read.
+/// `NotYet` only where the bundle isn't served, and such a bundle is never answered; nothing was written then, and nothing after
+/// `Memory`. After `Device` a read failed, and nothing was written, or a write failed, and a beginning of an answer was written. A
+/// call that failed isn't tried again. No more than one byte past the limit of bundles is read.
+///
+/// All this is said where the reader and the writer tell their bytes, as those in memory do (`Cursor`, `Vec<u8>`). Of standard
+/// input and output the standard library says how many bytes a call takes at most, and not which bytes those are; there the
+/// counts of failed calls are what is said. One body serves all: it doesn't know what it reads from or writes to.
 ///
 /// The counts of failed calls are machine numbers, so a caller has to know that there is room for one more in each.
 pub fn run_build<R: CountedRead, W: CountedWrite, E: Executor>(

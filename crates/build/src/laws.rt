@@ -5,8 +5,9 @@ ghost use Rattle.llb.specs.Plan.{PlanValue};
 ghost use Rattle.llb.specs.Value.{Out};
 ghost use Rattle.solver.specs.Answer.{IsAnswer};
 ghost use Rattle.solver.specs.declared.answer.Answer.{Answer};
-ghost use Rattle.build.specs.Meaning.{Stage, stage_tree, Fails, Serves, Tells};
+ghost use Rattle.build.specs.Meaning.{Stage, stage_tree, Answers, Fails, Serves, Tells};
 ghost use Rattle.build.specs.declared.limits.Limits.{Limits};
+ghost use Rattle.build.specs.declared.status.Status.{Status};
 ghost use Rattle.build.specs.Means.{Means};
 ghost use Rattle.build.specs.Telling.{status_of, text_of};
 
@@ -14,6 +15,19 @@ ghost use Rattle.build.specs.Telling.{status_of, text_of};
 pub fn a_bundle_asks_for_one_stage()
     ensures { (limits : Limits) (bundle : List ℕ) (stage other : Stage)
         → Serves limits bundle stage → Serves limits bundle other → stage ≡ other }
+{}
+
+/// A bundle has one answer at most under an executor: one status and one text.
+pub fn a_bundle_has_one_answer()
+    ensures { (limits : Limits) (bundle : List ℕ) (out : Out) (these those : Status) (text other : List ℕ)
+        → Answers limits bundle out these text → Answers limits bundle out those other
+        → (these ≡ those) × (text ≡ other) }
+{}
+
+/// A bundle that is served has an answer under every executor.
+pub fn a_served_bundle_has_an_answer()
+    ensures { (limits : Limits) (bundle : List ℕ) (out : Out) (stage : Stage) → Serves limits bundle stage
+        → (status : Status) × (text : List ℕ) × Answers limits bundle out status text }
 {}
 
 /// An instruction that fails leaves its stage without a tree.

@@ -1,9 +1,11 @@
-ghost use Rattle.std.specs.Prelude.{◌≡◌, ◌<◌, ◌++◌, ◌∷◌, [], length, IsTrue, IfOk, OnOk, codes};
+ghost use Rattle.std.specs.Prelude.{◌≡◌, ◌<◌, ◌++◌, ◌∷◌, [], length, IsTrue, IfOk, OnOk};
 ghost use Rattle.llb.specs.Graph.{IsAfterInputs, IsNew};
 ghost use Rattle.llb.specs.Operation.{is_operation};
 ghost use Rattle.llb.specs.Places.{IsLine};
-ghost use Rattle.llb.specs.Plan.{PlanValue};
-ghost use Rattle.build.specs.Meaning.{served_stage};
+ghost use Rattle.llb.specs.Plan.{problem_of};
+ghost use Rattle.llb.specs.Value.{Out};
+ghost use Rattle.solver.specs.Needs.{NeedsAll};
+ghost use Rattle.build.specs.Meaning.{served_stage, shell_words};
 ghost use Rattle.build.specs.Means.{Means};
 ghost use Rattle.build.specs.Vertices.{scratch_vertex, shell_vertex};
 
@@ -17,18 +19,21 @@ use trees::Tree;
 /// The plan of the Dockerfile that is served with this command: the empty tree, which line 1 gives, and on it the shell with the
 /// command, from line 2.
 ///
-/// The contract is that of any lowering: under every executor the plan is worth what the stage's instructions give.
+/// The contract is that of any lowering: under every executor the plan is worth what the stage's instructions give, and the
+/// target needs every vertex, so two answers of the plan differ at most in which failure they name. The context is the empty
+/// tree, which no vertex of the plan looks at.
 pub fn plan_of(alloc: Global, command: &str) -> Result<Plan<PlainConfig>, Memory>
-    ensures { IfOk result (λ plan. Means plan (served_stage command.now)) }
+    ensures means { IfOk result (λ plan. Means plan (served_stage command.now)) }
+    ensures needed { IfOk result (λ plan. (out : Out) → NeedsAll (problem_of out plan)) }
 {
     let mut graph = Graph::new(alloc);
-    let base = scratch_vertex(alloc);
-    let base = append(alloc, &mut graph, base, 1)?;
-    let run = shell_vertex(alloc, command, base)?;
-    let run = append(alloc, &mut graph, run, 2)?;
+    let scratch = scratch_vertex(alloc);
+    let base = append(alloc, &mut graph, scratch, 1)?;
+    let shell = shell_vertex(alloc, command, base)?;
+    let target = append(alloc, &mut graph, shell, 2)?;
     let context = Tree::empty(alloc);
     let sources = Sources::new(alloc, context);
-    Ok(Plan::new(graph, run, PlainConfig, sources))
+    Ok(Plan::new(graph, target, PlainConfig, sources))
 }
 
 /// Adds a vertex that is new, with the line of its instruction, to a graph that isn't full.
@@ -81,7 +86,7 @@ fn shell_vertex(alloc: Global, command: &str, base: VertexId) -> Result<Vertex, 
 
 /// The words of the shell form.
 fn shell_words(alloc: Global, command: &str) -> Result<Items<Text>, Memory>
-    ensures { IfOk result (λ words. words ≡ codes "/bin/sh" ∷ (codes "-c" ∷ (command.now ∷ []))) }
+    ensures { IfOk result (λ words. words ≡ shell_words command.now) }
 {
     let mut words = Items::new(alloc);
     words.push(Text::from_str(alloc, "/bin/sh")?)?;

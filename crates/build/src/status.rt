@@ -65,3 +65,14 @@ impl From<BundleFault> for BuildFault {
         }
     }
 }
+
+impl From<Memory> for BuildFault {
+    ghost use Rattle.std.specs.Prelude.{◌≡◌};
+    ghost use Rattle.build.specs.declared.status.BuildFault.TheVariants.{Memory as want};
+
+    ghost from_gives = { λ _ fault. fault ≡ want };
+
+    fn from(_memory: Memory) -> BuildFault {
+        BuildFault::Memory
+    }
+}

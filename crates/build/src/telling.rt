@@ -1,11 +1,11 @@
-ghost use Rattle.std.specs.Prelude.{◌≡◌, ◌++◌, ◌∷◌, [], IfOk};
-ghost use Rattle.build.specs.Meaning.{served_stage};
+ghost use Rattle.std.specs.Prelude.{◌≡◌, IfOk};
+ghost use Rattle.build.specs.Meaning.{served_stage, line_of};
 ghost use Rattle.build.specs.Telling.{status_of, text_of, TellsStage, TellsBundle};
 
 use crate::served::served_command;
 use crate::told::Told;
-use crate::{Limits, PlainConfig, Status, plan_of};
-use bundle::{BundleFault, built_answer, failed_answer, read_bundle};
+use crate::{BuildFault, Limits, PlainConfig, Status, plan_of};
+use bundle::{built_answer, failed_answer, read_bundle};
 use executor::Executor;
 use plain::{Memory, Text};
 use solver::{Answer, solve_here};
@@ -13,18 +13,18 @@ use std::alloc::Global;
 
 /// What a build tells of a bundle's bytes.
 ///
-/// `NotYet` exactly where the bundle isn't served.
+/// `NotYet` is answered only where the bundle isn't served, and such a bundle is never told of. `Memory` says nothing of it.
 pub(crate) fn tell_bundle<E: Executor>(
     alloc: Global,
     limits: Limits,
     bytes: &[u8],
     executor: &E,
-) -> Result<Told, BundleFault>
+) -> Result<Told, BuildFault>
     ensures { TellsBundle limits bytes.now (E.out executor.now) result }
 {
     let bundle = read_bundle(alloc, limits.bundle, bytes)?;
     let Some(command) = served_command(limits.dockerfile, bundle.dockerfile.as_str()) else {
-        return Err(BundleFault::NotYet);
+        return Err(BuildFault::NotYet);
     };
     let told = tell_command(alloc, command, executor)?;
     Ok(told)
@@ -42,7 +42,7 @@ fn tell_command<E: Executor>(alloc: Global, command: &str, executor: &E) -> Resu
 /// The line that tells an answer.
 fn tell_answer(alloc: Global, answer: &Answer<PlainConfig>) -> Result<Told, Memory>
     ensures status { IfOk result (λ told. told.status ≡ status_of answer.now) }
-    ensures line { IfOk result (λ told. told.line ≡ text_of answer.now ++ 10 ∷ []) }
+    ensures line { IfOk result (λ told. told.line ≡ line_of (text_of answer.now)) }
 {
     match answer {
         Answer::Built(tree, PlainConfig) => {
@@ -60,7 +60,7 @@ fn tell_answer(alloc: Global, answer: &Answer<PlainConfig>) -> Result<Told, Memo
 /// A text as a line.
 fn line_of(status: Status, text: Text) -> Result<Told, Memory>
     ensures status { IfOk result (λ told. told.status ≡ status) }
-    ensures line { IfOk result (λ told. told.line ≡ text ++ 10 ∷ []) }
+    ensures line { IfOk result (λ told. told.line ≡ line_of text) }
 {
     let mut line = text.into_string();
     line.push('\n')?;

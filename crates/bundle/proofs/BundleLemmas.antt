@@ -6,7 +6,7 @@ use Rattle.std.proofs.lemmas.Bool.{le-leb, lt-leb}
 use Rattle.std.proofs.lemmas.Str.{is_utf8-from_IsUtf8, IsUtf8-from_is_utf8}
 use Rattle.serde_json.specs.Data.{Data}
 use Rattle.serde_json.specs.Read.{read}
-use Rattle.bundle.specs.Gives.{◌>>=◌}
+use Rattle.std.specs.Option.{option_and_then}
 use Rattle.bundle.specs.Bundle.{bundle_in, bundle_of}
 
 -- more bytes than the limit are no bundle
@@ -19,7 +19,7 @@ pub bundle_of-read : (most : ℕ) (bytes : List ℕ) (d : Data) → length bytes
 unfolding bundle_of
 bundle_of-read most bytes d short text is = rw (le-leb (length bytes) most short, is_utf8-from_IsUtf8 bytes text, is)
 
-text_or_none : (bytes : List ℕ) (b : Bool) → is_utf8 bytes ≡ b → (IsUtf8 bytes → read bytes ≡ None) → cond b (read bytes >>= bundle_in) None ≡ None
+text_or_none : (bytes : List ℕ) (b : Bool) → is_utf8 bytes ≡ b → (IsUtf8 bytes → read bytes ≡ None) → cond b (option_and_then bundle_in (read bytes)) None ≡ None
 text_or_none bytes true is none = rw (none (IsUtf8-from_is_utf8 bytes is))
 text_or_none bytes false is none = refl
 

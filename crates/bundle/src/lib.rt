@@ -7,7 +7,7 @@
 // `failed_text`, the texts of the answers.
 //
 // ```
-// let most = 1_048_576;                             // bytes of a bundle
+// let most = 67_108_864;                            // bytes of a bundle
 // let bundle = read_bundle(alloc, most, bytes)?;    // of {"dockerfile":{"text":"FROM scratch\nRUN true\n"}}
 // ```
 #![tactic(auto)]

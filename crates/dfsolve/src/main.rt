@@ -1,7 +1,7 @@
 // The program: `dfsolve build [--workers N]` reads a bundle from standard input and prints one answer.
 //
-// It is the edge of the edges and decides nothing: `command` reads the words, `build` does the work, and here stand only where
-// the bytes come from and go to, and what is said where no answer could be given.
+// It decides nothing: `command` reads the words and `build` does the work. Here stand only where the bytes come from and go to, and
+// what is said on standard error where there is no answer.
 #![tactic(auto)]
 
 ghost use Rattle.std.specs.Prelude.{◌≡◌};
@@ -34,7 +34,7 @@ fn words(rt: &HostRuntime) -> io::Result<Vec<String>> {
     Ok(words)
 }
 
-/// Ends without a command line: there was no memory for it, or a word is no text.
+/// Gives the status of a command line that couldn't be read, and says why: there was no memory for it, or a word is no UTF-8.
 fn refuse_words(rt: &HostRuntime, error: &io::Error) -> u8 {
     if error.kind() == io::ErrorKind::OutOfMemory {
         return end(rt, Err(BuildFault::Memory));
@@ -43,23 +43,25 @@ fn refuse_words(rt: &HostRuntime, error: &io::Error) -> u8 {
     BAD_COMMAND
 }
 
-/// Does what the words ask for, and gives the status that the program ends with.
+/// Does what the words ask for, and gives the status to end with.
 fn perform(rt: &HostRuntime, words: &[String]) -> u8 {
     let Ok(words) = lent(rt, words) else {
         return end(rt, Err(BuildFault::Memory));
     };
     match read_command(rt.alloc(), words.as_slice()) {
-        Ok(Task::Build(_)) => end(rt, build(rt)),
+        // The number of workers is 1: `read_command` takes no other yet.
+        Ok(Task::Build(_)) => end(rt, build_input(rt)),
         Err(error) => refuse_command(rt, &error),
     }
 }
 
-/// The words, lent.
+/// The words as texts, as `read_command` takes them.
 fn lent<'a>(rt: &HostRuntime, words: &'a [String]) -> Result<Vec<&'a str>, AllocError> {
     words.iter().map(|word| word.as_str()).collect(rt.alloc())
 }
 
-/// Ends without a task: the words are wrong or ask for help, which is said, or there was no memory to read them.
+/// Gives the status of words that name no task, and says why: they are wrong, or there was no memory to read them. Help is such a
+/// task too, and clap prints it on standard output.
 fn refuse_command(rt: &HostRuntime, error: &Error) -> u8 {
     if error.kind() == ErrorKind::OutOfMemory {
         return end(rt, Err(BuildFault::Memory));
@@ -69,13 +71,16 @@ fn refuse_command(rt: &HostRuntime, error: &Error) -> u8 {
 }
 
 /// Builds the bundle on standard input, and prints the answer.
-fn build(rt: &HostRuntime) -> Result<Status, BuildFault> {
+///
+/// Nothing is flushed: a write to this standard output is a call of the system, which keeps nothing back.
+fn build_input(rt: &HostRuntime) -> Result<Status, BuildFault> {
     let mut input = Counted::new(rt.stdin());
     let mut output = Counted::new(rt.stdout());
     run_build(rt.alloc(), &mut input, &mut output, &Fixture)
 }
 
-/// Says why there is no whole answer, where there is none, and gives the status that the program ends with.
+/// Gives the status of how a build ended, and says on standard error why there is no whole answer, where there is none. A failure to
+/// say so changes no status.
 fn end(rt: &HostRuntime, ended: Result<Status, BuildFault>) -> u8
     ensures { result ≡ exit_status ended }
 {

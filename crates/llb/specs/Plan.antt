@@ -1,14 +1,12 @@
 -- What a build has to solve: a graph, the vertex whose tree is wanted, the configuration that goes with that tree, and the trees
 -- of the graph's sources.
-use Rattle.std.specs.Prelude.{◌≡◌, ◌<◌, ℕ, Some, Result, List, length, refl}
+use Rattle.std.specs.Prelude.{◌≡◌, ◌<◌, ℕ, Some, List, length, refl}
 use Rattle.std.specs.Coded.{Coded, code_by, coded×, coded_ℕ}
-use Rattle.trees.specs.TreeMap.{TreeMap}
-use Rattle.trees.specs.declared.fault.Cause.{Cause}
 use Rattle.llb.specs.declared.vertex.Vertex.{Vertex}
 use Rattle.llb.specs.contracts.graph.Graph as graph
 use Rattle.llb.specs.Graph.{GraphValue, IsGraph}
 use Rattle.llb.specs.Sources.{SourcesValue, sources_code, HasSources}
-use Rattle.llb.specs.Value.{Out, value_of}
+use Rattle.llb.specs.Value.{Out, Worth, Value, value_of}
 
 -- a plan, for whatever a configuration is
 pub record PlanValue (C : Type 0) : Type 0 where
@@ -39,5 +37,9 @@ abbrev pub problem_of : {C : Type 0} → Out → PlanValue C → Problem
 problem_of out plan = record { out = out; sources = plan.sources; vertices = plan.graph.vertices; target = plan.target }
 
 -- what a vertex of the problem is worth
-abbrev pub IsValue : Problem → ℕ → Result TreeMap Cause → Type 0
-IsValue problem id value = value_of problem.out problem.sources problem.vertices id ≡ Some value
+unfoldable pub vertex_value : Problem → ℕ → Value
+vertex_value problem id = value_of problem.out problem.sources problem.vertices id
+
+-- a vertex of the problem is worth this
+abbrev pub IsValue : Problem → ℕ → Worth → Type 0
+IsValue problem id value = vertex_value problem id ≡ Some value

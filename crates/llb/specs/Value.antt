@@ -4,7 +4,7 @@ use Rattle.std.specs.Prelude.{ℕ, Option, Some, None, Result, Ok, Err, List, []
 use Rattle.std.specs.Option.{option_map, option_and_then}
 use Rattle.trees.specs.TreeMap.{TreeMap}
 use Rattle.trees.specs.declared.fault.Cause.{Cause}
-use Rattle.trees.specs.declared.fault.Cause.TheVariants.{F1, Exit}
+use Rattle.trees.specs.declared.fault.Cause.TheVariants.{Exit}
 use Rattle.trees.specs.declared.run.RunRequest.{RunRequest}
 use Rattle.trees.specs.declared.run.RunOutcome.{RunOutcome}
 use Rattle.trees.specs.declared.run.RunOutcome.TheVariants.{Done, Exit as Exited}
@@ -18,32 +18,30 @@ use Rattle.llb.specs.Sources.{SourcesValue, source_tree}
 abbrev pub Out : Type 0
 Out = RunRequest → RunOutcome
 
+-- a tree, or the cause of a failure
+abbrev pub Worth : Type 0
+Worth = Result TreeMap Cause
+
 -- what a vertex is worth: its tree, or the cause of its failure; nothing where an input has no tree, or where it is a source
 -- that isn't there
 abbrev pub Value : Type 0
-Value = Option (Result TreeMap Cause)
+Value = Option Worth
 
 -- what a run's end means for its instruction
-abbrev pub ended : RunOutcome → Result TreeMap Cause
+abbrev pub ended : RunOutcome → Worth
 ended (Done tree) = Ok tree
 ended (Exited status) = Err (Exit status)
 
 -- a command is run where it has a request
-abbrev pub run_of : Out → Result RunRequest Cause → Result TreeMap Cause
+abbrev pub run_of : Out → Result RunRequest Cause → Worth
 run_of out (Err cause) = Err cause
 run_of out (Ok request) = ended (out request)
 
--- What an operation gives on the trees of its inputs. A source has no step, since its tree is given and not made: `result_of`
--- asks for no step of one, so F1 stands here for what is never asked.
-abbrev pub step : Out → Op → List TreeMap → Result TreeMap Cause
-step out (SourceOp source) trees = Err F1
-step out (ExecOp exec) trees = run_of out (request_of exec trees)
-
--- what a vertex of this operation gives on the trees of its inputs: a source its tree, if there is one, and any other
--- operation its step
+-- what a vertex of this operation gives on the trees of its inputs: a source its tree, if there is one, and a command what its
+-- run ends with
 abbrev pub result_of : Out → SourcesValue → Op → List TreeMap → Value
 result_of out sources (SourceOp source) trees = option_map Ok (source_tree sources source)
-result_of out sources (ExecOp exec) trees = Some (step out (ExecOp exec) trees)
+result_of out sources (ExecOp exec) trees = Some (run_of out (request_of exec trees))
 
 -- the tree of a vertex, if it has one
 abbrev pub tree_of : Value → Option TreeMap

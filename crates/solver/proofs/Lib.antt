@@ -1,1 +1,2 @@
+pub mod NeedsLemmas
 pub mod Told

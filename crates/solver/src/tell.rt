@@ -1,9 +1,8 @@
 // What is told of a board on which nothing is left to be claimed.
-ghost use Rattle.std.specs.Prelude.{◌≡◌, ◌<◌, ◌^◌, [], None, Some, Ok, Err, true, false, length, IfOk, IfSome, IfNone, vec_len};
+ghost use Rattle.std.specs.Prelude.{◌≡◌, ◌<◌, ◌^◌, [], None, Some, Ok, Err, false, length, IfOk, IfSome, IfNone, vec_len};
 ghost use Rattle.std.specs.List.{list_any};
-ghost use Rattle.llb.specs.Plan.{problem_of};
 ghost use Rattle.board.specs.Play.{least_ready, value_at, has_tree, has_cause};
-ghost use Rattle.solver.specs.Answer.{IsAnswer};
+ghost use Rattle.solver.specs.Answer.{IsAnswer, TellsTarget};
 
 use crate::Answer;
 use board::{Board, Settled};
@@ -13,11 +12,13 @@ use plain::{Exact, Memory};
 use std::alloc::Global;
 use trees::{Cause, Tree};
 
-/// The answer: the target's tree, which is moved out of the board and not copied, or else a vertex that is settled with a cause.
+/// The answer: the target's tree where it is settled with one, which is moved out of the board and not copied, or else a vertex that
+/// is settled with a cause.
 pub fn answer<C: Exact, E: Executor>(alloc: Global, board: Board<C, E>) -> Result<Answer<C>, Memory>
     requires idle { board.run.state.claims ≡ [] }
     requires over { least_ready board.plan.graph.vertices board.plan.target board.run.state ≡ None }
-    ensures { IfOk result (IsAnswer (E.out board.entry.executor) board.entry.plan) }
+    ensures answer { IfOk result (IsAnswer (E.out board.entry.executor) board.entry.plan) }
+    ensures target { IfOk result (TellsTarget board.entry.run.state.settled board.entry.plan.target) }
 {
     let plan = board.plan();
     let settled = board.into_settled();

@@ -1,10 +1,12 @@
 // Whole plans by hand, with the fixture as their executor. A plan is a list of rows, its vertices by their ids, and what is
 // expected of it is a line of text.
-ghost use Rattle.std.specs.Prelude.{◌<◌, ◌≤◌};
+ghost use Rattle.std.specs.Prelude.{◌≡◌, ◌<◌};
+ghost use Rattle.board.specs.BoardValue.{board_problem};
+ghost use Rattle.board.specs.Claims.{IsClaim};
 
 use crate::*;
-use board::{Board, Refused, run};
-use executor::Fixture;
+use board::{Board, Claim, Refused, run};
+use executor::{Executor, Fixture};
 use llb::{Exec, Graph, MOST_LINE, Op, Plan, Source, Sources, Vertex, VertexId};
 use paths::Path;
 use plain::{Items, Memory, Text};
@@ -188,29 +190,59 @@ fn targets_are_built(rt: HostRuntime) -> Result<(), Fail> {
     expect(&rt, rt.alloc(), &rows, 3, "failed 4: exit 1")
 }
 
-/// The first vertex of a board is claimed by worker 5 and settled.
-fn settle_first(alloc: Global, board: &mut Board<u8, Fixture>) -> Result<(), Memory> {
-    let Some(claim) = board.claim(alloc, 5)? else {
+/// Settles a claim with its result, where it is out.
+fn settle<E: Executor>(alloc: Global, board: &mut Board<u8, E>, claim: Claim) -> Result<(), Memory>
+    requires { IsClaim (board_problem E.out board.old) claim }
+    ensures plan { board.new.plan ≡ board.old.plan }
+    ensures executor { board.new.executor ≡ board.old.executor }
+{
+    if !board.holds(&claim) {
+        board.abandon(claim);
         return Ok(());
-    };
+    }
     match run(alloc, board.plan(), board.executor(), &claim) {
-        Ok(value) => {
-            if let Err(refused) = board.settle(claim, value, Vec::new(alloc)) {
+        Ok(value) => match board.settle(claim, value, Vec::new(alloc)) {
+            Ok(()) => Ok(()),
+            Err(refused) => {
                 let Refused {
                     claim,
                     value: _,
                     given: _,
                 } = refused;
                 board.abandon(claim);
-                return Err(Memory);
+                Err(Memory)
             }
-            Ok(())
-        }
+        },
         Err(memory) => {
             board.abandon(claim);
             Err(memory)
         }
     }
+}
+
+/// Worker 0 claims a vertex and settles it.
+fn settle_next<E: Executor>(alloc: Global, board: &mut Board<u8, E>) -> Result<(), Memory> {
+    let Some(claim) = board.claim(alloc, 0)? else {
+        return Ok(());
+    };
+    settle(alloc, board, claim)
+}
+
+/// Workers 0 and 1 claim a vertex each, 1 settles, and then 0.
+fn settle_crosswise<E: Executor>(alloc: Global, board: &mut Board<u8, E>) -> Result<(), Memory> {
+    let Some(first) = board.claim(alloc, 0)? else {
+        return Ok(());
+    };
+    let settled = match board.claim(alloc, 1) {
+        Ok(Some(second)) => settle(alloc, board, second),
+        Ok(None) => Ok(()),
+        Err(memory) => Err(memory),
+    };
+    if let Err(memory) = settled {
+        board.abandon(first);
+        return Err(memory);
+    }
+    settle(alloc, board, first)
 }
 
 #[test]
@@ -219,9 +251,27 @@ fn finish_goes_on_with_a_board(rt: HostRuntime) -> Result<(), Fail> {
     let rows = [SCRATCH, run_on(0, 2, "put /a hi")];
     let plan = plan_of(alloc, &rows, 1)?;
     let mut board = Board::new(alloc, &plan, &Fixture)?;
-    settle_first(alloc, &mut board)?;
+    settle_next(alloc, &mut board)?;
     assert!(rt; board.is_idle());
     let text = told(alloc, finish(alloc, board)?)?;
     assert_eq!(rt; text.as_str(), "built 7: / /a=hi");
+    Ok(())
+}
+
+#[test]
+fn answers_of_a_plan_may_differ_where_the_target_does_not_need_what_fails(
+    rt: HostRuntime,
+) -> Result<(), Fail> {
+    let alloc = rt.alloc();
+    let rows = [SCRATCH, run_on(0, 2, "fail 1"), run_on(0, 3, "put /a x")];
+    expect(&rt, alloc, &rows, 2, "failed 2: exit 1")?;
+    // Here the target is settled while the run that fails is still in hand.
+    let plan = plan_of(alloc, &rows, 2)?;
+    let mut board = Board::new(alloc, &plan, &Fixture)?;
+    settle_next(alloc, &mut board)?;
+    settle_crosswise(alloc, &mut board)?;
+    assert!(rt; board.is_idle());
+    let text = told(alloc, finish(alloc, board)?)?;
+    assert_eq!(rt; text.as_str(), "built 7: / /a=x");
     Ok(())
 }

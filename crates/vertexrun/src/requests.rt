@@ -13,7 +13,8 @@ use trees::{Cause, RunBind, Tree, TreeFault};
 /// lies under its source in the tree of its own input, in their order (Dockerfile reference, `RUN --mount=type=bind`).
 ///
 /// There is no request where a bind has nothing to show, and the first such bind tells why: `F1` where nothing stands at its
-/// source, `F2` where a file does. Without an input it is `F1`, which a well-formed command never meets.
+/// source, `F2` where a file does. A command of a graph has an input for its root and one for each bind. On fewer trees, which no
+/// vertex of a graph gives, the binds that are left over aren't shown, and without any tree it is `F1`.
 pub fn request_of(
     alloc: Global,
     exec: &Exec,

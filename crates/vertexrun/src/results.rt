@@ -16,7 +16,8 @@ use trees::{Cause, Tree};
 /// What an operation gives on the trees of its inputs: a source a copy of its tree, a command the tree that its run left.
 ///
 /// A command gives a cause where it has no request (`F1`, `F2`: see [`request_of`]), and `Exit` where it ended with a status.
-/// The caches that it uses are lent empty, which changes no answer, since an executor's answer never depends on them.
+/// The caches that it uses are lent empty, which changes no answer, since an executor's answer never depends on them. On fewer trees
+/// than the command has binds and a root, which no vertex of a graph gives, it is run as [`request_of`] says.
 pub fn vertex_result<E: Executor>(
     alloc: Global,
     sources: &Sources,

@@ -1,7 +1,6 @@
 use Rattle.board.specs.SoundLaws.{sound}
 use Rattle.board.specs.PlayLaws.{replay-value}
-use Rattle.board.specs.Words.{value-is}
 use Rattle.board.proofs.laws.settled_values_are_the_vertices_values.Goals as goal
 
 pub returns : goal.returns
-returns c = λ problem run vertex value plan replay e. value-is problem vertex value (replay-value problem run (sound problem plan) replay vertex value e)
+returns c = λ problem run vertex value plan replay e. replay-value problem run (sound problem plan) replay vertex value e

@@ -1,6 +1,5 @@
-use Rattle.board.specs.SoundLaws.{sound}
-use Rattle.board.specs.PlayLaws.{replay-right}
+use Rattle.board.specs.SoundLaws.{replay-state}
 use Rattle.board.proofs.laws.state_is_the_history.Goals as goal
 
 pub returns : goal.returns
-returns c = λ problem run plan replay. (replay-right problem run (sound problem plan) replay).agrees
+returns c = replay-state

@@ -1,5 +1,5 @@
 use Rattle.std.proofs.Common.{◌≡◌, refl, sym, ◌∙◌, subst}
-use Rattle.build.specs.Faults.{of_edge, of_bundle}
+use Rattle.build.specs.Faults.{of_edge}
 use Rattle.build.specs.Ends.{Devices, devices, Ends}
 use Rattle.build.proofs.BuildingLemmas.{read_of, loses_at_most, has_answered, has_begun, tells_nothing, err_and}
 use Rattle.build.proofs.building.build_within.Goals as goal
@@ -16,7 +16,7 @@ returns-in_err-told g c =
     let new : Devices = devices (g.R.CountedRead.remaining c.read_all.new.input) (g.R.CountedRead.failures c.read_all.new.input) written failed_writes in
     let read = read_of limits _ old.left new.left bytes _ refl c.as_slice.ensures.value c.in_ok-bytes.ensures.bytes in
     let ends = tells_nothing limits out old new bytes fault read c.in_err-told.ensures (record { written = refl; failed_writes = refl }) c.in_ok-bytes.ensures.count in
-    let is = err_and c.from_residual-in_err-told.result (of_bundle fault) c.from_residual-in_err-told.ensures.1 in
+    let is = err_and c.from_residual-in_err-told.result fault c.from_residual-in_err-told.ensures.1 in
     record {
       ends = subst (Ends limits out old new) (sym is) ends;
       taken = loses_at_most _ old.left new.left _ c.in_ok-bytes.ensures.bytes;

@@ -9,5 +9,5 @@ returns g c =
     let stage = served_stage c.args.command.now in
     let answer = c.in_ok-answer.answer in
     line_tells out stage (status_of answer) (text_of answer) c.tell_answer.result
-    (tells out c.in_ok-plan.plan stage answer c.in_ok-plan.ensures c.in_ok-answer.ensures)
+    (tells out c.in_ok-plan.plan stage answer c.in_ok-plan.ensures.means c.in_ok-answer.ensures)
     c.tell_answer.ensures.status c.tell_answer.ensures.line

@@ -27,8 +27,8 @@ unreachable-requires g c =
     let treeless = subst (λ v. has_tree (value_at c.into_settled-settled.result.items v) ≡ false) target c.in_default.ensures.none in
     cause-told problem c.args.board.run c.into_settled-settled.result.items is.plan is.replay is.value c.requires.idle c.requires.over treeless (rw (← c.as_slice.ensures.value) c.in_default-failure.ensures.none)
 
-pub returns-in_default : goal.returns-in_default
-returns-in_default g c =
+pub returns-in_default-clause-answer : goal.returns-in_default-clause-answer
+returns-in_default-clause-answer g c =
     let problem = problem_of (g.E.Executor.out c.args.board.executor) c.args.board.plan in
     let is = c.into_settled-settled.ensures in
     let failure = c.in-Some-failure.failure in
@@ -38,10 +38,22 @@ returns-in_default g c =
       least = ◌∙◌ {b = least_line (slice_index_or c.graph.result.now.places failure.vertex [])} c.least_place-place.ensures (ap (λ graph. least_line (slice_index_or graph.places failure.vertex [])) (c.graph.ensures.value ∙ ap (λ p. p.graph) c.plan-plan.ensures));
     }
 
-pub returns : goal.returns
-returns g c =
+pub returns-clause-answer : goal.returns-clause-answer
+returns-clause-answer g c =
     let problem = problem_of (g.E.Executor.out c.args.board.executor) c.args.board.plan in
     let is = c.into_settled-settled.ensures in
     let target = c.target.ensures ∙ ap (λ p. p.target) c.plan-plan.ensures in
     let built : value_at c.into_settled-settled.result.items problem.target ≡ Some (Ok c.in-Some.tree) = subst (λ v. value_at c.into_settled-settled.result.items v ≡ Some (Ok c.in-Some.tree)) target c.in-Some.ensures.found in
     (settled-value problem c.args.board.run c.into_settled-settled.result.items problem.target (Ok c.in-Some.tree) is.plan is.replay is.value built, c.in_ok-config.ensures ∙ (c.config.ensures ∙ ap (λ p. p.config) c.plan-plan.ensures))
+
+pub returns-in_default-clause-target : goal.returns-in_default-clause-target
+returns-in_default-clause-target g c =
+    let target = c.target.ensures ∙ ap (λ p. p.target) c.plan-plan.ensures in
+    let treeless = subst (λ v. has_tree (value_at c.into_settled-settled.result.items v) ≡ false) target c.in_default.ensures.none in
+    subst (λ settled. has_tree (value_at settled c.args.board.plan.target) ≡ false) c.into_settled-settled.ensures.value treeless
+
+pub returns-clause-target : goal.returns-clause-target
+returns-clause-target g c =
+    let target = c.target.ensures ∙ ap (λ p. p.target) c.plan-plan.ensures in
+    let built = subst (λ v. value_at c.into_settled-settled.result.items v ≡ Some (Ok c.in-Some.tree)) target c.in-Some.ensures.found in
+    subst (λ settled. value_at settled c.args.board.plan.target ≡ Some (Ok c.in-Some.tree)) c.into_settled-settled.ensures.value built

@@ -4,7 +4,7 @@ use Rattle.board.specs.Words.{vertex_value}
 use Rattle.board.specs.Play.{go, waiting, Settle}
 use Rattle.board.specs.Claims.{IsClaim, IsOut, IsResult}
 use Rattle.board.specs.SoundLaws.{claim-within, claim-unsettled, waiting-fewer, result-is}
-use Rattle.board.proofs.Steps.{slice_get-set, run_of, out_of, settle-goes, replay-along}
+use Rattle.board.proofs.Steps.{slice_get-set, run_of, holding_of, settle-goes, replay-along}
 use Rattle.board.proofs.board.Board.settle.Goals as goal
 
 pub index_mut-requires : goal.index_mut-requires
@@ -28,7 +28,7 @@ invariant_of-self g c =
     let at : c.index.result ≡ claim.vertex = search rules in
     let now = slice_set b.settled.items c.index.result (Some c.args.value) in
     let goes = settle-goes problem b.history.items c.add.new.list.items b.settled.items now b.claims.items c.drop_claim.new.claims.items claim.worker claim.vertex c.args.given.items c.args.value out is (search rules) (rw at refl) (search rules) in
-    let fewer = c.drop_claim.ensures.fewer (out_of claim.worker claim.vertex) (rw c.worker-worker.ensures out) in
+    let fewer = c.drop_claim.ensures.fewer (holding_of claim.worker claim.vertex) (rw c.worker-worker.ensures out) in
     (replay-along problem (run_of b.history.items b.settled.items b.claims.items) (run_of c.add.new.list.items now c.drop_claim.new.claims.items) (Settle claim.worker c.args.given.items) goes c.self.invariant.0, c.self.invariant.1, omega (arith, fewer, c.self.invariant.2, c.add.ensures.len, c.add.ensures.capacity))
 
 pub returns-clause-run : goal.returns-clause-run

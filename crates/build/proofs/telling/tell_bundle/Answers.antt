@@ -1,0 +1,9 @@
+use Rattle.std.proofs.Common.{◌∙◌, sym, ap, Some, List, ℕ}
+use Rattle.build.specs.Served.{IsServed}
+use Rattle.build.proofs.StageLemmas.{unserved}
+use Rattle.build.proofs.telling.tell_bundle.Goals as goal
+
+pub returns-in_default : goal.returns-in_default
+returns-in_default g c =
+    let none : (command : List ℕ) → ¬ IsServed c.args.limits.dockerfile c.as_str.result.now command = c.in_default.ensures in
+    unserved c.args.limits c.args.bytes.now c.as_str.result.now (c.in_ok-bundle.ensures ∙ ap Some (sym c.as_str.ensures)) none

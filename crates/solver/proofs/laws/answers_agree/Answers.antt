@@ -1,0 +1,5 @@
+use Rattle.solver.proofs.NeedsLemmas.{alike}
+use Rattle.solver.proofs.laws.answers_agree.Goals as goal
+
+pub returns : goal.returns
+returns g c = alike
