@@ -3,7 +3,8 @@ use Rattle.std.proofs.Common.{◌≡◌, ◌<◌, ◌+◌, ℕ, zero, suc, Bool,
 use Rattle.std.specs.Prelude.{option_map, option_and_then}
 use Rattle.expand.specs.Value.{Parts, no_part, byte, variable, with_default, with_alternative}
 use Rattle.expand.specs.Levels.{innermost, around, with_plain, with_token, onto, levels, word_of, onto-append}
-use Rattle.expand.specs.Grammar.{Piece, itself, bare, braced, or_else, if_set, close, tokens, piece_tokens, plain_bytes, character_bytes, AllStand}
+use Rattle.expand.specs.Syntax.{character_bytes}
+use Rattle.expand.specs.Pieces.{Piece, itself, bare, braced, or_else, if_set, close, tokens, piece_tokens, plain_bytes, AllStand}
 use Rattle.std.proofs.Common.{drop, get_or}
 use Rattle.std.specs.Prelude.{if◌then◌else◌}
 use Rattle.std.proofs.lemmas.List.{at_drop_more}

@@ -10,10 +10,12 @@ use Rattle.expand.specs.contracts.token.Token as token
 -- Words that stand within one another are levels: the innermost word first, then the rest of the one around it, and so
 -- on. The last level is the word that stands in no other.
 
+-- the innermost word, the empty one where there is no level
 abbrev pub innermost : List Parts → Parts
 innermost [] = no_part
 innermost (w ∷ ws) = w
 
+-- the levels around the innermost word
 abbrev pub around : List Parts → List Parts
 around [] = []
 around (w ∷ ws) = ws
@@ -32,6 +34,7 @@ with_token (Default v) ws = with_default v (innermost ws) (innermost (around ws)
 with_token (Alternative v) ws = with_alternative v (innermost ws) (innermost (around ws)) ∷ around (around ws)
 with_token Close ws = no_part ∷ ws
 
+-- levels with tokens before them, the last token first
 abbrev pub onto : List Token → List Parts → List Parts
 onto [] ws = ws
 onto (t ∷ ts) ws = with_token t (onto ts ws)
@@ -44,8 +47,7 @@ levels ts = onto ts (no_part ∷ [])
 abbrev pub word_of : List Token → Parts
 word_of ts = innermost (levels ts)
 
--- tokens of a word
-
+-- the tokens of a word, with a close behind each word within it
 abbrev pub tokens_of : Parts → List Token
 tokens_of no_part = []
 tokens_of (byte b w) = Plain (b ∷ []) ∷ tokens_of w

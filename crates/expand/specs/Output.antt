@@ -1,7 +1,7 @@
 -- The tokens that an output stands for, plain text byte by byte.
 use Rattle.std.specs.Prelude.{List, [], ◌∷◌, ◌++◌}
 use Rattle.std.specs.String.{string_bytes}
-use Rattle.expand.specs.Grammar.{plain_bytes}
+use Rattle.expand.specs.Pieces.{plain_bytes}
 use Rattle.expand.specs.declared.output.Output.{Output}
 use Rattle.expand.specs.declared.token.Token.{Token}
 use Rattle.expand.specs.declared.token.Token.TheVariants.{Plain, Variable, Default, Alternative, Close}
@@ -15,5 +15,6 @@ bytewise (Default v ∷ ts) = Default v ∷ bytewise ts
 bytewise (Alternative v ∷ ts) = Alternative v ∷ bytewise ts
 bytewise (Close ∷ ts) = Close ∷ bytewise ts
 
+-- the tokens that an output stands for
 abbrev pub made : Output → List Token
 made o = bytewise o.tokens ++ plain_bytes (string_bytes o.plain)

@@ -4,9 +4,8 @@ use Rattle.std.proofs.Common.{inl, inr, sym, ◌∙◌, ap, subst, append_assoc,
 use Rattle.std.proofs.lemmas.Bool.{true≢false}
 use Rattle.std.proofs.lemmas.Bool.Decides.{nat_tests}
 use Rattle.lines.specs.Marks.{begins_name, is_in_name, are_in_name, is_name}
-use Rattle.expand.specs.Value.{Parts}
-use Rattle.expand.specs.Levels.{word_of}
-use Rattle.expand.specs.Grammar.{Piece, itself, bare, braced, or_else, if_set, close, active, piece_text, written, goes_on, IsDollarAlone, StandsForItself, MayNest, AllStand, tokens, IsRead}
+use Rattle.expand.specs.Syntax.{active, goes_on, IsDollarAlone, StandsForItself, MayNest}
+use Rattle.expand.specs.Pieces.{Piece, itself, bare, braced, or_else, if_set, close, piece_text, written, AllStand}
 use Rattle.expand.specs.Reading.{sign_at, sign_of, code_point, Step, bad, on, behind, step_close, step_at, step_started, step_bare, step, ended_at_end, pieces_from, pieces}
 use Rattle.expand.specs.declared.character.Character.{Character}
 use Rattle.expand.specs.declared.character.Character.TheVariants.{Active, Literal}
@@ -113,7 +112,7 @@ IsSound n (Named v) = (is_name v ≡ true) × MayNest n
 IsSound n (Coloned v) = (is_name v ≡ true) × MayNest n
 
 -- what is read, if anything, stands and is written so
-abbrev IsGood : ℕ → List Character → Option (List Piece) → Type 0
+abbrev pub IsGood : ℕ → List Character → Option (List Piece) → Type 0
 IsGood n text None = Unit {0}
 IsGood n text (Some ps) = AllStand n ps × (text ≡ written ps)
 
@@ -519,15 +518,3 @@ all_read (suc n) (close ∷ ps) h = pieces_from-at (suc n) Nothing (Active 125) 
 pub pieces-only : (cs : List Character) (ps : List Piece) → AllStand 0 ps → cs ≡ written ps → pieces cs ≡ Some ps
 unfolding pieces
 pieces-only cs ps h i = ap (λ (t : List Character). pieces_from 0 Nothing t) i ∙ all_read 0 ps h
-
--- so marked characters are one word or none
-
-read_by : (cs : List Character) (o : Option (List Piece)) (w : Parts) → IsGood 0 cs o → option_map (λ (ps : List Piece). word_of (tokens ps)) o ≡ Some w → IsRead cs w
-read_by cs None w g h = absurd (cc)
-read_by cs (Some ps) w g h = (ps, g.0, g.1, cc)
-
-pub read-is : (cs : List Character) (w : Parts) → option_map (λ (ps : List Piece). word_of (tokens ps)) (pieces cs) ≡ Some w → IsRead cs w
-read-is cs w h = read_by cs (pieces cs) w (pieces-good cs) h
-
-pub read-only : (cs : List Character) (w : Parts) → IsRead cs w → option_map (λ (ps : List Piece). word_of (tokens ps)) (pieces cs) ≡ Some w
-read-only cs w h = ap (λ (o : Option (List Piece)). option_map (λ (ps : List Piece). word_of (tokens ps)) o) (pieces-only cs h.0 h.1 h.2) ∙ ap (λ (u : Parts). Some u) (sym h.3)

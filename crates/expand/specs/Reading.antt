@@ -9,7 +9,7 @@ use Rattle.words.specs.Reading.{parts}
 use Rattle.expand.specs.Value.{Parts}
 use Rattle.expand.specs.Levels.{word_of}
 use Rattle.expand.specs.Scan.{marked, is_freed}
-use Rattle.expand.specs.Grammar.{Piece, itself, bare, braced, or_else, if_set, close, tokens}
+use Rattle.expand.specs.Pieces.{Piece, itself, bare, braced, or_else, if_set, close, tokens}
 use Rattle.expand.specs.declared.character.Character.{Character}
 use Rattle.expand.specs.declared.character.Character.TheVariants.{Active, Literal}
 use Rattle.expand.specs.declared.character.Sign.{Sign}
@@ -30,10 +30,12 @@ sign_at c = if c == 36 then Dollar
     else (if begins_name c then Letter
     else (if nat_le 48 c && nat_le c 57 then Digit else Other)))))))
 
+-- what a character is to the syntax: one that isn't active is none of it
 abbrev pub sign_of : Character → Sign
 sign_of (Active c) = sign_at c
 sign_of (Literal c) = Other
 
+-- a character without its mark
 abbrev pub code_point : Character → ℕ
 code_point (Active c) = c
 code_point (Literal c) = c
@@ -46,9 +48,11 @@ pub record Step : Type 0 where
   pub depth : ℕ
   pub begun : Begun
 
+-- the step that a bad substitution gives
 abbrev pub bad : Step
 bad = record { is_bad = true; ended = []; depth = 0; begun = Nothing }
 
+-- the step that ends pieces and goes on with so many words open, and this begun
 abbrev pub on : List Piece → ℕ → Begun → Step
 on ps n b = record { is_bad = false; ended = ps; depth = n; begun = b }
 
@@ -98,6 +102,7 @@ step_coloned v n Dash c = on (or_else v ∷ []) (suc n) Nothing
 step_coloned v n Plus c = on (if_set v ∷ []) (suc n) Nothing
 step_coloned v n _ c = bad
 
+-- the step of one more character, where so many words are open and this is begun
 abbrev pub step : ℕ → Begun → Sign → Character → Step
 step n Nothing k c = step_at n k c
 step n Started k c = step_started n k c
@@ -116,6 +121,7 @@ ended_at_end zero (Named v) = None
 ended_at_end zero (Coloned v) = None
 ended_at_end (suc n) b = None
 
+-- the pieces of the characters behind what is begun; none where there is a bad substitution
 abbrev pub pieces_from : ℕ → Begun → List Character → Option (List Piece)
 pieces_from n b [] = ended_at_end n b
 pieces_from n b (c ∷ cs) = if (step n b (sign_of c) c).is_bad then None
@@ -125,22 +131,23 @@ pieces_from n b (c ∷ cs) = if (step n b (sign_of c) c).is_bad then None
 unfoldable pub pieces : List Character → Option (List Piece)
 pieces cs = pieces_from 0 Nothing cs
 
--- the marked characters of a text without quotes
-
+-- an escape character at the end of a text stands for itself (own)
 abbrev pub bare_at_end : Escape → Bool → List Character
 bare_at_end e false = []
 bare_at_end e true = Active (byte_of e) ∷ []
 
+-- the marked characters of a text without quotes, behind an escape character or not
 abbrev pub bare_from : Escape → Bool → List ℕ → List Character
 bare_from e b [] = bare_at_end e b
 bare_from e false (c ∷ cs) = if c == byte_of e then bare_from e true cs else Active c ∷ bare_from e false cs
 bare_from e true (c ∷ cs) = if is_freed e c then Literal c ∷ bare_from e false cs else Active (byte_of e) ∷ Active c ∷ bare_from e false cs
 
--- the marked characters of a text
+-- the marked characters of a text with quotes, none where one of them is open
 abbrev pub quoted_unless : Bool → List Character → Option (List Character)
 quoted_unless true cs = None
 quoted_unless false cs = Some cs
 
+-- the marked characters of a text, the only ones that `IsScanned` means
 unfoldable pub scanned : Kind → Escape → List ℕ → Option (List Character)
 scanned Quoted e text = quoted_unless (has_open (parts e text)) (marked (parts e text))
 scanned Json e text = Some (bare_from e false text)

@@ -24,6 +24,7 @@ marked_part (double hs) = map marked_held hs
 marked_part (open_single cs) = []
 marked_part (open_double hs) = []
 
+-- the characters that parts leave, those of one part behind those of the other
 abbrev pub marked : List Part → List Character
 marked [] = []
 marked (p ∷ ps) = marked_part p ++ marked ps
@@ -33,6 +34,7 @@ marked (p ∷ ps) = marked_part p ++ marked ps
 abbrev pub is_freed : Escape → ℕ → Bool
 is_freed e c = (c == 36) || (c == byte_of e)
 
+-- the escape character doesn't act before what follows (own)
 abbrev pub IsIdleBefore : Escape → List ℕ → Type 0
 IsIdleBefore e [] = Unit {0}
 IsIdleBefore e (c ∷ cs) = is_freed e c ≡ false

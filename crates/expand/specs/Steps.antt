@@ -1,6 +1,6 @@
 -- What one more character makes of what is read so far.
 use Rattle.std.specs.Prelude.{◌≡◌, true, false, List, ◌++◌, Option, Some, None}
-use Rattle.expand.specs.Grammar.{Piece, tokens}
+use Rattle.expand.specs.Pieces.{Piece, tokens}
 use Rattle.expand.specs.Reading.{Step}
 use Rattle.expand.specs.declared.state.Reading.{Reading}
 use Rattle.expand.specs.declared.token.Token.{Token}

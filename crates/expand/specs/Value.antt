@@ -11,6 +11,11 @@ pub data Parts : Type 0 where
   with_default : List ℕ → Parts → Parts → Parts
   with_alternative : List ℕ → Parts → Parts → Parts
 
+-- a word with a plain text before it, byte by byte
+abbrev pub with_text : List ℕ → Parts → Parts
+with_text [] word = word
+with_text (b ∷ bs) word = byte b (with_text bs word)
+
 -- a variable is filled where it is set and not empty
 abbrev pub is_filled : Option (List ℕ) → Bool
 is_filled None = false

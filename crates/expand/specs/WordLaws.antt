@@ -1,26 +1,17 @@
 -- Laws of words: each text is just one word, the one that reading it from the front gives, or none.
-use Rattle.std.specs.Prelude.{◌≡◌, ℕ, List, Option, Some, None, option_map, option_and_then, Result, Ok, Err, refl}
+use Rattle.std.specs.Prelude.{◌≡◌, ℕ, List, Option, Some, None, option_map, option_and_then, refl}
 use Rattle.std.proofs.Common.{sym, ◌∙◌, ap}
 use Rattle.std.specs.Str.{chars}
 use Rattle.lines.specs.declared.line.Escape.{Escape}
-use Rattle.plain.specs.declared.refusal.Code.TheVariants.{R09}
-use Rattle.words.specs.declared.fault.Fault.{Fault}
-use Rattle.words.specs.declared.fault.Fault.TheVariants.{Refused, Memory}
 use Rattle.expand.specs.Value.{Parts}
 use Rattle.expand.specs.Levels.{word_of}
-use Rattle.expand.specs.Grammar.{Piece, tokens}
+use Rattle.expand.specs.Pieces.{Piece, tokens}
 use Rattle.expand.specs.Meaning.{IsWord}
 use Rattle.expand.specs.Reading.{pieces, scanned, word}
 use Rattle.expand.specs.ScanLaws.{scanned-is, scanned-only}
-use Rattle.expand.specs.ReadLaws.{read-is, read-only}
+use Rattle.expand.specs.SyntaxLaws.{read-is, read-only}
 use Rattle.expand.specs.declared.character.Character.{Character}
 use Rattle.expand.specs.declared.kind.Kind.{Kind}
-
--- what reading a text answers, by its word
-abbrev pub Answers : Option Parts → Result Parts Fault → Type 0
-Answers found (Ok w) = found ≡ Some w
-Answers found (Err (Refused code)) = (code ≡ R09) × (found ≡ None)
-Answers found (Err Memory) = Unit {0}
 
 word_by : (kind : Kind) (e : Escape) (text : List ℕ) (o : Option (List Character)) → scanned kind e (chars text) ≡ o → (w : Parts)
     → option_map (λ (ps : List Piece). word_of (tokens ps)) (option_and_then pieces o) ≡ Some w → IsWord kind e text w

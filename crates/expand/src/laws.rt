@@ -1,11 +1,12 @@
 // What is proved of the definitions alone. The functions do nothing: their contracts are laws.
 
-ghost use Rattle.std.specs.Prelude.{◌≡◌, ◌↔◌, ℕ, true, List, Some, None};
+ghost use Rattle.std.specs.Prelude.{◌≡◌, ◌≢◌, ◌↔◌, ◌++◌, [], ℕ, true, List, Option, Some, None};
 ghost use Rattle.std.specs.Str.{IsUtf8, chars};
 ghost use Rattle.lines.specs.declared.line.Escape.{Escape};
 ghost use Rattle.words.specs.Reading.{ends_open};
-ghost use Rattle.expand.specs.Value.{Parts};
-ghost use Rattle.expand.specs.Meaning.{IsWord};
+ghost use Rattle.expand.specs.Value.{Parts, no_part, variable, with_default, with_alternative, with_text, value};
+ghost use Rattle.expand.specs.Syntax.{Syntax, Stands, written};
+ghost use Rattle.expand.specs.Meaning.{IsWord, AreOrdinary};
 ghost use Rattle.expand.specs.Reading.{scanned, word};
 ghost use Rattle.expand.specs.declared.kind.Kind.{Kind};
 
@@ -19,4 +20,37 @@ pub fn words_are_unique()
 /// `Word::read` tells by R09. A text is valid UTF-8: of other bytes a quote could be part of what is read as one character.
 pub fn open_quotes_are_not_scanned()
     ensures { (escape : Escape) (text : List ℕ) → IsUtf8 text → (ends_open escape text ≡ true) ↔ (scanned Kind.Quoted escape (chars text) ≡ None) }
+{}
+
+/// Marked characters are written by one syntax at most, so it is determined which `}` closes which `${`.
+pub fn syntaxes_are_unique()
+    ensures { (one other : Syntax) → Stands 0 one → Stands 0 other → written one ≡ written other → one ≡ other }
+{}
+
+/// A text without `$`, escape character and, where there are quotes, without quotes is the word of its own bytes, and its
+/// value under every look-up is the text itself. A `}` is such a character too, and so are the quotes of a string of the
+/// JSON form and of a heredoc's body.
+pub fn ordinary_texts_are_their_values()
+    ensures word { (kind : Kind) (escape : Escape) (text : List ℕ) → IsUtf8 text → AreOrdinary kind escape text → IsWord kind escape text (with_text text no_part) }
+    ensures value { (kind : Kind) (escape : Escape) (text : List ℕ) → IsUtf8 text → AreOrdinary kind escape text → (found : Parts) → IsWord kind escape text found → (scope : List ℕ → Option (List ℕ)) → value scope found ≡ text }
+{}
+
+/// The value of `$v` and of `${v}` before the rest of a word: the text of `v`, and none where `v` is unset.
+pub fn variables_have_values()
+    ensures set { (scope : List ℕ → Option (List ℕ)) (name text : List ℕ) (rest : Parts) → scope name ≡ Some text → value scope (variable name rest) ≡ text ++ value scope rest }
+    ensures unset { (scope : List ℕ → Option (List ℕ)) (name : List ℕ) (rest : Parts) → scope name ≡ None → value scope (variable name rest) ≡ value scope rest }
+{}
+
+/// The value of `${v:-word}` before the rest of a word: the text of `v` where it is set and not empty, else the word's value.
+pub fn defaults_have_values()
+    ensures filled { (scope : List ℕ → Option (List ℕ)) (name text : List ℕ) (default rest : Parts) → scope name ≡ Some text → text ≢ [] → value scope (with_default name default rest) ≡ text ++ value scope rest }
+    ensures empty { (scope : List ℕ → Option (List ℕ)) (name : List ℕ) (default rest : Parts) → scope name ≡ Some [] → value scope (with_default name default rest) ≡ value scope default ++ value scope rest }
+    ensures unset { (scope : List ℕ → Option (List ℕ)) (name : List ℕ) (default rest : Parts) → scope name ≡ None → value scope (with_default name default rest) ≡ value scope default ++ value scope rest }
+{}
+
+/// The value of `${v:+word}` before the rest of a word: the word's value where `v` is set and not empty, else none.
+pub fn alternatives_have_values()
+    ensures filled { (scope : List ℕ → Option (List ℕ)) (name text : List ℕ) (alternative rest : Parts) → scope name ≡ Some text → text ≢ [] → value scope (with_alternative name alternative rest) ≡ value scope alternative ++ value scope rest }
+    ensures empty { (scope : List ℕ → Option (List ℕ)) (name : List ℕ) (alternative rest : Parts) → scope name ≡ Some [] → value scope (with_alternative name alternative rest) ≡ value scope rest }
+    ensures unset { (scope : List ℕ → Option (List ℕ)) (name : List ℕ) (alternative rest : Parts) → scope name ≡ None → value scope (with_alternative name alternative rest) ≡ value scope rest }
 {}

@@ -4,7 +4,8 @@
 // texts are expanded, and with which scope.
 //
 // The central definitions are `IsWord` in specs/Meaning.antt, by which a text is scanned (which characters are active) and
-// what is left is read in a grammar, and `value` in specs/Value.antt, which joins the values of a word's parts.
+// what is left is read by the syntax in specs/Syntax.antt, and `value` in specs/Value.antt, which joins the values of a
+// word's parts.
 //
 // ```
 // let word = Word::read(alloc, Kind::Quoted, Escape::Backslash, "${name:-'a b'}/c")?;
@@ -24,7 +25,10 @@ mod token;
 mod word;
 
 pub use kind::Kind;
-pub use laws::{open_quotes_are_not_scanned, words_are_unique};
+pub use laws::{
+    alternatives_have_values, defaults_have_values, open_quotes_are_not_scanned,
+    ordinary_texts_are_their_values, syntaxes_are_unique, variables_have_values, words_are_unique,
+};
 pub use lookup::Lookup;
 pub use word::{Word, expand};
 

@@ -1,6 +1,6 @@
 ghost use Rattle.std.specs.Prelude.{◌≡◌, [], ◌∷◌, ◌++◌, IfOk, encode_utf8};
 ghost use Rattle.std.specs.String.{string_bytes};
-ghost use Rattle.expand.specs.Grammar.{plain_bytes};
+ghost use Rattle.expand.specs.Pieces.{plain_bytes};
 ghost use Rattle.expand.specs.Output.{bytewise, made};
 
 use crate::token::Token;

@@ -1,5 +1,5 @@
 ghost use Rattle.std.specs.Prelude.{◌≡◌, ◌<◌, ◌≤◌, [], ◌∷◌, ◌++◌, IfOk, option_map};
-ghost use Rattle.expand.specs.Grammar.{tokens};
+ghost use Rattle.expand.specs.Pieces.{tokens};
 ghost use Rattle.expand.specs.Output.{bytewise, made};
 ghost use Rattle.expand.specs.Reading.{sign_of, code_point, pieces, step, step_at, step_started, step_bare, step_opened, step_named, step_coloned, ended_at_end};
 ghost use Rattle.expand.specs.Steps.{IsStep, finished};

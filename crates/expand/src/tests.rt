@@ -356,4 +356,9 @@ fn a_value_of_a_mebibyte(rt: HostRuntime) -> Result<(), Fail> {
 fn laws_hold(_rt: HostRuntime) {
     words_are_unique();
     open_quotes_are_not_scanned();
+    syntaxes_are_unique();
+    ordinary_texts_are_their_values();
+    variables_have_values();
+    defaults_have_values();
+    alternatives_have_values();
 }

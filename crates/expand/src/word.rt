@@ -3,11 +3,10 @@ ghost use Rattle.std.specs.Str.{chars};
 ghost use Rattle.std.specs.String.{string_bytes, string_len};
 ghost use Rattle.expand.specs.Value.{value, text_of};
 ghost use Rattle.expand.specs.Expanding.{Expands, IsPushed, run, longest};
-ghost use Rattle.expand.specs.Meaning.{Reads};
-ghost use Rattle.expand.specs.Grammar.{tokens};
+ghost use Rattle.expand.specs.Meaning.{Answers, Reads};
+ghost use Rattle.expand.specs.Pieces.{tokens};
 ghost use Rattle.expand.specs.Output.{bytewise};
 ghost use Rattle.expand.specs.Reading.{pieces, scanned, word};
-ghost use Rattle.expand.specs.WordLaws.{Answers};
 
 use crate::kind::Kind;
 use crate::lookup::Lookup;
@@ -123,6 +122,7 @@ fn run_within<S: Lookup>(
     let mut skipped = 0usize;
     for token in tokens {
         match token {
+            // a close where nothing is skipped ends a word that counts
             Token::Close => skipped = skipped.saturating_sub(1),
             Token::Plain(_) | Token::Variable(_) if skipped > 0 => {}
             Token::Default(_) | Token::Alternative(_) if skipped > 0 => skipped += 1,

@@ -1,6 +1,6 @@
 use Rattle.std.proofs.Common.{drop, ◌≡◌, ◌++◌, List}
 use Rattle.std.specs.Prelude.{option_map}
-use Rattle.expand.specs.Grammar.{Piece, tokens}
+use Rattle.expand.specs.Pieces.{Piece, tokens}
 use Rattle.expand.specs.Output.{made}
 use Rattle.expand.specs.Reading.{pieces_from, pieces}
 use Rattle.expand.proofs.reading.read.Given as goal

@@ -1,10 +1,9 @@
--- The grammar of a word: how its pieces are written in marked characters, and where each may stand.
-use Rattle.std.specs.Prelude.{◌≡◌, ◌<◌, ℕ, zero, suc, Bool, true, false, List, [], ◌∷◌, ◌++◌, ◌==◌, map, encode_utf8}
-use Rattle.lines.specs.Marks.{begins_name, is_in_name, is_name}
-use Rattle.expand.specs.Value.{Parts}
-use Rattle.expand.specs.Levels.{word_of}
+-- The pieces of a word in a row, as reading it from the front finds them. `SyntaxLaws` says which syntax they are.
+use Rattle.std.specs.Prelude.{◌≡◌, ℕ, zero, suc, true, false, List, [], ◌∷◌, ◌++◌, map}
+use Rattle.lines.specs.Marks.{is_name}
+use Rattle.expand.specs.Syntax.{active, goes_on, StandsForItself, MayNest, character_bytes}
 use Rattle.expand.specs.declared.character.Character.{Character}
-use Rattle.expand.specs.declared.character.Character.TheVariants.{Active, Literal}
+use Rattle.expand.specs.declared.character.Character.TheVariants.{Active}
 use Rattle.expand.specs.declared.token.Token.{Token}
 use Rattle.expand.specs.declared.token.Token.TheVariants.{Plain, Variable, Default, Alternative, Close}
 
@@ -18,11 +17,7 @@ pub data Piece : Type 0 where
   if_set : List ℕ → Piece
   close : Piece
 
--- as it is written: every character of the syntax is active, the name's too
-
-abbrev pub active : List ℕ → List Character
-active cs = map (λ c. Active c) cs
-
+-- a piece as it is written (Dockerfile reference, environment replacement)
 abbrev pub piece_text : Piece → List Character
 piece_text (itself c) = c ∷ []
 piece_text (bare v) = Active 36 ∷ active v
@@ -31,31 +26,10 @@ piece_text (or_else v) = Active 36 ∷ Active 123 ∷ (active v ++ Active 58 ∷
 piece_text (if_set v) = Active 36 ∷ Active 123 ∷ (active v ++ Active 58 ∷ Active 43 ∷ [])
 piece_text close = Active 125 ∷ []
 
+-- pieces as they are written, one after another
 abbrev pub written : List Piece → List Character
 written [] = []
 written (p ∷ ps) = piece_text p ++ written ps
-
--- what follows begins with a character that goes on with a name
-abbrev pub goes_on : List Character → Bool
-goes_on [] = false
-goes_on (Active c ∷ cs) = is_in_name c
-goes_on (Literal c ∷ cs) = false
-
--- a `$` before what follows stands for itself: neither a name nor `{` follows
-abbrev pub IsDollarAlone : List Character → Type 0
-IsDollarAlone [] = Unit {0}
-IsDollarAlone (Active c ∷ cs) = (begins_name c ≡ false) × ((c == 123) ≡ false)
-IsDollarAlone (Literal c ∷ cs) = Unit {0}
-
--- a character stands for itself before what follows, within n words: a plain one anywhere; an active `$` where it stands
--- alone; an active `}` where there is nothing to close
-abbrev pub StandsForItself : ℕ → Character → List Character → Type 0
-StandsForItself n (Literal c) behind = Unit {0}
-StandsForItself n (Active c) behind = (c ≡ 36 → IsDollarAlone behind) × (c ≡ 125 → n ≡ 0)
-
--- no more than 32 `${` stand within one another (own)
-abbrev pub MayNest : ℕ → Type 0
-MayNest n = n < 32
 
 -- the pieces may stand where n words are open: a name is a letter or `_` followed by letters, digits or `_`, that of `$v`
 -- the longest; each word that is opened is closed
@@ -69,15 +43,11 @@ AllStand n (if_set v ∷ ps) = (is_name v ≡ true) × MayNest n × AllStand (su
 AllStand zero (close ∷ ps) = ⊥
 AllStand (suc n) (close ∷ ps) = AllStand n ps
 
--- the tokens of pieces; of a character that stands for itself each byte is plain text
-
+-- the tokens of plain text, one for each byte
 abbrev pub plain_bytes : List ℕ → List Token
 plain_bytes bs = map (λ b. Plain (b ∷ [])) bs
 
-abbrev pub character_bytes : Character → List ℕ
-character_bytes (Active c) = encode_utf8 c
-character_bytes (Literal c) = encode_utf8 c
-
+-- the tokens that a piece stands for; of a character that stands for itself each byte is plain text
 abbrev pub piece_tokens : Piece → List Token
 piece_tokens (itself c) = plain_bytes (character_bytes c)
 piece_tokens (bare v) = Variable v ∷ []
@@ -86,11 +56,7 @@ piece_tokens (or_else v) = Default v ∷ []
 piece_tokens (if_set v) = Alternative v ∷ []
 piece_tokens close = Close ∷ []
 
+-- the tokens that pieces stand for, one after another
 abbrev pub tokens : List Piece → List Token
 tokens [] = []
 tokens (p ∷ ps) = piece_tokens p ++ tokens ps
-
--- marked characters are read as a word (Dockerfile reference, environment replacement; own in details). Where they are
--- read as none, there is a bad substitution
-abbrev pub IsRead : List Character → Parts → Type 0
-IsRead cs word = (ps : List Piece) × AllStand 0 ps × (cs ≡ written ps) × (word ≡ word_of (tokens ps))
