@@ -7,3 +7,5 @@ pub mod GivenValue
 pub mod Said
 pub mod SaidLaws
 pub mod ScopeLaws
+pub mod History
+pub mod HistoryLaws

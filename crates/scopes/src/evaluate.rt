@@ -12,7 +12,7 @@ use plain::{Exact, Items, Text};
 use std::alloc::Global;
 use words::Fault;
 
-/// What an ENV line says under the scope before it; R18 exactly where a value is too long.
+/// What an ENV line says under the scope before it; R18 where a value is too long, and there alone.
 pub fn variable_declarations(
     alloc: Global,
     variables: &[Variable],
@@ -29,7 +29,7 @@ pub fn variable_declarations(
     Ok(line)
 }
 
-/// What an ARG line says under the scope before it; R18 exactly where a default that counts is too long.
+/// What an ARG line says under the scope before it; R18 where a default that counts is too long, and there alone.
 pub fn argument_declarations(
     alloc: Global,
     arguments: &[Argument],

@@ -1,16 +1,26 @@
 // What is proved of the definitions alone. The functions do nothing: their contracts are laws.
 
 ghost use Rattle.std.specs.Prelude.{◌≡◌, ◌≢◌, ℕ, List, [], ◌∷◌, ◌++◌, Option, Some, None};
+ghost use Rattle.scopes.specs.History.{ScopeLine, texts, history, scope_after};
+ghost use Rattle.scopes.specs.Lines.{Values};
 ghost use Rattle.scopes.specs.Declarations.{last_env, last_arg, value_in, run_env, kept};
 ghost use Rattle.scopes.specs.declared.declaration.Declaration.{Declaration};
 ghost use Rattle.scopes.specs.declared.declaration.Declaration.TheVariants.{Env, Arg};
 
-/// The declarations that are kept mean what all of them mean, whatever comes after. So a scope means the history of its
-/// lines.
+/// The declarations that are kept mean what all of them mean, whatever comes after.
 pub fn kept_declarations_mean_the_same()
     ensures values { (ds : List Declaration) (n : List ℕ) → value_in (kept ds) n ≡ value_in ds n }
     ensures environment { (ds : List Declaration) → run_env (kept ds) ≡ run_env ds }
     ensures more { (ds es : List Declaration) → kept (kept ds ++ es) ≡ kept (ds ++ es) }
+{}
+
+/// The scope that calls on lines leave is what is kept of all that the lines said, each under what was said above it; and a
+/// call judges the texts that the line expands under all that was said above it. So a scope means the history of its lines.
+pub fn scopes_mean_their_history()
+    ensures scopes { (given : Values) (outer above : List Declaration) (lines : List ScopeLine)
+        → scope_after given (value_in (kept outer)) (kept above) lines ≡ kept (history given (value_in outer) above lines) }
+    ensures texts { (given : Values) (above : List Declaration) (line : ScopeLine)
+        → texts (value_in (kept above)) given line ≡ texts (value_in above) given line }
 {}
 
 /// What more declarations do to the value of a name: an ENV of the name sets it, an ARG of it sets it where no ENV did and it

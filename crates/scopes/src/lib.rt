@@ -25,7 +25,9 @@ mod scope;
 pub use args::Args;
 pub use declaration::Declaration;
 pub use env_row::EnvRow;
-pub use laws::{declarations_set_their_name, kept_declarations_mean_the_same};
+pub use laws::{
+    declarations_set_their_name, kept_declarations_mean_the_same, scopes_mean_their_history,
+};
 pub use scope::Scope;
 
 #[cfg(test)]

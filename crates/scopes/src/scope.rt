@@ -56,8 +56,8 @@ impl Scope {
     /// where it has no default, the value that it has in `outer`, the scope before the first FROM (Dockerfile reference, ARG).
     /// One that has no value by this leaves the name as it was (own).
     ///
-    /// R18 exactly where a default whose name has no build argument has a value of more than 1,048,576 bytes. After a fault
-    /// the scope is as it was.
+    /// R18 where a default whose name has no build argument has a value of more than 1,048,576 bytes, and there alone. After a
+    /// fault the scope is as it was. For a line before the first FROM, `outer` is the empty scope.
     pub fn declare(
         &mut self,
         alloc: Global,
@@ -75,7 +75,7 @@ impl Scope {
     /// Adds an ENV line: each variable has the value of its word under the scope before the line (Dockerfile reference,
     /// environment replacement).
     ///
-    /// R18 exactly where a value has more than 1,048,576 bytes. After a fault the scope is as it was.
+    /// R18 where a value has more than 1,048,576 bytes, and there alone. After a fault the scope is as it was.
     pub fn set_env(&mut self, alloc: Global, variables: &[Variable]) -> Result<(), Fault>
         ensures { Declares self.old (env_line (value_in self.old) variables.now) (env_texts (value_in self.old) variables.now) self.new result }
     {

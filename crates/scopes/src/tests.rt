@@ -282,3 +282,10 @@ fn default_beside_a_build_argument_is_not_expanded(rt: HostRuntime) -> Result<()
     assert!(rt; is_text(scope.get("d"), "2"));
     Ok(())
 }
+
+#[test]
+fn laws_hold(_rt: HostRuntime) {
+    kept_declarations_mean_the_same();
+    scopes_mean_their_history();
+    declarations_set_their_name();
+}
