@@ -6,11 +6,7 @@ use Rattle.std.proofs.lemmas.Bool.{true≢false}
 use Rattle.plain.specs.Codes.{number_of}
 use Rattle.plain.specs.declared.refusal.Code.{Code}
 use Rattle.plain.specs.declared.refusal.Code.TheVariants.{R01, R02, R03, R04, R05, R06, R07, R08, R09, R10, R11, R12, R13, R14, R15, R16, R17, R18, R19, R20}
-use Rattle.instructions.specs.Least.{all_codes, first_due, least}
-
--- the code is due, and no lesser one is
-abbrev pub IsLeast : (Code → Bool) → Code → Type 0
-IsLeast due c = (due c ≡ true) × ((d : Code) → due d ≡ true → number_of c ≤ number_of d)
+use Rattle.instructions.specs.Least.{all_codes, first_due, least, IsLeast}
 
 -- a code is one of a list
 abbrev IsIn : Code → List Code → Type 0

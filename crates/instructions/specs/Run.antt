@@ -42,11 +42,15 @@ names_interpreter (c ∷ d ∷ rest) = (c == 35) && (d == 33)
 abbrev pub run_read : List Heredoc → List ℕ → Option InstructionKind
 run_read hs text = option_map (λ ms. Run ms (run_command hs (behind_flags text))) (mounts (flags text))
 
--- the codes that are due for RUN with these heredocs and what stands behind it
+-- how many mounts a RUN has at most (own)
+abbrev pub most_mounts : ℕ
+most_mounts = 16
+
+-- the codes that are due for RUN with these heredocs and what stands behind it; its flags are all mounts where R07 isn't due
 abbrev pub run_due : List Heredoc → List ℕ → Code → Bool
 run_due hs text R06 = (length (behind_flags text) == 0) || (is_wordless (json_form (behind_flags text)) || list_any (λ h. length h.body == 0) hs)
 run_due hs text R07 = not (are_mount_flags (flags text))
 run_due hs text R08 = is_mark_beside hs (behind_flags text) || list_any (λ h. names_interpreter h.body) hs
 run_due hs text R17 = not (is_some (mounts (flags text)))
-run_due hs text R18 = nat_lt 16 (length (flags text))
+run_due hs text R18 = nat_lt most_mounts (length (flags text))
 run_due hs text code = false
