@@ -1,4 +1,4 @@
--- The flags of COPY: `--from=..`, `--chown=..`, `--chmod=..` and `--link`, each once (Dockerfile reference, COPY; that no flag
+-- The flags of COPY: `--from=..`, `--chown=..`, `--chmod=..` and `--link`, each at most once (Dockerfile reference, COPY; that no flag
 -- is repeated: own).
 use Rattle.std.specs.Prelude.{ℕ, ◌||◌, ◌&&◌, Bool, true, not, List, Option, Some, None, option_map, option_and_then, if◌then◌else◌, bytes_eq, codes}
 use Rattle.std.specs.List.{find, list_all, list_any}

@@ -20,7 +20,7 @@ pub struct CopyFlags {
     pub owner: Option<Owner>,
     /// The mode that `--chmod` gives, at most 0o7777.
     pub mode: Option<u16>,
-    /// Whether `--link` is there, and isn't `--link=false`.
+    /// Whether `--link` or `--link=true` is there.
     pub is_linked: bool,
 }
 
@@ -104,7 +104,7 @@ fn are_known(flags: &[Flag]) -> bool
 }
 
 /// Whether these are flags of a COPY: `--from=..`, `--chown=..` and `--chmod=..` with a value that isn't empty, and `--link`,
-/// `--link=true` or `--link=false`, each once (Dockerfile reference, COPY; that other flags and a repeated one aren't
+/// `--link=true` or `--link=false`, each at most once (Dockerfile reference, COPY; that other flags and a repeated one aren't
 /// allowed: own).
 ///
 /// A COPY whose flags aren't is refused with R07. Whether a value is an owner or a mode isn't looked at here.
