@@ -1,4 +1,4 @@
--- SHELL, CMD and ENTRYPOINT: a list in JSON, or a text for the shell.
+-- SHELL, which is a list in JSON, and CMD and ENTRYPOINT, which are one or a text for the shell.
 use Rattle.std.specs.Prelude.{ℕ, ◌==◌, Bool, false, not, List, Option, Some, None, is_some, length, if◌then◌else◌}
 use Rattle.plain.specs.declared.refusal.Code.{Code}
 use Rattle.plain.specs.declared.refusal.Code.TheVariants.{R06}
@@ -24,7 +24,7 @@ abbrev pub shell_due : List ℕ → Code → Bool
 shell_due text R06 = not (is_some (shell_read text))
 shell_due text code = false
 
--- the exec form is a list in JSON; any other text is the shell form (Dockerfile reference)
+-- the exec form is a list in JSON (Dockerfile reference); any other text is the shell form, one that begins as a list too (own)
 
 -- the command of a text and the list in JSON that it is, if it is one
 abbrev pub command_by : List ℕ → Option (List (List ℕ)) → Command
@@ -39,7 +39,8 @@ command_of text = command_by text (json_form text)
 abbrev pub command_read : List ℕ → Option Command
 command_read text = Some (command_of text)
 
--- the codes that are due for CMD or ENTRYPOINT and what stands behind it; a list without a word is fine, and unsets
+-- the codes that are due for CMD or ENTRYPOINT and what stands behind it: nothing behind it is refused, and a list without a
+-- word is fine, and unsets (own)
 abbrev pub command_due : List ℕ → Code → Bool
 command_due text R06 = length text == 0
 command_due text code = false

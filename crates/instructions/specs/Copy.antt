@@ -74,11 +74,12 @@ copy_read e hs text = copy_from (arguments_of (is_list (behind_flags text)) e hs
 
 -- what is due
 
--- whether a mark is no source of its own: it is the destination, or stands inside a longer word or a list in JSON
+-- whether a mark is no source of its own: it is the destination, or stands inside a longer word or a list in JSON, so that there are
+-- other marks among the sources than heredocs (own; BuildKit refuses one as the destination too)
 abbrev pub has_idle_mark : Bool → List Heredoc → List (List ℕ) → Bool
-has_idle_mark listed hs ts = listed || nat_lt (length (filter is_mark (but_last ts))) (length hs)
+has_idle_mark listed hs ts = listed || not (length (filter is_mark (but_last ts)) == length hs)
 
--- whether the heredocs aren't allowed: one of their marks is idle, or sources are taken from elsewhere by `--from`
+-- whether the heredocs aren't allowed: one of their marks is idle, or sources are taken from elsewhere by `--from` (own)
 abbrev pub are_refused : Bool → List Heredoc → List (List ℕ) → List Flag → Bool
 are_refused listed hs ts fs = not (length hs == 0) && (has_idle_mark listed hs ts || has_from fs)
 

@@ -1,4 +1,5 @@
--- Texts that are expanded (Dockerfile reference, environment replacement), and which texts those of VOLUME and COPY are.
+-- Texts that are expanded (Dockerfile reference, environment replacement; the defaults of ARG as in BuildKit's parser), and which
+-- texts those of VOLUME and COPY are.
 use Rattle.std.specs.Prelude.{ℕ, Bool, true, false, not, List, Option, Some, None, is_some, map}
 use Rattle.std.specs.List.{list_any}
 use Rattle.lines.specs.declared.line.Escape.{Escape}
@@ -10,7 +11,7 @@ use Rattle.expand.specs.declared.kind.Kind.{Kind}
 use Rattle.expand.specs.declared.kind.Kind.TheVariants.{Quoted, Json}
 use Rattle.options.specs.Lists.{all_some}
 
--- whether a text is no word: a quote is open in it, or a substitution is bad. R09 is due for it, whatever values its variables
+-- whether a text can't be read as a word: a quote is open in it, or a substitution is bad. R09 is due for it, whatever values its variables
 -- have (own)
 abbrev pub is_no_word : Kind → Escape → List ℕ → Bool
 is_no_word kind e text = not (is_some (word kind e text))
@@ -23,7 +24,7 @@ have_no_word kind e ts = list_any (is_no_word kind e) ts
 abbrev pub all_words : Kind → Escape → List (List ℕ) → Option (List Parts)
 all_words kind e ts = all_some (map (word kind e) ts)
 
--- VOLUME and COPY have a list in JSON, else words (Dockerfile reference)
+-- VOLUME and COPY have a list in JSON (Dockerfile reference), and any other text is words (own)
 
 -- whether a text is a list in JSON
 abbrev pub is_list : List ℕ → Bool

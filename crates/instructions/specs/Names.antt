@@ -11,7 +11,7 @@ is_digit c = nat_le 48 c && nat_le c 57
 abbrev pub is_letter : ℕ → Bool
 is_letter c = (nat_le 65 c && nat_le c 90) || (nat_le 97 c && nat_le c 122)
 
--- the name of a variable: a letter or `_` followed by letters, digits or `_` (own); it is written as the name of a heredoc
+-- the name of a variable: a letter or `_` followed by letters, digits or `_` (own); it has the form of a heredoc's name
 abbrev pub is_variable_name : List ℕ → Bool
 is_variable_name name = is_name name
 
@@ -24,8 +24,8 @@ abbrev pub has_stage_form : List ℕ → Bool
 has_stage_form [] = false
 has_stage_form (c ∷ cs) = is_letter c && list_all is_in_stage_name cs
 
--- the name of a stage: a letter followed by letters, digits, `-`, `_` and `.` (Dockerfile reference), and not `scratch` in
--- any case of letters (own)
+-- the name of a stage: a letter followed by letters, digits, `-`, `_` and `.` (as BuildKit's parser takes them, in lower case), and
+-- not `scratch` in any case of letters (own)
 abbrev pub is_stage_name : List ℕ → Bool
 is_stage_name name = has_stage_form name && not (is_word (codes "scratch") name)
 

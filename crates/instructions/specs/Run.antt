@@ -1,4 +1,5 @@
--- RUN: flags `--mount=..`, then one heredoc's mark, or a list in JSON, or a text for the shell (Dockerfile reference, RUN).
+-- RUN: flags `--mount=..`, then one heredoc's mark, or a list in JSON, or a text for the shell (Dockerfile reference, RUN; that a
+-- mark stands alone, that no body is empty or begins with `#!`, and that there is something to run: own).
 use Rattle.std.specs.Prelude.{ℕ, ◌==◌, ◌||◌, ◌&&◌, Bool, true, false, not, List, [], ◌∷◌, Option, Some, None, is_some, option_map, length, nat_lt}
 use Rattle.std.specs.List.{list_any}
 use Rattle.plain.specs.declared.refusal.Code.{Code}
@@ -26,7 +27,7 @@ abbrev pub is_wordless : Option (List (List ℕ)) → Bool
 is_wordless None = false
 is_wordless (Some ws) = length ws == 0
 
--- whether a mark stands beside another, or beside other pieces
+-- whether a mark stands beside another, or beside other pieces (own)
 abbrev pub is_mark_beside : List Heredoc → List ℕ → Bool
 is_mark_beside [] rest = false
 is_mark_beside (h ∷ []) rest = not (length (behind_piece rest) == 0)

@@ -112,7 +112,8 @@ have_bad_name (Some cuts) = list_any (λ cut. not (is_variable_name cut.0)) cuts
 abbrev pub env_read : Escape → List ℕ → Option InstructionKind
 env_read e text = option_map (λ variables. Env variables) (option_and_then (variables_of e) (variable_cuts e text))
 
--- the codes that are due for ENV and what stands behind it; one value with its blanks isn't split, but has to be a word
+-- the codes that are due for ENV and what stands behind it; one value with its blanks isn't split, but has to be a word, and an
+-- open quote in the name before it makes a bad name of it
 abbrev pub env_due : Escape → List ℕ → Code → Bool
 env_due e text R06 = not (is_some (variable_cuts e text))
 env_due e text R09 = (has_pairs text && ends_open e text) || have_bad_value e (variable_cuts e text)

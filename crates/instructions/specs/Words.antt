@@ -1,4 +1,5 @@
--- EXPOSE, USER, WORKDIR, STOPSIGNAL and VOLUME: words, or a list in JSON. All of their texts are expanded.
+-- EXPOSE, USER, WORKDIR and STOPSIGNAL: words; VOLUME: words or a list in JSON. All of their texts are expanded (Dockerfile
+-- reference).
 use Rattle.std.specs.Prelude.{ℕ, ◌==◌, ◌||◌, ◌&&◌, Bool, false, not, List, [], ◌∷◌, Option, Some, None, is_some, option_map, option_and_then, length}
 use Rattle.plain.specs.declared.refusal.Code.{Code}
 use Rattle.plain.specs.declared.refusal.Code.TheVariants.{R06, R09}
@@ -50,7 +51,7 @@ only_due e text R06 = not (is_some (only_argument e text))
 only_due e text R09 = ends_open e text || is_bad_argument e (only_argument e text)
 only_due e text code = false
 
--- a list in JSON, or words, one text or more (Dockerfile reference, VOLUME)
+-- a list in JSON, or words, one text or more (Dockerfile reference, VOLUME; that any text but a list of texts is words: own)
 
 -- what a text behind VOLUME is read as
 abbrev pub volume_read : Escape → List ℕ → Option InstructionKind

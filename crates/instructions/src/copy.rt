@@ -114,7 +114,7 @@ fn are_refused(is_list: bool, heredocs: &[Heredoc], texts: &[&str], flags: &[Fla
     ensures { result ≡ are_refused is_list heredocs.now (shown texts.now) flags.now }
 {
     let marks = count_marks(&texts[..texts.len() - 1]);
-    !heredocs.is_empty() && (is_list || marks < heredocs.len() || has_from(flags))
+    !heredocs.is_empty() && (is_list || marks != heredocs.len() || has_from(flags))
 }
 
 /// The sources and the destination of texts, of which there are two at least, where each that is expanded is a word.

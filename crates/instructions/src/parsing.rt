@@ -25,8 +25,9 @@ use words::first_piece;
 /// empty body or list of a RUN, R07 for a flag that is unknown, repeated or malformed, R08 for a heredoc that isn't allowed,
 /// R09 for an open quote in words and for a text that is expanded and is no word (a quote is open in it, or a substitution is
 /// bad), R10 for a bad name of a variable or a stage, R16 for a bad owner or mode, R17 for a malformed mount, R18 for more
-/// than 16 mounts. Expanded are the words, or the strings of the list, of EXPOSE, USER, WORKDIR, STOPSIGNAL, VOLUME and COPY, the image of FROM, the
-/// defaults of ARG, the values of ENV, the keys and values of LABEL, and the bodies of COPY whose mark stands in no quotes.
+/// than 16 mounts. Expanded are the words, or the strings of the list, of EXPOSE, USER, WORKDIR, STOPSIGNAL, VOLUME and COPY,
+/// the image of FROM, the defaults of ARG, the values of ENV, the keys and values of LABEL, and the bodies of COPY whose mark
+/// stands in no quotes.
 /// The line's heredocs are taken to be those of its marks, as a reader of lines gives them.
 pub fn parse(alloc: Global, line: &Line) -> Result<Instruction, Fault>
     ensures { IsParsed line.now result }

@@ -38,8 +38,8 @@ starts_with c (d ∷ ds) = d == c
 abbrev pub ends_with : ℕ → List ℕ → Bool
 ends_with c text = if length text == 0 then false else slice_index text (length text - 1) == c
 
--- what a text that ends with the escape character adds to its logical line: what stands before that character. It adds nothing
--- where it ends otherwise, or where the character before that is one too (BuildKit's parser, `lineContinuationRegex`)
+-- what a text that continues adds to its logical line: what stands before the escape character at its end; none where it ends
+-- otherwise, or where the character before that is one too, and it doesn't continue (BuildKit's parser, `lineContinuationRegex`)
 abbrev pub part_before : ℕ → List ℕ → Option (List ℕ)
 part_before e text = if ends_with e text && not (ends_with e (take (length text - 1) text)) then Some (take (length text - 1) text) else None
 
@@ -56,7 +56,8 @@ is_blank_line line = length (after_blanks line) == 0
 abbrev pub is_comment : List ℕ → Bool
 is_comment line = starts_with 35 (after_blanks line)
 
--- comments and blank lines, which are dropped, also inside a continuation (Dockerfile reference, comments)
+-- comments and blank lines, which are dropped, also inside a continuation (Dockerfile reference, comments; blank lines inside one as
+-- BuildKit's parser drops them)
 abbrev pub is_skipped : List ℕ → Bool
 is_skipped line = is_blank_line line || is_comment line
 

@@ -43,7 +43,7 @@ BeginsBelowDirectives [] = Unit {0}
 BeginsBelowDirectives (line ∷ lines) = directive_of line ≡ None
 
 -- the escape character below these directives, from the one above them: the last one that names a character sets it (Dockerfile
--- reference, `escape`)
+-- reference, `escape`; that it is the last one of several, which a file that is accepted doesn't have: own)
 abbrev pub escape_below : character.Escape → List Directive → character.Escape
 escape_below above [] = above
 escape_below above (Escape (Some named) ∷ more) = escape_below named more

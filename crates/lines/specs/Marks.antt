@@ -55,7 +55,7 @@ mark_after (Some rest) = mark_dashed rest
 abbrev pub mark_of : List ℕ → Option Mark
 mark_of piece = mark_after (after_two piece)
 
--- a flag begins with `--` (Dockerfile reference, as `RUN --mount`)
+-- a flag begins with `--` (Dockerfile reference, as `RUN --mount`; that `--` alone is one: own)
 abbrev pub is_flag : List ℕ → Bool
 is_flag [] = false
 is_flag (c ∷ []) = false

@@ -18,7 +18,7 @@ takes_link (Some value) = is_truth value
 abbrev pub has_text : Flag → Bool
 has_text flag = is_named (codes "from") flag || (is_named (codes "chown") flag || is_named (codes "chmod") flag)
 
--- whether COPY knows a flag, and the flag takes its value: a missing or empty one isn't taken but by `--link` alone
+-- whether COPY knows a flag, and the flag takes its value: a missing value is taken by `--link` alone, an empty one by none
 abbrev pub is_copy_flag : Flag → Bool
 is_copy_flag flag = if is_named (codes "link") flag then takes_link flag.value else (has_text flag && is_filled flag.value)
 

@@ -1,5 +1,5 @@
 -- The mounts of RUN: flags `--mount=M`, where M is a list of items cut at `,`, each `key=value` or `key` (Dockerfile reference,
--- `RUN --mount`; that other types and keys are unknown: own).
+-- `RUN --mount`; that other types and keys are unknown, that they are compared exactly and that no key is there twice: own).
 use Rattle.std.specs.Prelude.{ℕ, ◌==◌, ◌||◌, ◌&&◌, Bool, true, false, not, List, Option, Some, None, is_some, option_map, option_and_then, unwrap_or, length, map, if◌then◌else◌, bytes_eq, codes}
 use Rattle.std.specs.List.{list_all, slice_split}
 use Rattle.plain.specs.declared.sharing.Sharing as sharings

@@ -35,7 +35,7 @@ mode_with a (Some b) None d = None
 mode_with a (Some b) (Some c) None = None
 mode_with a (Some b) (Some c) (Some d) = Some (((a * 8 + b) * 8 + c) * 8 + d)
 
--- a mode: three or four octal digits (Dockerfile reference, `COPY --chmod`)
+-- a mode: three or four octal digits (Dockerfile reference, `COPY --chmod`; how many: own)
 unfoldable pub mode_of : List ℕ → Option ℕ
 mode_of [] = None
 mode_of (a ∷ []) = None
