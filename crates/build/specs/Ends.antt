@@ -9,6 +9,10 @@ use Rattle.build.specs.declared.status.BuildFault.{BuildFault}
 use Rattle.build.specs.declared.status.BuildFault.TheVariants.{Memory, Device, NotYet}
 use Rattle.build.specs.Meaning.{Stage, Serves, Answers, line_of}
 
+-- the limits of the program, in bytes: 64 MiB of a bundle, 1 MiB of a Dockerfile (own)
+abbrev pub program_limits : Limits
+program_limits = record { bundle = 67108864; dockerfile = 1048576 }
+
 -- A reader and a writer: the bytes that are left to be read and those that were written, where they are known, and how many calls
 -- of each failed. Those in memory (std's `Cursor` and `Vec<u8>`) tell their bytes. Of standard input and output std says only how many
 -- bytes a call read or wrote at most, so there the counts are all that is said; the body is the same one.

@@ -3,6 +3,7 @@ pub mod Faults
 pub mod Meaning
 pub mod MeaningLaws
 pub mod Means
+pub mod Messages
 pub mod Served
 pub mod ServedTests
 pub mod Telling

@@ -1,6 +1,6 @@
 ghost use Rattle.std.specs.Prelude.{◌<◌, ◌+◌};
 ghost use Rattle.counted.specs.Edges.{LosesBeginning};
-ghost use Rattle.build.specs.Ends.{Ends, devices};
+ghost use Rattle.build.specs.Ends.{Ends, devices, program_limits};
 
 use crate::telling::tell_bundle;
 use crate::{BuildFault, LIMITS, Limits, Status};
@@ -27,11 +27,11 @@ pub fn run_build<R: CountedRead, W: CountedWrite, E: Executor>(
 ) -> Result<Status, BuildFault>
     requires reads { R.failures input.old < u64.MAX }
     requires writes { W.failures output.old < u64.MAX }
-    ensures ends { Ends LIMITS (E.out executor.now)
+    ensures ends { Ends program_limits (E.out executor.now)
         (devices (R.remaining input.old) (R.failures input.old) (W.contents output.old) (W.failures output.old))
         (devices (R.remaining input.new) (R.failures input.new) (W.contents output.new) (W.failures output.new))
         result }
-    ensures taken { LosesBeginning (LIMITS.bundle + 1) (R.remaining input.old) (R.remaining input.new) }
+    ensures taken { LosesBeginning (program_limits.bundle + 1) (R.remaining input.old) (R.remaining input.new) }
 {
     build_within(alloc, LIMITS, input, output, executor)
 }

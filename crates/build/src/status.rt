@@ -27,6 +27,11 @@ pub enum BuildFault {
 }
 
 impl fmt::Display for BuildFault {
+    ghost use Rattle.std.specs.Prelude.{Some};
+    ghost use Rattle.build.specs.Messages.{fault_text};
+
+    ghost output = { λ fault. Some (fault_text fault) };
+
     fn fmt<W: fmt::Write>(&self, f: &mut fmt::Formatter<W>) -> fmt::Result {
         match self {
             BuildFault::Memory => write!(f, "out of memory"),

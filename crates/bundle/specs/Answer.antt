@@ -1,15 +1,14 @@
 -- The texts that a build answers (own): one line of compact JSON, the keys of each object in the order of their bytes.
 use Rattle.std.specs.Prelude.{ℕ, ◌+◌, ◌/◌, ◌%◌, List, [], ◌∷◌, ◌++◌, map, true, codes}
-use Rattle.std.specs.Fmt.{decimal}
 use Rattle.hex.specs.Hex.{encode_lower}
 use Rattle.serde_json.specs.Data.{Data, boolean, number, unsigned, string, array, object, Items, no_items, item, no_members, member}
 use Rattle.serde_json.specs.Written.{compact_text}
 use Rattle.paths.specs.Path.{text_of}
+use Rattle.trees.specs.Messages.{cause_text}
 use Rattle.trees.specs.declared.meta.Meta.{Meta}
 use Rattle.trees.specs.declared.entry.Entry.{Entry}
 use Rattle.trees.specs.declared.entry.Entry.TheVariants.{Directory, File}
 use Rattle.trees.specs.declared.fault.Cause.{Cause}
-use Rattle.trees.specs.declared.fault.Cause.TheVariants.{F1, F2, F3, F4, F5, Exit}
 
 -- a mode as four octal digits
 abbrev pub mode_text : ℕ → List ℕ
@@ -58,15 +57,6 @@ unfoldable pub built_data : List (List (List ℕ) × Entry) → Data
 built_data entries = object (member (codes "config") plain_config
     (member (codes "result") (string (codes "built"))
     (member (codes "tree") (tree_data entries) no_members)))
-
--- the name of a cause
-abbrev pub cause_text : Cause → List ℕ
-cause_text F1 = codes "F1"
-cause_text F2 = codes "F2"
-cause_text F3 = codes "F3"
-cause_text F4 = codes "F4"
-cause_text F5 = codes "F5"
-cause_text (Exit status) = codes "exit " ++ decimal status
 
 -- the answer of a build in which the instruction on a line failed
 unfoldable pub failed_data : ℕ → Cause → Data

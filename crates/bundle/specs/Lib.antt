@@ -1,3 +1,4 @@
 pub mod Answer
 pub mod Bundle
 pub mod Gives
+pub mod Messages

@@ -2,7 +2,7 @@ ghost use Rattle.std.specs.Prelude.{◌≡◌, ◌<◌, ◌+◌, IfOk, map};
 ghost use Rattle.std.specs.String.{string_bytes};
 ghost use Rattle.serde_json.specs.View.{view};
 ghost use Rattle.trees.specs.declared.entry.Entry.TheVariants.{Directory, File};
-ghost use Rattle.bundle.specs.Answer.{mode_text, directory_data, file_data, entry_data, tree_data, plain_config, built_data, cause_text, failed_data, built_text, failed_text};
+ghost use Rattle.bundle.specs.Answer.{mode_text, directory_data, file_data, entry_data, tree_data, plain_config, built_data, failed_data, built_text, failed_text};
 
 use paths::Path;
 use plain::{Memory, Text};
@@ -152,21 +152,6 @@ fn failed_value(alloc: Global, line: u32, cause: Cause) -> Result<Value, Memory>
     ensures { IfOk result (λ v. view v ≡ failed_data line cause) }
 {
     let line = u64::from(line);
-    let name = cause_text(alloc, cause)?;
+    let name = cause.to_string(alloc)?;
     Ok(json!(in alloc; {"cause": name, "line": line, "result": "failed"})?)
-}
-
-/// The name of a cause.
-fn cause_text(alloc: Global, cause: Cause) -> Result<String, Memory>
-    ensures { IfOk result (λ text. string_bytes text ≡ cause_text cause) }
-{
-    let text = match cause {
-        Cause::F1 => String::from_str(alloc, "F1")?,
-        Cause::F2 => String::from_str(alloc, "F2")?,
-        Cause::F3 => String::from_str(alloc, "F3")?,
-        Cause::F4 => String::from_str(alloc, "F4")?,
-        Cause::F5 => String::from_str(alloc, "F5")?,
-        Cause::Exit(status) => format!(in alloc; "exit {status}")?,
-    };
-    Ok(text)
 }

@@ -12,6 +12,11 @@ pub enum BundleFault {
 }
 
 impl fmt::Display for BundleFault {
+    ghost use Rattle.std.specs.Prelude.{Some};
+    ghost use Rattle.bundle.specs.Messages.{fault_text};
+
+    ghost output = { λ fault. Some (fault_text fault) };
+
     fn fmt<W: fmt::Write>(&self, f: &mut fmt::Formatter<W>) -> fmt::Result {
         match self {
             BundleFault::NotYet => write!(f, "no bundle that is served yet"),

@@ -12,6 +12,11 @@ pub enum EdgeFault {
 }
 
 impl fmt::Display for EdgeFault {
+    ghost use Rattle.std.specs.Prelude.{Some};
+    ghost use Rattle.counted.specs.Messages.{fault_text};
+
+    ghost output = { λ fault. Some (fault_text fault) };
+
     fn fmt<W: fmt::Write>(&self, f: &mut fmt::Formatter<W>) -> fmt::Result {
         match self {
             EdgeFault::Memory => write!(f, "out of memory"),

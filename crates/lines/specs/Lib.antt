@@ -15,3 +15,4 @@ pub mod Text
 pub mod Holds
 pub mod StepLaws
 pub mod TextLaws
+pub mod Messages

@@ -14,10 +14,15 @@ pub enum LineFault {
 }
 
 impl fmt::Display for LineFault {
+    ghost use Rattle.std.specs.Prelude.{Some};
+    ghost use Rattle.lines.specs.Messages.{fault_text};
+
+    ghost output = { λ fault. Some (fault_text fault) };
+
     fn fmt<W: fmt::Write>(&self, f: &mut fmt::Formatter<W>) -> fmt::Result {
         match self {
             LineFault::Refused(refusal) => {
-                write!(f, "R{:02} at line {}", refusal.code.number(), refusal.line)
+                write!(f, "{} at line {}", refusal.code, refusal.line)
             }
             LineFault::Memory => write!(f, "out of memory"),
         }

@@ -4,11 +4,10 @@ use Rattle.std.specs.Option.{ForSome}
 use Rattle.std.proofs.Common.{arith, ap, sym, ◌∙◌, subst, inl, inr, length-append, length-set}
 use Rattle.std.proofs.lemmas.Option.{slice_get-get_or, slice_get_within}
 use Rattle.llb.specs.declared.vertex.Vertex.{Vertex}
-use Rattle.llb.specs.declared.graph.TheConstants.{MOST_VERTICES}
 use Rattle.llb.specs.Operation.{is_operation}
 use Rattle.llb.specs.Places.{IsLine, AreLines, with_line, lines_of, places_with}
 use Rattle.llb.specs.PlacesLaws.{AscendFrom-with_line}
-use Rattle.llb.specs.Graph.{IsAfterInputs, IsNew, AreVertices, IsGraph}
+use Rattle.llb.specs.Graph.{most_vertices, IsAfterInputs, IsNew, AreVertices, IsGraph}
 
 -- an element of a list with one more is an old one or the last
 pub last_cases : {X : Type 0} (xs : List X) (x : X) (k : ℕ) (y : X) → slice_get (xs ++ x ∷ []) k ≡ Some y → (slice_get xs k ≡ Some y) ⊎ ((k ≡ length xs) × (y ≡ x))
@@ -39,7 +38,7 @@ formed_cases : (vs : List Vertex) (v : Vertex) (k : ℕ) (w : Vertex) → AreVer
 formed_cases vs v k w are formed (inl a) = are.formed k w a
 formed_cases vs v k w are formed (inr a) = subst (λ u. IsTrue (is_operation u)) (sym a.1) formed
 
-AreVertices-append : (vs : List Vertex) (v : Vertex) → AreVertices vs → IsAfterInputs (length vs) v → IsTrue (is_operation v) → IsNew vs v → length vs < MOST_VERTICES → AreVertices (vs ++ v ∷ [])
+AreVertices-append : (vs : List Vertex) (v : Vertex) → AreVertices vs → IsAfterInputs (length vs) v → IsTrue (is_operation v) → IsNew vs v → length vs < most_vertices → AreVertices (vs ++ v ∷ [])
 AreVertices-append vs v are after formed fresh room = record {
   few = let e = length-append vs (v ∷ []) in omega arith;
   once = λ j k w a b. once_cases vs v j k w are fresh (last_cases vs v j w a) (last_cases vs v k w b);
@@ -56,7 +55,7 @@ lines_cases ps ls k ms old are P (inl a) = old k ms a
 lines_cases ps ls k ms old are P (inr a) = subst AreLines (sym a.1) are
 
 -- a new vertex at the end
-pub append_keeps : (vs us : List Vertex) (ps qs : List (List ℕ)) (v : Vertex) (place : Option ℕ) → IsGraph (record { vertices = vs; places = ps }) → IsAfterInputs (length vs) v → IsTrue (is_operation v) → ForSome place IsLine → IsNew vs v → length vs < MOST_VERTICES → us ≡ vs ++ v ∷ [] → qs ≡ ps ++ lines_of place ∷ [] → IsGraph (record { vertices = us; places = qs })
+pub append_keeps : (vs us : List Vertex) (ps qs : List (List ℕ)) (v : Vertex) (place : Option ℕ) → IsGraph (record { vertices = vs; places = ps }) → IsAfterInputs (length vs) v → IsTrue (is_operation v) → ForSome place IsLine → IsNew vs v → length vs < most_vertices → us ≡ vs ++ v ∷ [] → qs ≡ ps ++ lines_of place ∷ [] → IsGraph (record { vertices = us; places = qs })
 append_keeps vs us ps qs v place is after formed line fresh room eu eq = rw (eu, eq) (record {
   vertices = AreVertices-append vs v is.vertices after formed fresh room;
   beside = let e = length-append vs (v ∷ []) in let f = length-append ps (lines_of place ∷ []) in let g : length ps ≡ length vs = is.beside in omega arith;

@@ -5,7 +5,6 @@ use Rattle.std.specs.List.{All}
 use Rattle.llb.specs.declared.vertex.Vertex.{Vertex}
 use Rattle.llb.specs.declared.fault.GraphFault.{GraphFault}
 use Rattle.llb.specs.declared.fault.GraphFault.TheVariants.{Full, Memory}
-use Rattle.llb.specs.declared.graph.TheConstants.{MOST_VERTICES}
 use Rattle.llb.specs.Operation.{is_operation}
 use Rattle.llb.specs.Places.{AreLines, lines_of, places_with}
 
@@ -13,6 +12,10 @@ use Rattle.llb.specs.Places.{AreLines, lines_of, places_with}
 pub record GraphValue : Type 0 where
   pub vertices : List Vertex
   pub places : List (List ℕ)
+
+-- the most vertices that a graph may have (own)
+abbrev pub most_vertices : ℕ
+most_vertices = 16384
 
 -- a vertex whose inputs have all smaller ids than n
 abbrev pub IsAfterInputs : ℕ → Vertex → Type 0
@@ -24,7 +27,7 @@ IsNew vertices vertex = (k : ℕ) → slice_get vertices k ≢ Some vertex
 
 -- vertices of a graph: not too many, each once, each after its inputs, each well formed
 pub record AreVertices (vertices : List Vertex) : Type 0 where
-  pub few : length vertices ≤ MOST_VERTICES
+  pub few : length vertices ≤ most_vertices
   pub once : (j k : ℕ) (vertex : Vertex) → slice_get vertices j ≡ Some vertex → slice_get vertices k ≡ Some vertex → j ≡ k
   pub after : (k : ℕ) (vertex : Vertex) → slice_get vertices k ≡ Some vertex → IsAfterInputs k vertex
   pub formed : (k : ℕ) (vertex : Vertex) → slice_get vertices k ≡ Some vertex → IsTrue (is_operation vertex)
@@ -43,7 +46,7 @@ pub record IsFound (old new : GraphValue) (vertex : Vertex) (place : Option ℕ)
 -- the vertex is new, there was room for it, and it stands at the end with the instruction's line
 pub record IsAppended (old new : GraphValue) (vertex : Vertex) (place : Option ℕ) (id : ℕ) : Type 0 where
   pub fresh : IsNew old.vertices vertex
-  pub room : length old.vertices < MOST_VERTICES
+  pub room : length old.vertices < most_vertices
   pub last : id ≡ length old.vertices
   pub added : new ≡ record { vertices = old.vertices ++ vertex ∷ []; places = old.places ++ lines_of place ∷ [] }
 
@@ -51,5 +54,5 @@ pub record IsAppended (old new : GraphValue) (vertex : Vertex) (place : Option �
 -- none of its vertices; or that there was no memory, which says nothing
 abbrev pub Adds : GraphValue → GraphValue → Vertex → Option ℕ → Result ℕ GraphFault → Type 0
 Adds old new vertex place (Ok id) = IsFound old new vertex place id ⊎ IsAppended old new vertex place id
-Adds old new vertex place (Err Full) = (length old.vertices ≡ MOST_VERTICES) × IsNew old.vertices vertex
+Adds old new vertex place (Err Full) = (length old.vertices ≡ most_vertices) × IsNew old.vertices vertex
 Adds old new vertex place (Err Memory) = Unit {0}

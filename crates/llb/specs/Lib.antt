@@ -3,6 +3,7 @@ pub mod GraphLaws
 pub mod Hash
 pub mod Images
 pub mod Index
+pub mod Messages
 pub mod Operation
 pub mod Places
 pub mod PlacesLaws

@@ -2,16 +2,19 @@
 -- several lines are one vertex, and it has the lines of all.
 use Rattle.std.specs.Prelude.{◌<◌, ◌≤◌, ℕ, Option, Some, None, List, [], ◌∷◌, ◌++◌, min, nat_lt, slice_set, slice_index_or}
 use Rattle.std.specs.List.{filter}
-use Rattle.llb.specs.declared.places.TheConstants.{MOST_LINE}
+
+-- the greatest number of a line: a Dockerfile has no more bytes (own)
+abbrev pub most_line : ℕ
+most_line = 1048576
 
 -- the number of a line
 abbrev pub IsLine : ℕ → Type 0
-IsLine line = (0 < line) × (line ≤ MOST_LINE)
+IsLine line = (0 < line) × (line ≤ most_line)
 
 -- lines in ascending order, all after low
 abbrev pub AscendFrom : ℕ → List ℕ → Type 0
 AscendFrom low [] = Unit {0}
-AscendFrom low (line ∷ lines) = (low < line) × ((line ≤ MOST_LINE) × AscendFrom line lines)
+AscendFrom low (line ∷ lines) = (low < line) × ((line ≤ most_line) × AscendFrom line lines)
 
 -- numbers of lines in ascending order, each once
 abbrev pub AreLines : List ℕ → Type 0

@@ -13,6 +13,11 @@ pub enum GraphFault {
 }
 
 impl fmt::Display for GraphFault {
+    ghost use Rattle.std.specs.Prelude.{Some};
+    ghost use Rattle.llb.specs.Messages.{fault_text};
+
+    ghost output = { λ fault. Some (fault_text fault) };
+
     fn fmt<W: fmt::Write>(&self, f: &mut fmt::Formatter<W>) -> fmt::Result {
         match self {
             GraphFault::Full => write!(f, "a graph of more than 16384 vertices"),

@@ -1,5 +1,5 @@
 // The laws of graphs and values, claimed: each function's contract is one law, and its body is empty.
-ghost use Rattle.std.specs.Prelude.{◌≡◌, ◌<◌, ◌++◌, ℕ, IsTrue, List, Option, Some, Ok, length, slice_get};
+ghost use Rattle.std.specs.Prelude.{◌≡◌, ◌↔◌, ◌<◌, ◌≤◌, ◌++◌, ℕ, IsTrue, List, Option, Some, Ok, length, slice_get};
 ghost use Rattle.trees.specs.TreeMap.{TreeMap};
 ghost use Rattle.trees.specs.Run.{fits_request};
 ghost use Rattle.trees.specs.declared.run.RunRequest.{RunRequest};
@@ -7,9 +7,17 @@ ghost use Rattle.llb.specs.declared.op.Exec.{Exec as ExecValue};
 ghost use Rattle.llb.specs.declared.vertex.Vertex.{Vertex as VertexValue};
 ghost use Rattle.llb.specs.Graph.{GraphValue, AreVertices, Adds};
 ghost use Rattle.llb.specs.Operation.{is_exec};
+ghost use Rattle.llb.specs.Places.{IsLine};
 ghost use Rattle.llb.specs.Request.{request_of};
 ghost use Rattle.llb.specs.Sources.{SourcesValue};
 ghost use Rattle.llb.specs.Value.{Out, value_in, values_of, value_of};
+
+use crate::MOST_LINE;
+
+/// A number is that of a line where it is from 1 to `MOST_LINE`, which is what a caller of `Graph::add` compares it with.
+pub fn lines_are_numbered()
+    ensures { (line : ℕ) → IsLine line ↔ ((0 < line) × (line ≤ MOST_LINE)) }
+{}
 
 /// A vertex that was added stands under the id that was answered.
 pub fn added_vertex_stands()

@@ -1,3 +1,4 @@
+pub mod Messages
 pub mod Order
 pub mod Path
 pub mod PathLaws

@@ -6,7 +6,6 @@
 use Rattle.std.specs.Prelude.{◌≡◌, ◌≤◌, ◌-◌, ◌==◌, ℕ, Bool, true, false, ◌&&◌, Option, Some, None, List, [], ◌∷◌, ◌++◌, length, take, not, nat_le, nat_eq}
 use Rattle.std.specs.List.{list_all, starts_with}
 use Rattle.std.specs.Cmp.Lexicographic.{pointwise}
-use Rattle.paths.specs.declared.reading.TheConstants.{MOST_COMPONENTS, MOST_COMPONENT_BYTES}
 
 -- a piece of a text that names nothing: empty, or `.`
 abbrev pub is_idle : List ℕ → Bool
@@ -33,15 +32,23 @@ is_normal piece = not (is_idle piece) && not (is_up piece)
 abbrev pub is_name : List ℕ → Bool
 is_name piece = is_normal piece && is_whole piece
 
+-- the most bytes that a component has (own, the limit of Linux's file systems)
+abbrev pub most_component_bytes : ℕ
+most_component_bytes = 255
+
+-- the most components that a path has (own)
+abbrev pub most_components : ℕ
+most_components = 64
+
 -- no component is longer than 255 bytes (own)
 abbrev pub are_short : List (List ℕ) → Bool
-are_short p = list_all (λ c. nat_le (length c) MOST_COMPONENT_BYTES) p
+are_short p = list_all (λ c. nat_le (length c) most_component_bytes) p
 
 -- a path: names only, within the limits of 64 components and of 255 bytes each (own)
 pub record IsClean (p : List (List ℕ)) : Type 0 where
   pub names : list_all is_name p ≡ true
   pub short : are_short p ≡ true
-  pub few : length p ≤ MOST_COMPONENTS
+  pub few : length p ≤ most_components
 
 -- the path without its last component; the root stays the root
 abbrev pub climbed : List (List ℕ) → List (List ℕ)

@@ -3,10 +3,9 @@
 -- relative text was put behind the base.
 use Rattle.std.specs.Prelude.{◌≡◌, ◌==◌, ℕ, Bool, false, true, Option, Some, None, Result, Ok, Err, List, [], ◌∷◌, ◌++◌, if◌then◌else◌, length, nat_lt}
 use Rattle.std.specs.List.{list_all, slice_split}
-use Rattle.paths.specs.Path.{is_idle, is_up, is_normal, are_short, climbed}
+use Rattle.paths.specs.Path.{most_components, is_idle, is_up, is_normal, are_short, climbed}
 use Rattle.paths.specs.declared.fault.PathFault.{PathFault}
 use Rattle.paths.specs.declared.fault.PathFault.TheVariants.{TooDeep, TooLong, Memory}
-use Rattle.paths.specs.declared.reading.TheConstants.{MOST_COMPONENTS}
 
 -- the pieces of a text between its slashes, one more than there are slashes
 abbrev pub pieces : List ℕ → List (List ℕ)
@@ -45,7 +44,7 @@ read_from text base = walked (if is_absolute text then [] else base) (pieces tex
 
 -- the limit that a path breaks, if any; where it breaks both, it is the depth that is told (own)
 abbrev pub limit_of : List (List ℕ) → Option PathFault
-limit_of p = if nat_lt MOST_COMPONENTS (length p) then Some TooDeep else if are_short p then None else Some TooLong
+limit_of p = if nat_lt most_components (length p) then Some TooDeep else if are_short p then None else Some TooLong
 
 -- what a reading answers whose text leads to p: p within the limits, or the limit that it breaks, or that there was no memory,
 -- which says nothing of p

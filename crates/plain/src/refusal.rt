@@ -1,6 +1,8 @@
 ghost use Rattle.std.specs.Prelude.{◌≡◌};
 ghost use Rattle.plain.specs.Codes.{number_of};
 
+use std::fmt;
+
 /// Why a build's input is refused. Where an input has several faults, the one that is told will be the least by
 /// the phase that finds it, then by line, then by the code's number; no contract says so yet.
 #[derive(Clone, Copy, Debug, PartialEq, Eq)]
@@ -74,6 +76,17 @@ impl Code {
             Code::R19 => 19,
             Code::R20 => 20,
         }
+    }
+}
+
+impl fmt::Display for Code {
+    ghost use Rattle.std.specs.Prelude.{Some};
+    ghost use Rattle.plain.specs.Codes.{code_text};
+
+    ghost output = { λ code. Some (code_text code) };
+
+    fn fmt<W: fmt::Write>(&self, f: &mut fmt::Formatter<W>) -> fmt::Result {
+        write!(f, "R{:02}", self.number())
     }
 }
 

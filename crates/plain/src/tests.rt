@@ -78,10 +78,7 @@ fn small_values_are_exact(rt: HostRuntime) -> Result<(), Fail> {
 #[test]
 fn codes_are_numbered_as_they_are_named(rt: HostRuntime) -> Result<(), Fail> {
     for (code, name) in [(Code::R01, "R01"), (Code::R09, "R09"), (Code::R20, "R20")] {
-        assert_eq!(rt;
-            format!(in rt.alloc(); "R{:02}", code.number())?.as_str(),
-            name
-        );
+        assert_eq!(rt; code.to_string(rt.alloc())?.as_str(), name);
     }
     let refusal = Refusal {
         code: Code::R05,

@@ -1,6 +1,7 @@
 pub mod TreeMap
 pub mod Put
 pub mod Over
+pub mod Messages
 pub mod NodeValue
 pub mod Run
 pub mod FrontLaws

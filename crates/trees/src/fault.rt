@@ -39,6 +39,11 @@ impl Exact for Cause {
 }
 
 impl fmt::Display for Cause {
+    ghost use Rattle.std.specs.Prelude.{Some};
+    ghost use Rattle.trees.specs.Messages.{cause_text};
+
+    ghost output = { λ cause. Some (cause_text cause) };
+
     fn fmt<W: fmt::Write>(&self, f: &mut fmt::Formatter<W>) -> fmt::Result {
         match self {
             Cause::F1 => write!(f, "F1"),
@@ -61,6 +66,11 @@ pub enum TreeFault {
 }
 
 impl fmt::Display for TreeFault {
+    ghost use Rattle.std.specs.Prelude.{Some};
+    ghost use Rattle.trees.specs.Messages.{fault_text};
+
+    ghost output = { λ fault. Some (fault_text fault) };
+
     fn fmt<W: fmt::Write>(&self, f: &mut fmt::Formatter<W>) -> fmt::Result {
         match self {
             TreeFault::Fails(cause) => write!(f, "{cause}"),

@@ -1,5 +1,6 @@
 pub mod Flags
 pub mod Form
+pub mod Messages
 pub mod Pairs
 pub mod PartLaws
 pub mod Parts

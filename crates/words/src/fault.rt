@@ -13,9 +13,14 @@ pub enum Fault {
 }
 
 impl fmt::Display for Fault {
+    ghost use Rattle.std.specs.Prelude.{Some};
+    ghost use Rattle.words.specs.Messages.{fault_text};
+
+    ghost output = { λ fault. Some (fault_text fault) };
+
     fn fmt<W: fmt::Write>(&self, f: &mut fmt::Formatter<W>) -> fmt::Result {
         match self {
-            Fault::Refused(code) => write!(f, "R{:02}", code.number()),
+            Fault::Refused(code) => write!(f, "{code}"),
             Fault::Memory => write!(f, "out of memory"),
         }
     }

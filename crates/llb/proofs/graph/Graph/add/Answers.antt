@@ -1,6 +1,5 @@
 use Rattle.std.proofs.Common.{◌≡◌, ◌++◌, ◌∷◌, [], ◌<◌, ◌≤◌, length, slice_get, Some, arith, sym, subst, rules}
-use Rattle.llb.specs.declared.graph.TheConstants.{MOST_VERTICES}
-use Rattle.llb.specs.Graph.{IsAfterInputs, IsNew}
+use Rattle.llb.specs.Graph.{most_vertices, IsAfterInputs, IsNew}
 use Rattle.llb.specs.Hash.{hash_of}
 use Rattle.llb.specs.Index.{Enters}
 use Rattle.llb.specs.Places.{lines_of}
@@ -23,8 +22,8 @@ invariant_of-self-2 c =
     let places : c.push.new.self.items ≡ c.self.inside.places.items ++ lines_of c.args.place ∷ [] = search rules in
     let after = subst (λ g. IsAfterInputs (length g.vertices) c.args.vertex) (sym c.self.view_is) c.requires.inputs in
     let fresh = subst (λ g. IsNew g.vertices c.args.vertex) (sym c.self.view_is) c.in_default.ensures.fresh in
-    let few : length c.self.inside.vertices.items ≤ MOST_VERTICES = c.self.invariant.0.vertices.few in
-    let room : length c.self.inside.vertices.items < MOST_VERTICES = omega (arith, c.len-at.ensures, c.if-at-eq-MOST_VERTICES.false) in
+    let few : length c.self.inside.vertices.items ≤ most_vertices = c.self.invariant.0.vertices.few in
+    let room : length c.self.inside.vertices.items < most_vertices = omega (arith, c.len-at.ensures, c.if-at-eq-MOST_VERTICES.false) in
     let is_graph = append_keeps _ _ _ _ c.args.vertex c.args.place c.self.invariant.0 after c.requires.formed c.requires.place fresh room vertices places in
     let number : c.len-at.result ≡ length c.self.inside.vertices.items = search rules in
     let under_hash = subst (λ hash. Enters c.self.inside.index c.enter.new.self hash c.len-at.result) c.hash_of-hash.ensures c.in_ok-enter.ensures.ok in
