@@ -1,5 +1,5 @@
 -- A code's number in two digits is what `{:02}` prints of it.
-use Rattle.std.specs.Prelude.{◌≡◌, ℕ, ◌+◌, ◌-◌, ◌^◌, ◌/◌, ◌%◌, [], ◌∷◌, refl}
+use Rattle.std.specs.Prelude.{◌≡◌, ◌+◌, ◌-◌, ◌^◌, ◌/◌, ◌%◌, [], ◌∷◌, refl}
 use Rattle.std.specs.Fmt.{styled_decimal, format_spec, padded_integral, char_count, digits}
 use Rattle.plain.specs.Codes.{number_of}
 use Rattle.plain.specs.declared.refusal.Code.{Code}

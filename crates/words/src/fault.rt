@@ -3,10 +3,10 @@ use std::alloc::AllocError;
 use std::error::Error;
 use std::fmt;
 
-/// Why a text of an instruction isn't read. The line is added by the crates above, which know it.
+/// Why a text of an instruction isn't read, or has no value. The line is added by the crates above, which know it.
 #[derive(Clone, Copy, Debug, PartialEq, Eq)]
 pub enum Fault {
-    /// The text is refused, as one with an open quote is by R09.
+    /// The text is refused, as one with an open quote is by R09, and one whose value is too long by R18.
     Refused(Code),
     /// There was no memory. Nothing is said of the text.
     Memory,
