@@ -37,4 +37,6 @@ pub use options::{CopyFlags, Mount, MountKind, Owner};
 pub use parsing::parse;
 
 #[cfg(test)]
+mod showing;
+#[cfg(test)]
 mod tests;
