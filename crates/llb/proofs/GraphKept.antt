@@ -6,7 +6,7 @@ use Rattle.std.proofs.lemmas.Option.{slice_get-get_or, slice_get_within}
 use Rattle.llb.specs.declared.vertex.Vertex.{Vertex}
 use Rattle.llb.specs.Operation.{is_operation}
 use Rattle.llb.specs.Places.{IsLine, AreLines, with_line, lines_of, places_with}
-use Rattle.llb.specs.PlacesLaws.{AscendFrom-with_line}
+use Rattle.llb.proofs.PlacesLaws.{AscendFrom-with_line}
 use Rattle.llb.specs.Graph.{most_vertices, IsAfterInputs, IsNew, AreVertices, IsGraph}
 
 -- an element of a list with one more is an old one or the last

@@ -1,4 +1,5 @@
 pub mod FormedSteps
 pub mod GraphKept
+pub mod GraphLaws
 pub mod IndexKept
-pub mod MapViews
+pub mod PlacesLaws

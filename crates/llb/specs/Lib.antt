@@ -1,15 +1,6 @@
 pub mod Graph
-pub mod GraphLaws
 pub mod Hash
-pub mod Images
 pub mod Index
 pub mod Messages
 pub mod Operation
 pub mod Places
-pub mod PlacesLaws
-pub mod Plan
-pub mod Request
-pub mod RequestLaws
-pub mod Sources
-pub mod Value
-pub mod ValueLaws

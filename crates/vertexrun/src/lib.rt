@@ -18,6 +18,3 @@ mod results;
 
 pub use requests::request_of;
 pub use results::vertex_result;
-
-#[cfg(test)]
-mod tests;

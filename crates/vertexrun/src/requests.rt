@@ -1,6 +1,6 @@
 ghost use Rattle.std.specs.Prelude.{◌≡◌, IfOk};
 ghost use Rattle.trees.specs.Subtree.{subtree};
-ghost use Rattle.llb.specs.Request.{binds_of, request_with, request_of};
+ghost use Rattle.plans.specs.Request.{binds_of, request_with, request_of};
 
 use executor::Request;
 use llb::{Bind, Exec};

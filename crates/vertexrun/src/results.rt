@@ -2,14 +2,15 @@ ghost use Rattle.std.specs.Prelude.{◌≡◌, IsTrue, Some, Ok, IfOk, is_some, 
 ghost use Rattle.std.specs.Option.{option_map};
 ghost use Rattle.trees.specs.Run.{fits_request};
 ghost use Rattle.llb.specs.Operation.{is_exec, IsFormed};
-ghost use Rattle.llb.specs.Request.{request_of};
-ghost use Rattle.llb.specs.Sources.{source_tree, HasSource};
-ghost use Rattle.llb.specs.Value.{ended, run_of, result_of};
+ghost use Rattle.plans.specs.Request.{request_of};
+ghost use Rattle.plans.specs.Sources.{source_tree, HasSource};
+ghost use Rattle.plans.specs.Value.{ended, run_of, result_of};
 
 use crate::requests::request_of;
 use executor::{Executor, Outcome, Request};
-use llb::{Exec, Op, Source, Sources};
+use llb::{Exec, Op, Source};
 use plain::{Exact, Memory};
+use plans::Sources;
 use std::alloc::Global;
 use trees::{Cause, Tree};
 

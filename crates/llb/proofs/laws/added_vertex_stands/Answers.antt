@@ -1,4 +1,4 @@
-use Rattle.llb.specs.GraphLaws.{added_stands}
+use Rattle.llb.proofs.GraphLaws.{added_stands}
 use Rattle.llb.proofs.laws.added_vertex_stands.Goals as goal
 
 pub returns : goal.returns

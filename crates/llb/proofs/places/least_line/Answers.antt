@@ -1,4 +1,4 @@
-use Rattle.llb.specs.PlacesLaws.{least_is_first}
+use Rattle.llb.proofs.PlacesLaws.{least_is_first}
 use Rattle.llb.proofs.places.least_line.Goals as goal
 
 pub returns-in-len1-up : goal.returns-in-len1-up

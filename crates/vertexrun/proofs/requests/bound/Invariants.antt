@@ -1,5 +1,5 @@
 use Rattle.std.proofs.Common.{◌≡◌, drop}
-use Rattle.llb.specs.Request.{binds_of}
+use Rattle.plans.specs.Request.{binds_of}
 use Rattle.vertexrun.proofs.BindSteps.{after}
 use Rattle.vertexrun.proofs.requests.bound.Given as goal
 

@@ -1,5 +1,5 @@
 use Rattle.std.proofs.Common.{◌∙◌, sym}
-use Rattle.llb.specs.RequestLaws.{request_of-fits}
+use Rattle.plans.proofs.RequestLaws.{request_of-fits}
 use Rattle.vertexrun.proofs.results.exec_result.Goals as goal
 
 pub run_result-requires-clause-mounts : goal.run_result-requires-clause-mounts

@@ -1,5 +1,0 @@
-use Rattle.llb.specs.ValueLaws.{value_of-is}
-use Rattle.llb.proofs.laws.value_is_local.Goals as goal
-
-pub returns : goal.returns
-returns c = value_of-is

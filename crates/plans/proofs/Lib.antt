@@ -1,0 +1,3 @@
+pub mod MapViews
+pub mod RequestLaws
+pub mod ValueLaws

@@ -1,0 +1,5 @@
+pub mod Images
+pub mod Plan
+pub mod Request
+pub mod Sources
+pub mod Value
