@@ -8,7 +8,7 @@ use Rattle.std.proofs.lemmas.Bool.{lt-ltb, le-ltb}
 use Rattle.paths.specs.Path.{climbed, IsClean, is_idle, is_up, is_name, are_short}
 use Rattle.paths.specs.Place.{IsPlace}
 use Rattle.paths.specs.Reading.{pieces, stepped, walked, limit_of}
-use Rattle.paths.specs.declared.fault.PathFault.TheVariants.{TooDeep, TooLong}
+use Rattle.paths.specs.declared.fault.PathLimit.TheVariants.{TooDeep, TooLong}
 use Rattle.paths.specs.ReadingLaws.{list_all-take, walked-append}
 
 -- where nothing is beyond, all is kept

@@ -1,4 +1,3 @@
-pub mod Messages
 pub mod Order
 pub mod Path
 pub mod PathLaws

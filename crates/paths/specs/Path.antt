@@ -6,6 +6,7 @@
 use Rattle.std.specs.Prelude.{◌≡◌, ◌≤◌, ◌-◌, ◌==◌, ℕ, Bool, true, false, ◌&&◌, Option, Some, None, List, [], ◌∷◌, ◌++◌, length, take, not, nat_le, nat_eq}
 use Rattle.std.specs.List.{list_all, starts_with}
 use Rattle.std.specs.Cmp.Lexicographic.{pointwise}
+use Rattle.plain.specs.Limits.{most_components, most_component_bytes}
 
 -- a piece of a text that names nothing: empty, or `.`
 abbrev pub is_idle : List ℕ → Bool
@@ -31,14 +32,6 @@ is_normal piece = not (is_idle piece) && not (is_up piece)
 -- a component's bytes: a piece that names something, with no `/` among its bytes
 abbrev pub is_name : List ℕ → Bool
 is_name piece = is_normal piece && is_whole piece
-
--- the most bytes that a component has (own, the limit of Linux's file systems)
-abbrev pub most_component_bytes : ℕ
-most_component_bytes = 255
-
--- the most components that a path has (own)
-abbrev pub most_components : ℕ
-most_components = 64
 
 -- no component is longer than 255 bytes (own)
 abbrev pub are_short : List (List ℕ) → Bool

@@ -1,7 +1,7 @@
 -- What a reading keeps of the path that it has come to, so that it keeps no more than 64 components whatever the text is:
 -- the first 64, as parts of the text that is lent, and how many more there are.
 use Rattle.std.specs.Prelude.{◌≡◌, ◌-◌, ℕ, List, length, take}
-use Rattle.paths.specs.Path.{most_components}
+use Rattle.plain.specs.Limits.{most_components}
 
 -- kept and beyond are what is kept of p
 pub record IsPlace (kept : List (List ℕ)) (beyond : ℕ) (p : List (List ℕ)) : Type 0 where

@@ -3,9 +3,12 @@
 -- relative text was put behind the base.
 use Rattle.std.specs.Prelude.{◌≡◌, ◌==◌, ℕ, Bool, false, true, Option, Some, None, Result, Ok, Err, List, [], ◌∷◌, ◌++◌, if◌then◌else◌, length, nat_lt}
 use Rattle.std.specs.List.{list_all, slice_split}
-use Rattle.paths.specs.Path.{most_components, is_idle, is_up, is_normal, are_short, climbed}
-use Rattle.paths.specs.declared.fault.PathFault.{PathFault}
-use Rattle.paths.specs.declared.fault.PathFault.TheVariants.{TooDeep, TooLong, Memory}
+use Rattle.paths.specs.Path.{is_idle, is_up, is_normal, are_short, climbed}
+use Rattle.plain.specs.declared.fault.Fault.{Fault}
+use Rattle.plain.specs.declared.fault.Fault.TheVariants.{Because, Memory}
+use Rattle.plain.specs.Limits.{most_components}
+use Rattle.paths.specs.declared.fault.PathLimit.{PathLimit}
+use Rattle.paths.specs.declared.fault.PathLimit.TheVariants.{TooDeep, TooLong}
 
 -- the pieces of a text between its slashes, one more than there are slashes
 abbrev pub pieces : List ℕ → List (List ℕ)
@@ -43,13 +46,12 @@ abbrev pub read_from : List ℕ → List (List ℕ) → List (List ℕ)
 read_from text base = walked (if is_absolute text then [] else base) (pieces text)
 
 -- the limit that a path breaks, if any; where it breaks both, it is the depth that is told (own)
-abbrev pub limit_of : List (List ℕ) → Option PathFault
+abbrev pub limit_of : List (List ℕ) → Option PathLimit
 limit_of p = if nat_lt most_components (length p) then Some TooDeep else if are_short p then None else Some TooLong
 
 -- what a reading answers whose text leads to p: p within the limits, or the limit that it breaks, or that there was no memory,
 -- which says nothing of p
-abbrev pub IsRead : List (List ℕ) → Result (List (List ℕ)) PathFault → Type 0
+abbrev pub IsRead : List (List ℕ) → Result (List (List ℕ)) (Fault PathLimit) → Type 0
 IsRead p (Ok q) = (q ≡ p) × (limit_of p ≡ None)
-IsRead p (Err TooDeep) = limit_of p ≡ Some TooDeep
-IsRead p (Err TooLong) = limit_of p ≡ Some TooLong
+IsRead p (Err (Because limit)) = limit_of p ≡ Some limit
 IsRead p (Err Memory) = Unit {0}

@@ -17,9 +17,6 @@ mod fault;
 pub mod laws;
 mod path;
 mod reading;
-#[cfg(test)]
-mod tests;
 
-pub use fault::PathFault;
+pub use fault::{PathFault, PathLimit};
 pub use path::Path;
-pub use reading::{MOST_COMPONENT_BYTES, MOST_COMPONENTS};

@@ -4,15 +4,10 @@ ghost use Rattle.paths.specs.Path.{IsClean, is_idle, is_up, is_name, are_short, 
 ghost use Rattle.paths.specs.Reading.{IsRead, read_from, is_absolute, stepped, pieces, walked};
 ghost use Rattle.paths.specs.Place.{IsPlace};
 
-use crate::{Path, PathFault};
-use plain::{Memory, Text};
+use crate::{Path, PathFault, PathLimit};
+use plain::limits::{MOST_COMPONENT_BYTES, MOST_COMPONENTS};
+use plain::{Fault, Memory, Text};
 use std::alloc::Global;
-
-/// The most components that a path has.
-pub const MOST_COMPONENTS: usize = 64;
-
-/// The most bytes that a component of a path has.
-pub const MOST_COMPONENT_BYTES: usize = 255;
 
 /// Where a reading has come to. However many pieces a text has, it keeps no more than the first 64 components of the
 /// path so far: of the others it only has to know how many there are, since a path that ends with any of them is too deep.
@@ -88,10 +83,10 @@ impl<'a> Place<'a> {
             → IsPlace (map (λ part. part.now) self.now.kept.items) self.now.beyond p → IsRead p result }
     {
         if self.beyond > 0 {
-            return Err(PathFault::TooDeep);
+            return Err(Fault::Because(PathLimit::TooDeep));
         }
         if !are_short(&self.kept) {
-            return Err(PathFault::TooLong);
+            return Err(Fault::Because(PathLimit::TooLong));
         }
         Ok(Path::from_parts(texts(alloc, &self.kept)?))
     }

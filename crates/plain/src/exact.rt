@@ -57,3 +57,37 @@ impl Exact for u32 {
         Ok(*self)
     }
 }
+
+impl<T: Exact> Exact for Option<T> {
+    fn same(&self, other: &Option<T>) -> bool {
+        match (self, other) {
+            (Some(this), Some(that)) => this.same(that),
+            (None, None) => true,
+            _ => false,
+        }
+    }
+
+    fn copy(&self, alloc: Global) -> Result<Option<T>, Memory> {
+        match self {
+            Some(value) => Ok(Some(value.copy(alloc)?)),
+            None => Ok(None),
+        }
+    }
+}
+
+impl<T: Exact, E: Exact> Exact for Result<T, E> {
+    fn same(&self, other: &Result<T, E>) -> bool {
+        match (self, other) {
+            (Ok(this), Ok(that)) => this.same(that),
+            (Err(this), Err(that)) => this.same(that),
+            _ => false,
+        }
+    }
+
+    fn copy(&self, alloc: Global) -> Result<Result<T, E>, Memory> {
+        match self {
+            Ok(value) => Ok(Ok(value.copy(alloc)?)),
+            Err(error) => Ok(Err(error.copy(alloc)?)),
+        }
+    }
+}

@@ -18,19 +18,30 @@
 
 mod bytes;
 mod exact;
+mod fault;
+pub mod growth;
 mod items;
+pub mod laws;
+pub mod limits;
 mod memory;
+mod mode;
+mod owner;
 mod refusal;
 mod sharing;
 mod text;
+mod variable;
 
 pub use bytes::Bytes;
 pub use exact::Exact;
+pub use fault::Fault;
 pub use items::{Items, copied_items};
 pub use memory::Memory;
+pub use mode::Mode;
+pub use owner::Owner;
 pub use refusal::{Code, Refusal};
 pub use sharing::Sharing;
 pub use text::Text;
+pub use variable::Variable;
 
 #[cfg(test)]
 mod tests;

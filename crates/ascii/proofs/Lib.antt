@@ -1,0 +1,3 @@
+pub mod BlankLaws
+pub mod NameLaws
+pub mod PieceLaws

@@ -1,0 +1,4 @@
+pub mod Blanks
+pub mod Names
+pub mod Numbers
+pub mod Pieces
