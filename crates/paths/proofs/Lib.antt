@@ -1,1 +1,4 @@
-mod Places
+pub mod FrontLaws
+pub mod PathLaws
+pub mod ReadingLaws
+mod WalkLaws

@@ -1,6 +1,8 @@
+pub mod Fronts
+pub mod Long
+pub mod Name
 pub mod Order
+pub mod OrderLaws
 pub mod Path
-pub mod PathLaws
+pub mod PrivateWalk
 pub mod Reading
-pub mod ReadingLaws
-pub mod Place

@@ -1,10 +1,13 @@
-ghost use Rattle.std.specs.Prelude.{◌≡◌, ◌↔◌, ℕ, true, false, Some, None, List, [], ◌∷◌, ◌++◌, if◌then◌else◌, codes};
+// Laws of paths, claimed: each function's contract is one law, and its body is empty.
+ghost use Rattle.std.specs.Prelude.{◌≡◌, ◌↔◌, ◌⊎◌, ℕ, true, false, Some, None, List, [], ◌∷◌, ◌++◌, if◌then◌else◌, codes};
 ghost use Rattle.std.specs.declared.cmp.Ordering.TheVariants.{Less};
-ghost use Rattle.std.specs.List.{list_all, join_with_byte};
+ghost use Rattle.std.specs.List.{list_all, list_any, join_with_byte};
+ghost use Rattle.std.specs.Ordering.{eq_by_cmp};
 ghost use Rattle.std.specs.FinMap.{IsAntisymmetric};
 ghost use Rattle.std.specs.Cmp.{IsTotalOrder};
 ghost use Rattle.paths.specs.Path.{IsClean, is_whole, parent_of, is_at_or_under, text_of};
 ghost use Rattle.paths.specs.Order.{path_cmp};
+ghost use Rattle.paths.specs.Fronts.{is_front, fronts};
 ghost use Rattle.paths.specs.Reading.{IsCleaning, cleaned, pieces, is_absolute, read_from, limit_of};
 
 /// The text of a path reads back to the path, whatever the base.
@@ -61,6 +64,15 @@ pub fn up_leads_to_the_parent()
 pub fn under_is_a_front()
     ensures { (p top : List (List ℕ))
         → (is_at_or_under p top ≡ true) ↔ ((rest : List (List ℕ)) × (p ≡ top ++ rest)) }
+{}
+
+/// The proper fronts of a path are what it goes on from: each with a name behind it, and then with any others.
+pub fn fronts_go_on()
+    ensures front { (front path : List (List ℕ))
+        → (is_front front path ≡ true) ↔ ((name : List ℕ) × ((rest : List (List ℕ)) × (path ≡ front ++ name ∷ rest))) }
+    ensures under { (p top : List (List ℕ))
+        → (is_at_or_under p top ≡ true) ↔ ((p ≡ top) ⊎ (is_front top p ≡ true)) }
+    ensures fronts { (front path : List (List ℕ)) → list_any (eq_by_cmp path_cmp front) (fronts path) ≡ is_front front path }
 {}
 
 /// The order of paths is total, tells any two paths apart, and puts a directory before all that lies below it.

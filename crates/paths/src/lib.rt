@@ -15,8 +15,12 @@
 
 mod fault;
 pub mod laws;
+mod long;
+mod name;
 mod path;
 mod reading;
 
 pub use fault::{PathFault, PathLimit};
+pub use long::LongPath;
+pub use name::Name;
 pub use path::Path;

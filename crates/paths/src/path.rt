@@ -81,6 +81,17 @@ impl Path {
         }
     }
 
+    /// The path of an entry of this name in the directory at this path. It reads no text: the name is one component, and the path isn't
+    /// at its limit.
+    pub fn child(&self, alloc: Global, name: &Text) -> Result<Path, Memory>
+        requires { IsClean (self.now ++ name.now ∷ []) }
+        ensures { IfOk result (λ path. path ≡ self.now ++ name.now ∷ []) }
+    {
+        let mut parts = copied_items(alloc, self.components())?;
+        parts.push(name.copy(alloc)?)?;
+        Ok(Path::from_parts(parts))
+    }
+
     /// The directory that the path stands in: the path without its last component, or none for the root.
     pub fn parent(&self, alloc: Global) -> Result<Option<Path>, Memory>
         ensures { IfOk result (λ parent. parent ≡ parent_of self.now) }
@@ -128,7 +139,8 @@ impl Exact for Path {
 
 impl PartialEq for Path {
     ghost use Rattle.std.specs.Cmp.{partial_equiv_from_equiv};
-    ghost use Rattle.paths.specs.Order.{path_eq, path_eq_equiv};
+    ghost use Rattle.paths.specs.Order.{path_eq};
+    ghost use Rattle.paths.specs.OrderLaws.{path_eq_equiv};
 
     ghost eq = { path_eq };
 
@@ -140,14 +152,15 @@ impl PartialEq for Path {
 }
 
 impl Eq for Path {
-    ghost use Rattle.paths.specs.Order.{path_eq_equiv};
+    ghost use Rattle.paths.specs.OrderLaws.{path_eq_equiv};
 
     ghost laws = { path_eq_equiv };
 }
 
 impl PartialOrd for Path {
     ghost use Rattle.std.specs.Prelude.{Some};
-    ghost use Rattle.paths.specs.Order.{path_cmp, path_po};
+    ghost use Rattle.paths.specs.Order.{path_cmp};
+    ghost use Rattle.paths.specs.OrderLaws.{path_po};
 
     ghost partial_cmp = { λ p q. Some (path_cmp p q) };
 
@@ -160,7 +173,8 @@ impl PartialOrd for Path {
 
 impl Ord for Path {
     ghost use Rattle.std.specs.Prelude.{refl};
-    ghost use Rattle.paths.specs.Order.{path_cmp, path_cmp_total, path_ties};
+    ghost use Rattle.paths.specs.Order.{path_cmp};
+    ghost use Rattle.paths.specs.OrderLaws.{path_cmp_total, path_ties};
 
     ghost cmp = { path_cmp };
 

@@ -1,41 +1,42 @@
 ghost use Rattle.std.specs.Prelude.{◌≡◌, ◌≤◌, ◌<◌, ◌+◌, ◌^◌, ℕ, true, List, [], ◌∷◌, ◌++◌, if◌then◌else◌, length, map, IfOk, OnOk, vec_len};
 ghost use Rattle.std.specs.List.{list_all};
+ghost use Rattle.plain.specs.Limits.{most_components};
 ghost use Rattle.paths.specs.Path.{IsClean, is_idle, is_up, is_name, are_short, climbed};
 ghost use Rattle.paths.specs.Reading.{IsRead, read_from, is_absolute, stepped, pieces, walked};
-ghost use Rattle.paths.specs.Place.{IsPlace};
+ghost use Rattle.paths.specs.PrivateWalk.{IsWalk};
 
 use crate::{Path, PathFault, PathLimit};
 use plain::limits::{MOST_COMPONENT_BYTES, MOST_COMPONENTS};
 use plain::{Fault, Memory, Text};
 use std::alloc::Global;
 
-/// Where a reading has come to. However many pieces a text has, it keeps no more than the first 64 components of the
-/// path so far: of the others it only has to know how many there are, since a path that ends with any of them is too deep.
+/// A walk along the pieces of a text. However many these are, it keeps no more than the first 64 components of the path that it has
+/// come to: of the others it only counts how many there are, since a path that ends with any of them is too deep.
 #[derive(Drop)]
-struct Place<'a> {
+struct Walk<'a> {
     kept: Vec<&'a str>,
     beyond: usize,
 }
 
-impl<'a> Place<'a> {
-    /// The place at a path.
-    fn begin(alloc: Global, start: &'a [Text]) -> Result<Place<'a>, Memory>
-        requires { length start.now ≤ 64 }
-        ensures { IfOk result (λ place. IsPlace (map (λ part. part.now) place.kept.items) place.beyond start.now) }
+impl<'a> Walk<'a> {
+    /// A walk that has come to a path.
+    fn begin(alloc: Global, start: &'a [Text]) -> Result<Walk<'a>, Memory>
+        requires { length start.now ≤ most_components }
+        ensures { IfOk result (λ walk. IsWalk (map (λ part. part.now) walk.kept.items) walk.beyond start.now) }
     {
         let mut kept = Vec::with_capacity(alloc, start.len())?;
         for part in start {
             kept.push(part.as_str())?;
         }
-        Ok(Place { kept, beyond: 0 })
+        Ok(Walk { kept, beyond: 0 })
     }
 
     /// Goes where one piece of a text leads.
     fn step(&mut self, piece: &'a str) -> Result<(), Memory>
         requires { self.old.beyond + 1 < 2 ^ 64 }
         ensures { OnOk result ((p : List (List ℕ))
-            → IsPlace (map (λ part. part.now) self.old.kept.items) self.old.beyond p
-            → IsPlace (map (λ part. part.now) self.new.kept.items) self.new.beyond (stepped p piece.entry.now)) }
+            → IsWalk (map (λ part. part.now) self.old.kept.items) self.old.beyond p
+            → IsWalk (map (λ part. part.now) self.new.kept.items) self.new.beyond (stepped p piece.entry.now)) }
     {
         if is_idle(piece) {
             return Ok(());
@@ -50,8 +51,8 @@ impl<'a> Place<'a> {
     /// Goes up to the parent; at the root it stays.
     fn climb(&mut self)
         ensures { (p : List (List ℕ))
-            → IsPlace (map (λ part. part.now) self.old.kept.items) self.old.beyond p
-            → IsPlace (map (λ part. part.now) self.new.kept.items) self.new.beyond (climbed p) }
+            → IsWalk (map (λ part. part.now) self.old.kept.items) self.old.beyond p
+            → IsWalk (map (λ part. part.now) self.new.kept.items) self.new.beyond (climbed p) }
     {
         if self.beyond > 0 {
             self.beyond -= 1;
@@ -64,8 +65,8 @@ impl<'a> Place<'a> {
     fn enter(&mut self, name: &'a str) -> Result<(), Memory>
         requires { self.old.beyond + 1 < 2 ^ 64 }
         ensures { OnOk result ((p : List (List ℕ))
-            → IsPlace (map (λ part. part.now) self.old.kept.items) self.old.beyond p
-            → IsPlace (map (λ part. part.now) self.new.kept.items) self.new.beyond (p ++ name.entry.now ∷ [])) }
+            → IsWalk (map (λ part. part.now) self.old.kept.items) self.old.beyond p
+            → IsWalk (map (λ part. part.now) self.new.kept.items) self.new.beyond (p ++ name.entry.now ∷ [])) }
     {
         if self.kept.len() < MOST_COMPONENTS {
             self.kept.push(name)?;
@@ -75,12 +76,12 @@ impl<'a> Place<'a> {
         Ok(())
     }
 
-    /// The path to the place, or the limit that it breaks.
+    /// The path that the walk has come to, or the limit that it breaks.
     fn path(&self, alloc: Global) -> Result<Path, PathFault>
         requires names { list_all is_name (map (λ part. part.now) self.now.kept.items) ≡ true }
-        requires few { vec_len self.now.kept ≤ 64 }
+        requires few { vec_len self.now.kept ≤ most_components }
         ensures { (p : List (List ℕ))
-            → IsPlace (map (λ part. part.now) self.now.kept.items) self.now.beyond p → IsRead p result }
+            → IsWalk (map (λ part. part.now) self.now.kept.items) self.now.beyond p → IsRead p result }
     {
         if self.beyond > 0 {
             return Err(Fault::Because(PathLimit::TooDeep));
@@ -88,19 +89,19 @@ impl<'a> Place<'a> {
         if !are_short(&self.kept) {
             return Err(Fault::Because(PathLimit::TooLong));
         }
-        Ok(Path::from_parts(texts(alloc, &self.kept)?))
+        Ok(Path::from_parts(copy_texts(alloc, &self.kept)?))
     }
 }
 
 /// Whether a piece leads nowhere: it is empty or `.`.
-fn is_idle(piece: &str) -> bool
+pub(crate) fn is_idle(piece: &str) -> bool
     ensures { result ≡ is_idle piece.now }
 {
     matches!(piece.as_bytes(), [] | [b'.'])
 }
 
 /// Whether a piece leads up: it is `..`.
-fn is_up(piece: &str) -> bool
+pub(crate) fn is_up(piece: &str) -> bool
     ensures { result ≡ is_up piece.now }
 {
     matches!(piece.as_bytes(), [b'.', b'.'])
@@ -114,7 +115,7 @@ fn are_short(parts: &[&str]) -> bool
 }
 
 /// A copy of each component, in order.
-fn texts(alloc: Global, parts: &[&str]) -> Result<Vec<Text>, Memory>
+fn copy_texts(alloc: Global, parts: &[&str]) -> Result<Vec<Text>, Memory>
     ensures { IfOk result (λ copied. copied.items ≡ map (λ part. part.now) parts.now) }
 {
     let mut copied = Vec::with_capacity(alloc, parts.len())?;
@@ -135,16 +136,16 @@ fn start<'a>(text: &str, base: &'a Path) -> &'a [Text]
     }
 }
 
-/// The place that a text leads to from there.
-fn walk<'a>(alloc: Global, text: &'a str, start: &'a [Text]) -> Result<Place<'a>, Memory>
-    requires { length start.now ≤ 64 }
-    ensures { IfOk result (λ place. IsPlace (map (λ part. part.now) place.kept.items) place.beyond (walked start.now (pieces text.now))) }
+/// The walk from there along the pieces of a text.
+fn walk_along<'a>(alloc: Global, text: &'a str, start: &'a [Text]) -> Result<Walk<'a>, Memory>
+    requires { length start.now ≤ most_components }
+    ensures { IfOk result (λ walk. IsWalk (map (λ part. part.now) walk.kept.items) walk.beyond (walked start.now (pieces text.now))) }
 {
-    let mut place = Place::begin(alloc, start)?;
+    let mut walk = Walk::begin(alloc, start)?;
     for piece in text.split('/') {
-        place.step(piece)?;
+        walk.step(piece)?;
     }
-    Ok(place)
+    Ok(walk)
 }
 
 impl Path {
@@ -156,8 +157,8 @@ impl Path {
     pub fn read(alloc: Global, text: &str, base: &Path) -> Result<Path, PathFault>
         ensures { IsRead (read_from text.now base.now) result }
     {
-        let place = walk(alloc, text, start(text, base))?;
-        place.path(alloc)
+        let walk = walk_along(alloc, text, start(text, base))?;
+        walk.path(alloc)
     }
 
     /// The path that a text leads to from this one: an absolute text replaces it. It is `Path::read` with this path as

@@ -1,4 +1,4 @@
-use Rattle.paths.specs.ReadingLaws.{cleaned-IsCleaning, only_cleaning}
+use Rattle.paths.proofs.ReadingLaws.{cleaned-IsCleaning, only_cleaning}
 use Rattle.paths.proofs.laws.clean_form_is_unique.Goals as goal
 
 pub returns-clause-clean : goal.returns-clause-clean

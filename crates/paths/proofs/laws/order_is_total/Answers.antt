@@ -1,5 +1,5 @@
-use Rattle.paths.specs.Order.{path_cmp_total, path_cmp-IsAntisymmetric}
-use Rattle.paths.specs.PathLaws.{path_cmp-append}
+use Rattle.paths.specs.OrderLaws.{path_cmp_total, path_cmp-IsAntisymmetric}
+use Rattle.paths.proofs.PathLaws.{path_cmp-append}
 use Rattle.paths.proofs.laws.order_is_total.Goals as goal
 
 pub returns-clause-total : goal.returns-clause-total

@@ -2,7 +2,7 @@ use Rattle.std.specs.List.{list_all}
 use Rattle.std.proofs.lemmas.Bool.{and_parts}
 use Rattle.std.proofs.lemmas.List.Splits.{join_with_byte-slice_split}
 use Rattle.paths.specs.Path.{is_whole}
-use Rattle.paths.specs.ReadingLaws.{whole-pieces, pieces-join}
+use Rattle.paths.proofs.ReadingLaws.{whole-pieces, pieces-join}
 use Rattle.paths.proofs.laws.pieces_are_unique.Goals as goal
 
 pub returns-clause-joined : goal.returns-clause-joined

@@ -1,4 +1,4 @@
-use Rattle.paths.specs.ReadingLaws.{read_from-cleaned}
+use Rattle.paths.proofs.ReadingLaws.{read_from-cleaned}
 use Rattle.paths.proofs.laws.reading_gives_the_clean_form.Goals as goal
 
 pub returns : goal.returns

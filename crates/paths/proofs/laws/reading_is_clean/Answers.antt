@@ -1,4 +1,4 @@
-use Rattle.paths.specs.ReadingLaws.{read_from-clean}
+use Rattle.paths.proofs.ReadingLaws.{read_from-clean}
 use Rattle.paths.proofs.laws.reading_is_clean.Goals as goal
 
 pub returns : goal.returns

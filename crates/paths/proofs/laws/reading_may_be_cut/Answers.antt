@@ -1,4 +1,4 @@
-use Rattle.paths.specs.ReadingLaws.{read_from-append}
+use Rattle.paths.proofs.ReadingLaws.{read_from-append}
 use Rattle.paths.proofs.laws.reading_may_be_cut.Goals as goal
 
 pub returns : goal.returns

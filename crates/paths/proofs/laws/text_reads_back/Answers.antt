@@ -1,4 +1,4 @@
-use Rattle.paths.specs.ReadingLaws.{read_from-text_of, limit_of-clean}
+use Rattle.paths.proofs.ReadingLaws.{read_from-text_of, limit_of-clean}
 use Rattle.paths.proofs.laws.text_reads_back.Goals as goal
 
 pub returns : goal.returns

@@ -1,4 +1,4 @@
-use Rattle.paths.specs.PathLaws.{under_iff}
+use Rattle.paths.proofs.PathLaws.{under_iff}
 use Rattle.paths.proofs.laws.under_is_a_front.Goals as goal
 
 pub returns : goal.returns

@@ -1,4 +1,4 @@
-use Rattle.paths.proofs.Places.{clean-take}
+use Rattle.paths.proofs.WalkLaws.{clean-take}
 use Rattle.paths.proofs.path.Path.parent.Goals as goal
 
 pub from_parts-requires : goal.from_parts-requires

@@ -1,17 +1,17 @@
 use Rattle.std.proofs.Common.{arith}
 use Rattle.std.proofs.lemmas.List.{length-map}
 use Rattle.paths.specs.Reading.{pieces}
-use Rattle.paths.specs.ReadingLaws.{names-walked, whole-pieces}
-use Rattle.paths.proofs.Places.{names_kept, few_kept}
+use Rattle.paths.proofs.ReadingLaws.{names-walked, whole-pieces}
+use Rattle.paths.proofs.WalkLaws.{names_kept, few_kept}
 use Rattle.paths.proofs.path.Path.read.Goals as goal
 
 pub path-requires-clause-names : goal.path-requires-clause-names
 path-requires-clause-names c =
-    names_kept _ _ _ c.in_ok-place.ensures (names-walked c.start.result.now (pieces c.args.text.now) c.start.ensures.clean.names (whole-pieces c.args.text.now))
+    names_kept _ _ _ c.in_ok-walk.ensures (names-walked c.start.result.now (pieces c.args.text.now) c.start.ensures.clean.names (whole-pieces c.args.text.now))
 
 pub path-requires-clause-few : goal.path-requires-clause-few
 path-requires-clause-few c =
-    let kept = c.in_ok-place.place.kept in
-    let few = few_kept _ _ _ c.in_ok-place.ensures in
+    let kept = c.in_ok-walk.walk.kept in
+    let few = few_kept _ _ _ c.in_ok-walk.ensures in
     let many = length-map kept.items (λ part. part.now) in
     omega arith

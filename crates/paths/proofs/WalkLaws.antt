@@ -1,4 +1,4 @@
--- What a reading keeps of a place, after each kind of piece, and the bounds that its path has.
+-- What a walk keeps of the path that it has come to, after each kind of piece, and the bounds that its path has.
 use Rattle.std.proofs.Common.{◌≡◌, ◌+◌, ◌-◌, ◌<◌, ◌≤◌, ◌==◌, ℕ, true, false, cond, Some, None, nat_lt, List, [], ◌∷◌, ◌++◌, length, map, take, refl, sym, ◌∙◌, ap, subst, arith, length-append}
 use Rattle.std.specs.List.{list_all}
 use Rattle.std.proofs.lemmas.List.{take_all, take-take, take-append-le, take-map, length-take, length-map, map-append}
@@ -6,32 +6,32 @@ use Rattle.std.proofs.lemmas.List.Sums.{count_by-le-length}
 use Rattle.std.proofs.lemmas.List.Splits.{length-slice_split}
 use Rattle.std.proofs.lemmas.Bool.{lt-ltb, le-ltb}
 use Rattle.paths.specs.Path.{climbed, IsClean, is_idle, is_up, is_name, are_short}
-use Rattle.paths.specs.Place.{IsPlace}
+use Rattle.paths.specs.PrivateWalk.{IsWalk}
 use Rattle.paths.specs.Reading.{pieces, stepped, walked, limit_of}
 use Rattle.paths.specs.declared.fault.PathLimit.TheVariants.{TooDeep, TooLong}
-use Rattle.paths.specs.ReadingLaws.{list_all-take, walked-append}
+use Rattle.paths.proofs.ReadingLaws.{list_all-take, walked-append}
 
 -- where nothing is beyond, all is kept
-all_kept : (kept : List (List ℕ)) (beyond : ℕ) (p : List (List ℕ)) → IsPlace kept beyond p → length p ≤ 64 → kept ≡ p
+all_kept : (kept : List (List ℕ)) (beyond : ℕ) (p : List (List ℕ)) → IsWalk kept beyond p → length p ≤ 64 → kept ≡ p
 all_kept kept beyond p h few = h.first ∙ take_all 64 p few
 
-length_kept : (kept : List (List ℕ)) (beyond : ℕ) (p : List (List ℕ)) → IsPlace kept beyond p → length kept < 64 → length p ≤ 64
+length_kept : (kept : List (List ℕ)) (beyond : ℕ) (p : List (List ℕ)) → IsWalk kept beyond p → length kept < 64 → length p ≤ 64
 length_kept kept beyond p h few = omega (arith, ap length h.first, length-take 64 p)
 
 -- a path of at most 64 components is kept whole
-pub place_start : (p : List (List ℕ)) → length p ≤ 64 → IsPlace p 0 p
-place_start p few = record { first = sym (take_all 64 p few); more = omega arith }
+pub walk_start : (p : List (List ℕ)) → length p ≤ 64 → IsWalk p 0 p
+walk_start p few = record { first = sym (take_all 64 p few); more = omega arith }
 
-pub place_up_beyond : (kept : List (List ℕ)) (beyond : ℕ) (p : List (List ℕ)) → 0 < beyond → IsPlace kept beyond p → IsPlace kept (beyond - 1) (climbed p)
-place_up_beyond kept beyond p some h =
+pub walk_up_beyond : (kept : List (List ℕ)) (beyond : ℕ) (p : List (List ℕ)) → 0 < beyond → IsWalk kept beyond p → IsWalk kept (beyond - 1) (climbed p)
+walk_up_beyond kept beyond p some h =
     let more = h.more in
     record {
       first = h.first ∙ sym (take-take 64 (length p - 1) p (omega arith));
       more = omega (arith, length-take (length p - 1) p);
     }
 
-pub place_up : (kept : List (List ℕ)) (beyond : ℕ) (p : List (List ℕ)) → beyond ≤ 0 → IsPlace kept beyond p → IsPlace (take (length kept - 1) kept) beyond (climbed p)
-place_up kept beyond p none h =
+pub walk_up : (kept : List (List ℕ)) (beyond : ℕ) (p : List (List ℕ)) → beyond ≤ 0 → IsWalk kept beyond p → IsWalk (take (length kept - 1) kept) beyond (climbed p)
+walk_up kept beyond p none h =
     let more = h.more in
     let all = all_kept kept beyond p h (omega arith) in
     let shorter = length-take (length p - 1) p in
@@ -40,8 +40,8 @@ place_up kept beyond p none h =
       more = omega arith;
     }
 
-pub place_down : (kept : List (List ℕ)) (beyond : ℕ) (p : List (List ℕ)) (name : List ℕ) → length kept < 64 → IsPlace kept beyond p → IsPlace (kept ++ name ∷ []) beyond (p ++ name ∷ [])
-place_down kept beyond p name few h =
+pub walk_down : (kept : List (List ℕ)) (beyond : ℕ) (p : List (List ℕ)) (name : List ℕ) → length kept < 64 → IsWalk kept beyond p → IsWalk (kept ++ name ∷ []) beyond (p ++ name ∷ [])
+walk_down kept beyond p name few h =
     let more = h.more in
     let long = length-append p (name ∷ []) in
     let all = all_kept kept beyond p h (length_kept kept beyond p h few) in
@@ -51,8 +51,8 @@ place_down kept beyond p name few h =
       more = omega arith;
     }
 
-pub place_down_beyond : (kept : List (List ℕ)) (beyond : ℕ) (p : List (List ℕ)) (name : List ℕ) → 64 ≤ length kept → IsPlace kept beyond p → IsPlace kept (beyond + 1) (p ++ name ∷ [])
-place_down_beyond kept beyond p name full h =
+pub walk_down_beyond : (kept : List (List ℕ)) (beyond : ℕ) (p : List (List ℕ)) (name : List ℕ) → 64 ≤ length kept → IsWalk kept beyond p → IsWalk kept (beyond + 1) (p ++ name ∷ [])
+walk_down_beyond kept beyond p name full h =
     let more = h.more in
     let long = length-append p (name ∷ []) in
     let most = ap length h.first in
@@ -64,21 +64,21 @@ place_down_beyond kept beyond p name full h =
 
 -- the same of a list whose elements are read by now, as references are
 
-pub place_up_of : {A : Type 0} (now : A → List ℕ) (items rest : List A) (n beyond : ℕ) (p : List (List ℕ)) → rest ≡ take (n - 1) items → n ≡ length items → beyond ≤ 0 → IsPlace (map now items) beyond p → IsPlace (map now rest) beyond (climbed p)
-place_up_of now items rest n beyond p e n_is none h =
+pub walk_up_of : {A : Type 0} (now : A → List ℕ) (items rest : List A) (n beyond : ℕ) (p : List (List ℕ)) → rest ≡ take (n - 1) items → n ≡ length items → beyond ≤ 0 → IsWalk (map now items) beyond p → IsWalk (map now rest) beyond (climbed p)
+walk_up_of now items rest n beyond p e n_is none h =
     let same : take (length (map now items) - 1) (map now items) ≡ map now rest = ap (λ m. take (m - 1) (map now items)) (length-map items now ∙ sym n_is) ∙ (take-map now (n - 1) items ∙ ap (λ xs. map now xs) (sym e)) in
-    subst (λ kept. IsPlace kept beyond (climbed p)) same (place_up (map now items) beyond p none h)
+    subst (λ kept. IsWalk kept beyond (climbed p)) same (walk_up (map now items) beyond p none h)
 
-pub place_down_of : {A : Type 0} (now : A → List ℕ) (items after : List A) (name : A) (beyond : ℕ) (p : List (List ℕ)) → after ≡ items ++ name ∷ [] → length items < 64 → IsPlace (map now items) beyond p → IsPlace (map now after) beyond (p ++ now name ∷ [])
-place_down_of now items after name beyond p e few h =
+pub walk_down_of : {A : Type 0} (now : A → List ℕ) (items after : List A) (name : A) (beyond : ℕ) (p : List (List ℕ)) → after ≡ items ++ name ∷ [] → length items < 64 → IsWalk (map now items) beyond p → IsWalk (map now after) beyond (p ++ now name ∷ [])
+walk_down_of now items after name beyond p e few h =
     let same : map now items ++ now name ∷ [] ≡ map now after = sym (map-append now items (name ∷ [])) ∙ ap (λ xs. map now xs) (sym e) in
     let long = length-map items now in
-    subst (λ kept. IsPlace kept beyond (p ++ now name ∷ [])) same (place_down (map now items) beyond p (now name) (omega arith) h)
+    subst (λ kept. IsWalk kept beyond (p ++ now name ∷ [])) same (walk_down (map now items) beyond p (now name) (omega arith) h)
 
-pub place_down_beyond_of : {A : Type 0} (now : A → List ℕ) (items : List A) (name : A) (beyond : ℕ) (p : List (List ℕ)) → 64 ≤ length items → IsPlace (map now items) beyond p → IsPlace (map now items) (beyond + 1) (p ++ now name ∷ [])
-place_down_beyond_of now items name beyond p full h =
+pub walk_down_beyond_of : {A : Type 0} (now : A → List ℕ) (items : List A) (name : A) (beyond : ℕ) (p : List (List ℕ)) → 64 ≤ length items → IsWalk (map now items) beyond p → IsWalk (map now items) (beyond + 1) (p ++ now name ∷ [])
+walk_down_beyond_of now items name beyond p full h =
     let long = length-map items now in
-    place_down_beyond (map now items) beyond p (now name) (omega arith) h
+    walk_down_beyond (map now items) beyond p (now name) (omega arith) h
 
 -- a walk goes on by one piece
 pub walked_more : {A : Type 0} (now : A → List ℕ) (start : List (List ℕ)) (pieces : List A) (piece : A) → walked start (map now (pieces ++ piece ∷ [])) ≡ stepped (walked start (map now pieces)) (now piece)
@@ -105,15 +105,15 @@ length-pieces text =
     let slashes = count_by-le-length (λ b. b == 47) text in
     omega (arith, length-slice_split (λ b. b == 47) text)
 
--- what is told of a place
+-- what is told of the path that a walk has come to
 
-pub limit_deep : (kept : List (List ℕ)) (beyond : ℕ) (p : List (List ℕ)) → 0 < beyond → IsPlace kept beyond p → limit_of p ≡ Some TooDeep
+pub limit_deep : (kept : List (List ℕ)) (beyond : ℕ) (p : List (List ℕ)) → 0 < beyond → IsWalk kept beyond p → limit_of p ≡ Some TooDeep
 limit_deep kept beyond p some h =
     let more = h.more in
     let deep : nat_lt 64 (length p) ≡ true = lt-ltb 64 (length p) (omega arith) in
     rw deep refl
 
-pub limit_long : (kept : List (List ℕ)) (beyond : ℕ) (p : List (List ℕ)) → beyond ≤ 0 → are_short kept ≡ false → IsPlace kept beyond p → limit_of p ≡ Some TooLong
+pub limit_long : (kept : List (List ℕ)) (beyond : ℕ) (p : List (List ℕ)) → beyond ≤ 0 → are_short kept ≡ false → IsWalk kept beyond p → limit_of p ≡ Some TooLong
 limit_long kept beyond p none long h =
     let more = h.more in
     let few : length p ≤ 64 = omega arith in
@@ -121,7 +121,7 @@ limit_long kept beyond p none long h =
     let fit : are_short p ≡ false = ap are_short (sym (all_kept kept beyond p h few)) ∙ long in
     rw (shallow, fit) refl
 
-pub no_limit : (kept : List (List ℕ)) (beyond : ℕ) (p : List (List ℕ)) → beyond ≤ 0 → are_short kept ≡ true → IsPlace kept beyond p → (kept ≡ p) × (limit_of p ≡ None)
+pub no_limit : (kept : List (List ℕ)) (beyond : ℕ) (p : List (List ℕ)) → beyond ≤ 0 → are_short kept ≡ true → IsWalk kept beyond p → (kept ≡ p) × (limit_of p ≡ None)
 no_limit kept beyond p none short h =
     let more = h.more in
     let few : length p ≤ 64 = omega arith in
@@ -131,10 +131,10 @@ no_limit kept beyond p none short h =
     (all, rw (shallow, fit) refl)
 
 -- what is kept is a front of the path
-pub few_kept : (kept : List (List ℕ)) (beyond : ℕ) (p : List (List ℕ)) → IsPlace kept beyond p → length kept ≤ 64
+pub few_kept : (kept : List (List ℕ)) (beyond : ℕ) (p : List (List ℕ)) → IsWalk kept beyond p → length kept ≤ 64
 few_kept kept beyond p h = omega (arith, ap length h.first, length-take 64 p)
 
-pub names_kept : (kept : List (List ℕ)) (beyond : ℕ) (p : List (List ℕ)) → IsPlace kept beyond p → list_all is_name p ≡ true → list_all is_name kept ≡ true
+pub names_kept : (kept : List (List ℕ)) (beyond : ℕ) (p : List (List ℕ)) → IsWalk kept beyond p → list_all is_name p ≡ true → list_all is_name kept ≡ true
 names_kept kept beyond p h names = ap (λ q. list_all is_name q) h.first ∙ list_all-take is_name 64 p names
 
 -- a front of a path is a path

@@ -1,5 +1,5 @@
 use Rattle.std.proofs.Common.{◌≡◌, map, take}
-use Rattle.paths.proofs.reading.Place.begin.Given as goal
+use Rattle.paths.proofs.reading.Walk.begin.Given as goal
 
 -- what is kept so far are the components so far
 abbrev pub invariant-loop-part : goal.invariant-loop-part

@@ -8,7 +8,7 @@ use Rattle.std.proofs.lemmas.List.{append-nil}
 use Rattle.std.proofs.lemmas.List.Folds.{list_all-append}
 use Rattle.std.proofs.lemmas.List.Splits.{slice_split_none, slice_split_at, length-slice_split}
 use Rattle.paths.specs.Path.{is_idle, is_up, is_whole, is_normal, is_name, are_short, climbed, rooted, text_of, IsClean}
-use Rattle.paths.specs.PathLaws.{climbed-append}
+use Rattle.paths.proofs.PathLaws.{climbed-append}
 use Rattle.paths.specs.Reading.{pieces, stepped, walked, cleaned, IsCleaning, is_absolute, read_from, limit_of}
 use Rattle.paths.specs.declared.fault.PathLimit.TheVariants.{TooDeep, TooLong}
 

@@ -4,6 +4,6 @@ use Rattle.std.specs.Prelude.{◌≡◌, ◌-◌, ℕ, List, length, take}
 use Rattle.plain.specs.Limits.{most_components}
 
 -- kept and beyond are what is kept of p
-pub record IsPlace (kept : List (List ℕ)) (beyond : ℕ) (p : List (List ℕ)) : Type 0 where
+pub record IsWalk (kept : List (List ℕ)) (beyond : ℕ) (p : List (List ℕ)) : Type 0 where
   pub first : kept ≡ take most_components p
   pub more : beyond ≡ length p - most_components

@@ -1,5 +1,5 @@
 use Rattle.std.proofs.Common.{◌≡◌, map, take}
-use Rattle.paths.proofs.reading.texts.Given as goal
+use Rattle.paths.proofs.reading.copy_texts.Given as goal
 
 -- what was copied so far are the components so far
 abbrev pub invariant-loop-part : goal.invariant-loop-part

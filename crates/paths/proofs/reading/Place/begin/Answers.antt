@@ -1,6 +1,0 @@
-use Rattle.std.proofs.lemmas.List.{take_all}
-use Rattle.paths.proofs.Places.{place_start}
-use Rattle.paths.proofs.reading.Place.begin.Goals as goal
-
-pub returns : goal.returns
-returns c = rw (c.loop-part.invariant, take_all _ _ c.loop-part-test.false) (place_start _ c.requires)
