@@ -15,7 +15,7 @@ use Rattle.clap.specs.Values.{IsSignedIn}
 use Rattle.clap.specs.Walk.{answers_to, finished, nothing_held, settled, walk, walk_from}
 use Rattle.clap.specs.declared.builder.value_parser.ValueParser.TheVariants as vp
 use Rattle.clap.proofs.ValueTestLemmas.{accepts-Accepts}
-use Rattle.command.specs.CommandLine.{least_workers, most_workers, whole_command}
+use Rattle.command.specs.CommandLine.{least_workers, served_workers, whole_command}
 use Rattle.command.specs.Tasks.{IsTaskOf, IsWorkers}
 use Rattle.command.specs.declared.task.Task.{Task}
 use Rattle.command.specs.declared.task.Task.TheVariants.{Build}
@@ -28,7 +28,7 @@ use Rattle.command.proofs.TopWalk.{NotHelp, app, names, top_ok}
 record NumberAt (text : Text) : Type 0 where
   numeral : IsNumeral 10 (without_leading_plus text)
   least : least_workers ≤ digits_value 10 (without_leading_plus text)
-  most : digits_value 10 (without_leading_plus text) ≤ most_workers
+  most : digits_value 10 (without_leading_plus text) ≤ served_workers
 
 without_minus-kept : (text : Text) → starts_with_minus text ≡ false → without_minus text ≡ text
 without_minus-kept [] e = refl
@@ -38,7 +38,7 @@ without_minus-kept (c ∷ text) e = go (c == 45) e
     go true bad = absurd (true≢false bad)
     go false ok = refl
 
-number_at : (text : Text) (b : Bool) → starts_with_minus text ≡ b → IsSignedIn (pos least_workers) (pos most_workers) text
+number_at : (text : Text) (b : Bool) → starts_with_minus text ≡ b → IsSignedIn (pos least_workers) (pos served_workers) text
     → NumberAt (without_minus text)
 number_at text true minus passed = let low = rw minus at passed.2 in absurd (omega (arith, ints))
 number_at text false minus passed =
@@ -49,7 +49,7 @@ number_at text false minus passed =
 
 workers_of : (rows : List Row) → HasFine rows → (n : ℕ) × IsWorkers rows n
 workers_of rows has =
-    let signed = accepts-Accepts false (vp.Signed (pos least_workers) (pos most_workers)) has.fine.text has.fine.passes in
+    let signed = accepts-Accepts false (vp.Signed (pos least_workers) (pos served_workers)) has.fine.text has.fine.passes in
     let number = number_at has.fine.text (starts_with_minus has.fine.text) refl signed in (
       digits_value 10 (without_leading_plus (without_minus has.fine.text)),
       record {

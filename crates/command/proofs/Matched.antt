@@ -6,7 +6,7 @@ use Rattle.std.specs.Str.Parse.{ParsesUnsigned}
 use Rattle.clap.specs.Words.{ReadsOne, Row, Text, one_of, subcommand_rows}
 use Rattle.clap.specs.declared.parser.matches.ArgMatches.TheViews.{out-SubCommand}
 use Rattle.clap.specs.declared.parser.matches.SubCommand.{SubCommand}
-use Rattle.command.specs.CommandLine.{least_workers, most_workers}
+use Rattle.command.specs.CommandLine.{least_workers, served_workers}
 use Rattle.command.specs.Tasks.{IsTaskOf, IsWorkers}
 use Rattle.command.specs.declared.task.Task.{Task}
 use Rattle.command.specs.declared.task.Task.TheVariants.{Build}
@@ -25,7 +25,7 @@ found_whole (Some b) name rows e f = cc
 -- the number that was read is that of the option's text
 pub read_some : (E : Type 0) (G : List ℕ → Result ℕ E → Type 0) → ((u : List ℕ) (x : Result ℕ E) → G u x → ParsesUnsigned 8 10 u x)
     → (rows : List Row) (one : Option Text) (w : ℕ) → one ≡ one_of (codes "workers") rows → (one ≡ None → Some w ≡ None)
-    → ((t : Text) → one ≡ Some t → ReadsOne G t (Some w)) → least_workers ≤ w → w ≤ most_workers → IsWorkers rows w
+    → ((t : Text) → one ≡ Some t → ReadsOne G t (Some w)) → least_workers ≤ w → w ≤ served_workers → IsWorkers rows w
 read_some E G only rows None w is none value least most = let bad : Some w ≡ None = none refl in cc
 read_some E G only rows (Some t) w is none value least most =
     let parsed = only t (Ok w) (value t refl) in
@@ -42,12 +42,12 @@ read_none E G only rows one is value n h =
 -- where the number that was read isn't within the range, no other is
 pub read_out : (E : Type 0) (G : List ℕ → Result ℕ E → Type 0) → ((u : List ℕ) (x : Result ℕ E) → G u x → ParsesUnsigned 8 10 u x)
     → (rows : List Row) (one : Option Text) (w : ℕ) → one ≡ one_of (codes "workers") rows
-    → ((t : Text) → one ≡ Some t → ReadsOne G t (Some w)) → (least_workers ≤ w → w ≤ most_workers → ⊥)
+    → ((t : Text) → one ≡ Some t → ReadsOne G t (Some w)) → (least_workers ≤ w → w ≤ served_workers → ⊥)
     → (n : ℕ) → IsWorkers rows n → ⊥
 read_out E G only rows one w is value out n h =
     let parsed = only h.text (Ok w) (value h.text (is ∙ h.given)) in
     let same : n ≡ w = h.is ∙ sym parsed.1 in
-    out (subst (λ k. least_workers ≤ k) same h.least) (subst (λ k. k ≤ most_workers) same h.most)
+    out (subst (λ k. least_workers ≤ k) same h.least) (subst (λ k. k ≤ served_workers) same h.most)
 
 -- without a number of workers there is no task
 pub no_task : (o : Option (Text × List Row)) (name : Text) (rows : List Row) → o ≡ Some (name, rows)

@@ -1,31 +1,35 @@
 -- The words that the program takes, as a command of the crate `clap` (own).
 use Rattle.std.specs.Prelude.{ℕ, [], ◌∷◌, Some, true, codes, pos}
-use Rattle.clap.specs.Words.{App, Rule, new_app, new_rule, with_rule, with_subcommand}
+use Rattle.clap.specs.Words.{App, Rule, Text, new_app, new_rule, with_rule, with_subcommand}
 use Rattle.clap.specs.Simple.{on_top}
 use Rattle.clap.specs.declared.builder.value_parser.ValueParser.TheVariants as vp
 
--- the least number of workers of a build, and the default (own)
+-- the least number of workers of a build (own)
 abbrev pub least_workers : ℕ
 least_workers = 1
 
--- the most workers that a build may have (own)
-abbrev pub most_workers : ℕ
-most_workers = 1
+-- the greatest number of workers that the program takes so far (own)
+abbrev pub served_workers : ℕ
+served_workers = 1
 
--- `--workers N`, where N is 1 if it isn't given (own)
+-- the number of workers of a build whose words give none, as it would be written (own)
+abbrev pub default_workers : Text
+default_workers = codes "1"
+
+-- `--workers N` (own)
 abbrev pub workers_option : Rule
 workers_option = record (new_rule (codes "workers")) {
   long = Some (codes "workers");
   value_names = 1;
-  parser = Some (vp.Signed (pos least_workers) (pos most_workers));
-  defaults = codes "1" ∷ [];
+  parser = Some (vp.Signed (pos least_workers) (pos served_workers));
+  defaults = default_workers ∷ [];
 }
 
 -- `build [--workers N]` (own)
 abbrev pub build_command : App
 build_command = with_rule (new_app (codes "build")) workers_option
 
--- `dfsolve COMMAND`, where a command has to be given (own)
+-- `dfsolve COMMAND`, where a command has to be given, and the program has a version to tell (own)
 abbrev pub whole_command : App
 whole_command =
-    with_subcommand (on_top (λ top. record top { subcommand_required = true }) (new_app (codes "dfsolve"))) build_command.top
+    with_subcommand (on_top (λ top. record top { subcommand_required = true; has_version = true }) (new_app (codes "dfsolve"))) build_command.top

@@ -2,7 +2,7 @@
 use Rattle.std.specs.Prelude.{◌≡◌, ◌≤◌, ℕ, List, Option, Some, None, codes}
 use Rattle.std.specs.Str.Parse.{IsNumeral, digits_value, without_leading_plus}
 use Rattle.clap.specs.Words.{Row, Text, one_of}
-use Rattle.command.specs.CommandLine.{least_workers, most_workers}
+use Rattle.command.specs.CommandLine.{least_workers, served_workers}
 use Rattle.command.specs.declared.task.Task.{Task}
 use Rattle.command.specs.declared.task.Task.TheVariants.{Build}
 
@@ -14,7 +14,7 @@ pub record IsWorkers (rows : List Row) (workers : ℕ) : Type 0 where
   pub numeral : IsNumeral 10 (without_leading_plus text)
   pub is : workers ≡ digits_value 10 (without_leading_plus text)
   pub least : least_workers ≤ workers
-  pub most : workers ≤ most_workers
+  pub most : workers ≤ served_workers
 
 -- the task that a subcommand, by its name and its matches, asks for (own)
 abbrev pub IsTaskOf : Option (Text × List Row) → Task → Type 0

@@ -6,11 +6,17 @@ ghost use Rattle.command.specs.CommandLine.{build_command, whole_command, worker
 use clap::{Arg, Command, value_parser};
 use std::alloc::{AllocError, Global};
 
-/// The least number of workers of a build, and the default.
+/// The least number of workers of a build.
 pub const LEAST_WORKERS: u8 = 1;
 
-/// The most workers that a build may have.
-pub const MOST_WORKERS: u8 = 1;
+/// The greatest number of workers that the program takes so far. The rules allow more.
+pub const SERVED_WORKERS: u8 = 1;
+
+/// The number of workers of a build whose words give none.
+const DEFAULT_WORKERS: &str = "1";
+
+/// The version of the program, which `--version` prints behind its name.
+const VERSION: &str = "0.1.0";
 
 /// `dfsolve COMMAND`.
 pub fn whole_command<'a>(alloc: Global) -> Result<Command<'a>, AllocError>
@@ -18,6 +24,7 @@ pub fn whole_command<'a>(alloc: Global) -> Result<Command<'a>, AllocError>
 {
     let build = build_command(alloc)?;
     Command::new(alloc, "dfsolve")
+        .version(VERSION)
         .about("Compiles a Dockerfile and solves it")
         .subcommand_required(true)
         .subcommand(build)
@@ -42,6 +49,6 @@ fn workers_option<'a>(alloc: Global) -> Arg<'a>
         .long("workers")
         .value_name("N")
         .help("How many workers solve it")
-        .value_parser(value_parser!(u8).range(i64::from(LEAST_WORKERS)..=i64::from(MOST_WORKERS)))
-        .default_value("1")
+        .value_parser(value_parser!(u8).range(i64::from(LEAST_WORKERS)..=i64::from(SERVED_WORKERS)))
+        .default_value(DEFAULT_WORKERS)
 }

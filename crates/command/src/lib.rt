@@ -1,8 +1,8 @@
 // The command line of the program: which task its words ask for.
 //
 // `read_command` is clap's parse of the words by one fixed command, `whole_command`, and gives the task
-// that clap's matches hold. It prints nothing and ends nothing: help and every fault of the words are
-// clap's `Error`, which the program prints.
+// that clap's matches hold. It prints nothing and ends nothing: help, the version and every fault of the
+// words are clap's `Error`, which the program prints.
 //
 // It knows nothing of what a task does. The central definitions are `whole_command`, the words that are
 // taken, and `IsTaskOf`, what they ask for.
@@ -21,6 +21,3 @@ mod task;
 
 pub use reading::read_command;
 pub use task::Task;
-
-#[cfg(test)]
-mod tests;

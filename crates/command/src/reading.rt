@@ -5,15 +5,19 @@ ghost use Rattle.command.specs.Tasks.{IsTaskOf, IsWorkers};
 ghost use Rattle.command.specs.declared.task.Task.{Task};
 
 use crate::Task;
-use crate::commands::{LEAST_WORKERS, MOST_WORKERS, whole_command};
+use crate::commands::{LEAST_WORKERS, SERVED_WORKERS, whole_command};
 use clap::{ArgMatches, Error};
 use std::alloc::Global;
 
 /// The task that the words ask for. The first word is the program's name, as in what `env::args` gives,
 /// and is passed over.
 ///
-/// An error is clap's: help that was asked for, a fault of the words, or want of memory, which its kind
-/// tells apart. `build` is the one command, with `--workers N` once at most; N is 1, and 1 is the default.
+/// `build` is the one command, with `--workers N` or `--workers=N` once at most; N is decimal digits, of which a `+` may stand in front,
+/// and its value is 1, which is also the default. `help`, `help build`, `--help` and `-h`, in front of `build` or behind it, ask for help,
+/// and `--version` or `-V` in front of it for the program's name and version.
+///
+/// An error is clap's, and its kind tells what it is: help or the version that was asked for, which are no faults; a fault of the words;
+/// or want of memory. The text that it prints is clap's.
 pub fn read_command<'a>(alloc: Global, words: &'a [&'a str]) -> Result<Task, Error>
     ensures task { IfOk result
         (IsTaskOf (subcommand_of whole_command (map (λ word. word.now) words.entry.now))) }
@@ -49,7 +53,7 @@ fn workers_of(matches: &ArgMatches) -> Option<u8>
         → ¬ IsWorkers (rows_of (found_of matches.now)) workers) }
 {
     let workers = matches.get_one::<u8>("workers")?;
-    if workers < LEAST_WORKERS || MOST_WORKERS < workers {
+    if workers < LEAST_WORKERS || SERVED_WORKERS < workers {
         return None;
     }
     Some(workers)

@@ -1,8 +1,9 @@
 -- What reading all and writing all do, whatever their device does (own).
 use Rattle.std.specs.Prelude.{◌≡◌, ◌≤◌, ℕ, ◌+◌, List, ◌++◌, length, take, drop, Option, Some, None, Result, Ok, Err, ⊤}
 use Rattle.std.specs.Io.KnownBytes.{Appends, Consumes}
-use Rattle.counted.specs.declared.fault.EdgeFault.{EdgeFault}
-use Rattle.counted.specs.declared.fault.EdgeFault.TheVariants.{Memory, Device}
+use Rattle.plain.specs.declared.fault.Fault.{Fault}
+use Rattle.plain.specs.declared.fault.Fault.TheVariants.{Because, Memory}
+use Rattle.counted.specs.declared.fault.Device.{Device}
 
 -- a text is a beginning of another, the empty one and the whole one included
 abbrev pub IsBeginning : List ℕ → List ℕ → Type 0
@@ -22,8 +23,13 @@ abbrev pub ReadsFirst : ℕ → Option (List ℕ) → Option (List ℕ) → List
 ReadsFirst limit None new bytes = ⊤
 ReadsFirst limit (Some all) new bytes = (bytes ≡ take limit all) × (new ≡ Some (drop limit all))
 
+-- the device failed, and not the memory
+abbrev pub IsDevice : Fault Device → Type 0
+IsDevice (Because device) = ⊤
+IsDevice Memory = ⊥
+
 -- the call met a failed call of its device exactly where it says so, and just the one at which it ended
-abbrev pub CountsFault : {T : Type 0} → ℕ → ℕ → Result T EdgeFault → Type 0
+abbrev pub CountsFault : {T : Type 0} → ℕ → ℕ → Result T (Fault Device) → Type 0
 CountsFault old new (Ok _) = new ≡ old
 CountsFault old new (Err Memory) = new ≡ old
-CountsFault old new (Err Device) = new ≡ old + 1
+CountsFault old new (Err (Because device)) = new ≡ old + 1

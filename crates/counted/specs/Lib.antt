@@ -1,4 +1,3 @@
 pub mod Counted
 pub mod Counting
 pub mod Edges
-pub mod Messages

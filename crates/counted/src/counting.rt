@@ -1,5 +1,4 @@
-ghost use Rattle.std.specs.Prelude.{◌≡◌, ℕ, ◌<◌, List};
-ghost use Rattle.std.specs.Prelude.{Option};
+ghost use Rattle.std.specs.Prelude.{◌≡◌, ℕ, ◌<◌, List, Option, length};
 ghost use Rattle.std.specs.Io.{ReadsAtMost, WritesAtMost};
 ghost use Rattle.std.specs.Io.KnownBytes.{ReadConsumes, WriteAppends};
 ghost use Rattle.counted.specs.Counting.{CountsFailure, CountsIdleWrite};
@@ -37,11 +36,13 @@ pub trait CountedWrite {
     // How many writes have failed or have taken no byte.
     ghost failures: { Self → ℕ };
 
-    /// Writes from the front of `buf` and tells how many bytes it took. A call that ends with an error or
-    /// takes no byte is counted, also where `buf` is empty. The count is a machine number, so a caller has
-    /// to know that there is room for one more.
+    /// Writes from the front of `buf`, which isn't empty, and tells how many bytes it took. A call that ends with an error or takes no
+    /// byte is counted. The count is a machine number, so a caller has to know that there is room for one more.
     fn write(&mut self, buf: &[u8]) -> io::Result<usize>
-        requires { failures self.old < u64.MAX }
+        requires room { failures self.old < u64.MAX }
+        // A write of nothing takes no byte of any device, so with it a caller could have a failure counted that is none of the device,
+        // and then say that the device failed.
+        requires some { 0 < length buf.now }
         ensures bound { WritesAtMost result buf.now }
         ensures bytes { WriteAppends (contents self.old) (contents self.new) result buf.now }
         ensures count { CountsIdleWrite (failures self.old) (failures self.new) result };

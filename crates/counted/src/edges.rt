@@ -1,8 +1,9 @@
 ghost use Rattle.std.specs.Prelude.{◌≡◌, ◌<◌, ◌≤◌, vec_len, IfOk, IfErr, OnOk, OnErr};
 ghost use Rattle.std.specs.Io.KnownBytes.{Appends};
-ghost use Rattle.counted.specs.Edges.{AppendsBeginning, LosesBeginning, ReadsFirst, CountsFault};
+ghost use Rattle.counted.specs.Edges.{AppendsBeginning, LosesBeginning, ReadsFirst, IsDevice, CountsFault};
 
-use crate::{CountedRead, CountedWrite, EdgeFault};
+use crate::{CountedRead, CountedWrite, Device, EdgeFault};
+use plain::Fault;
 use std::alloc::Global;
 
 /// How many bytes one read asks for, at most.
@@ -32,7 +33,7 @@ pub fn read_all<R: CountedRead>(
         match input.read(&mut buffer[..room]) {
             Ok(0) => return Ok(bytes),
             Ok(n) => bytes.extend_from_slice(&buffer[..n])?,
-            Err(_) => return Err(EdgeFault::Device),
+            Err(_) => return Err(Fault::Because(Device)),
         }
     }
     Ok(bytes)
@@ -47,14 +48,14 @@ pub fn write_all<W: CountedWrite>(output: &mut W, bytes: &[u8]) -> Result<(), Ed
     ensures whole { OnOk result (Appends (W.contents output.old) (W.contents output.new) bytes.now) }
     ensures beginning { OnErr result
         (AppendsBeginning (W.contents output.old) (W.contents output.new) bytes.now) }
-    ensures device { IfErr result (λ fault. fault ≡ EdgeFault.Device) }
+    ensures device { IfErr result IsDevice }
     ensures count { CountsFault (W.failures output.old) (W.failures output.new) result }
 {
     let mut rest = bytes;
     'writing: while !rest.is_empty() {
         match output.write(rest) {
             Ok(n) if n > 0 => rest = &rest[n..],
-            _ => return Err(EdgeFault::Device),
+            _ => return Err(Fault::Because(Device)),
         }
     }
     Ok(())

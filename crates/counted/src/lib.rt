@@ -26,7 +26,4 @@ mod fault;
 
 pub use counting::{Counted, CountedRead, CountedWrite};
 pub use edges::{read_all, write_all};
-pub use fault::EdgeFault;
-
-#[cfg(test)]
-mod tests;
+pub use fault::{Device, EdgeFault};
