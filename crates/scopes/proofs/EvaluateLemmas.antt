@@ -9,8 +9,8 @@ use Rattle.words.specs.declared.fault.Fault.TheVariants.{Refused, Memory}
 use Rattle.expand.specs.Value.{value}
 use Rattle.expand.specs.Expanding.{Expands, longest}
 use Rattle.instructions.specs.declared.instruction.Variable.{Variable}
-use Rattle.scopes.specs.Evaluating.{Says}
-use Rattle.scopes.specs.Lines.{Values, env_line, env_texts, is_one_long}
+use Rattle.scopes.specs.PrivateEvaluate.{Says}
+use Rattle.scopes.specs.Evaluate.{Values, env_line, env_texts, is_one_long}
 use Rattle.scopes.specs.declared.declaration.Declaration.{Declaration}
 use Rattle.scopes.specs.declared.declaration.Declaration.TheVariants.{Env}
 

@@ -1,4 +1,9 @@
-pub mod EntryLemmas
-pub mod LineLemmas
-pub mod GivenLemmas
-pub mod EvaluateLemmas
+mod ArgLemmas
+mod EvaluateLemmas
+mod HistoryLemmas
+mod LineLemmas
+mod MapLemmas
+mod NameLemmas
+mod Said
+mod SaidLemmas
+mod ScopeLemmas

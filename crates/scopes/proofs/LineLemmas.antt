@@ -1,7 +1,7 @@
 -- What is kept while the declarations of a line are added one after another.
 use Rattle.std.proofs.Common.{◌≡◌, ◌+◌, List, [], ◌∷◌, ◌++◌, length, refl, ap, sym, ◌∙◌, append_assoc, append-nil, arith}
-use Rattle.scopes.specs.Declarations.{kept, env_names, arg_names}
-use Rattle.scopes.specs.ScopeLaws.{kept-append, kept-kept}
+use Rattle.scopes.specs.Scope.{kept, env_names, arg_names}
+use Rattle.scopes.proofs.ScopeLemmas.{kept-append, kept-kept}
 use Rattle.scopes.specs.declared.declaration.Declaration.{Declaration}
 use Rattle.scopes.specs.declared.declaration.Declaration.TheVariants.{Env, Arg}
 

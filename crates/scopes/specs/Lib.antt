@@ -1,11 +1,7 @@
-pub mod Declarations
-pub mod Lines
-pub mod Given
-pub mod Evaluating
-pub mod ScopeValue
-pub mod GivenValue
-pub mod Said
-pub mod SaidLaws
-pub mod ScopeLaws
+pub mod Args
+pub mod Evaluate
 pub mod History
-pub mod HistoryLaws
+pub mod PrivateArgs
+pub mod PrivateEvaluate
+pub mod PrivateMaps
+pub mod Scope

@@ -16,15 +16,15 @@ pub struct Args {
 }
 
 impl Model for Args {
-    ghost use Rattle.scopes.specs.Given.{Given, given_code};
+    ghost use Rattle.scopes.specs.Args.{BuildArguments, build_arguments_code};
 
-    ghost Value = { Given };
+    ghost Value = { BuildArguments };
 
-    ghost coded = { given_code };
+    ghost coded = { build_arguments_code };
 
-    ghost use Rattle.scopes.specs.GivenValue.{given_of};
+    ghost use Rattle.scopes.specs.PrivateArgs.{build_arguments_of};
 
-    ghost view = { given_of };
+    ghost view = { build_arguments_of };
 }
 
 impl Args {

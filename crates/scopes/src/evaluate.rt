@@ -1,7 +1,7 @@
-ghost use Rattle.std.specs.FinMap.{get as given_value};
-ghost use Rattle.scopes.specs.Declarations.{or_else, value_in};
-ghost use Rattle.scopes.specs.Lines.{env_line, env_texts, arg_line, arg_texts, fallback, expanded_default};
-ghost use Rattle.scopes.specs.Evaluating.{Says, Gives};
+ghost use Rattle.std.specs.FinMap.{get as arg_value};
+ghost use Rattle.scopes.specs.Scope.{or_else, value_in};
+ghost use Rattle.scopes.specs.Evaluate.{env_line, env_texts, arg_line, arg_texts, fallback, expanded_default};
+ghost use Rattle.scopes.specs.PrivateEvaluate.{Says, Gives};
 
 use crate::args::Args;
 use crate::declaration::Declaration;
@@ -34,15 +34,15 @@ pub fn argument_declarations(
     alloc: Global,
     arguments: &[Argument],
     before: &Scope,
-    given: &Args,
+    args: &Args,
     outer: &Scope,
 ) -> Result<Items<Declaration>, Fault>
-    ensures { Says (arg_line (value_in before.now) (given_value given.now) (value_in outer.now) arguments.now) (arg_texts (value_in before.now) (given_value given.now) arguments.now) result }
+    ensures { Says (arg_line (value_in before.now) (arg_value args.now) (value_in outer.now) arguments.now) (arg_texts (value_in before.now) (arg_value args.now) arguments.now) result }
 {
     let mut line = Items::new(alloc);
     for argument in arguments {
         let name = argument.name.copy(alloc)?;
-        let value = argument_value(alloc, argument, before, given, outer)?;
+        let value = argument_value(alloc, argument, before, args, outer)?;
         line.push(Declaration::Arg { name, value })?;
     }
     Ok(line)
@@ -53,13 +53,13 @@ fn argument_value(
     alloc: Global,
     argument: &Argument,
     before: &Scope,
-    given: &Args,
+    args: &Args,
     outer: &Scope,
 ) -> Result<Option<Text>, Fault>
-    ensures { Gives (expanded_default (value_in before.now) (given_value given.now argument.now.name) argument.now.default) (or_else (given_value given.now argument.now.name) (fallback (value_in before.now) (value_in outer.now argument.now.name) argument.now.default)) result }
+    ensures { Gives (expanded_default (value_in before.now) (arg_value args.now argument.now.name) argument.now.default) (or_else (arg_value args.now argument.now.name) (fallback (value_in before.now) (value_in outer.now argument.now.name) argument.now.default)) result }
 {
     let name = argument.name.as_str();
-    if let Some(value) = given.get(name) {
+    if let Some(value) = args.get(name) {
         let value = value.copy(alloc)?;
         return Ok(Some(value));
     }

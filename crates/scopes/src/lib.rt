@@ -1,11 +1,11 @@
 // What names have values in a stage: the scope that its ENV and ARG lines make, and the environment of its RUNs.
 //
-// It reads no line and knows no stage: a line comes as the variables that the crate `instructions` read, and the crates above
-// say which lines make a scope, and which scope is the one before the first FROM.
+// It reads no line and knows no stage: a line comes as what the crate `instructions` read of it, and the crates above choose
+// the lines of a scope, and the scope before the first FROM.
 //
-// The central definitions are `value_in` in specs/Declarations.antt, what a list of ENV and ARG gives a name, and `kept`,
-// a list with each name once that means the same, now and after any further lines: each call on a line is told by what it
-// does to that list.
+// The central definitions are in specs/Scope.antt: `value_in`, the value that a list of ENV and ARG declarations gives a name;
+// `run_env`, RUN's environment by them; and `kept`, the list that a scope holds, with each name once. It gives each name the
+// same value as all declarations so far, also after any further lines (`laws`), so a call on a line says what it appends.
 //
 // ```
 // scope.set_env(alloc, variables)?;             // ENV abc=hello
@@ -18,17 +18,11 @@ mod args;
 mod declaration;
 mod env_row;
 mod evaluate;
-mod laws;
+pub mod laws;
 mod maps;
 mod scope;
 
 pub use args::Args;
 pub use declaration::Declaration;
 pub use env_row::EnvRow;
-pub use laws::{
-    declarations_set_their_name, kept_declarations_mean_the_same, scopes_mean_their_history,
-};
 pub use scope::Scope;
-
-#[cfg(test)]
-mod tests;

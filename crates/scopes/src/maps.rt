@@ -3,8 +3,8 @@
 ghost use Rattle.std.specs.Prelude.{◌≡◌, ◌+◌, ◌≤◌, ◌∷◌, ◌++◌, [], length, OnOk, IfOk};
 ghost use Rattle.std.specs.String.{string_bytes};
 ghost use Rattle.indexmap.specs.IndexMap.{spare};
-ghost use Rattle.scopes.specs.Declarations.{kept, env_names, arg_names};
-ghost use Rattle.scopes.specs.ScopeValue.{declared, variable_rows, argument_rows};
+ghost use Rattle.scopes.specs.Scope.{kept, env_names, arg_names};
+ghost use Rattle.scopes.specs.PrivateMaps.{declared, variable_rows, argument_rows};
 
 use crate::declaration::Declaration;
 use crate::env_row::EnvRow;

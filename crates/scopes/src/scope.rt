@@ -1,7 +1,7 @@
 ghost use Rattle.std.specs.Prelude.{◌≡◌, [], ◌∷◌, ◌++◌, option_map, OnOk, OnErr, IfOk};
-ghost use Rattle.std.specs.FinMap.{get as given_value};
-ghost use Rattle.scopes.specs.Declarations.{value_in, kept, run_env};
-ghost use Rattle.scopes.specs.Lines.{env_line, env_texts, arg_line, arg_texts, Declares};
+ghost use Rattle.std.specs.FinMap.{get as arg_value};
+ghost use Rattle.scopes.specs.Scope.{value_in, kept, run_env};
+ghost use Rattle.scopes.specs.Evaluate.{env_line, env_texts, arg_line, arg_texts, Declares};
 ghost use Rattle.scopes.specs.declared.declaration.Declaration.TheVariants.{Env};
 
 use crate::args::Args;
@@ -33,8 +33,8 @@ impl Model for Scope {
 
     ghost Value = { List Declaration };
 
-    ghost use Rattle.scopes.specs.Declarations.{kept};
-    ghost use Rattle.scopes.specs.ScopeValue.{declared};
+    ghost use Rattle.scopes.specs.Scope.{kept};
+    ghost use Rattle.scopes.specs.PrivateMaps.{declared};
 
     ghost view = { λ s. declared s.variables.entries s.arguments.entries };
 
@@ -62,12 +62,12 @@ impl Scope {
         &mut self,
         alloc: Global,
         arguments: &[Argument],
-        given: &Args,
+        args: &Args,
         outer: &Scope,
     ) -> Result<(), Fault>
-        ensures { Declares self.old (arg_line (value_in self.old) (given_value given.now) (value_in outer.now) arguments.now) (arg_texts (value_in self.old) (given_value given.now) arguments.now) self.new result }
+        ensures { Declares self.old (arg_line (value_in self.old) (arg_value args.now) (value_in outer.now) arguments.now) (arg_texts (value_in self.old) (arg_value args.now) arguments.now) self.new result }
     {
-        let line = argument_declarations(alloc, arguments, self, given, outer)?;
+        let line = argument_declarations(alloc, arguments, self, args, outer)?;
         self.add(line)?;
         Ok(())
     }
@@ -143,7 +143,7 @@ impl Scope {
 }
 
 impl Lookup for Scope {
-    ghost use Rattle.scopes.specs.Declarations.{value_in};
+    ghost use Rattle.scopes.specs.Scope.{value_in};
 
     ghost value_of = { λ scope name. value_in scope name };
 

@@ -1,5 +1,5 @@
 use Rattle.scopes.proofs.EvaluateLemmas.{long-step, said-step, says-refused}
-use Rattle.scopes.specs.Declarations.{value_in}
+use Rattle.scopes.specs.Scope.{value_in}
 use Rattle.scopes.proofs.evaluate.variable_declarations.Goals as goal
 
 pub returns-in_err-value : goal.returns-in_err-value

@@ -1,6 +1,6 @@
 use Rattle.std.proofs.Common.{drop, ◌≡◌, ◌++◌}
-use Rattle.scopes.specs.Declarations.{value_in}
-use Rattle.scopes.specs.Lines.{env_line, env_texts, is_one_long}
+use Rattle.scopes.specs.Scope.{value_in}
+use Rattle.scopes.specs.Evaluate.{env_line, env_texts, is_one_long}
 use Rattle.scopes.proofs.evaluate.variable_declarations.Given as goal
 
 abbrev pub invariant-loop-variable : goal.invariant-loop-variable

@@ -1,4 +1,4 @@
-use Rattle.scopes.specs.ScopeLaws.{env-sets, arg-sets, env-beats, bare-leaves, unnamed-leaves, other_env-leaves, other_arg-leaves}
+use Rattle.scopes.proofs.ScopeLemmas.{env-sets, arg-sets, env-beats, bare-leaves, unnamed-leaves, other_env-leaves, other_arg-leaves}
 use Rattle.scopes.proofs.laws.declarations_set_their_name.Goals as goal
 
 pub returns-clause-env : goal.returns-clause-env

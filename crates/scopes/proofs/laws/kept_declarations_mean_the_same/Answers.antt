@@ -1,4 +1,4 @@
-use Rattle.scopes.specs.ScopeLaws.{value_in-kept, run_env-kept, kept-append}
+use Rattle.scopes.proofs.ScopeLemmas.{value_in-kept, run_env-kept, kept-append}
 use Rattle.scopes.proofs.laws.kept_declarations_mean_the_same.Goals as goal
 
 pub returns-clause-values : goal.returns-clause-values

@@ -1,4 +1,4 @@
-use Rattle.scopes.specs.HistoryLaws.{scope-history, texts-kept}
+use Rattle.scopes.proofs.HistoryLemmas.{scope-history, texts-kept}
 use Rattle.scopes.proofs.laws.scopes_mean_their_history.Goals as goal
 
 pub returns-clause-scopes : goal.returns-clause-scopes

@@ -1,5 +1,5 @@
 use Rattle.std.proofs.Common.{◌≡◌, ◌+◌, ◌≤◌, length, drop}
-use Rattle.scopes.specs.Declarations.{env_names}
+use Rattle.scopes.specs.Scope.{env_names}
 use Rattle.scopes.proofs.maps.env_count.Given as goal
 
 abbrev pub invariant-loop-declaration : goal.invariant-loop-declaration

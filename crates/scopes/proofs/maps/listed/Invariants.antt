@@ -1,5 +1,5 @@
 use Rattle.std.proofs.Common.{◌≡◌, ◌++◌, []}
-use Rattle.scopes.specs.ScopeValue.{declared}
+use Rattle.scopes.specs.PrivateMaps.{declared}
 use Rattle.scopes.proofs.maps.listed.Given as goal
 
 abbrev pub invariant-loop-name : goal.invariant-loop-name

@@ -1,5 +1,5 @@
 use Rattle.std.proofs.Common.{◌≡◌, ◌++◌}
-use Rattle.scopes.specs.ScopeValue.{argument_rows}
+use Rattle.scopes.specs.PrivateMaps.{argument_rows}
 use Rattle.scopes.proofs.maps.push_arguments.Given as goal
 
 abbrev pub invariant-loop-name : goal.invariant-loop-name

@@ -1,5 +1,5 @@
 use Rattle.std.proofs.Common.{◌≡◌, ◌++◌}
-use Rattle.scopes.specs.ScopeValue.{variable_rows}
+use Rattle.scopes.specs.PrivateMaps.{variable_rows}
 use Rattle.scopes.proofs.maps.push_variables.Given as goal
 
 abbrev pub invariant-loop-name : goal.invariant-loop-name

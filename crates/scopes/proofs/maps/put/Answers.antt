@@ -3,7 +3,7 @@ use Rattle.std.specs.Prelude.{is_some}
 use Rattle.std.specs.Map.{lookup}
 use Rattle.std.specs.Str.{bytes_eq}
 use Rattle.std.specs.String.{string_bytes}
-use Rattle.scopes.proofs.EntryLemmas.{declared-env, declared-arg_put, declared-arg_new, declared-arg_left}
+use Rattle.scopes.proofs.MapLemmas.{declared-env, declared-arg_put, declared-arg_new, declared-arg_left}
 use Rattle.scopes.proofs.maps.put.Goals as goal
 use Rattle.scopes.proofs.maps.put.Goals.{then-is_some-via-then-is_some, then-is_some-via-else-is_some+then-not-contains_key}
 

@@ -1,6 +1,6 @@
 use Rattle.std.proofs.Common.{List, ◌++◌, ap, sym, ◌∙◌, arith}
-use Rattle.scopes.specs.Declarations.{kept}
-use Rattle.scopes.specs.ScopeValue.{declared}
+use Rattle.scopes.specs.Scope.{kept}
+use Rattle.scopes.specs.PrivateMaps.{declared}
 use Rattle.scopes.specs.declared.declaration.Declaration.{Declaration}
 use Rattle.scopes.proofs.LineLemmas.{still_kept, kept-step, kept-end, env_names-step, arg_names-step}
 use Rattle.scopes.proofs.maps.put_all.Goals as goal

@@ -1,7 +1,7 @@
 use Rattle.std.proofs.Common.{◌≡◌, ◌≤◌, ◌++◌, length}
 use Rattle.indexmap.specs.IndexMap.{spare}
-use Rattle.scopes.specs.Declarations.{kept, env_names, arg_names}
-use Rattle.scopes.specs.ScopeValue.{declared}
+use Rattle.scopes.specs.Scope.{kept, env_names, arg_names}
+use Rattle.scopes.specs.PrivateMaps.{declared}
 use Rattle.scopes.proofs.maps.put_all.Given as goal
 
 abbrev pub invariant-loop-declaration : goal.invariant-loop-declaration

@@ -1,8 +1,8 @@
 use Rattle.std.proofs.Common.{ap, sym, ◌∙◌}
 use Rattle.std.specs.FinMap.{get}
-use Rattle.scopes.specs.Given.{Given}
-use Rattle.scopes.proofs.GivenLemmas.{get-given}
+use Rattle.scopes.specs.Args.{BuildArguments}
+use Rattle.scopes.proofs.ArgLemmas.{get-args_of}
 use Rattle.scopes.proofs.args.Args.get.Goals as goal
 
 pub returns : goal.returns
-returns c = c.get.ensures.value ∙ sym (get-given c.args.name.now c.self.inside.values.entries) ∙ ap (λ (m : Given). get m c.args.name.now) c.self.view_is
+returns c = c.get.ensures.value ∙ sym (get-args_of c.args.name.now c.self.inside.values.entries) ∙ ap (λ (m : BuildArguments). get m c.args.name.now) c.self.view_is

@@ -1,5 +1,5 @@
 use Rattle.std.proofs.Common.{refl, ◌∙◌}
-use Rattle.scopes.proofs.EntryLemmas.{value_in-found}
+use Rattle.scopes.proofs.MapLemmas.{value_in-found}
 use Rattle.scopes.proofs.scope.Scope.get.Goals as goal
 
 pub returns-in-Some : goal.returns-in-Some

@@ -1,5 +1,5 @@
 use Rattle.std.proofs.Common.{refl}
-use Rattle.scopes.specs.Declarations.{kept}
+use Rattle.scopes.specs.Scope.{kept}
 use Rattle.scopes.proofs.scope.Scope.new.Goals as goal
 
 pub invariant_of-result : goal.invariant_of-result

@@ -1,8 +1,8 @@
 use Rattle.std.proofs.Common.{List, ◌++◌, ap, sym, ◌∙◌}
-use Rattle.scopes.specs.Declarations.{run_env}
-use Rattle.scopes.specs.ScopeValue.{variable_rows, argument_rows}
+use Rattle.scopes.specs.Scope.{run_env}
+use Rattle.scopes.specs.PrivateMaps.{variable_rows, argument_rows}
 use Rattle.scopes.specs.declared.env_row.EnvRow.{EnvRow}
-use Rattle.scopes.proofs.EntryLemmas.{run_env-declared}
+use Rattle.scopes.proofs.MapLemmas.{run_env-declared}
 use Rattle.scopes.proofs.scope.Scope.run_env.Goals as goal
 
 pub returns : goal.returns

@@ -1,11 +1,11 @@
--- What evaluating a line answers, before the scope is changed.
+-- What evaluating a line gives, before the scope is changed.
 use Rattle.std.specs.Prelude.{◌≡◌, ℕ, Bool, true, false, List, Option, Some, None, length, Result, Ok, Err, nat_lt}
 use Rattle.plain.specs.declared.refusal.Code.TheVariants.{R18}
 use Rattle.words.specs.declared.fault.Fault.{Fault}
 use Rattle.words.specs.declared.fault.Fault.TheVariants.{Refused, Memory}
 use Rattle.expand.specs.Expanding.{longest}
 use Rattle.scopes.specs.declared.declaration.Declaration.{Declaration}
-use Rattle.scopes.specs.Lines.{is_one_long}
+use Rattle.scopes.specs.Evaluate.{is_one_long}
 
 -- a line, where the line expands some texts: what it says where none of them is too long, else R18
 abbrev pub Says : List Declaration → List (List ℕ) → Result (List Declaration) Fault → Type 0
@@ -20,6 +20,6 @@ is_text_long (Some text) = nat_lt longest (length text)
 
 -- what the evaluation of an argument answers
 abbrev pub Gives : Option (List ℕ) → Option (List ℕ) → Result (Option (List ℕ)) Fault → Type 0
-Gives text found (Ok given) = (given ≡ found) × (is_text_long text ≡ false)
+Gives text found (Ok value) = (value ≡ found) × (is_text_long text ≡ false)
 Gives text found (Err (Refused code)) = (code ≡ R18) × (is_text_long text ≡ true)
 Gives text found (Err Memory) = Unit {0}

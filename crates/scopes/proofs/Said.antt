@@ -1,7 +1,7 @@
 -- What declarations say of names, as pairs of a name and a value or none: ENVs and ARGs apart.
 use Rattle.std.specs.Prelude.{ℕ, List, [], ◌∷◌, Option, Some, None, if◌then◌else◌}
 use Rattle.std.specs.Str.{bytes_eq}
-use Rattle.scopes.specs.Declarations.{or_else, where_same}
+use Rattle.scopes.specs.Scope.{or_else, where_same}
 use Rattle.scopes.specs.declared.declaration.Declaration.{Declaration}
 use Rattle.scopes.specs.declared.declaration.Declaration.TheVariants.{Env, Arg}
 

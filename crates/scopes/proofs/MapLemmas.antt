@@ -7,11 +7,11 @@ use Rattle.std.specs.Str.{bytes_eq}
 use Rattle.std.specs.declared.string.String.{String}
 use Rattle.std.specs.String.{string_bytes, string_eq}
 use Rattle.indexmap.specs.IndexMap.{insert_entry}
-use Rattle.scopes.specs.Declarations.{or_else, value_in, run_env, kept}
-use Rattle.scopes.specs.Said.{Said, env_said, arg_said, last, settled, put, found, flat}
-use Rattle.scopes.specs.SaidLaws.{either, settled-push, found-last, put-none_found}
-use Rattle.scopes.specs.ScopeLaws.{env_said-append, arg_said-append, env_said-kept, arg_said-kept, last_env-is, last_arg-is, env_of, arg_of, kept-is, row_of, other_row_of, filter_map-same, run_env-is, env_said-arg_of, arg_said-arg_of}
-use Rattle.scopes.specs.ScopeValue.{declared, variable_rows, argument_row, argument_rows}
+use Rattle.scopes.specs.Scope.{or_else, value_in, run_env, kept}
+use Rattle.scopes.proofs.Said.{Said, env_said, arg_said, last, settled, put, found, flat}
+use Rattle.scopes.proofs.SaidLemmas.{either, settled-push, found-last, put-none_found}
+use Rattle.scopes.proofs.ScopeLemmas.{env_said-append, arg_said-append, env_said-kept, arg_said-kept, last_env-is, last_arg-is, env_of, arg_of, kept-is, row_of, other_row_of, filter_map-same, run_env-is, env_said-arg_of, arg_said-arg_of}
+use Rattle.scopes.specs.PrivateMaps.{declared, variable_rows, argument_row, argument_rows}
 use Rattle.scopes.specs.declared.declaration.Declaration.{Declaration}
 use Rattle.scopes.specs.declared.declaration.Declaration.TheVariants.{Env, Arg}
 use Rattle.scopes.specs.declared.env_row.EnvRow.{EnvRow}

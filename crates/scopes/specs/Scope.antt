@@ -1,7 +1,7 @@
--- What names have values, and RUN's environment, by the ENV and ARG so far, in the order in which they were said: an image's
--- ENV first; a stage from a stage goes on with that stage's. Nothing here knows how a scope is stored.
-use Rattle.std.specs.Prelude.{ℕ, not, List, [], ◌∷◌, ◌++◌, map, filter, Option, Some, None, option_map, is_some, if◌then◌else◌}
-use Rattle.std.specs.List.{filter_map}
+-- What names have values, and RUN's environment, by the declarations so far in their order: an image's ENV first; a stage from a
+-- stage goes on with that stage's. Nothing here knows how a scope is stored.
+use Rattle.std.specs.Prelude.{ℕ, Bool, true, not, ◌==◌, ◌&&◌, List, [], ◌∷◌, ◌++◌, length, map, filter, Option, Some, None, option_map, is_some, if◌then◌else◌}
+use Rattle.std.specs.List.{filter_map, list_all, list_any}
 use Rattle.std.specs.Str.{bytes_eq}
 use Rattle.scopes.specs.declared.declaration.Declaration.{Declaration}
 use Rattle.scopes.specs.declared.declaration.Declaration.TheVariants.{Env, Arg}
@@ -75,3 +75,30 @@ unfoldable pub kept : List Declaration → List Declaration
 kept ds =
     filter_map (λ n. option_map (λ text. Env n text) (last_env n ds)) (firsts (env_names ds))
     ++ map (λ n. Arg n (last_arg n ds)) (firsts (arg_names ds))
+
+-- the name of a declaration
+abbrev pub name_of : Declaration → List ℕ
+name_of (Env n text) = n
+name_of (Arg n value) = n
+
+-- the names of declarations, one for each
+abbrev pub names_in : List Declaration → List (List ℕ)
+names_in ds = map name_of ds
+
+-- the names of an environment, one for each variable
+abbrev pub names_of : List EnvRow → List (List ℕ)
+names_of env = map (λ v. v.name) env
+
+-- no two of the names are the same
+abbrev pub names_differ : List (List ℕ) → Bool
+names_differ [] = true
+names_differ (n ∷ ns) = not (list_any (bytes_eq n) ns) && names_differ ns
+
+-- the byte of `=`, at which an operating system cuts an environment's `NAME=VALUE`
+abbrev pub equals_byte : ℕ
+equals_byte = 61
+
+-- what an operating system takes as the name of a variable: a text that isn't empty and holds no `=` (POSIX, environment
+-- variables)
+abbrev pub is_environment_name : List ℕ → Bool
+is_environment_name n = not (length n == 0) && not (list_any (λ byte. byte == equals_byte) n)

@@ -3,8 +3,8 @@ use Rattle.std.proofs.Common.{◌≡◌, ℕ, Bool, true, false, List, [], ◌�
 use Rattle.std.specs.Prelude.{if◌then◌else◌}
 use Rattle.std.specs.Str.{bytes_eq}
 use Rattle.std.specs.Cmp.Lexicographic.{bytes_decides, nat_list_eq_equiv}
-use Rattle.scopes.specs.Declarations.{or_else, where_same}
-use Rattle.scopes.specs.Said.{Said, last, apart, settled, put, found, flat}
+use Rattle.scopes.specs.Scope.{or_else, where_same}
+use Rattle.scopes.proofs.Said.{Said, last, apart, settled, put, found, flat}
 
 pub or_else-assoc : (a b c : Option (List ℕ)) → or_else (or_else a b) c ≡ or_else a (or_else b c)
 or_else-assoc (Some t) b c = refl
@@ -72,11 +72,11 @@ settled-push n v (p ∷ ps) =
     (λ s e. rw (l, settled-push n v ps, e, turned n p.0 true e) (rw (or_else-assoc v (last p.0 ps) p.1, apart-put_same p.0 n v (settled ps) (turned n p.0 true e)) refl))
     (λ e. rw (l, settled-push n v ps, e, turned n p.0 false e) (rw (apart-put_other p.0 n v (settled ps) (turned n p.0 false e)) refl))
 
-apart-twice : (n : List ℕ) (ps : Said) → apart n (apart n ps) ≡ apart n ps
+pub apart-twice : (n : List ℕ) (ps : Said) → apart n (apart n ps) ≡ apart n ps
 apart-twice n [] = refl
 apart-twice n (p ∷ ps) = either n p.0 (λ s e. rw e (apart-twice n ps)) (λ e. rw (e, e) (ap (λ (qs : Said). p ∷ qs) (apart-twice n ps)))
 
-apart-turned : (n m : List ℕ) (ps : Said) → apart n (apart m ps) ≡ apart m (apart n ps)
+pub apart-turned : (n m : List ℕ) (ps : Said) → apart n (apart m ps) ≡ apart m (apart n ps)
 apart-turned n m [] = refl
 apart-turned n m (p ∷ ps) =
     either n p.0

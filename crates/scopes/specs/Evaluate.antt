@@ -10,7 +10,7 @@ use Rattle.instructions.specs.declared.instruction.Argument.{Argument}
 use Rattle.instructions.specs.declared.instruction.Variable.{Variable}
 use Rattle.scopes.specs.declared.declaration.Declaration.{Declaration}
 use Rattle.scopes.specs.declared.declaration.Declaration.TheVariants.{Env, Arg}
-use Rattle.scopes.specs.Declarations.{or_else, kept}
+use Rattle.scopes.specs.Scope.{or_else, kept}
 
 -- what gives names their values
 abbrev pub Values : Type 0
@@ -31,7 +31,7 @@ fallback before outer_value None = outer_value
 -- what an ARG line says: each argument has the build argument of its name, or else its fallback; it may have none. Of a name
 -- that stands twice on a line the last value counts (Dockerfile reference, ARG)
 abbrev pub arg_line : Values → Values → Values → List Argument → List Declaration
-arg_line before given outer arguments = map (λ a. Arg a.name (or_else (given a.name) (fallback before (outer a.name) a.default))) arguments
+arg_line before args outer arguments = map (λ a. Arg a.name (or_else (args a.name) (fallback before (outer a.name) a.default))) arguments
 
 -- the texts that an ENV line expands
 abbrev pub env_texts : Values → List Variable → List (List ℕ)
@@ -46,7 +46,7 @@ expanded_default before None None = None
 
 -- the texts that an ARG line expands
 abbrev pub arg_texts : Values → Values → List Argument → List (List ℕ)
-arg_texts before given arguments = filter_map (λ a. expanded_default before (given a.name) a.default) arguments
+arg_texts before args arguments = filter_map (λ a. expanded_default before (args a.name) a.default) arguments
 
 -- one of the texts is longer than an expanded text may be
 abbrev pub is_one_long : List (List ℕ) → Bool

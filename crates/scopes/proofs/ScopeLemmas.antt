@@ -4,9 +4,9 @@ use Rattle.std.specs.Prelude.{if◌then◌else◌, option_map}
 use Rattle.std.specs.List.{filter_map}
 use Rattle.std.specs.Str.{bytes_eq}
 use Rattle.std.specs.Cmp.Lexicographic.{nat_list_eq_equiv}
-use Rattle.scopes.specs.Declarations.{or_else, where_same, last_env, last_arg, value_in, env_names, arg_names, without, firsts, env_row, run_env, kept}
-use Rattle.scopes.specs.Said.{Said, env_said, arg_said, last, apart, settled}
-use Rattle.scopes.specs.SaidLaws.{or_else-none, either, last-append, last-settled, settled-settled, settled-append}
+use Rattle.scopes.specs.Scope.{or_else, where_same, last_env, last_arg, value_in, env_names, arg_names, without, firsts, env_row, run_env, kept}
+use Rattle.scopes.proofs.Said.{Said, env_said, arg_said, last, apart, settled}
+use Rattle.scopes.proofs.SaidLemmas.{or_else-none, either, last-append, last-settled, settled-settled, settled-append}
 use Rattle.scopes.specs.declared.declaration.Declaration.{Declaration}
 use Rattle.scopes.specs.declared.declaration.Declaration.TheVariants.{Env, Arg}
 use Rattle.scopes.specs.declared.env_row.EnvRow.{EnvRow}

@@ -5,8 +5,8 @@ use Rattle.std.specs.Ordering.{nat_cmp}
 use Rattle.std.specs.Cmp.Lexicographic.{slice_cmp}
 use Rattle.std.specs.FinMap.{FinMap, code}
 
-abbrev pub Given : Type 0
-Given = FinMap (slice_cmp nat_cmp) (List ℕ)
+abbrev pub BuildArguments : Type 0
+BuildArguments = FinMap (slice_cmp nat_cmp) (List ℕ)
 
-abbrev pub given_code : Coded Given
-given_code = code (coded_list coded_ℕ) (coded_list coded_ℕ)
+abbrev pub build_arguments_code : Coded BuildArguments
+build_arguments_code = code (coded_list coded_ℕ) (coded_list coded_ℕ)

@@ -1,0 +1,61 @@
+-- A scope means the history of its lines: what a line says and expands doesn't tell the two apart.
+use Rattle.std.proofs.Common.{◌≡◌, ℕ, List, [], ◌∷◌, ◌++◌, map, Option, Some, None, refl, ap, ap₂, ◌∙◌}
+use Rattle.expand.specs.Value.{Parts, no_part, byte, variable, with_default, with_alternative, value}
+use Rattle.instructions.specs.declared.instruction.Argument.{Argument}
+use Rattle.instructions.specs.declared.instruction.Variable.{Variable}
+use Rattle.scopes.specs.Scope.{or_else, value_in, kept}
+use Rattle.scopes.specs.Evaluate.{Values, fallback, expanded_default}
+use Rattle.scopes.proofs.ScopeLemmas.{value_in-kept, kept-append, filter_map-same}
+use Rattle.scopes.specs.History.{ScopeLine, sets, declares, said, texts, history, scope_after}
+use Rattle.scopes.specs.declared.declaration.Declaration.{Declaration}
+use Rattle.scopes.specs.declared.declaration.Declaration.TheVariants.{Env, Arg}
+
+-- two look-ups give each name the same
+abbrev pub Agree : Values → Values → Type 0
+Agree s t = (n : List ℕ) → s n ≡ t n
+
+pub value-agree : (s t : Values) → Agree s t → (w : Parts) → value s w ≡ value t w
+value-agree s t h no_part = refl
+value-agree s t h (byte b rest) = ap (λ bs. b ∷ bs) (value-agree s t h rest)
+value-agree s t h (variable v rest) = rw (h v, value-agree s t h rest) refl
+value-agree s t h (with_default v word rest) = rw (h v, value-agree s t h word, value-agree s t h rest) refl
+value-agree s t h (with_alternative v word rest) = rw (h v, value-agree s t h word, value-agree s t h rest) refl
+
+map-agree : {X Y : Type 0} (f g : X → Y) → ((x : X) → f x ≡ g x) → (xs : List X) → map f xs ≡ map g xs
+map-agree f g h [] = refl
+map-agree f g h (x ∷ xs) = ap₂ (λ y ys. y ∷ ys) (h x) (map-agree f g h xs)
+
+fallback-agree : (s t : Values) → Agree s t → (o p : Option (List ℕ)) → o ≡ p → (default : Option Parts) → fallback s o default ≡ fallback t p default
+fallback-agree s t h o p e None = e
+fallback-agree s t h o p e (Some word) = ap (λ text. Some text) (value-agree s t h word)
+
+expanded-agree : (s t : Values) → Agree s t → (args : Option (List ℕ)) (default : Option Parts) → expanded_default s args default ≡ expanded_default t args default
+expanded-agree s t h (Some text) default = refl
+expanded-agree s t h None None = refl
+expanded-agree s t h None (Some word) = ap (λ text. Some text) (value-agree s t h word)
+
+pub said-agree : (s t args outer other : Values) → Agree s t → Agree outer other → (line : ScopeLine) → said s args outer line ≡ said t args other line
+said-agree s t args outer other h k (sets variables) = map-agree _ _ (λ (v : Variable). ap (λ text. Env v.name text) (value-agree s t h v.value)) variables
+said-agree s t args outer other h k (declares arguments) =
+    map-agree _ _ (λ (a : Argument). ap (λ o. Arg a.name (or_else (args a.name) o)) (fallback-agree s t h (outer a.name) (other a.name) (k a.name) a.default)) arguments
+
+pub texts-agree : (s t args : Values) → Agree s t → (line : ScopeLine) → texts s args line ≡ texts t args line
+texts-agree s t args h (sets variables) = map-agree _ _ (λ (v : Variable). value-agree s t h v.value) variables
+texts-agree s t args h (declares arguments) =
+    filter_map-same _ _ arguments (λ (a : Argument). expanded-agree s t h (args a.name) a.default)
+
+-- so a scope that was kept says the same of a line as the history that it stands for
+
+pub texts-kept : (args : Values) (ds : List Declaration) (line : ScopeLine) → texts (value_in (kept ds)) args line ≡ texts (value_in ds) args line
+texts-kept args ds line = texts-agree (value_in (kept ds)) (value_in ds) args (value_in-kept ds) line
+
+pub scope-history : (args : Values) (os ds : List Declaration) (lines : List ScopeLine)
+    → scope_after args (value_in (kept os)) (kept ds) lines ≡ kept (history args (value_in os) ds lines)
+scope-history args os ds [] = refl
+scope-history args os ds (line ∷ lines) =
+    let same : said (value_in (kept ds)) args (value_in (kept os)) line ≡ said (value_in ds) args (value_in os) line =
+    said-agree (value_in (kept ds)) (value_in ds) args (value_in (kept os)) (value_in os) (value_in-kept ds) (value_in-kept os) line in
+    let step : kept (kept ds ++ said (value_in (kept ds)) args (value_in (kept os)) line) ≡ kept (ds ++ said (value_in ds) args (value_in os) line) =
+    ap (λ es. kept (kept ds ++ es)) same ∙ kept-append ds (said (value_in ds) args (value_in os) line) in
+    ap (λ before. scope_after args (value_in (kept os)) before lines) step
+    ∙ scope-history args os (ds ++ said (value_in ds) args (value_in os) line) lines
