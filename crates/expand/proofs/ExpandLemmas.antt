@@ -3,8 +3,10 @@ use Rattle.std.proofs.Common.{◌≡◌, ℕ, zero, suc, Bool, true, false, List
 use Rattle.std.specs.Prelude.{if◌then◌else◌, Result}
 use Rattle.words.specs.declared.fault.Fault.{Fault}
 use Rattle.expand.specs.Value.{Parts, is_filled, text_of, value}
-use Rattle.expand.specs.Levels.{innermost, around, with_plain, levels, word_of}
-use Rattle.expand.specs.Expanding.{run, Expands, longest}
+use Rattle.expand.specs.PrivateTokens.{innermost, around, with_plain, levels, word_of}
+use Rattle.expand.specs.PrivateExpanding.{run}
+use Rattle.expand.specs.Expanding.{Expands}
+use Rattle.plain.specs.Limits.{most_text_bytes}
 use Rattle.expand.specs.declared.token.Token.{Token}
 use Rattle.expand.specs.declared.token.Token.TheVariants.{Plain, Variable, Default, Alternative, Close}
 
@@ -80,9 +82,9 @@ pub expands_value : (limit : ℕ) (s : List ℕ → Option (List ℕ)) (ts us : 
     → Expands limit (run s 0 us) r → Expands limit (value s w) r
 expands_value limit s ts us w r h i j k = expands_at limit limit (run s 0 us) (value s w) r refl (ap (λ (vs : List Token). run s 0 vs) h ∙ run-value s ts w i j) k
 
-longest-is : 1048576 ≡ longest
-unfolding longest
-longest-is = refl
+most_text_bytes-is : 1048576 ≡ most_text_bytes
+unfolding most_text_bytes
+most_text_bytes-is = refl
 
-pub expands_longest : (text : List ℕ) (r : Result (List ℕ) Fault) → Expands 1048576 text r → Expands longest text r
-expands_longest text r h = expands_at 1048576 longest text text r longest-is refl h
+pub expands_longest : (text : List ℕ) (r : Result (List ℕ) Fault) → Expands 1048576 text r → Expands most_text_bytes text r
+expands_longest text r h = expands_at 1048576 most_text_bytes text text r most_text_bytes-is refl h

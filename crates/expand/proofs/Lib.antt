@@ -1,4 +1,11 @@
-pub mod OutputLemmas
-pub mod ScanLemmas
-pub mod ReadLemmas
-pub mod ExpandLemmas
+mod ExpandLemmas
+mod OrdinaryLaws
+mod OutputLemmas
+mod PieceForms
+mod ReadLaws
+mod ReadLemmas
+mod ScanLaws
+mod ScanLemmas
+mod SyntaxLaws
+pub mod ValueLaws
+mod WordLaws

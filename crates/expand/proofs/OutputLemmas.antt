@@ -1,7 +1,7 @@
 -- What adding to an output does to its tokens.
 use Rattle.std.proofs.Common.{◌≡◌, ℕ, List, [], ◌∷◌, ◌++◌, length, refl, ap, ◌∙◌, sym, append_assoc, append-nil, arith}
-use Rattle.expand.specs.Pieces.{plain_bytes}
-use Rattle.expand.specs.Output.{bytewise}
+use Rattle.expand.specs.PrivatePieces.{plain_bytes}
+use Rattle.expand.specs.PrivateOutput.{bytewise}
 use Rattle.expand.specs.declared.token.Token.{Token}
 use Rattle.expand.specs.declared.token.Token.TheVariants.{Plain, Variable, Default, Alternative, Close}
 

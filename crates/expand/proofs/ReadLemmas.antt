@@ -1,21 +1,21 @@
 -- The levels of what is read, and one more character of a reading.
-use Rattle.std.proofs.Common.{◌≡◌, ◌<◌, ◌+◌, ℕ, zero, suc, Bool, false, List, [], ◌∷◌, ◌++◌, Option, Some, None, length, refl, ap, ap₂, ◌∙◌, sym, subst, append_assoc}
-use Rattle.std.specs.Prelude.{option_map, option_and_then}
+use Rattle.std.proofs.Common.{◌≡◌, ◌<◌, ◌+◌, ℕ, zero, suc, Bool, false, List, [], ◌∷◌, ◌++◌, Option, Some, None, length, refl, ap, ap₂, ◌∙◌, sym, subst, append_assoc, drop, get_or}
+use Rattle.std.specs.Prelude.{option_map, option_and_then, if◌then◌else◌}
 use Rattle.expand.specs.Value.{Parts, no_part, byte, variable, with_default, with_alternative}
-use Rattle.expand.specs.Levels.{innermost, around, with_plain, with_token, onto, levels, word_of, onto-append}
+use Rattle.expand.specs.PrivateTokens.{innermost, around, with_plain, with_token, onto, levels, word_of, onto-append}
 use Rattle.expand.specs.Syntax.{character_bytes}
-use Rattle.expand.specs.Pieces.{Piece, itself, bare, braced, or_else, if_set, close, tokens, piece_tokens, plain_bytes, AllStand}
-use Rattle.std.proofs.Common.{drop, get_or}
-use Rattle.std.specs.Prelude.{if◌then◌else◌}
+use Rattle.expand.specs.PrivatePieces.{Piece, itself, bare, braced, or_else, if_set, close, tokens, piece_tokens, plain_bytes}
+use Rattle.expand.proofs.PieceForms.{AllStand}
 use Rattle.std.proofs.lemmas.List.{at_drop_more}
-use Rattle.expand.specs.Output.{bytewise}
-use Rattle.expand.specs.Steps.{IsStep}
+use Rattle.expand.specs.PrivateOutput.{bytewise}
+use Rattle.expand.specs.PrivateReading.{IsStep, Step, step, sign_of, pieces_from, pieces}
 use Rattle.expand.specs.declared.state.Reading.{Reading}
 use Rattle.std.specs.Str.{chars}
 use Rattle.lines.specs.declared.line.Escape.{Escape}
 use Rattle.expand.specs.declared.kind.Kind.{Kind}
-use Rattle.expand.specs.Reading.{Step, step, sign_of, pieces_from, pieces, scanned, word}
-use Rattle.expand.specs.ReadLaws.{pieces-stand}
+use Rattle.expand.specs.PrivateScan.{scanned}
+use Rattle.expand.specs.Word.{word}
+use Rattle.expand.proofs.ReadLaws.{pieces-stand}
 use Rattle.expand.specs.declared.character.Character.{Character}
 use Rattle.expand.specs.declared.state.Begun.{Begun}
 use Rattle.expand.specs.declared.state.Begun.TheVariants.{Nothing}

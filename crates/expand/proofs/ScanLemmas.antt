@@ -1,11 +1,10 @@
 -- What the scan of each kind of text gives.
 use Rattle.std.proofs.Common.{◌≡◌, ℕ, List, Option, Some, false, ap, ◌∙◌, sym}
 use Rattle.lines.specs.declared.line.Escape.{Escape}
-use Rattle.expand.specs.Emitted.{quoted_from}
-use Rattle.expand.specs.Reading.{scanned, bare_from}
-use Rattle.expand.specs.ScanLaws.{quoted_from-is}
+use Rattle.expand.specs.PrivateScan.{quoted_from, scanned, bare_from}
+use Rattle.expand.proofs.ScanLaws.{quoted_from-is}
 use Rattle.expand.specs.declared.kind.Kind.{Kind}
-use Rattle.expand.specs.declared.kind.Kind.TheVariants.{Quoted, Json, Body}
+use Rattle.expand.specs.declared.kind.Kind.TheVariants.{Quoted, Unquoted}
 use Rattle.words.specs.declared.class.Place.TheVariants.{Outside}
 use Rattle.expand.specs.declared.character.Character.{Character}
 
@@ -13,10 +12,6 @@ pub scanned_quoted : (kind : Kind) (e : Escape) (text : List ℕ) (found : Optio
 unfolding scanned
 scanned_quoted kind e text found h i = i ∙ quoted_from-is e text ∙ ap (λ (k : Kind). scanned k e text) (sym h)
 
-pub scanned_json : (kind : Kind) (e : Escape) (text : List ℕ) (found : Option (List Character)) → kind ≡ Json → found ≡ Some (bare_from e false text) → found ≡ scanned kind e text
+pub scanned_unquoted : (kind : Kind) (e : Escape) (text : List ℕ) (found : Option (List Character)) → kind ≡ Unquoted → found ≡ Some (bare_from e false text) → found ≡ scanned kind e text
 unfolding scanned
-scanned_json kind e text found h i = i ∙ ap (λ (k : Kind). scanned k e text) (sym h)
-
-pub scanned_body : (kind : Kind) (e : Escape) (text : List ℕ) (found : Option (List Character)) → kind ≡ Body → found ≡ Some (bare_from e false text) → found ≡ scanned kind e text
-unfolding scanned
-scanned_body kind e text found h i = i ∙ ap (λ (k : Kind). scanned k e text) (sym h)
+scanned_unquoted kind e text found h i = i ∙ ap (λ (k : Kind). scanned k e text) (sym h)

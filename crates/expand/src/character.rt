@@ -1,5 +1,5 @@
 ghost use Rattle.std.specs.Prelude.{◌≡◌, ◌<◌};
-ghost use Rattle.expand.specs.Reading.{sign_at, sign_of, code_point};
+ghost use Rattle.expand.specs.PrivateReading.{sign_at, sign_of, code_point};
 
 /// A character that the scan of a text leaves.
 #[derive(Clone, Copy, Debug, PartialEq, Eq)]
@@ -49,7 +49,7 @@ pub enum Sign {
     Other,
 }
 
-#[tactic(auto, unfolding(crate::specs::Reading::sign_at))]
+#[tactic(auto, unfolding(crate::specs::PrivateReading::sign_at))]
 fn sign_at(character: char) -> Sign
     ensures sign { result ≡ sign_at character }
     ensures letter { result ≡ Sign.Letter → character < 128 }

@@ -1,10 +1,8 @@
-/// The three kinds of text that are expanded. They differ in what quotes and the escape character do.
+/// What quotes do in a text that is expanded.
 #[derive(Clone, Copy, Debug, PartialEq, Eq)]
 pub enum Kind {
-    /// A word of an instruction, with its quotes.
+    /// They are the shell's and are removed, as in a word of an instruction.
     Quoted,
-    /// A string of the JSON form, which has no quotes of the shell's.
-    Json,
-    /// The body of a heredoc, which has no quotes either.
-    Body,
+    /// They are characters like others, as in a string of the JSON form and in a heredoc's body.
+    Unquoted,
 }

@@ -6,8 +6,9 @@ ghost use Rattle.lines.specs.declared.line.Escape.{Escape};
 ghost use Rattle.words.specs.Reading.{ends_open};
 ghost use Rattle.expand.specs.Value.{Parts, no_part, variable, with_default, with_alternative, with_text, value};
 ghost use Rattle.expand.specs.Syntax.{Syntax, Stands, written};
-ghost use Rattle.expand.specs.Meaning.{IsWord, AreOrdinary};
-ghost use Rattle.expand.specs.Reading.{scanned, word};
+ghost use Rattle.expand.specs.Word.{IsWord, AreOrdinary, word};
+ghost use Rattle.expand.specs.Scan.{IsScanned};
+ghost use Rattle.expand.specs.declared.character.Character.{Character};
 ghost use Rattle.expand.specs.declared.kind.Kind.{Kind};
 
 /// Each text is just one word, the one that reading it from its front gives, or none.
@@ -16,10 +17,10 @@ pub fn words_are_unique()
     ensures one { (kind : Kind) (escape : Escape) (text : List ℕ) (found : Parts) → IsWord kind escape text found → word kind escape text ≡ Some found }
 {}
 
-/// A text has an open quote, as `words::closed` tells by R09, exactly where scanning it with its quotes gives none, as
-/// `Word::read` tells by R09. A text is valid UTF-8: of other bytes a quote could be part of what is read as one character.
+/// A text has an open quote, for which `words::closed` gives R09, exactly where scanning it with its quotes leaves nothing, for which
+/// `Word::read` gives R09. A text is valid UTF-8: of other bytes a quote could be part of what is read as one character.
 pub fn open_quotes_are_not_scanned()
-    ensures { (escape : Escape) (text : List ℕ) → IsUtf8 text → (ends_open escape text ≡ true) ↔ (scanned Kind.Quoted escape (chars text) ≡ None) }
+    ensures { (escape : Escape) (text : List ℕ) → IsUtf8 text → (ends_open escape text ≡ true) ↔ ((found : List Character) → ¬ (IsScanned Kind.Quoted escape (chars text) found)) }
 {}
 
 /// Marked characters are written by one syntax at most, so it is determined which `}` closes which `${`.

@@ -3,7 +3,7 @@
 // It knows no instruction and no scope: what gives a name its value is a trait, `Lookup`, and the crates above say which
 // texts are expanded, and with which scope.
 //
-// The central definitions are `IsWord` in specs/Meaning.antt, by which a text is scanned (which characters are active) and
+// The central definitions are `IsWord` in specs/Word.antt, by which a text is scanned (which characters are active) and
 // what is left is read by the syntax in specs/Syntax.antt, and `value` in specs/Value.antt, which joins the values of a
 // word's parts.
 //
@@ -14,8 +14,9 @@
 #![tactic(auto)]
 
 mod character;
+mod expanding;
 mod kind;
-mod laws;
+pub mod laws;
 mod lookup;
 mod output;
 mod reading;
@@ -24,13 +25,7 @@ mod state;
 mod token;
 mod word;
 
+pub use expanding::expand;
 pub use kind::Kind;
-pub use laws::{
-    alternatives_have_values, defaults_have_values, open_quotes_are_not_scanned,
-    ordinary_texts_are_their_values, syntaxes_are_unique, variables_have_values, words_are_unique,
-};
 pub use lookup::Lookup;
-pub use word::{Word, expand};
-
-#[cfg(test)]
-mod tests;
+pub use word::Word;

@@ -1,7 +1,7 @@
 ghost use Rattle.std.specs.Prelude.{◌≡◌, [], ◌∷◌, ◌++◌, IfOk, encode_utf8};
 ghost use Rattle.std.specs.String.{string_bytes};
-ghost use Rattle.expand.specs.Pieces.{plain_bytes};
-ghost use Rattle.expand.specs.Output.{bytewise, made};
+ghost use Rattle.expand.specs.PrivatePieces.{plain_bytes};
+ghost use Rattle.expand.specs.PrivateOutput.{bytewise, made};
 
 use crate::token::Token;
 use plain::{Items, Memory, Text};

@@ -1,12 +1,12 @@
 ghost use Rattle.std.specs.Prelude.{◌≡◌, ◌<◌, ◌≤◌, [], ◌∷◌, ◌++◌, IfOk, option_map};
-ghost use Rattle.expand.specs.Pieces.{tokens};
-ghost use Rattle.expand.specs.Output.{bytewise, made};
-ghost use Rattle.expand.specs.Reading.{sign_of, code_point, pieces, step, step_at, step_started, step_bare, step_opened, step_named, step_coloned, ended_at_end};
-ghost use Rattle.expand.specs.Steps.{IsStep, finished};
+ghost use Rattle.expand.specs.PrivatePieces.{tokens};
+ghost use Rattle.expand.specs.PrivateOutput.{bytewise, made};
+ghost use Rattle.expand.specs.PrivateReading.{sign_of, code_point, pieces, step, step_at, step_after_dollar, step_in_name, step_after_brace, step_in_braced_name, step_after_colon, ended_at_end, IsStep, finished};
+ghost use Rattle.expand.specs.Syntax.{most_nested};
 
 use crate::character::{Character, Sign};
 use crate::output::Output;
-use crate::state::{Begun, DEEPEST, Reading};
+use crate::state::{Begun, MOST_NESTED, Reading};
 use crate::token::Token;
 use plain::{Items, Memory, Text};
 use std::alloc::Global;
@@ -38,11 +38,11 @@ fn step(
     let Reading { depth, begun } = reading;
     match begun {
         Begun::Nothing => step_at(alloc, output, depth, character),
-        Begun::Started => step_started(alloc, output, depth, character),
-        Begun::Bare(name) => step_bare(alloc, output, depth, name, character),
-        Begun::Opened => step_opened(alloc, output, depth, character),
-        Begun::Named(name) => step_named(alloc, output, depth, name, character),
-        Begun::Coloned(name) => step_coloned(alloc, output, depth, name, character),
+        Begun::AfterDollar => step_after_dollar(alloc, output, depth, character),
+        Begun::InName(name) => step_in_name(alloc, output, depth, name, character),
+        Begun::AfterBrace => step_after_brace(alloc, output, depth, character),
+        Begun::InBracedName(name) => step_in_braced_name(alloc, output, depth, name, character),
+        Begun::AfterColon(name) => step_after_colon(alloc, output, depth, name, character),
     }
 }
 
@@ -53,11 +53,11 @@ fn step_at(
     depth: u8,
     character: Character,
 ) -> Result<Option<Reading>, Memory>
-    requires { depth ≤ 32 }
+    requires { depth ≤ most_nested }
     ensures { IfOk result (IsStep (made output.old) (made output.new) (step_at depth (sign_of character) character)) }
 {
     match character.sign() {
-        Sign::Dollar => Ok(Some(Reading::new(depth, Begun::Started))),
+        Sign::Dollar => Ok(Some(Reading::new(depth, Begun::AfterDollar))),
         Sign::CloseBrace if depth > 0 => {
             output.push_token(alloc, Token::Close)?;
             Ok(Some(Reading::new(depth - 1, Begun::Nothing)))
@@ -70,21 +70,21 @@ fn step_at(
 }
 
 /// Behind a `$`, which stands for itself where neither a name nor `{` follows.
-fn step_started(
+fn step_after_dollar(
     alloc: Global,
     output: &mut Output,
     depth: u8,
     character: Character,
 ) -> Result<Option<Reading>, Memory>
-    requires { depth ≤ 32 }
-    ensures { IfOk result (IsStep (made output.old) (made output.new) (step_started depth (sign_of character) character)) }
+    requires { depth ≤ most_nested }
+    ensures { IfOk result (IsStep (made output.old) (made output.new) (step_after_dollar depth (sign_of character) character)) }
 {
     match character.sign() {
         Sign::Letter => {
             let name = one_letter(alloc, character.value())?;
-            Ok(Some(Reading::new(depth, Begun::Bare(name))))
+            Ok(Some(Reading::new(depth, Begun::InName(name))))
         }
-        Sign::OpenBrace if depth < DEEPEST => Ok(Some(Reading::new(depth, Begun::Opened))),
+        Sign::OpenBrace if depth < MOST_NESTED => Ok(Some(Reading::new(depth, Begun::AfterBrace))),
         Sign::OpenBrace => Ok(None),
         _ => {
             output.push_character('$')?;
@@ -94,20 +94,20 @@ fn step_started(
 }
 
 /// Behind `$` and a name so far: the name is the longest.
-fn step_bare(
+fn step_in_name(
     alloc: Global,
     output: &mut Output,
     depth: u8,
     name: Text,
     character: Character,
 ) -> Result<Option<Reading>, Memory>
-    requires { depth ≤ 32 }
-    ensures { IfOk result (IsStep (made output.old) (made output.new) (step_bare name depth (sign_of character) character)) }
+    requires { depth ≤ most_nested }
+    ensures { IfOk result (IsStep (made output.old) (made output.new) (step_in_name name depth (sign_of character) character)) }
 {
     match character.sign() {
         Sign::Letter | Sign::Digit => {
             let name = longer(name, character.value())?;
-            Ok(Some(Reading::new(depth, Begun::Bare(name))))
+            Ok(Some(Reading::new(depth, Begun::InName(name))))
         }
         _ => {
             output.push_token(alloc, Token::Variable(name))?;
@@ -117,41 +117,41 @@ fn step_bare(
 }
 
 /// Behind `${`, where a name has to begin.
-fn step_opened(
+fn step_after_brace(
     alloc: Global,
     output: &mut Output,
     depth: u8,
     character: Character,
 ) -> Result<Option<Reading>, Memory>
-    requires { depth < 32 }
-    ensures { IfOk result (IsStep (made output.old) (made output.new) (step_opened depth (sign_of character) character)) }
+    requires { depth < most_nested }
+    ensures { IfOk result (IsStep (made output.old) (made output.new) (step_after_brace depth (sign_of character) character)) }
 {
     match character.sign() {
         Sign::Letter => {
             let name = one_letter(alloc, character.value())?;
-            Ok(Some(Reading::new(depth, Begun::Named(name))))
+            Ok(Some(Reading::new(depth, Begun::InBracedName(name))))
         }
         _ => Ok(None),
     }
 }
 
 /// Behind `${` and a name so far, which goes on, or ends before `}` or `:`.
-fn step_named(
+fn step_in_braced_name(
     alloc: Global,
     output: &mut Output,
     depth: u8,
     name: Text,
     character: Character,
 ) -> Result<Option<Reading>, Memory>
-    requires { depth < 32 }
-    ensures { IfOk result (IsStep (made output.old) (made output.new) (step_named name depth (sign_of character) character)) }
+    requires { depth < most_nested }
+    ensures { IfOk result (IsStep (made output.old) (made output.new) (step_in_braced_name name depth (sign_of character) character)) }
 {
     match character.sign() {
         Sign::Letter | Sign::Digit => {
             let name = longer(name, character.value())?;
-            Ok(Some(Reading::new(depth, Begun::Named(name))))
+            Ok(Some(Reading::new(depth, Begun::InBracedName(name))))
         }
-        Sign::Colon => Ok(Some(Reading::new(depth, Begun::Coloned(name)))),
+        Sign::Colon => Ok(Some(Reading::new(depth, Begun::AfterColon(name)))),
         Sign::CloseBrace => {
             output.push_token(alloc, Token::Variable(name))?;
             Ok(Some(Reading::new(depth, Begun::Nothing)))
@@ -161,15 +161,15 @@ fn step_named(
 }
 
 /// Behind `${`, a name and `:`, where a word of its own begins.
-fn step_coloned(
+fn step_after_colon(
     alloc: Global,
     output: &mut Output,
     depth: u8,
     name: Text,
     character: Character,
 ) -> Result<Option<Reading>, Memory>
-    requires { depth < 32 }
-    ensures { IfOk result (IsStep (made output.old) (made output.new) (step_coloned name depth (sign_of character) character)) }
+    requires { depth < most_nested }
+    ensures { IfOk result (IsStep (made output.old) (made output.new) (step_after_colon name depth (sign_of character) character)) }
 {
     let opening = match character.sign() {
         Sign::Dash => Token::Default(name),
@@ -194,9 +194,9 @@ fn finish(
     }
     match begun {
         Begun::Nothing => {}
-        Begun::Started => output.push_character('$')?,
-        Begun::Bare(name) => output.push_token(alloc, Token::Variable(name))?,
-        Begun::Opened | Begun::Named(_) | Begun::Coloned(_) => return Ok(None),
+        Begun::AfterDollar => output.push_character('$')?,
+        Begun::InName(name) => output.push_token(alloc, Token::Variable(name))?,
+        Begun::AfterBrace | Begun::InBracedName(_) | Begun::AfterColon(_) => return Ok(None),
     }
     let tokens = output.into_tokens(alloc)?;
     Ok(Some(tokens))

@@ -1,7 +1,6 @@
 ghost use Rattle.std.specs.Prelude.{◌≡◌, ◌++◌, false, Some, IfOk, option_map};
 ghost use Rattle.expand.specs.Scan.{is_freed};
-ghost use Rattle.expand.specs.Reading.{scanned, bare_from};
-ghost use Rattle.expand.specs.Emitted.{emitted, quoted_from};
+ghost use Rattle.expand.specs.PrivateScan.{scanned, bare_from, emitted, quoted_from};
 ghost use Rattle.words.specs.declared.class.Place.{Place};
 
 use crate::character::Character;
@@ -16,7 +15,7 @@ use words::{Class, Place};
 /// Of a word with quotes these are removed; a character in single quotes or behind an escape character that acts is plain
 /// text, all others are active (Dockerfile reference, escaping). In a string of the JSON form and in a heredoc's body
 /// quotes are characters like others, and the escape character acts before `$` and itself (own).
-#[tactic(auto, using(crate::proofs::ScanLemmas::scanned_quoted, crate::proofs::ScanLemmas::scanned_json, crate::proofs::ScanLemmas::scanned_body))]
+#[tactic(auto, using(crate::proofs::ScanLemmas::scanned_quoted, crate::proofs::ScanLemmas::scanned_unquoted))]
 pub fn scan(
     alloc: Global,
     kind: Kind,
@@ -27,7 +26,7 @@ pub fn scan(
 {
     match kind {
         Kind::Quoted => scan_quoted(alloc, escape, text),
-        Kind::Json | Kind::Body => scan_bare(alloc, escape, text),
+        Kind::Unquoted => scan_bare(alloc, escape, text),
     }
 }
 

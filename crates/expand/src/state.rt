@@ -1,25 +1,26 @@
 ghost use Rattle.std.specs.Prelude.{◌≡◌, ◌+◌, ◌≤◌};
-ghost use Rattle.expand.specs.Depth.{opening};
+ghost use Rattle.expand.specs.PrivateState.{opening};
+ghost use Rattle.expand.specs.Syntax.{most_nested};
 
 use plain::Text;
 
-/// How deep `${` may stand within one another.
-pub const DEEPEST: u8 = 32;
+/// How many `${` may stand within one another at most.
+pub const MOST_NESTED: u8 = 32;
 
 /// What is begun where the next character comes.
 #[derive(Drop)]
 pub enum Begun {
     Nothing,
     /// A `$`.
-    Started,
+    AfterDollar,
     /// `$` and a name so far.
-    Bare(Text),
+    InName(Text),
     /// `${`.
-    Opened,
+    AfterBrace,
     /// `${` and a name so far.
-    Named(Text),
+    InBracedName(Text),
     /// `${`, a name and `:`.
-    Coloned(Text),
+    AfterColon(Text),
 }
 
 /// How far a word is read.
@@ -28,13 +29,13 @@ pub struct Reading {
     /// How many words are open.
     pub depth: u8,
     pub begun: Begun,
-    ghost within: { depth + opening begun ≤ 32 },
+    ghost within: { depth + opening begun ≤ most_nested },
 }
 
 impl Reading {
     /// So many words are open, and this is begun.
     pub fn new(depth: u8, begun: Begun) -> Reading
-        requires { depth + opening begun ≤ 32 }
+        requires { depth + opening begun ≤ most_nested }
         ensures depth { result.depth ≡ depth }
         ensures begun { result.begun ≡ begun }
     {

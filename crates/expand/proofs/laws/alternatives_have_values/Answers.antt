@@ -1,4 +1,4 @@
-use Rattle.expand.specs.ValueLaws.{value-alternative_filled, value-alternative_empty, value-alternative_unset}
+use Rattle.expand.proofs.ValueLaws.{value-alternative_filled, value-alternative_empty, value-alternative_unset}
 use Rattle.expand.proofs.laws.alternatives_have_values.Goals as goal
 
 pub returns-clause-filled : goal.returns-clause-filled

@@ -1,4 +1,4 @@
-use Rattle.expand.specs.ValueLaws.{value-default_filled, value-default_empty, value-default_unset}
+use Rattle.expand.proofs.ValueLaws.{value-default_filled, value-default_empty, value-default_unset}
 use Rattle.expand.proofs.laws.defaults_have_values.Goals as goal
 
 pub returns-clause-filled : goal.returns-clause-filled

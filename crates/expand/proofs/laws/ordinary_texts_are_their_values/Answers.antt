@@ -1,4 +1,4 @@
-use Rattle.expand.specs.OrdinaryLaws.{ordinary-word, ordinary-value}
+use Rattle.expand.proofs.OrdinaryLaws.{ordinary-word, ordinary-value}
 use Rattle.expand.proofs.laws.ordinary_texts_are_their_values.Goals as goal
 
 pub returns-clause-word : goal.returns-clause-word

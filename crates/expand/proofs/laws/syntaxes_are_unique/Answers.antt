@@ -1,4 +1,4 @@
-use Rattle.expand.specs.SyntaxLaws.{syntax-only}
+use Rattle.expand.proofs.SyntaxLaws.{syntax-only}
 use Rattle.expand.proofs.laws.syntaxes_are_unique.Goals as goal
 
 pub returns : goal.returns

@@ -1,4 +1,4 @@
-use Rattle.expand.specs.ValueLaws.{value-variable_set, value-variable_unset}
+use Rattle.expand.proofs.ValueLaws.{value-variable_set, value-variable_unset}
 use Rattle.expand.proofs.laws.variables_have_values.Goals as goal
 
 pub returns-clause-set : goal.returns-clause-set

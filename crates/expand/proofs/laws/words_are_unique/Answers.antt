@@ -1,4 +1,4 @@
-use Rattle.expand.specs.WordLaws.{word-is, word-only}
+use Rattle.expand.proofs.WordLaws.{word-is, word-only}
 use Rattle.expand.proofs.laws.words_are_unique.Goals as goal
 
 pub returns-clause-some : goal.returns-clause-some

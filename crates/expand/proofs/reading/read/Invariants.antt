@@ -1,8 +1,8 @@
 use Rattle.std.proofs.Common.{drop, ◌≡◌, ◌++◌, List}
 use Rattle.std.specs.Prelude.{option_map}
-use Rattle.expand.specs.Pieces.{Piece, tokens}
-use Rattle.expand.specs.Output.{made}
-use Rattle.expand.specs.Reading.{pieces_from, pieces}
+use Rattle.expand.specs.PrivatePieces.{Piece, tokens}
+use Rattle.expand.specs.PrivateOutput.{made}
+use Rattle.expand.specs.PrivateReading.{pieces_from, pieces}
 use Rattle.expand.proofs.reading.read.Given as goal
 
 abbrev pub invariant-loop-character : goal.invariant-loop-character

@@ -1,7 +1,7 @@
 use Rattle.std.proofs.Common.{drop, ◌≡◌, ◌++◌}
 use Rattle.lines.specs.Escapes.{byte_of}
 use Rattle.std.specs.Prelude.{false}
-use Rattle.expand.specs.Reading.{bare_from}
+use Rattle.expand.specs.PrivateScan.{bare_from}
 use Rattle.expand.proofs.scan.scan_bare.Given as goal
 
 abbrev pub invariant-loop-character : goal.invariant-loop-character

@@ -4,12 +4,13 @@ use Rattle.std.proofs.Common.{sym, ◌∙◌, ap}
 use Rattle.std.specs.Str.{chars}
 use Rattle.lines.specs.declared.line.Escape.{Escape}
 use Rattle.expand.specs.Value.{Parts}
-use Rattle.expand.specs.Levels.{word_of}
-use Rattle.expand.specs.Pieces.{Piece, tokens}
-use Rattle.expand.specs.Meaning.{IsWord}
-use Rattle.expand.specs.Reading.{pieces, scanned, word}
-use Rattle.expand.specs.ScanLaws.{scanned-is, scanned-only}
-use Rattle.expand.specs.SyntaxLaws.{read-is, read-only}
+use Rattle.expand.specs.PrivateTokens.{word_of}
+use Rattle.expand.specs.PrivatePieces.{Piece, tokens}
+use Rattle.expand.specs.Word.{IsWord, word}
+use Rattle.expand.specs.PrivateReading.{pieces}
+use Rattle.expand.specs.PrivateScan.{scanned}
+use Rattle.expand.proofs.ScanLaws.{scanned-is, scanned-only}
+use Rattle.expand.proofs.SyntaxLaws.{read-is, read-only}
 use Rattle.expand.specs.declared.character.Character.{Character}
 use Rattle.expand.specs.declared.kind.Kind.{Kind}
 

@@ -1,7 +1,7 @@
 use Rattle.std.proofs.Common.{drop, ◌≡◌, ◌≤◌, ◌++◌}
 use Rattle.std.specs.String.{string_bytes, string_len}
-use Rattle.expand.specs.Expanding.{run}
-use Rattle.expand.proofs.word.run_within.Given as goal
+use Rattle.expand.specs.PrivateExpanding.{run}
+use Rattle.expand.proofs.expanding.expand_tokens.Given as goal
 
 abbrev pub invariant-loop-token : goal.invariant-loop-token
 invariant-loop-token g l = record {

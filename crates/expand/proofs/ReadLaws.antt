@@ -3,16 +3,17 @@ use Rattle.std.specs.Prelude.{◌≡◌, ℕ, zero, suc, ◌==◌, ◌&&◌, nat
 use Rattle.std.proofs.Common.{inl, inr, sym, ◌∙◌, ap, subst, append_assoc, append-nil, arith}
 use Rattle.std.proofs.lemmas.Bool.{true≢false}
 use Rattle.std.proofs.lemmas.Bool.Decides.{nat_tests}
-use Rattle.lines.specs.Marks.{begins_name, is_in_name, are_in_name, is_name}
+use Rattle.ascii.specs.Names.{begins_name, is_in_name, are_in_name, is_name}
 use Rattle.expand.specs.Syntax.{active, goes_on, IsDollarAlone, StandsForItself, MayNest}
-use Rattle.expand.specs.Pieces.{Piece, itself, bare, braced, or_else, if_set, close, piece_text, written, AllStand}
-use Rattle.expand.specs.Reading.{sign_at, sign_of, code_point, Step, bad, on, behind, step_close, step_at, step_started, step_bare, step, ended_at_end, pieces_from, pieces}
+use Rattle.expand.specs.PrivatePieces.{Piece, itself, bare, braced, or_else, if_set, close}
+use Rattle.expand.proofs.PieceForms.{piece_text, written, AllStand}
+use Rattle.expand.specs.PrivateReading.{sign_at, sign_of, code_point, Step, bad, on, behind, step_close, step_at, step_after_dollar, step_in_name, step, ended_at_end, pieces_from, pieces}
 use Rattle.expand.specs.declared.character.Character.{Character}
 use Rattle.expand.specs.declared.character.Character.TheVariants.{Active, Literal}
 use Rattle.expand.specs.declared.character.Sign.{Sign}
 use Rattle.expand.specs.declared.character.Sign.TheVariants.{Dollar, OpenBrace, CloseBrace, Colon, Dash, Plus, Letter, Digit, Other}
 use Rattle.expand.specs.declared.state.Begun.{Begun}
-use Rattle.expand.specs.declared.state.Begun.TheVariants.{Nothing, Started, Bare, Opened, Named, Coloned}
+use Rattle.expand.specs.declared.state.Begun.TheVariants.{Nothing, AfterDollar, InName, AfterBrace, InBracedName, AfterColon}
 
 eqb_equal : (a b : ℕ) → (a == b) ≡ true → a ≡ b
 eqb_equal a b h = grind (arith, nat_tests)
@@ -97,19 +98,19 @@ taken-on n b cs = map_same (pieces_from n b cs)
 -- what was begun, as it is written
 abbrev begun_text : Begun → List Character
 begun_text Nothing = []
-begun_text Started = Active 36 ∷ []
-begun_text (Bare v) = Active 36 ∷ active v
-begun_text Opened = Active 36 ∷ Active 123 ∷ []
-begun_text (Named v) = Active 36 ∷ Active 123 ∷ active v
-begun_text (Coloned v) = Active 36 ∷ Active 123 ∷ (active v ++ Active 58 ∷ [])
+begun_text AfterDollar = Active 36 ∷ []
+begun_text (InName v) = Active 36 ∷ active v
+begun_text AfterBrace = Active 36 ∷ Active 123 ∷ []
+begun_text (InBracedName v) = Active 36 ∷ Active 123 ∷ active v
+begun_text (AfterColon v) = Active 36 ∷ Active 123 ∷ (active v ++ Active 58 ∷ [])
 
 abbrev IsSound : ℕ → Begun → Type 0
 IsSound n Nothing = Unit {0}
-IsSound n Started = Unit {0}
-IsSound n (Bare v) = is_name v ≡ true
-IsSound n Opened = MayNest n
-IsSound n (Named v) = (is_name v ≡ true) × MayNest n
-IsSound n (Coloned v) = (is_name v ≡ true) × MayNest n
+IsSound n AfterDollar = Unit {0}
+IsSound n (InName v) = is_name v ≡ true
+IsSound n AfterBrace = MayNest n
+IsSound n (InBracedName v) = (is_name v ≡ true) × MayNest n
+IsSound n (AfterColon v) = (is_name v ≡ true) × MayNest n
 
 -- what is read, if anything, stands and is written so
 abbrev pub IsGood : ℕ → List Character → Option (List Piece) → Type 0
@@ -264,7 +265,7 @@ active-append (u ∷ us) vs = ap (λ (t : List Character). Active u ∷ t) (acti
 name_more : (v : List ℕ) (c : Character) (cs : List Character) → c ≡ Active (code_point c) → active (v ++ code_point c ∷ []) ++ cs ≡ active v ++ (c ∷ cs)
 name_more v c cs h = ap (λ (t : List Character). t ++ cs) (active-append v (code_point c ∷ [])) ∙ append_assoc (active v) (Active (code_point c) ∷ []) cs ∙ ap (λ (d : Character). active v ++ (d ∷ cs)) (sym h)
 
-nest_by : (n : ℕ) (b : Bool) → nat_lt n 32 ≡ b → (text cs : List Character) → (MayNest n → IsGood n text (taken (on [] n Opened) cs)) → IsGood n text (taken (if b then on [] n Opened else bad) cs)
+nest_by : (n : ℕ) (b : Bool) → nat_lt n 32 ≡ b → (text cs : List Character) → (MayNest n → IsGood n text (taken (on [] n AfterBrace) cs)) → IsGood n text (taken (if b then on [] n AfterBrace else bad) cs)
 nest_by n true h text cs g = g (grind (arith, nat_tests))
 nest_by n false h text cs g = tt
 
@@ -277,7 +278,7 @@ close_good (suc n) c cs h f =
     good_text (suc n) _ _ _ (ap (λ (d : Character). d ∷ cs) (sym (CloseBrace_is c h))) (good_more (suc n) n close cs _ (λ ps i j. i) (f n Nothing tt))
 
 at_good : (n : ℕ) (c : Character) (cs : List Character) (k : Sign) → SignIs k c → Follows cs → IsGood n (c ∷ cs) (taken (step_at n k c) cs)
-at_good n c cs Dollar h f = good_same n _ _ _ (sym (taken-on n Started cs)) (good_text n _ _ _ (ap (λ (d : Character). d ∷ cs) (sym (Dollar_is c h))) (f n Started tt))
+at_good n c cs Dollar h f = good_same n _ _ _ (sym (taken-on n AfterDollar cs)) (good_text n _ _ _ (ap (λ (d : Character). d ∷ cs) (sym (Dollar_is c h))) (f n AfterDollar tt))
 at_good n c cs CloseBrace h f = close_good n c cs h f
 at_good n c cs k h f = good_itself n c cs _ (sign_stands n c cs k refl h) (f n Nothing tt)
 
@@ -303,30 +304,30 @@ if_set_text v cs = ap (λ (t : List Character). Active 36 ∷ Active 123 ∷ t) 
 step_good : (n : ℕ) (b : Begun) (c : Character) (cs : List Character) (k : Sign) → SignIs k c → IsSound n b → Follows cs → IsGood n (begun_text b ++ (c ∷ cs)) (taken (step n b k c) cs)
 step_good n Nothing c cs Dollar h i f = at_good n c cs Dollar h f
 step_good n Nothing c cs k h i f = at_good n c cs k h f
-step_good n Started c cs OpenBrace h i f = nest_by n (nat_lt n 32) refl _ cs (λ j. good_same n _ _ _ (sym (taken-on n Opened cs)) (good_text n _ _ _ (ap (λ (d : Character). Active 36 ∷ d ∷ cs) (sym (OpenBrace_is c h))) (f n Opened j)))
-step_good n Started c cs Letter h i f = good_same n _ _ _ (sym (taken-on n (Bare (code_point c ∷ [])) cs)) (good_text n _ _ _ (ap (λ (d : Character). Active 36 ∷ d ∷ cs) (sym (Letter_is c h).0)) (f n (Bare (code_point c ∷ [])) (name_of_one (code_point c) (begins_by c h))))
-step_good n Started c cs k h i f = alone_good n c cs k refl h f
-step_good n (Bare v) c cs Letter h i f = good_same n _ _ _ (sym (taken-on n (Bare (v ++ code_point c ∷ [])) cs)) (good_text n _ _ _ (ap (λ (t : List Character). Active 36 ∷ t) (name_more v c cs (Letter_is c h).0)) (f n (Bare (v ++ code_point c ∷ [])) (is_name-more v (code_point c) i (Letter_is c h).1)))
-step_good n (Bare v) c cs Digit h i f = good_same n _ _ _ (sym (taken-on n (Bare (v ++ code_point c ∷ [])) cs)) (good_text n _ _ _ (ap (λ (t : List Character). Active 36 ∷ t) (name_more v c cs (Digit_is c h).0)) (f n (Bare (v ++ code_point c ∷ [])) (is_name-more v (code_point c) i (Digit_is c h).1)))
-step_good n (Bare v) c cs k h i f = ended_good n v c cs k i refl h f
-step_good n Opened c cs Letter h i f = good_same n _ _ _ (sym (taken-on n (Named (code_point c ∷ [])) cs)) (good_text n _ _ _ (ap (λ (d : Character). Active 36 ∷ Active 123 ∷ d ∷ cs) (sym (Letter_is c h).0)) (f n (Named (code_point c ∷ [])) (name_of_one (code_point c) (begins_by c h), i)))
-step_good n Opened c cs _ h i f = tt
-step_good n (Named v) c cs CloseBrace h i f = good_text n _ _ _ (braced_text v cs ∙ ap (λ (d : Character). Active 36 ∷ Active 123 ∷ (active v ++ (d ∷ cs))) (sym (CloseBrace_is c h))) (good_more n n (braced v) cs _ (λ ps j k. (i.0, i.1, j)) (f n Nothing tt))
-step_good n (Named v) c cs Colon h i f = good_same n _ _ _ (sym (taken-on n (Coloned v) cs)) (good_text n _ _ _ (ap (λ (t : List Character). Active 36 ∷ Active 123 ∷ t) (append_assoc (active v) (Active 58 ∷ []) cs ∙ ap (λ (d : Character). active v ++ (d ∷ cs)) (sym (Colon_is c h)))) (f n (Coloned v) i))
-step_good n (Named v) c cs Letter h i f = good_same n _ _ _ (sym (taken-on n (Named (v ++ code_point c ∷ [])) cs)) (good_text n _ _ _ (ap (λ (t : List Character). Active 36 ∷ Active 123 ∷ t) (name_more v c cs (Letter_is c h).0)) (f n (Named (v ++ code_point c ∷ [])) (is_name-more v (code_point c) i.0 (Letter_is c h).1, i.1)))
-step_good n (Named v) c cs Digit h i f = good_same n _ _ _ (sym (taken-on n (Named (v ++ code_point c ∷ [])) cs)) (good_text n _ _ _ (ap (λ (t : List Character). Active 36 ∷ Active 123 ∷ t) (name_more v c cs (Digit_is c h).0)) (f n (Named (v ++ code_point c ∷ [])) (is_name-more v (code_point c) i.0 (Digit_is c h).1, i.1)))
-step_good n (Named v) c cs _ h i f = tt
-step_good n (Coloned v) c cs Dash h i f = good_text n _ _ _ (or_else_text v cs ∙ ap (λ (d : Character). Active 36 ∷ Active 123 ∷ ((active v ++ Active 58 ∷ []) ++ (d ∷ cs))) (sym (Dash_is c h))) (good_more n (suc n) (or_else v) cs _ (λ ps j k. (i.0, i.1, j)) (f (suc n) Nothing tt))
-step_good n (Coloned v) c cs Plus h i f = good_text n _ _ _ (if_set_text v cs ∙ ap (λ (d : Character). Active 36 ∷ Active 123 ∷ ((active v ++ Active 58 ∷ []) ++ (d ∷ cs))) (sym (Plus_is c h))) (good_more n (suc n) (if_set v) cs _ (λ ps j k. (i.0, i.1, j)) (f (suc n) Nothing tt))
-step_good n (Coloned v) c cs _ h i f = tt
+step_good n AfterDollar c cs OpenBrace h i f = nest_by n (nat_lt n 32) refl _ cs (λ j. good_same n _ _ _ (sym (taken-on n AfterBrace cs)) (good_text n _ _ _ (ap (λ (d : Character). Active 36 ∷ d ∷ cs) (sym (OpenBrace_is c h))) (f n AfterBrace j)))
+step_good n AfterDollar c cs Letter h i f = good_same n _ _ _ (sym (taken-on n (InName (code_point c ∷ [])) cs)) (good_text n _ _ _ (ap (λ (d : Character). Active 36 ∷ d ∷ cs) (sym (Letter_is c h).0)) (f n (InName (code_point c ∷ [])) (name_of_one (code_point c) (begins_by c h))))
+step_good n AfterDollar c cs k h i f = alone_good n c cs k refl h f
+step_good n (InName v) c cs Letter h i f = good_same n _ _ _ (sym (taken-on n (InName (v ++ code_point c ∷ [])) cs)) (good_text n _ _ _ (ap (λ (t : List Character). Active 36 ∷ t) (name_more v c cs (Letter_is c h).0)) (f n (InName (v ++ code_point c ∷ [])) (is_name-more v (code_point c) i (Letter_is c h).1)))
+step_good n (InName v) c cs Digit h i f = good_same n _ _ _ (sym (taken-on n (InName (v ++ code_point c ∷ [])) cs)) (good_text n _ _ _ (ap (λ (t : List Character). Active 36 ∷ t) (name_more v c cs (Digit_is c h).0)) (f n (InName (v ++ code_point c ∷ [])) (is_name-more v (code_point c) i (Digit_is c h).1)))
+step_good n (InName v) c cs k h i f = ended_good n v c cs k i refl h f
+step_good n AfterBrace c cs Letter h i f = good_same n _ _ _ (sym (taken-on n (InBracedName (code_point c ∷ [])) cs)) (good_text n _ _ _ (ap (λ (d : Character). Active 36 ∷ Active 123 ∷ d ∷ cs) (sym (Letter_is c h).0)) (f n (InBracedName (code_point c ∷ [])) (name_of_one (code_point c) (begins_by c h), i)))
+step_good n AfterBrace c cs _ h i f = tt
+step_good n (InBracedName v) c cs CloseBrace h i f = good_text n _ _ _ (braced_text v cs ∙ ap (λ (d : Character). Active 36 ∷ Active 123 ∷ (active v ++ (d ∷ cs))) (sym (CloseBrace_is c h))) (good_more n n (braced v) cs _ (λ ps j k. (i.0, i.1, j)) (f n Nothing tt))
+step_good n (InBracedName v) c cs Colon h i f = good_same n _ _ _ (sym (taken-on n (AfterColon v) cs)) (good_text n _ _ _ (ap (λ (t : List Character). Active 36 ∷ Active 123 ∷ t) (append_assoc (active v) (Active 58 ∷ []) cs ∙ ap (λ (d : Character). active v ++ (d ∷ cs)) (sym (Colon_is c h)))) (f n (AfterColon v) i))
+step_good n (InBracedName v) c cs Letter h i f = good_same n _ _ _ (sym (taken-on n (InBracedName (v ++ code_point c ∷ [])) cs)) (good_text n _ _ _ (ap (λ (t : List Character). Active 36 ∷ Active 123 ∷ t) (name_more v c cs (Letter_is c h).0)) (f n (InBracedName (v ++ code_point c ∷ [])) (is_name-more v (code_point c) i.0 (Letter_is c h).1, i.1)))
+step_good n (InBracedName v) c cs Digit h i f = good_same n _ _ _ (sym (taken-on n (InBracedName (v ++ code_point c ∷ [])) cs)) (good_text n _ _ _ (ap (λ (t : List Character). Active 36 ∷ Active 123 ∷ t) (name_more v c cs (Digit_is c h).0)) (f n (InBracedName (v ++ code_point c ∷ [])) (is_name-more v (code_point c) i.0 (Digit_is c h).1, i.1)))
+step_good n (InBracedName v) c cs _ h i f = tt
+step_good n (AfterColon v) c cs Dash h i f = good_text n _ _ _ (or_else_text v cs ∙ ap (λ (d : Character). Active 36 ∷ Active 123 ∷ ((active v ++ Active 58 ∷ []) ++ (d ∷ cs))) (sym (Dash_is c h))) (good_more n (suc n) (or_else v) cs _ (λ ps j k. (i.0, i.1, j)) (f (suc n) Nothing tt))
+step_good n (AfterColon v) c cs Plus h i f = good_text n _ _ _ (if_set_text v cs ∙ ap (λ (d : Character). Active 36 ∷ Active 123 ∷ ((active v ++ Active 58 ∷ []) ++ (d ∷ cs))) (sym (Plus_is c h))) (good_more n (suc n) (if_set v) cs _ (λ ps j k. (i.0, i.1, j)) (f (suc n) Nothing tt))
+step_good n (AfterColon v) c cs _ h i f = tt
 
 end_good : (n : ℕ) (b : Begun) → IsSound n b → IsGood n (begun_text b ++ []) (ended_at_end n b)
 end_good zero Nothing i = (refl, refl)
-end_good zero Started i = (((λ _. tt, λ h. absurd (unequal 36 125 refl h)), refl), refl)
-end_good zero (Bare v) i = ((i, refl, refl), refl)
-end_good zero Opened i = tt
-end_good zero (Named v) i = tt
-end_good zero (Coloned v) i = tt
+end_good zero AfterDollar i = (((λ _. tt, λ h. absurd (unequal 36 125 refl h)), refl), refl)
+end_good zero (InName v) i = ((i, refl, refl), refl)
+end_good zero AfterBrace i = tt
+end_good zero (InBracedName v) i = tt
+end_good zero (AfterColon v) i = tt
 end_good (suc n) b i = tt
 
 all_good : (n : ℕ) (b : Begun) (cs : List Character) → IsSound n b → IsGood n (begun_text b ++ cs) (pieces_from n b cs)
@@ -389,85 +390,85 @@ alone_started (Literal c) cs OpenBrace h i = absurd h
 alone_started (Literal c) cs Letter h i = absurd h
 alone_started _ cs _ h i = refl
 
-started_by : (n : ℕ) (c : Character) (cs : List Character) (k : Sign) → starts k ≡ false → taken (step_started n k c) cs ≡ option_map (λ (ps : List Piece). itself (Active 36) ∷ ps) (taken (step_at n k c) cs)
+started_by : (n : ℕ) (c : Character) (cs : List Character) (k : Sign) → starts k ≡ false → taken (step_after_dollar n k c) cs ≡ option_map (λ (ps : List Piece). itself (Active 36) ∷ ps) (taken (step_at n k c) cs)
 started_by n c cs OpenBrace s = absurd (true≢false s)
 started_by n c cs Letter s = absurd (true≢false s)
 started_by n c cs k s = taken-behind (itself (Active 36)) (step_at n k c) cs
 
-ended_started : (n : ℕ) → ended_at_end n Started ≡ option_map (λ (ps : List Piece). itself (Active 36) ∷ ps) (ended_at_end n Nothing)
+ended_started : (n : ℕ) → ended_at_end n AfterDollar ≡ option_map (λ (ps : List Piece). itself (Active 36) ∷ ps) (ended_at_end n Nothing)
 ended_started zero = refl
 ended_started (suc n) = refl
 
-started_alone : (n : ℕ) (cs : List Character) → IsDollarAlone cs → pieces_from n Started cs ≡ option_map (λ (ps : List Piece). itself (Active 36) ∷ ps) (pieces_from n Nothing cs)
+started_alone : (n : ℕ) (cs : List Character) → IsDollarAlone cs → pieces_from n AfterDollar cs ≡ option_map (λ (ps : List Piece). itself (Active 36) ∷ ps) (pieces_from n Nothing cs)
 started_alone n [] h = ended_started n
 started_alone n (c ∷ cs) h = started_by n c cs (sign_of c) (alone_started c cs (sign_of c) (sign_is c) h)
 
-bare_by : (n : ℕ) (v : List ℕ) (c : Character) (cs : List Character) (k : Sign) → names k ≡ false → taken (step_bare v n k c) cs ≡ option_map (λ (ps : List Piece). bare v ∷ ps) (taken (step_at n k c) cs)
+bare_by : (n : ℕ) (v : List ℕ) (c : Character) (cs : List Character) (k : Sign) → names k ≡ false → taken (step_in_name v n k c) cs ≡ option_map (λ (ps : List Piece). bare v ∷ ps) (taken (step_at n k c) cs)
 bare_by n v c cs Letter s = absurd (true≢false s)
 bare_by n v c cs Digit s = absurd (true≢false s)
 bare_by n v c cs k s = taken-behind (bare v) (step_at n k c) cs
 
-ended_bare : (n : ℕ) (v : List ℕ) → ended_at_end n (Bare v) ≡ option_map (λ (ps : List Piece). bare v ∷ ps) (ended_at_end n Nothing)
+ended_bare : (n : ℕ) (v : List ℕ) → ended_at_end n (InName v) ≡ option_map (λ (ps : List Piece). bare v ∷ ps) (ended_at_end n Nothing)
 ended_bare zero v = refl
 ended_bare (suc n) v = refl
 
-bare_ended : (n : ℕ) (v : List ℕ) (cs : List Character) → goes_on cs ≡ false → pieces_from n (Bare v) cs ≡ option_map (λ (ps : List Piece). bare v ∷ ps) (pieces_from n Nothing cs)
+bare_ended : (n : ℕ) (v : List ℕ) (cs : List Character) → goes_on cs ≡ false → pieces_from n (InName v) cs ≡ option_map (λ (ps : List Piece). bare v ∷ ps) (pieces_from n Nothing cs)
 bare_ended n v [] h = ended_bare n v
 bare_ended n v (c ∷ cs) h = bare_by n v c cs (sign_of c) (sym (goes_on-is c cs (sign_of c) (sign_is c)) ∙ h)
 
-bare_one : (n : ℕ) (u : List ℕ) (c : ℕ) (cs : List Character) → (sign_of (Active c) ≡ Letter) ⊎ (sign_of (Active c) ≡ Digit) → pieces_from n (Bare u) (Active c ∷ cs) ≡ pieces_from n (Bare (u ++ c ∷ [])) cs
-bare_one n u c cs (inl h) = pieces_from-at n (Bare u) (Active c) cs Letter h ∙ taken-on n (Bare (u ++ c ∷ [])) cs
-bare_one n u c cs (inr h) = pieces_from-at n (Bare u) (Active c) cs Digit h ∙ taken-on n (Bare (u ++ c ∷ [])) cs
+bare_one : (n : ℕ) (u : List ℕ) (c : ℕ) (cs : List Character) → (sign_of (Active c) ≡ Letter) ⊎ (sign_of (Active c) ≡ Digit) → pieces_from n (InName u) (Active c ∷ cs) ≡ pieces_from n (InName (u ++ c ∷ [])) cs
+bare_one n u c cs (inl h) = pieces_from-at n (InName u) (Active c) cs Letter h ∙ taken-on n (InName (u ++ c ∷ [])) cs
+bare_one n u c cs (inr h) = pieces_from-at n (InName u) (Active c) cs Digit h ∙ taken-on n (InName (u ++ c ∷ [])) cs
 
-named_one : (n : ℕ) (u : List ℕ) (c : ℕ) (cs : List Character) → (sign_of (Active c) ≡ Letter) ⊎ (sign_of (Active c) ≡ Digit) → pieces_from n (Named u) (Active c ∷ cs) ≡ pieces_from n (Named (u ++ c ∷ [])) cs
-named_one n u c cs (inl h) = pieces_from-at n (Named u) (Active c) cs Letter h ∙ taken-on n (Named (u ++ c ∷ [])) cs
-named_one n u c cs (inr h) = pieces_from-at n (Named u) (Active c) cs Digit h ∙ taken-on n (Named (u ++ c ∷ [])) cs
+named_one : (n : ℕ) (u : List ℕ) (c : ℕ) (cs : List Character) → (sign_of (Active c) ≡ Letter) ⊎ (sign_of (Active c) ≡ Digit) → pieces_from n (InBracedName u) (Active c ∷ cs) ≡ pieces_from n (InBracedName (u ++ c ∷ [])) cs
+named_one n u c cs (inl h) = pieces_from-at n (InBracedName u) (Active c) cs Letter h ∙ taken-on n (InBracedName (u ++ c ∷ [])) cs
+named_one n u c cs (inr h) = pieces_from-at n (InBracedName u) (Active c) cs Digit h ∙ taken-on n (InBracedName (u ++ c ∷ [])) cs
 
 if_both : (t u : Bool) → (if t then u else false) ≡ true → (t ≡ true) × (u ≡ true)
 if_both true u h = (refl, h)
 if_both false u h = absurd (true≢false (sym h))
 
-bare_read : (n : ℕ) (u v : List ℕ) (cs : List Character) → are_in_name v ≡ true → pieces_from n (Bare u) (active v ++ cs) ≡ pieces_from n (Bare (u ++ v)) cs
-bare_read n u [] cs h = ap (λ (t : List ℕ). pieces_from n (Bare t) cs) (sym (append-nil u))
+bare_read : (n : ℕ) (u v : List ℕ) (cs : List Character) → are_in_name v ≡ true → pieces_from n (InName u) (active v ++ cs) ≡ pieces_from n (InName (u ++ v)) cs
+bare_read n u [] cs h = ap (λ (t : List ℕ). pieces_from n (InName t) cs) (sym (append-nil u))
 bare_read n u (c ∷ v) cs h =
     let both = if_both (is_in_name c) (are_in_name v) h in
     bare_one n u c (active v ++ cs) (sign_named c both.0 (sign_of (Active c)) (sign_is (Active c))) ∙ bare_read n (u ++ c ∷ []) v cs both.1
-    ∙ ap (λ (t : List ℕ). pieces_from n (Bare t) cs) (append_assoc u (c ∷ []) v)
+    ∙ ap (λ (t : List ℕ). pieces_from n (InName t) cs) (append_assoc u (c ∷ []) v)
 
-named_read : (n : ℕ) (u v : List ℕ) (cs : List Character) → are_in_name v ≡ true → pieces_from n (Named u) (active v ++ cs) ≡ pieces_from n (Named (u ++ v)) cs
-named_read n u [] cs h = ap (λ (t : List ℕ). pieces_from n (Named t) cs) (sym (append-nil u))
+named_read : (n : ℕ) (u v : List ℕ) (cs : List Character) → are_in_name v ≡ true → pieces_from n (InBracedName u) (active v ++ cs) ≡ pieces_from n (InBracedName (u ++ v)) cs
+named_read n u [] cs h = ap (λ (t : List ℕ). pieces_from n (InBracedName t) cs) (sym (append-nil u))
 named_read n u (c ∷ v) cs h =
     let both = if_both (is_in_name c) (are_in_name v) h in
     named_one n u c (active v ++ cs) (sign_named c both.0 (sign_of (Active c)) (sign_is (Active c))) ∙ named_read n (u ++ c ∷ []) v cs both.1
-    ∙ ap (λ (t : List ℕ). pieces_from n (Named t) cs) (append_assoc u (c ∷ []) v)
+    ∙ ap (λ (t : List ℕ). pieces_from n (InBracedName t) cs) (append_assoc u (c ∷ []) v)
 
 -- behind `$` a name, behind `${` a name
-dollar_read : (n : ℕ) (cs : List Character) → pieces_from n Nothing (Active 36 ∷ cs) ≡ pieces_from n Started cs
-dollar_read n cs = pieces_from-at n Nothing (Active 36) cs Dollar sign-36 ∙ taken-on n Started cs
+dollar_read : (n : ℕ) (cs : List Character) → pieces_from n Nothing (Active 36 ∷ cs) ≡ pieces_from n AfterDollar cs
+dollar_read n cs = pieces_from-at n Nothing (Active 36) cs Dollar sign-36 ∙ taken-on n AfterDollar cs
 
-bare_name : (n : ℕ) (v : List ℕ) (cs : List Character) → is_name v ≡ true → pieces_from n Nothing (Active 36 ∷ (active v ++ cs)) ≡ pieces_from n (Bare v) cs
+bare_name : (n : ℕ) (v : List ℕ) (cs : List Character) → is_name v ≡ true → pieces_from n Nothing (Active 36 ∷ (active v ++ cs)) ≡ pieces_from n (InName v) cs
 bare_name n [] cs h = absurd (true≢false (sym h))
 bare_name n (c ∷ v) cs h =
     let both = if_both (begins_name c) (are_in_name v) h in
     dollar_read n (Active c ∷ (active v ++ cs))
-    ∙ pieces_from-at n Started (Active c) (active v ++ cs) Letter (sign_letter c both.0 (sign_of (Active c)) (sign_is (Active c)))
-    ∙ taken-on n (Bare (c ∷ [])) (active v ++ cs) ∙ bare_read n (c ∷ []) v cs both.1
+    ∙ pieces_from-at n AfterDollar (Active c) (active v ++ cs) Letter (sign_letter c both.0 (sign_of (Active c)) (sign_is (Active c)))
+    ∙ taken-on n (InName (c ∷ [])) (active v ++ cs) ∙ bare_read n (c ∷ []) v cs both.1
 
 nests : (n : ℕ) → MayNest n → nat_lt n 32 ≡ true
 nests n h = grind (arith, nat_tests)
 
-opened_read : (n : ℕ) (cs : List Character) → MayNest n → pieces_from n Nothing (Active 36 ∷ Active 123 ∷ cs) ≡ pieces_from n Opened cs
+opened_read : (n : ℕ) (cs : List Character) → MayNest n → pieces_from n Nothing (Active 36 ∷ Active 123 ∷ cs) ≡ pieces_from n AfterBrace cs
 opened_read n cs h =
-    dollar_read n (Active 123 ∷ cs) ∙ pieces_from-at n Started (Active 123) cs OpenBrace sign-123
-    ∙ ap (λ (b : Bool). taken (if b then on [] n Opened else bad) cs) (nests n h) ∙ taken-on n Opened cs
+    dollar_read n (Active 123 ∷ cs) ∙ pieces_from-at n AfterDollar (Active 123) cs OpenBrace sign-123
+    ∙ ap (λ (b : Bool). taken (if b then on [] n AfterBrace else bad) cs) (nests n h) ∙ taken-on n AfterBrace cs
 
-braced_name : (n : ℕ) (v : List ℕ) (cs : List Character) → is_name v ≡ true → MayNest n → pieces_from n Nothing (Active 36 ∷ Active 123 ∷ (active v ++ cs)) ≡ pieces_from n (Named v) cs
+braced_name : (n : ℕ) (v : List ℕ) (cs : List Character) → is_name v ≡ true → MayNest n → pieces_from n Nothing (Active 36 ∷ Active 123 ∷ (active v ++ cs)) ≡ pieces_from n (InBracedName v) cs
 braced_name n [] cs h i = absurd (true≢false (sym h))
 braced_name n (c ∷ v) cs h i =
     let both = if_both (begins_name c) (are_in_name v) h in
     opened_read n (Active c ∷ (active v ++ cs)) i
-    ∙ pieces_from-at n Opened (Active c) (active v ++ cs) Letter (sign_letter c both.0 (sign_of (Active c)) (sign_is (Active c)))
-    ∙ taken-on n (Named (c ∷ [])) (active v ++ cs) ∙ named_read n (c ∷ []) v cs both.1
+    ∙ pieces_from-at n AfterBrace (Active c) (active v ++ cs) Letter (sign_letter c both.0 (sign_of (Active c)) (sign_is (Active c)))
+    ∙ taken-on n (InBracedName (c ∷ [])) (active v ++ cs) ∙ named_read n (c ∷ []) v cs both.1
 
 put_before : (p : Piece) (o : Option (List Piece)) (ps : List Piece) → o ≡ Some ps → option_map (λ (qs : List Piece). p ∷ qs) o ≡ Some (p ∷ ps)
 put_before p o ps h = ap (λ (u : Option (List Piece)). option_map (λ (qs : List Piece). p ∷ qs) u) h
@@ -475,7 +476,7 @@ put_before p o ps h = ap (λ (u : Option (List Piece)). option_map (λ (qs : Lis
 dollar_itself : (n : ℕ) (c : Character) (cs : List Character) (ps : List Piece) → sign_of c ≡ Dollar → SignIs Dollar c → StandsForItself n c cs → pieces_from n Nothing cs ≡ Some ps → pieces_from n Nothing (c ∷ cs) ≡ Some (itself c ∷ ps)
 dollar_itself n (Literal c) cs ps e h s j = absurd h
 dollar_itself n (Active c) cs ps e h s j =
-    pieces_from-at n Nothing (Active c) cs Dollar e ∙ taken-on n Started cs ∙ started_alone n cs (s.0 h) ∙ put_before (itself (Active 36)) _ ps j
+    pieces_from-at n Nothing (Active c) cs Dollar e ∙ taken-on n AfterDollar cs ∙ started_alone n cs (s.0 h) ∙ put_before (itself (Active 36)) _ ps j
     ∙ ap (λ x. Some (itself (Active x) ∷ ps)) (sym h)
 
 close_none : (n : ℕ) (c : Character) (cs : List Character) → n ≡ 0 → taken (step_close n c) cs ≡ option_map (λ (qs : List Piece). itself c ∷ qs) (pieces_from n Nothing cs)
@@ -494,8 +495,8 @@ itself_read n c cs ps k e h s j = pieces_from-at n Nothing c cs k e ∙ ap (λ (
 piece_text-at : (p : Piece) (ps : List Piece) (v : List ℕ) (ends : List Character) (front : List Character) → written (p ∷ ps) ≡ front ++ ((active v ++ ends) ++ written ps) → written (p ∷ ps) ≡ front ++ (active v ++ (ends ++ written ps))
 piece_text-at p ps v ends front h = h ∙ ap (λ (t : List Character). front ++ t) (append_assoc (active v) ends (written ps))
 
-coloned_read : (n : ℕ) (v : List ℕ) (cs : List Character) → pieces_from n (Named v) (Active 58 ∷ cs) ≡ pieces_from n (Coloned v) cs
-coloned_read n v cs = pieces_from-at n (Named v) (Active 58) cs Colon sign-58 ∙ taken-on n (Coloned v) cs
+coloned_read : (n : ℕ) (v : List ℕ) (cs : List Character) → pieces_from n (InBracedName v) (Active 58 ∷ cs) ≡ pieces_from n (AfterColon v) cs
+coloned_read n v cs = pieces_from-at n (InBracedName v) (Active 58) cs Colon sign-58 ∙ taken-on n (AfterColon v) cs
 
 all_read : (n : ℕ) (ps : List Piece) → AllStand n ps → pieces_from n Nothing (written ps) ≡ Some ps
 all_read n [] h = ap (λ m. ended_at_end m Nothing) h
@@ -503,15 +504,15 @@ all_read n (itself c ∷ ps) h = itself_read n c (written ps) ps (sign_of c) ref
 all_read n (bare v ∷ ps) h = bare_name n v (written ps) h.0 ∙ bare_ended n v (written ps) h.1 ∙ put_before (bare v) _ ps (all_read n ps h.2)
 all_read n (braced v ∷ ps) h =
     ap (λ (t : List Character). pieces_from n Nothing t) (piece_text-at (braced v) ps v (Active 125 ∷ []) (Active 36 ∷ Active 123 ∷ []) refl)
-    ∙ braced_name n v (Active 125 ∷ written ps) h.0 h.1 ∙ pieces_from-at n (Named v) (Active 125) (written ps) CloseBrace sign-125 ∙ put_before (braced v) _ ps (all_read n ps h.2)
+    ∙ braced_name n v (Active 125 ∷ written ps) h.0 h.1 ∙ pieces_from-at n (InBracedName v) (Active 125) (written ps) CloseBrace sign-125 ∙ put_before (braced v) _ ps (all_read n ps h.2)
 all_read n (or_else v ∷ ps) h =
     ap (λ (t : List Character). pieces_from n Nothing t) (piece_text-at (or_else v) ps v (Active 58 ∷ Active 45 ∷ []) (Active 36 ∷ Active 123 ∷ []) refl)
     ∙ braced_name n v (Active 58 ∷ Active 45 ∷ written ps) h.0 h.1 ∙ coloned_read n v (Active 45 ∷ written ps)
-    ∙ pieces_from-at n (Coloned v) (Active 45) (written ps) Dash sign-45 ∙ put_before (or_else v) _ ps (all_read (suc n) ps h.2)
+    ∙ pieces_from-at n (AfterColon v) (Active 45) (written ps) Dash sign-45 ∙ put_before (or_else v) _ ps (all_read (suc n) ps h.2)
 all_read n (if_set v ∷ ps) h =
     ap (λ (t : List Character). pieces_from n Nothing t) (piece_text-at (if_set v) ps v (Active 58 ∷ Active 43 ∷ []) (Active 36 ∷ Active 123 ∷ []) refl)
     ∙ braced_name n v (Active 58 ∷ Active 43 ∷ written ps) h.0 h.1 ∙ coloned_read n v (Active 43 ∷ written ps)
-    ∙ pieces_from-at n (Coloned v) (Active 43) (written ps) Plus sign-43 ∙ put_before (if_set v) _ ps (all_read (suc n) ps h.2)
+    ∙ pieces_from-at n (AfterColon v) (Active 43) (written ps) Plus sign-43 ∙ put_before (if_set v) _ ps (all_read (suc n) ps h.2)
 all_read zero (close ∷ ps) h = absurd h
 all_read (suc n) (close ∷ ps) h = pieces_from-at (suc n) Nothing (Active 125) (written ps) CloseBrace sign-125 ∙ put_before close _ ps (all_read n ps h)
 

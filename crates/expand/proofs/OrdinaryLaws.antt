@@ -16,13 +16,13 @@ use Rattle.words.specs.Parts.{class_of, Held, kept, Part, blank, plain, held_tex
 use Rattle.expand.specs.Value.{Parts, no_part, byte, with_text, value}
 use Rattle.expand.specs.Scan.{marked_held, marked_part, marked, is_freed, AreFreed, IsScanned, IsScannedBare, IsScannedQuoted}
 use Rattle.expand.specs.Syntax.{Syntax, ended, standing, active, written, Stands, parts_of}
-use Rattle.expand.specs.Meaning.{IsWord, is_ordinary, AreOrdinary}
-use Rattle.expand.specs.ValueLaws.{value-text}
-use Rattle.expand.specs.WordLaws.{word-only}
+use Rattle.expand.specs.Word.{IsWord, is_ordinary, AreOrdinary}
+use Rattle.expand.proofs.ValueLaws.{value-text}
+use Rattle.expand.proofs.WordLaws.{word-only}
 use Rattle.expand.specs.declared.character.Character.{Character}
 use Rattle.expand.specs.declared.character.Character.TheVariants.{Active}
 use Rattle.expand.specs.declared.kind.Kind.{Kind}
-use Rattle.expand.specs.declared.kind.Kind.TheVariants.{Quoted, Json, Body}
+use Rattle.expand.specs.declared.kind.Kind.TheVariants.{Quoted, Unquoted}
 
 -- what ordinary characters are not
 
@@ -44,8 +44,7 @@ not_true false h = refl
 -- it is neither a `$` nor the escape character
 unfreed : (kind : Kind) (e : Escape) (c : ℕ) → is_ordinary kind e c ≡ true → is_freed e c ≡ false
 unfreed Quoted e c h = (neither (is_freed e c) ((c == 39) || (c == 34)) h).0
-unfreed Json e c h = not_true (is_freed e c) h
-unfreed Body e c h = not_true (is_freed e c) h
+unfreed Unquoted e c h = not_true (is_freed e c) h
 
 no_escape : (kind : Kind) (e : Escape) (c : ℕ) → is_ordinary kind e c ≡ true → (c == byte_of e) ≡ false
 no_escape kind e c h = (neither (c == 36) (c == byte_of e) (ap not (unfreed kind e c h))).1
@@ -58,10 +57,8 @@ no_dollar kind e c h = (neither (c == 36) (c == byte_of e) (ap not (unfreed kind
 beyond_ascii : (kind : Kind) (e : Escape) (c : ℕ) → 128 ≤ c → is_ordinary kind e c ≡ true
 beyond_ascii Quoted Backslash c h = grind (arith, nat_tests)
 beyond_ascii Quoted Backtick c h = grind (arith, nat_tests)
-beyond_ascii Json Backslash c h = grind (arith, nat_tests)
-beyond_ascii Json Backtick c h = grind (arith, nat_tests)
-beyond_ascii Body Backslash c h = grind (arith, nat_tests)
-beyond_ascii Body Backtick c h = grind (arith, nat_tests)
+beyond_ascii Unquoted Backslash c h = grind (arith, nat_tests)
+beyond_ascii Unquoted Backtick c h = grind (arith, nat_tests)
 
 ordinary-behind : (kind : Kind) (e : Escape) (xs ys : List ℕ) → AreOrdinary kind e (xs ++ ys) → AreOrdinary kind e ys
 ordinary-behind kind e [] ys h = h
@@ -168,8 +165,7 @@ ordinary_bare_text kind e cs h = (kept_all cs, kept-freed kind e cs h, kept-text
 
 ordinary-scanned : (kind : Kind) (e : Escape) (cs : List ℕ) → AreOrdinary kind e cs → IsScanned kind e cs (active cs)
 ordinary-scanned Quoted e cs h = ordinary_quoted e cs h
-ordinary-scanned Json e cs h = ordinary_bare_text Json e cs h
-ordinary-scanned Body e cs h = ordinary_bare_text Body e cs h
+ordinary-scanned Unquoted e cs h = ordinary_bare_text Unquoted e cs h
 
 -- and read as a character that stands for itself
 

@@ -1,7 +1,7 @@
 -- The tokens that an output stands for, plain text byte by byte.
 use Rattle.std.specs.Prelude.{List, [], ◌∷◌, ◌++◌}
 use Rattle.std.specs.String.{string_bytes}
-use Rattle.expand.specs.Pieces.{plain_bytes}
+use Rattle.expand.specs.PrivatePieces.{plain_bytes}
 use Rattle.expand.specs.declared.output.Output.{Output}
 use Rattle.expand.specs.declared.token.Token.{Token}
 use Rattle.expand.specs.declared.token.Token.TheVariants.{Plain, Variable, Default, Alternative, Close}

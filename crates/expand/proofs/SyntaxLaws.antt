@@ -3,11 +3,12 @@
 use Rattle.std.specs.Prelude.{◌≡◌, ℕ, zero, suc, false, List, [], ◌∷◌, ◌++◌, Option, Some, None, option_map, refl}
 use Rattle.std.proofs.Common.{sym, ◌∙◌, ap, ap₂, subst, append_assoc, append-nil}
 use Rattle.expand.specs.Value.{Parts, with_text}
-use Rattle.expand.specs.Levels.{word_of, tokens_of, word_of-tokens_of}
+use Rattle.expand.specs.PrivateTokens.{word_of, tokens_of, word_of-tokens_of}
 use Rattle.expand.specs.Syntax.{Syntax, ended, standing, bare_name, braced_name, default_word, alternative_word, active, written, goes_on, IsDollarAlone, StandsForItself, Stands, character_bytes, parts_of, IsRead}
-use Rattle.expand.specs.Pieces.{Piece, itself, bare, braced, or_else, if_set, close, written as pieces_text, AllStand, plain_bytes, tokens}
-use Rattle.expand.specs.Reading.{pieces}
-use Rattle.expand.specs.ReadLaws.{pieces-good, pieces-only, IsGood}
+use Rattle.expand.specs.PrivatePieces.{Piece, itself, bare, braced, or_else, if_set, close, plain_bytes, tokens}
+use Rattle.expand.proofs.PieceForms.{written as pieces_text, AllStand}
+use Rattle.expand.specs.PrivateReading.{pieces}
+use Rattle.expand.proofs.ReadLaws.{pieces-good, pieces-only, IsGood}
 use Rattle.expand.specs.declared.character.Character.{Character}
 use Rattle.expand.specs.declared.character.Character.TheVariants.{Active, Literal}
 use Rattle.expand.specs.declared.token.Token.{Token}

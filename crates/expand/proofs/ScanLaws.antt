@@ -16,12 +16,11 @@ use Rattle.words.specs.PlaceLaws.{place_of, place_more, has_open-more, ends_open
 use Rattle.words.specs.declared.class.Place.{Place}
 use Rattle.words.specs.declared.class.Place.TheVariants.{Outside}
 use Rattle.expand.specs.Scan.{marked_held, marked_part, marked, is_freed, IsIdleBefore, AreFreed, IsScannedBare, IsScannedQuoted, IsScanned}
-use Rattle.expand.specs.Emitted.{emitted, emitted_at_end, quoted_from}
-use Rattle.expand.specs.Reading.{bare_from, quoted_unless, scanned}
+use Rattle.expand.specs.PrivateScan.{emitted, emitted_at_end, quoted_from, bare_from, quoted_unless, scanned}
 use Rattle.expand.specs.declared.character.Character.{Character}
 use Rattle.expand.specs.declared.character.Character.TheVariants.{Active, Literal}
 use Rattle.expand.specs.declared.kind.Kind.{Kind}
-use Rattle.expand.specs.declared.kind.Kind.TheVariants.{Quoted, Json, Body}
+use Rattle.expand.specs.declared.kind.Kind.TheVariants.{Quoted, Unquoted}
 
 eqb_equal : (a b : ℕ) → (a == b) ≡ true → a ≡ b
 eqb_equal a b h = grind (arith, nat_tests)
@@ -228,14 +227,12 @@ quoted-only e text ms h =
 pub scanned-is : (kind : Kind) (e : Escape) (text : List ℕ) (ms : List Character) → scanned kind e text ≡ Some ms → IsScanned kind e text ms
 unfolding scanned
 scanned-is Quoted e text ms h = quoted-scanned e text ms h
-scanned-is Json e text ms h = let same : bare_from e false text ≡ ms = cc in subst (λ (t : List Character). IsScannedBare e text t) same (bare-scanned e text)
-scanned-is Body e text ms h = let same : bare_from e false text ≡ ms = cc in subst (λ (t : List Character). IsScannedBare e text t) same (bare-scanned e text)
+scanned-is Unquoted e text ms h = let same : bare_from e false text ≡ ms = cc in subst (λ (t : List Character). IsScannedBare e text t) same (bare-scanned e text)
 
 pub scanned-only : (kind : Kind) (e : Escape) (text : List ℕ) (ms : List Character) → IsScanned kind e text ms → scanned kind e text ≡ Some ms
 unfolding scanned
 scanned-only Quoted e text ms h = quoted-only e text ms h
-scanned-only Json e text ms h = ap (λ (t : List Character). Some t) (bare-only e text ms h)
-scanned-only Body e text ms h = ap (λ (t : List Character). Some t) (bare-only e text ms h)
+scanned-only Unquoted e text ms h = ap (λ (t : List Character). Some t) (bare-only e text ms h)
 
 -- a text leaves none exactly where a quote is open
 
@@ -248,3 +245,16 @@ unfolding scanned ends_open
 open_not_scanned e text u =
     let marks : List Character = marked (parts e (chars text)) in
     (λ h. ap (λ (b : Bool). quoted_unless b marks) (sym (ends_open-chars e text u) ∙ h), λ h. ends_open-chars e text u ∙ unless_none (has_open (parts e (chars text))) marks h)
+
+none_some : (ms : List Character) → None ≡ Some ms → ⊥
+none_some ms e = cc
+
+-- so a text has an open quote where it leaves no list of marked characters
+pub open_not_read : (e : Escape) (text : List ℕ) → IsUtf8 text → (ends_open e text ≡ true) ↔ ((found : List Character) → ¬ (IsScanned Quoted e (chars text) found))
+open_not_read e text u =
+    let same = open_not_scanned e text u in
+    (λ o found s. none_some found (sym (same.0 o) ∙ scanned-only Quoted e (chars text) found s), λ none. same.1 (by (scanned Quoted e (chars text)) refl none))
+  where
+    by : (o : Option (List Character)) → scanned Quoted e (chars text) ≡ o → ((found : List Character) → ¬ (IsScanned Quoted e (chars text) found)) → scanned Quoted e (chars text) ≡ None
+    by None h none = h
+    by (Some ms) h none = absurd (none ms (scanned-is Quoted e (chars text) ms h))

@@ -1,0 +1,85 @@
+ghost use Rattle.std.specs.Prelude.{◌≡◌, ◌≤◌};
+ghost use Rattle.std.specs.String.{string_bytes, string_len};
+ghost use Rattle.plain.specs.Limits.{most_text_bytes};
+ghost use Rattle.expand.specs.Expanding.{Expands};
+ghost use Rattle.expand.specs.PrivateExpanding.{IsPushed, run};
+ghost use Rattle.expand.specs.Value.{value, text_of};
+
+use crate::lookup::Lookup;
+use crate::token::Token;
+use crate::word::Word;
+use plain::limits::MOST_TEXT_BYTES;
+use plain::{Code, Text};
+use std::alloc::Global;
+use words::Fault;
+
+/// The value of a word under a scope: the values of its parts, joined.
+///
+/// A variable that is unset has the empty text. The default of `${v:-word}` counts where v is unset or empty, the
+/// alternative of `${v:+word}` where it is neither. R18 exactly where the value has more than 1,048,576 bytes; no text
+/// longer than that is built to find out.
+pub fn expand<S: Lookup>(alloc: Global, word: &Word, scope: &S) -> Result<Text, Fault>
+    ensures { Expands most_text_bytes (value (S.value_of scope.now) word.now) result }
+{
+    expand_tokens(alloc, word.tokens(), scope, MOST_TEXT_BYTES)
+}
+
+/// The value of tokens, if it has no more bytes than a limit.
+///
+/// A word that doesn't count is gone past: `skipped` is how many such words are open.
+fn expand_tokens<S: Lookup>(
+    alloc: Global,
+    tokens: &[Token],
+    scope: &S,
+    limit: usize,
+) -> Result<Text, Fault>
+    ensures { Expands limit (run (S.value_of scope.now) 0 tokens.now) result }
+{
+    let mut text = String::new(alloc);
+    let mut skipped = 0usize;
+    for token in tokens {
+        match token {
+            // a close where nothing is skipped ends a word that counts
+            Token::Close => skipped = skipped.saturating_sub(1),
+            Token::Plain(_) | Token::Variable(_) if skipped > 0 => {}
+            Token::Default(_) | Token::Alternative(_) if skipped > 0 => skipped += 1,
+            Token::Plain(plain) => push_within(&mut text, plain.as_str(), limit)?,
+            Token::Variable(name) => push_within(&mut text, value_at(scope, name), limit)?,
+            Token::Default(name) => {
+                let value = value_at(scope, name);
+                if !value.is_empty() {
+                    push_within(&mut text, value, limit)?;
+                    skipped = 1;
+                }
+            }
+            Token::Alternative(name) => {
+                if value_at(scope, name).is_empty() {
+                    skipped = 1;
+                }
+            }
+        }
+    }
+    Ok(Text::from_string(text))
+}
+
+/// The text of a variable, which is empty where it is unset.
+fn value_at<'a, S: Lookup>(scope: &'a S, name: &Text) -> &'a str
+    ensures { result.now ≡ text_of (S.value_of scope.now name.now) }
+{
+    match scope.find(name.as_str()) {
+        Some(text) => text.as_str(),
+        None => "",
+    }
+}
+
+/// Adds a piece of text: R18 where the whole would be longer than the limit.
+fn push_within(text: &mut String, piece: &str, limit: usize) -> Result<(), Fault>
+    requires { string_len text.old ≤ limit }
+    ensures { IsPushed limit (string_bytes text.old) piece.now (string_bytes text.new) result }
+{
+    if piece.len() > limit - text.len() {
+        return Err(Fault::Refused(Code::R18));
+    }
+    text.push_str(piece)?;
+    Ok(())
+}
