@@ -6,18 +6,19 @@ use Rattle.std.proofs.Math.Bool.{or-true}
 use Rattle.std.proofs.lemmas.Bool.Decides.{nat_tests}
 use Rattle.std.proofs.lemmas.List.{append-nil}
 use Rattle.plain.specs.declared.refusal.Refusal.{Refusal}
-use Rattle.lines.specs.Blanks.{trimmed, continued_part, is_blank_line, is_comment, is_skipped}
+use Rattle.ascii.specs.Blanks.{trimmed}
+use Rattle.lines.specs.Blanks.{continued_part, is_blank_line, is_comment, is_skipped}
 use Rattle.lines.specs.Continued.{AreContinued, plain_line}
 use Rattle.lines.specs.Directives.{after_sharp, directive_after, directive_of}
-use Rattle.lines.specs.Escapes.{byte_of}
+use Rattle.lines.specs.Escape.{byte_of}
 use Rattle.lines.specs.File.{AreDirectives, BeginsBelowDirectives, escape_below, directive_faults, goes_on, IsKept, BeginsKept, AreJoined, part_of, joined_text, AreBodies, line_of, AreBlocks, none, logical, IsFile}
-use Rattle.lines.specs.FileLaws.{IsFile-same}
+use Rattle.lines.proofs.FileLaws.{IsFile-same}
 use Rattle.lines.specs.Marks.{marks_of}
-use Rattle.lines.specs.declared.line.Escape.{Escape}
-use Rattle.lines.specs.declared.line.Escape.TheVariants.{Backslash}
+use Rattle.lines.specs.declared.escape.Escape.{Escape}
+use Rattle.lines.specs.declared.escape.Escape.TheVariants.{Backslash}
 use Rattle.lines.specs.declared.line.Line.{Line}
 use Rattle.lines.specs.declared.line.Mark.{Mark}
-use Rattle.lines.specs.declared.state.Directive.{Directive}
+use Rattle.lines.specs.declared.directives.Directive.{Directive}
 
 -- a line that is no comment is no directive
 sharp_by : (c : ℕ) (cs : List ℕ) (b : Bool) → (c == 35) ≡ b → is_comment (c ∷ cs) ≡ false → cond b (Some cs) None ≡ None

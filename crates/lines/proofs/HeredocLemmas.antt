@@ -2,12 +2,12 @@
 use Rattle.std.proofs.Common.{◌≡◌, ◌+◌, ℕ, zero, suc, Option, Some, None, List, [], ◌∷◌, ◌++◌, length, map, refl, sym, ap, ap₂, ◌∙◌, subst}
 use Rattle.std.specs.Prelude.{slice_get}
 use Rattle.plain.specs.declared.refusal.Refusal.{Refusal}
-use Rattle.lines.specs.Escapes.{byte_of}
+use Rattle.lines.specs.Escape.{byte_of}
 use Rattle.lines.specs.File.{escape_below, joined_text, AreBodies, line_of, AreBlocks, none, dropped, logical, open_ended, IsFile}
 use Rattle.lines.specs.Marks.{marks_of}
 use Rattle.lines.specs.Text.{text_lines, AreLines}
-use Rattle.lines.specs.declared.line.Escape.{Escape}
-use Rattle.lines.specs.declared.line.Escape.TheVariants.{Backslash}
+use Rattle.lines.specs.declared.escape.Escape.{Escape}
+use Rattle.lines.specs.declared.escape.Escape.TheVariants.{Backslash}
 use Rattle.lines.specs.declared.line.Heredoc.{Heredoc}
 use Rattle.lines.specs.declared.line.Line.{Line}
 use Rattle.lines.specs.declared.line.Mark.{Mark}

@@ -1,6 +1,12 @@
 pub mod BlankLemmas
 pub mod ContinuedLemmas
 pub mod HeredocLemmas
-pub mod NameLemmas
 pub mod NumberLemmas
 pub mod TextLemmas
+pub mod BlockLaws
+pub mod CutLaws
+pub mod FaultLaws
+pub mod FileLaws
+pub mod StepLaws
+pub mod TextLaws
+pub mod LimitLaws

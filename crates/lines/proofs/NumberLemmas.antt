@@ -1,17 +1,18 @@
 -- The numbers and the texts of logical lines, by the structure of a file: numbers ascend, and texts are trimmed.
 use Rattle.std.proofs.Common.{◌≡◌, ◌≢◌, ◌+◌, ◌<◌, ◌≤◌, ◌==◌, ℕ, zero, suc, Bool, true, false, cond, Option, Some, None, List, [], ◌∷◌, ◌++◌, length, drop, map, refl, ap, ◌∙◌, subst, arith}
-use Rattle.std.specs.Prelude.{◌^◌, slice_get, bytes_eq, take}
+use Rattle.std.specs.Prelude.{slice_get, bytes_eq, take}
 use Rattle.std.specs.List.{concat, slice_split, join_with_byte}
 use Rattle.std.specs.Str.Lines.{lines, lines_of_parts}
 use Rattle.std.proofs.lemmas.List.{length-append, length-drop}
 use Rattle.std.proofs.lemmas.List.Splits.{join_with_byte-slice_split}
 use Rattle.std.proofs.lemmas.Bool.Decides.{nat_tests}
+use Rattle.plain.specs.Limits.{most_dockerfile_bytes, most_line_number}
 use Rattle.plain.specs.declared.refusal.Refusal.{Refusal}
-use Rattle.lines.specs.Blanks.{is_blank, after_blanks, unless_trailing, before_blanks, trimmed}
-use Rattle.lines.specs.Escapes.{byte_of}
+use Rattle.ascii.specs.Blanks.{is_blank, after_blanks, unless_trailing, before_blanks, trimmed}
+use Rattle.lines.specs.Escape.{byte_of}
 use Rattle.lines.specs.File.{escape_below, BeginsKept, part_of, joined_text, line_of, AreBlocks, none, dropped, logical, open_ended, IsFile}
-use Rattle.lines.specs.declared.line.Escape as character
-use Rattle.lines.specs.declared.line.Escape.TheVariants.{Backslash}
+use Rattle.lines.specs.declared.escape.Escape as character
+use Rattle.lines.specs.declared.escape.Escape.TheVariants.{Backslash}
 use Rattle.lines.specs.Text.{without_byte_order_mark, text_lines, AreLines}
 use Rattle.lines.specs.declared.line.Line.{Line}
 use Rattle.lines.specs.declared.line.Heredoc.{Heredoc}
@@ -114,14 +115,18 @@ text_lines_few text =
 
 -- all lines of a text
 
-file_numbered : (lines : List (List ℕ)) (found : List Line) (faults : List Refusal) (most : ℕ) → length lines ≤ most → IsFile lines found faults → AreNumbered 0 found most
+pub file_numbered : (lines : List (List ℕ)) (found : List Line) (faults : List Refusal) (most : ℕ) → length lines ≤ most → IsFile lines found faults → AreNumbered 0 found most
 file_numbered lines found faults most few f =
     let size : length lines ≡ length f.top + length f.rest = ap length f.cut ∙ length-append f.top f.rest in
     numbered_up 0 found (length f.top + length f.rest) most (omega arith)
     (numbered_down (length f.top) 0 found (length f.top + length f.rest) (omega arith) (blocks_numbered (escape_below Backslash f.directives) (length f.top) f.rest found f.unclosed f.blocks))
 
-pub lines_numbered : (text : List ℕ) (found : List Line) → AreLines text found → AreNumbered 0 found (2 ^ 20)
-lines_numbered text found h = file_numbered (text_lines text) found [] (2 ^ 20) (omega (arith, text_lines_few text, h.0)) h.2
+short_few : (n : ℕ) → n ≤ most_dockerfile_bytes → n ≤ most_line_number
+unfolding most_dockerfile_bytes
+short_few n h = h
+
+pub lines_numbered : (text : List ℕ) (found : List Line) → AreLines text found → AreNumbered 0 found most_line_number
+lines_numbered text found h = file_numbered (text_lines text) found [] most_line_number (omega (arith, text_lines_few text, short_few (length text) h.0)) h.2
 
 -- the same of a line at its place
 

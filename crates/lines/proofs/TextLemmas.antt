@@ -1,23 +1,25 @@
 -- What reading a text needs to know: the byte order mark, and the lines one by one.
-use Rattle.std.proofs.Common.{◌≡◌, ◌≢◌, ℕ, Bool, true, false, List, [], ◌∷◌, ◌++◌, length, take, drop, map, refl, sym, ap, ◌∙◌, subst, inr, arith}
+use Rattle.std.proofs.Common.{◌≡◌, ◌≢◌, ◌<◌, ℕ, Bool, true, false, List, [], ◌∷◌, ◌++◌, length, take, drop, map, refl, sym, ap, ◌∙◌, subst, inr, arith}
 use Rattle.std.specs.Prelude.{bytes_eq, IsUtf8, encode_utf8}
 use Rattle.std.proofs.lemmas.Slice.Eq.{bytes_eq-Decides}
 use Rattle.std.proofs.lemmas.List.{take-append-drop, map-append, length-append}
-use Rattle.lines.specs.Steps.{line_step, after_lines}
+use Rattle.lines.specs.PrivateSteps.{read_line, after_lines, initial_state, end_file, Reads}
 use Rattle.lines.specs.Text.{IsShort, without_byte_order_mark, text_lines, AreLines, IsRefused}
 use Rattle.lines.specs.Faults.{IsLeast}
+use Rattle.plain.specs.Limits.{most_lines}
 use Rattle.lines.specs.File.{IsFile}
-use Rattle.lines.specs.FileLaws.{IsFile-is}
-use Rattle.lines.specs.Joining.{initial, ended}
-use Rattle.lines.specs.StepLaws.{line_step-count}
+use Rattle.lines.proofs.FileLaws.{IsFile-is}
+use Rattle.lines.proofs.LimitLaws.{IsAtRest, rests_between, past_refused, past_decides}
+use Rattle.lines.proofs.StepLaws.{read_line-count}
+use Rattle.lines.specs.declared.line.Line.{Line}
 use Rattle.plain.specs.declared.refusal.Refusal.{Refusal}
 use denote.Ref.{Bor}
 use lib.Utf8.{encode}
-use Rattle.lines.specs.declared.state.Reading.{Reading}
+use Rattle.lines.specs.declared.state.FileState.{FileState}
 
-pub after_lines-append : (r : Reading) (xs : List (List ℕ)) (l : List ℕ) → after_lines r (xs ++ l ∷ []) ≡ line_step (after_lines r xs) l
+pub after_lines-append : (r : FileState) (xs : List (List ℕ)) (l : List ℕ) → after_lines r (xs ++ l ∷ []) ≡ read_line (after_lines r xs) l
 after_lines-append r [] l = refl
-after_lines-append r (x ∷ xs) l = after_lines-append (line_step r x) xs l
+after_lines-append r (x ∷ xs) l = after_lines-append (read_line r x) xs l
 
 mark_bytes : encode_utf8 65279 ≡ 239 ∷ 187 ∷ 191 ∷ []
 unfolding encode
@@ -42,23 +44,45 @@ pub without_byte_order_mark-some : (text rest part : List ℕ) → text ≡ enco
 without_byte_order_mark-some text rest part h p = p ∙ sym (ap without_byte_order_mark (h ∙ ap (λ m. m ++ rest) mark_bytes) ∙ without_byte_order_mark-cons rest)
 
 -- one more line that was read
-pub read_more : (xs : List (Bor (List ℕ))) (x : Bor (List ℕ)) (r s : Reading) → r ≡ after_lines initial (map (λ line. line.now) xs) → s ≡ line_step r x.now
-    → s ≡ after_lines initial (map (λ line. line.now) (xs ++ x ∷ []))
+pub read_more : (xs : List (Bor (List ℕ))) (x : Bor (List ℕ)) (r s : FileState) → r ≡ after_lines initial_state (map (λ line. line.now) xs) → s ≡ read_line r x.now
+    → s ≡ after_lines initial_state (map (λ line. line.now) (xs ++ x ∷ []))
 read_more xs x r s h e =
-    e ∙ ap (λ q. line_step q x.now) h ∙ sym (after_lines-append initial (map (λ line. line.now) xs) x.now) ∙ ap (after_lines initial) (sym (map-append (λ line. line.now) xs (x ∷ [])))
+    e ∙ ap (λ q. read_line q x.now) h ∙ sym (after_lines-append initial_state (map (λ line. line.now) xs) x.now) ∙ ap (after_lines initial_state) (sym (map-append (λ line. line.now) xs (x ∷ [])))
 
-pub count_more : (xs : List (Bor (List ℕ))) (x : Bor (List ℕ)) (r s : Reading) → r.count ≡ length xs → s ≡ line_step r x.now → s.count ≡ length (xs ++ x ∷ [])
-count_more xs x r s h e = omega (arith, ap (λ q. q.count) e, line_step-count r x.now, length-append xs (x ∷ []), h)
+pub count_more : (xs : List (Bor (List ℕ))) (x : Bor (List ℕ)) (r s : FileState) → r.count ≡ length xs → s ≡ read_line r x.now → s.count ≡ length (xs ++ x ∷ [])
+count_more xs x r s h e = omega (arith, ap (λ q. q.count) e, read_line-count r x.now, length-append xs (x ∷ []), h)
 
--- what was read of a text, as what is read of its bytes
-read_as : (bytes text : List ℕ) (r : Reading) → text ≡ bytes → r ≡ ended (after_lines initial (text_lines text)) → IsFile (text_lines bytes) r.lines r.faults
-read_as bytes text r e h =
-    subst (λ (t : List ℕ). IsFile (text_lines t) r.lines r.faults) e (subst (λ (s : Reading). IsFile (text_lines text) s.lines s.faults) (sym h) (IsFile-is (text_lines text)))
+-- what was read of a file says what the file's structure says
 
-pub answers_lines : (bytes text : List ℕ) (r : Reading) → IsShort bytes → IsUtf8 bytes → text ≡ bytes → r ≡ ended (after_lines initial (text_lines text))
+after_lines-split : (r : FileState) (xs ys : List (List ℕ)) → after_lines r (xs ++ ys) ≡ after_lines (after_lines r xs) ys
+after_lines-split r [] ys = refl
+after_lines-split r (x ∷ xs) ys = after_lines-split (read_line r x) xs ys
+
+-- where all of it was read
+pub reads_whole : (lines : List (List ℕ)) (r : FileState) → r ≡ end_file (after_lines initial_state lines) → Reads lines r
+reads_whole lines r h =
+    let file : IsFile lines r.lines r.faults = subst (λ (s : FileState). IsFile lines s.lines s.faults) (sym h) (IsFile-is lines) in
+    ((λ fine. subst (λ (faults : List Refusal). IsFile lines r.lines faults) fine file), (λ told least. (r.lines, r.faults, file, least)))
+
+-- and where it was read up to a logical line past the limit
+pub reads_past : (lines : List (List ℕ)) (k : ℕ) (r : FileState) → r ≡ after_lines initial_state (take k lines) → r.count ≡ length (take k lines)
+    → IsAtRest r → most_lines < length r.lines → Reads lines r
+reads_past lines k r is count rests past =
+    let between = rests_between r rests past in
+    let whole = end_file (after_lines initial_state lines) in
+    let all : end_file (after_lines r (drop k lines)) ≡ whole =
+    ap (λ (s : FileState). end_file (after_lines s (drop k lines))) is
+    ∙ ap end_file (sym (after_lines-split initial_state (take k lines) (drop k lines)) ∙ ap (after_lines initial_state) (take-append-drop k lines)) in (
+      (λ fine. absurd (past_refused (take k lines) r is between past fine)),
+      (λ told least. (whole.lines, whole.faults, IsFile-is lines, subst (λ (s : FileState). IsLeast s.faults told) all (past_decides (take k lines) (drop k lines) r told is count between past least))),
+    )
+
+-- and so of a text
+pub answers_lines : (bytes text : List ℕ) (r : FileState) → IsShort bytes → IsUtf8 bytes → text ≡ bytes → Reads (text_lines text) r
     → r.faults ≡ [] → AreLines bytes r.lines
-answers_lines bytes text r s u e h fine = (s, u, subst (IsFile (text_lines bytes) r.lines) fine (read_as bytes text r e h))
+answers_lines bytes text r s u e h fine = (s, u, subst (λ (t : List ℕ). IsFile (text_lines t) r.lines []) e (h.0 fine))
 
-pub answers_refusal : (bytes text : List ℕ) (r : Reading) (f : Refusal) → IsShort bytes → IsUtf8 bytes → text ≡ bytes → r ≡ ended (after_lines initial (text_lines text))
+pub answers_refusal : (bytes text : List ℕ) (r : FileState) (f : Refusal) → IsShort bytes → IsUtf8 bytes → text ≡ bytes → Reads (text_lines text) r
     → IsLeast r.faults f → IsRefused bytes f
-answers_refusal bytes text r f s u e h least = inr (inr (s, u, (r.lines, r.faults, read_as bytes text r e h, least)))
+answers_refusal bytes text r f s u e h least =
+    inr (inr (s, u, subst (λ (t : List ℕ). (found : List Line) × (faults : List Refusal) × IsFile (text_lines t) found faults × IsLeast faults f) e (h.1 f least)))

@@ -2,7 +2,7 @@
 use Rattle.std.specs.Prelude.{◌≡◌, ℕ, List, [], ◌∷◌, Some}
 use Rattle.lines.specs.Blanks.{continued_part}
 use Rattle.lines.specs.File.{IsKept}
-use Rattle.lines.specs.declared.line.Escape.{Escape}
+use Rattle.lines.specs.declared.escape.Escape.{Escape}
 use Rattle.lines.specs.declared.line.Line.{Line}
 
 -- each of these lines is kept and continues by this escape character, and adds the part beside it (Dockerfile reference, `escape`)

@@ -1,4 +1,4 @@
--- Which of a text's faults is told (own): the least by line, then by the number of its code.
+-- By which of its faults a text is refused (own): by the least, first by line and then by the number of its code.
 use Rattle.std.specs.Prelude.{◌≡◌, ◌<◌, ◌≤◌, ◌⊎◌, ℕ, List, [], ◌∷◌, Option, Some, None}
 use Rattle.plain.specs.Codes.{number_of}
 use Rattle.plain.specs.declared.refusal.Code.{Code}
@@ -22,11 +22,11 @@ abbrev pub IsBehindNone : Refusal → List Refusal → Type 0
 IsBehindNone f [] = Unit {0}
 IsBehindNone f (g ∷ gs) = IsNotBehind f g × IsBehindNone f gs
 
--- f is the one of these that is told: the least by line, then by number (own)
+-- f is the least of these, by line, then by number (own)
 abbrev pub IsLeast : List Refusal → Refusal → Type 0
 IsLeast fs f = IsAmong f fs × IsBehindNone f fs
 
--- what is told of these: nothing where there are none, and else the least (own)
-abbrev pub IsTold : List Refusal → Option Refusal → Type 0
-IsTold fs None = fs ≡ []
-IsTold fs (Some f) = IsLeast fs f
+-- the least of these, where there are any (own)
+abbrev pub IsLeastIfAny : List Refusal → Option Refusal → Type 0
+IsLeastIfAny fs None = fs ≡ []
+IsLeastIfAny fs (Some f) = IsLeast fs f

@@ -1,23 +1,26 @@
 -- The structure of a Dockerfile: directives at the top, then blocks, of which each is a line that is dropped, or a logical line with
 -- the bodies of its heredocs. It says which lines stand where, and nothing of how they are read (own, but where a definition names
 -- its source).
-use Rattle.std.specs.Prelude.{◌≡◌, ◌⊎◌, ℕ, ◌+◌, Bool, true, false, List, [], ◌∷◌, ◌++◌, ◌||◌, if◌then◌else◌, Option, Some, None, is_some, unwrap_or, slice_get, length, map}
+use Rattle.std.specs.Prelude.{◌≡◌, ◌⊎◌, ℕ, ◌+◌, Bool, true, false, List, [], ◌∷◌, ◌++◌, ◌||◌, if◌then◌else◌, Option, Some, None, is_some, unwrap_or}
+use Rattle.std.specs.Prelude.{slice_get, length, map}
 use Rattle.std.specs.List.{concat, flat_map, list_any}
+use Rattle.plain.specs.Limits.{most_lines}
 use Rattle.plain.specs.declared.refusal.Code.{Code}
 use Rattle.plain.specs.declared.refusal.Code.TheVariants.{R02, R03, R08, R18}
 use Rattle.plain.specs.declared.refusal.Refusal.{Refusal}
-use Rattle.lines.specs.Blanks.{trimmed, continued_part, is_skipped}
+use Rattle.ascii.specs.Blanks.{trimmed}
+use Rattle.lines.specs.Blanks.{continued_part, is_skipped}
 use Rattle.lines.specs.Directives.{directive_of}
-use Rattle.lines.specs.Escapes.{byte_of}
+use Rattle.lines.specs.Escape.{byte_of}
 use Rattle.lines.specs.Faults.{refusal}
 use Rattle.lines.specs.Marks.{marks_of, body_line, closes}
-use Rattle.lines.specs.declared.line.Escape as character
-use Rattle.lines.specs.declared.line.Escape.TheVariants.{Backslash}
+use Rattle.lines.specs.declared.escape.Escape as character
+use Rattle.lines.specs.declared.escape.Escape.TheVariants.{Backslash}
 use Rattle.lines.specs.declared.line.Heredoc.{Heredoc}
 use Rattle.lines.specs.declared.line.Line.{Line}
 use Rattle.lines.specs.declared.line.Mark.{Mark}
-use Rattle.lines.specs.declared.state.Directive.{Directive}
-use Rattle.lines.specs.declared.state.Directive.TheVariants.{Escape, Syntax, Check}
+use Rattle.lines.specs.declared.directives.Directive.{Directive}
+use Rattle.lines.specs.declared.directives.Directive.TheVariants.{Escape, Syntax, Check}
 
 -- a refusal at the line of this number, if there is one
 abbrev pub refused_at : Code → Option ℕ → List Refusal
@@ -164,10 +167,6 @@ pub data AreBlocks (escape : character.Escape) : ℕ → List (List ℕ) → Lis
       → AreBlocks escape above lines [] (Some (above + 1))
 
 -- Files.
-
--- how many logical lines a file may have (own)
-abbrev pub most_lines : ℕ
-most_lines = 4096
 
 -- a number alone, or nothing
 abbrev pub if_some : Option ℕ → List ℕ

@@ -1,48 +1,9 @@
-ghost use Rattle.std.specs.Prelude.{◌≡◌, ◌++◌, map, option_map, IfOk};
-ghost use Rattle.lines.specs.Blanks.{is_blank, after_blanks, before_blanks, trimmed, after_tabs, starts_with, ends_with, continued_part, is_blank_line, is_comment, if_any, pieces};
-ghost use Rattle.lines.specs.Escapes.{byte_of};
+ghost use Rattle.std.specs.Prelude.{◌≡◌, option_map};
+ghost use Rattle.lines.specs.Blanks.{after_tabs, starts_with, ends_with, continued_part, is_blank_line, is_comment, is_skipped};
+ghost use Rattle.lines.specs.Escape.{byte_of};
 
 use crate::Escape;
-use plain::Memory;
-use std::alloc::Global;
-
-/// Whether a byte is a blank: a space or a tab, and no other (own).
-pub fn is_blank(byte: u8) -> bool
-    ensures { result ≡ is_blank byte }
-{
-    byte == b' ' || byte == b'\t'
-}
-
-/// A text without its leading blanks. Of a text of blanks alone it is empty.
-pub fn after_blanks(text: &str) -> &str
-    ensures { result.now ≡ after_blanks text.now }
-{
-    let bytes = text.as_bytes();
-    let mut at = 0;
-    while at < bytes.len() && is_blank(bytes[at]) {
-        at += 1;
-    }
-    &text[at..]
-}
-
-/// A text without its trailing blanks.
-pub fn before_blanks(text: &str) -> &str
-    ensures { result.now ≡ before_blanks text.now }
-{
-    let bytes = text.as_bytes();
-    let mut end = bytes.len();
-    while end > 0 && is_blank(bytes[end - 1]) {
-        end -= 1;
-    }
-    &text[..end]
-}
-
-/// A text without its leading and trailing blanks.
-pub fn trimmed(text: &str) -> &str
-    ensures { result.now ≡ trimmed text.now }
-{
-    before_blanks(after_blanks(text))
-}
+use ascii::{after_blanks, before_blanks};
 
 /// A text without its leading tabs.
 pub fn after_tabs(text: &str) -> &str
@@ -105,28 +66,9 @@ pub fn is_comment(line: &str) -> bool
     starts_with(after_blanks(line).as_bytes(), b'#')
 }
 
-/// A text's pieces: its maximal runs of bytes that aren't blank.
-pub fn pieces(alloc: Global, text: &[u8]) -> Result<Vec<&[u8]>, Memory>
-    ensures { IfOk result (λ found. map (λ piece. piece.now) found.items ≡ pieces text.now) }
+/// Whether a line is a comment or blank.
+pub fn is_skipped(line: &str) -> bool
+    ensures { result ≡ is_skipped line.now }
 {
-    let mut found = Vec::new(alloc);
-    let mut start = 0;
-    for (index, byte) in text.iter().enumerate() {
-        if is_blank(*byte) {
-            push_piece(&mut found, &text[start..index])?;
-            start = index + 1;
-        }
-    }
-    push_piece(&mut found, &text[start..])?;
-    Ok(found)
-}
-
-/// Adds a piece, unless it is empty.
-fn push_piece<'a>(found: &mut Vec<&'a [u8]>, piece: &'a [u8]) -> Result<(), Memory>
-    ensures { IfOk result (λ _. map (λ p. p.now) found.new.items ≡ map (λ p. p.now) found.old.items ++ if_any piece.now) }
-{
-    if !piece.is_empty() {
-        found.push(piece)?;
-    }
-    Ok(())
+    is_blank_line(line) || is_comment(line)
 }

@@ -1,29 +1,20 @@
 ghost use Rattle.std.specs.Prelude.{◌≡◌, option_map};
-ghost use Rattle.lines.specs.Directives.{is_word, after_sharp, directive_in, directive_of, directive_named};
-ghost use Rattle.lines.specs.Escapes.{escape_named};
+ghost use Rattle.lines.specs.Directives.{after_sharp, directive_in, directive_of, directive_named};
 
 use crate::Escape;
-use crate::blanks::{starts_with, trimmed};
-use crate::state::Directive;
+use crate::blanks::starts_with;
+use crate::escape::escape_named;
+use ascii::trimmed;
 
-/// Whether a text is a word, whatever the case of its ASCII letters.
-pub fn is_word(word: &[u8], text: &[u8]) -> bool
-    ensures { result ≡ is_word word.now text.now }
-{
-    text.eq_ignore_ascii_case(word)
-}
-
-/// The escape character that a directive's value names.
-fn escape_named(value: &str) -> Option<Escape>
-    ensures { result ≡ escape_named value.now }
-{
-    if value == "\\" {
-        Some(Escape::Backslash)
-    } else if value == "`" {
-        Some(Escape::Backtick)
-    } else {
-        None
-    }
+/// A line at the top of a Dockerfile that sets something for the whole file, as `# escape=` and a backtick.
+#[derive(Clone, Copy, Debug, PartialEq, Eq)]
+pub enum Directive {
+    /// `escape`, with the character that it names, or none where its value is bad.
+    Escape(Option<Escape>),
+    /// `syntax`, which isn't acted on.
+    Syntax,
+    /// `check`, which isn't acted on.
+    Check,
 }
 
 /// The directive of a key and a value, both without blanks around them.
@@ -33,14 +24,13 @@ fn directive_named(key: &str, value: &str) -> Option<Directive>
     if value.is_empty() {
         return None;
     }
-    let key = key.as_bytes();
-    if is_word(b"escape", key) {
+    if key.eq_ignore_ascii_case("escape") {
         return Some(Directive::Escape(escape_named(value)));
     }
-    if is_word(b"syntax", key) {
+    if key.eq_ignore_ascii_case("syntax") {
         return Some(Directive::Syntax);
     }
-    if is_word(b"check", key) {
+    if key.eq_ignore_ascii_case("check") {
         return Some(Directive::Check);
     }
     None

@@ -1,18 +1,20 @@
-// What is proved of the definition alone. The functions do nothing: their contracts are laws.
+// Laws of the definitions. The functions do nothing: what is proved of them, their contracts, are the laws.
 
-ghost use Rattle.std.specs.Prelude.{◌≡◌, ◌≢◌, ◌⊎◌, ◌^◌, ◌<◌, ◌≤◌, ◌+◌, ◌∷◌, ◌++◌, ℕ, List, [], Some, None, length, map, slice_get};
+ghost use Rattle.std.specs.Prelude.{◌≡◌, ◌≢◌, ◌⊎◌, ◌<◌, ◌≤◌, ◌+◌, ◌∷◌, ◌++◌, ℕ, List, [], Some, None, length, map, slice_get};
 ghost use Rattle.std.specs.List.{concat};
+ghost use Rattle.plain.specs.Limits.{most_line_number};
 ghost use Rattle.plain.specs.declared.refusal.Refusal.{Refusal};
-ghost use Rattle.lines.specs.Blanks.{trimmed, continued_part};
+ghost use Rattle.ascii.specs.Blanks.{trimmed};
+ghost use Rattle.lines.specs.Blanks.{continued_part};
 ghost use Rattle.lines.specs.Continued.{AreContinued, plain_line};
-ghost use Rattle.lines.specs.Escapes.{byte_of};
+ghost use Rattle.lines.specs.Escape.{byte_of};
 ghost use Rattle.lines.specs.File.{AreDirectives, escape_below, directive_faults, IsKept, IsFile};
 ghost use Rattle.lines.specs.Marks.{marks_of};
 ghost use Rattle.lines.specs.Text.{AreLines, IsRefused};
-ghost use Rattle.lines.specs.declared.line.Escape.{Escape};
-ghost use Rattle.lines.specs.declared.line.Escape.TheVariants.{Backslash};
+ghost use Rattle.lines.specs.declared.escape.Escape.{Escape};
+ghost use Rattle.lines.specs.declared.escape.Escape.TheVariants.{Backslash};
 ghost use Rattle.lines.specs.declared.line.Line.{Line};
-ghost use Rattle.lines.specs.declared.state.Directive.{Directive};
+ghost use Rattle.lines.specs.declared.directives.Directive.{Directive};
 
 /// Each list of lines has a structure, and all its structures give the same logical lines and the same faults.
 pub fn structures_agree()
@@ -23,20 +25,20 @@ pub fn structures_agree()
 
 /// Each text has its logical lines, or it is refused.
 pub fn texts_are_read_or_refused()
-    ensures { (text : List ℕ) → ((found : List Line) × AreLines text found) ⊎ ((told : Refusal) × IsRefused text told) }
+    ensures { (text : List ℕ) → ((found : List Line) × AreLines text found) ⊎ ((refusal : Refusal) × IsRefused text refusal) }
 {}
 
 /// A text has no two lists of logical lines, no two refusals, and never one of each.
 pub fn answers_are_unique()
     ensures lines { (text : List ℕ) (found others : List Line) → AreLines text found → AreLines text others → found ≡ others }
-    ensures refusals { (text : List ℕ) (told other : Refusal) → IsRefused text told → IsRefused text other → told ≡ other }
-    ensures apart { (text : List ℕ) (found : List Line) (told : Refusal) → AreLines text found → IsRefused text told → ⊥ }
+    ensures refusals { (text : List ℕ) (one other : Refusal) → IsRefused text one → IsRefused text other → one ≡ other }
+    ensures apart { (text : List ℕ) (found : List Line) (refusal : Refusal) → AreLines text found → IsRefused text refusal → ⊥ }
 {}
 
 /// Each logical line of a text has a number from 1 to 1,048,576, which is the most bytes of a text, and the numbers ascend.
 pub fn numbers_ascend()
     ensures within { (text : List ℕ) (found : List Line) → AreLines text found
-        → (k : ℕ) (line : Line) → slice_get found k ≡ Some line → (1 ≤ line.number) × (line.number ≤ 2 ^ 20) }
+        → (k : ℕ) (line : Line) → slice_get found k ≡ Some line → (1 ≤ line.number) × (line.number ≤ most_line_number) }
     ensures ascend { (text : List ℕ) (found : List Line) → AreLines text found
         → (j k : ℕ) (line other : Line) → slice_get found j ≡ Some line → slice_get found k ≡ Some other
         → j < k → line.number < other.number }

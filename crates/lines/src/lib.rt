@@ -1,13 +1,13 @@
 // The logical lines of a Dockerfile, each with its heredocs, from a text that is fed in pieces.
 //
-// It knows lines and no instructions: what a line's words mean is told by the crates above, and of an instruction's
-// name it asks only whether it is RUN or COPY, which alone have heredocs. It reads no file and keeps no comments. What a
-// blank is, it says for the crates above too.
+// It knows lines and no instructions: the crates above say what a line's words mean. Of an instruction's name it asks only whether it is
+// RUN or COPY, which alone have heredocs. It reads no file and keeps no comments.
 //
-// The central definition is `AreLines` in specs/Text.antt, and what a file is says specs/File.antt: directives at the top, then
-// blocks, each of them a line that is dropped or a logical line with the bodies of its heredocs. Each list of lines has such a
-// structure, and just one list of logical lines by it. `IsRefused` says beside it which one fault of a text is told, and `Answers`
-// is both: what `Reader::finish` gives, however the text was cut. `laws` says what follows.
+// The central definition is `AreLines` in specs/Text.antt, and specs/File.antt says what a file is: directives at the top, then blocks,
+// each of them a line that is dropped or a logical line with the bodies of its heredocs. Each list of lines has such a structure, and by
+// it just one list of logical lines. `IsRefused` says by which one of its faults a text is refused, and `Answers` is both: what
+// `Reader::finish` gives, however the text was cut. The files Private*.antt in specs/ serve private functions alone. `laws` says what
+// follows.
 //
 // ```
 // let mut reader = Reader::new(alloc);
@@ -18,6 +18,7 @@
 
 mod blanks;
 mod directives;
+mod escape;
 mod fault;
 mod faults;
 pub mod laws;
@@ -27,11 +28,10 @@ mod reader;
 mod state;
 mod steps;
 mod text;
+mod written_mark;
 
-pub use blanks::{after_blanks, is_blank};
+pub use escape::Escape;
 pub use fault::LineFault;
-pub use line::{Escape, Heredoc, Line, Mark};
+pub use line::{Heredoc, Line, Mark};
+pub use marks::{is_flag, is_mark};
 pub use reader::Reader;
-
-#[cfg(test)]
-mod tests;

@@ -1,29 +1,6 @@
-ghost use Rattle.std.specs.Prelude.{◌≡◌};
-ghost use Rattle.lines.specs.Escapes.{byte_of};
-
+use crate::Escape;
 use plain::{Exact, Items, Memory, Text};
 use std::alloc::Global;
-
-/// A Dockerfile's escape character (Dockerfile reference, the `escape` directive).
-#[derive(Clone, Copy, Debug, PartialEq, Eq)]
-pub enum Escape {
-    /// A backslash, which it is where no directive says otherwise.
-    Backslash,
-    /// A backtick.
-    Backtick,
-}
-
-impl Escape {
-    /// The character's byte.
-    pub fn byte(self) -> u8
-        ensures { result ≡ byte_of self }
-    {
-        match self {
-            Escape::Backslash => b'\\',
-            Escape::Backtick => b'`',
-        }
-    }
-}
 
 /// The mark of a heredoc, as `<<-"EOF"` (Dockerfile reference, here-documents).
 #[derive(Debug, Drop)]
@@ -54,19 +31,6 @@ pub struct Line {
     pub heredocs: Items<Heredoc>,
     /// The file's escape character.
     pub escape: Escape,
-}
-
-impl Exact for Escape {
-    fn same(&self, other: &Escape) -> bool {
-        matches!(
-            (self, other),
-            (Escape::Backslash, Escape::Backslash) | (Escape::Backtick, Escape::Backtick)
-        )
-    }
-
-    fn copy(&self, _alloc: Global) -> Result<Escape, Memory> {
-        Ok(*self)
-    }
 }
 
 impl Exact for Mark {

@@ -1,47 +1,14 @@
-ghost use Rattle.std.specs.Prelude.{◌≡◌, true, map, option_map, IfOk};
-ghost use Rattle.lines.specs.Marks.{begins_name, is_in_name, are_in_name, is_name, is_quoted_by, named, mark_from, after_two, mark_of, is_flag, after_flags, marks_among, marks_of};
+ghost use Rattle.std.specs.Prelude.{◌≡◌, map, option_map, IfOk};
+ghost use Rattle.lines.specs.Marks.{is_quoted_by, named, mark_from, after_two, mark_of, is_mark, is_flag, after_flags, marks_among, has_heredocs, marks_in};
+ghost use Rattle.lines.specs.Marks.{marks_of};
+ghost use Rattle.lines.specs.PrivateMarks.{mark_written};
 
 use crate::Mark;
-use crate::blanks::{ends_with, pieces, starts_with};
-use crate::directives::is_word;
+use crate::blanks::{ends_with, starts_with};
+use crate::written_mark::WrittenMark;
+use ascii::{is_name, split_at_blanks};
 use plain::{Items, Memory, Text};
 use std::alloc::Global;
-
-/// Whether a heredoc's name may begin with this byte: a letter or `_`.
-fn begins_name(byte: u8) -> bool
-    ensures { result ≡ begins_name byte }
-{
-    matches!(byte, b'A'..=b'Z' | b'a'..=b'z' | b'_')
-}
-
-/// Whether a byte is a letter, a digit or `_`.
-fn is_in_name(byte: u8) -> bool
-    ensures { result ≡ is_in_name byte }
-{
-    begins_name(byte) || matches!(byte, b'0'..=b'9')
-}
-
-/// Whether a text has letters, digits and `_` alone.
-fn are_in_name(text: &[u8]) -> bool
-    ensures { result ≡ are_in_name text.now }
-{
-    for byte in text {
-        if !is_in_name(*byte) {
-            return false;
-        }
-    }
-    true
-}
-
-/// Whether a text is a heredoc's name.
-fn is_name(text: &[u8]) -> bool
-    ensures { result ≡ is_name text.now }
-{
-    match text {
-        [] => false,
-        [first, rest @ ..] => begins_name(*first) && are_in_name(rest),
-    }
-}
 
 /// Whether a text stands in a pair of these quotes.
 fn is_quoted_by(quote: u8, text: &[u8]) -> bool
@@ -50,41 +17,29 @@ fn is_quoted_by(quote: u8, text: &[u8]) -> bool
     text.len() >= 2 && starts_with(text, quote) && ends_with(text, quote)
 }
 
-/// A name as a text.
-fn name_text(alloc: Global, name: &[u8]) -> Result<Text, Memory>
-    requires { is_name name.now ≡ true }
-    ensures { IfOk result (λ text. text ≡ name.now) }
-{
-    match str::from_utf8(name) {
-        Ok(name) => Text::from_str(alloc, name),
-        Err(_) => unreachable!(),
-    }
-}
-
 /// The mark of a name, where it is one.
-fn named(alloc: Global, strips: bool, quoted: bool, name: &[u8]) -> Result<Option<Mark>, Memory>
-    ensures { IfOk result (λ mark. mark ≡ named strips quoted name.now) }
+fn named(strips: bool, quoted: bool, name: &[u8]) -> Option<WrittenMark<'_>>
+    ensures { option_map mark_written result ≡ named strips quoted name.entry.now }
 {
     if !is_name(name) {
-        return Ok(None);
+        return None;
     }
-    let name = name_text(alloc, name)?;
-    Ok(Some(Mark {
+    Some(WrittenMark {
         name,
         quoted,
         strips,
-    }))
+    })
 }
 
 /// The mark of what stands behind `<<` or `<<-`.
-fn mark_from(alloc: Global, strips: bool, text: &[u8]) -> Result<Option<Mark>, Memory>
-    ensures { IfOk result (λ mark. mark ≡ mark_from strips text.now) }
+fn mark_from(strips: bool, text: &[u8]) -> Option<WrittenMark<'_>>
+    ensures { option_map mark_written result ≡ mark_from strips text.entry.now }
 {
     if is_quoted_by(b'"', text) || is_quoted_by(b'\'', text) {
         let inner = &text[1..];
-        return named(alloc, strips, true, &inner[..text.len() - 2]);
+        return named(strips, true, &inner[..text.len() - 2]);
     }
-    named(alloc, strips, false, text)
+    named(strips, false, text)
 }
 
 /// What stands behind the `<<` with which a piece begins.
@@ -98,27 +53,53 @@ fn after_two(piece: &[u8]) -> Option<&[u8]>
 }
 
 /// The mark that a piece is, as `<<-"EOF"`.
-fn mark_of(alloc: Global, piece: &[u8]) -> Result<Option<Mark>, Memory>
-    ensures { IfOk result (λ mark. mark ≡ mark_of piece.now) }
+fn written_mark(piece: &str) -> Option<WrittenMark<'_>>
+    ensures { option_map mark_written result ≡ mark_of piece.entry.now }
 {
-    let Some(rest) = after_two(piece) else {
-        return Ok(None);
+    let Some(rest) = after_two(piece.as_bytes()) else {
+        return None;
     };
     if starts_with(rest, b'-') {
-        return mark_from(alloc, true, &rest[1..]);
+        return mark_from(true, &rest[1..]);
     }
-    mark_from(alloc, false, rest)
+    mark_from(false, rest)
 }
 
-/// Whether a piece is a flag, as `--link`.
-fn is_flag(piece: &[u8]) -> bool
-    ensures { result ≡ is_flag piece.now }
+/// Whether a word is the mark of a heredoc: the whole word is `<<NAME` or `<<-NAME`, where the name may stand in a pair of single or
+/// double quotes (Dockerfile reference, here-documents; the form of the name: own).
+#[tactic(auto, unfolding(crate::specs::Marks::is_mark))]
+pub fn is_mark(word: &str) -> bool
+    ensures { result ≡ is_mark word.now }
 {
-    matches!(piece, [b'-', b'-', ..])
+    written_mark(word).is_some()
+}
+
+/// A copy of a mark, which owns its name.
+fn copy_mark(alloc: Global, written: WrittenMark<'_>) -> Result<Mark, Memory>
+    ensures { IfOk result (λ mark. mark ≡ mark_written written.entry) }
+{
+    match str::from_utf8(written.name) {
+        Ok(name) => {
+            let name = Text::from_str(alloc, name)?;
+            Ok(Mark {
+                name,
+                quoted: written.quoted,
+                strips: written.strips,
+            })
+        }
+        Err(_) => unreachable!(),
+    }
+}
+
+/// Whether a text begins with two dashes, as a flag does (Dockerfile reference, as `RUN --mount`; that `--` alone is one: own).
+pub fn is_flag(text: &str) -> bool
+    ensures { result ≡ is_flag text.now }
+{
+    matches!(text.as_bytes(), [b'-', b'-', ..])
 }
 
 /// The pieces behind the leading flags.
-fn after_flags<'a>(pieces: &'a [&'a [u8]]) -> &'a [&'a [u8]]
+fn after_flags<'a>(pieces: &'a [&'a str]) -> &'a [&'a str]
     ensures { map (λ piece. piece.now) result.now ≡ after_flags (map (λ piece. piece.now) pieces.now) }
 {
     for (index, piece) in pieces.iter().enumerate() {
@@ -130,32 +111,46 @@ fn after_flags<'a>(pieces: &'a [&'a [u8]]) -> &'a [&'a [u8]]
 }
 
 /// The marks among the pieces behind the flags.
-fn marks_among(alloc: Global, pieces: &[&[u8]]) -> Result<Items<Mark>, Memory>
+fn marks_among(alloc: Global, pieces: &[&str]) -> Result<Items<Mark>, Memory>
     ensures { IfOk result (λ marks. marks ≡ marks_among (map (λ piece. piece.now) pieces.now)) }
 {
     let mut marks = Items::new(alloc);
     if let [first, ..] = pieces {
-        if starts_with(first, b'[') {
+        if starts_with(first.as_bytes(), b'[') {
             return Ok(marks);
         }
     }
     for piece in pieces {
-        if let Some(mark) = mark_of(alloc, piece)? {
-            marks.push(mark)?;
+        if let Some(written) = written_mark(piece) {
+            marks.push(copy_mark(alloc, written)?)?;
         }
     }
     Ok(marks)
+}
+
+/// Whether an instruction of this name has heredocs: RUN and COPY do, in any case of letters.
+fn has_heredocs(name: &str) -> bool
+    ensures { result ≡ has_heredocs name.now }
+{
+    name.eq_ignore_ascii_case("run") || name.eq_ignore_ascii_case("copy")
+}
+
+/// The marks among the pieces of an instruction.
+fn marks_in(alloc: Global, pieces: &[&str]) -> Result<Items<Mark>, Memory>
+    ensures { IfOk result (λ marks. marks ≡ marks_in (map (λ piece. piece.now) pieces.now)) }
+{
+    if let [name, rest @ ..] = pieces {
+        if has_heredocs(name) {
+            return marks_among(alloc, after_flags(rest));
+        }
+    }
+    Ok(Items::new(alloc))
 }
 
 /// The marks of a logical line's heredocs, in order.
 pub fn marks_of(alloc: Global, text: &str) -> Result<Items<Mark>, Memory>
     ensures { IfOk result (λ marks. marks ≡ marks_of text.now) }
 {
-    let pieces = pieces(alloc, text.as_bytes())?;
-    if let [name, rest @ ..] = pieces.as_slice() {
-        if is_word(b"run", name) || is_word(b"copy", name) {
-            return marks_among(alloc, after_flags(rest));
-        }
-    }
-    Ok(Items::new(alloc))
+    let pieces = split_at_blanks(alloc, text)?;
+    marks_in(alloc, pieces.as_slice())
 }

@@ -1,18 +1,7 @@
 use crate::{Escape, Heredoc, Line, Mark};
 use plain::{Items, Refusal, Text};
 
-/// A line at the top of a Dockerfile that sets something for the whole file, as `# escape=` and a backtick.
-#[derive(Clone, Copy, Debug, PartialEq, Eq)]
-pub enum Directive {
-    /// `escape`, with the character that it names, or none where its value is bad.
-    Escape(Option<Escape>),
-    /// `syntax`, which isn't acted on.
-    Syntax,
-    /// `check`, which isn't acted on.
-    Check,
-}
-
-/// Which directives have stood so far.
+/// Which directives there were so far.
 #[derive(Clone, Copy, Debug, PartialEq, Eq)]
 pub struct Seen {
     pub escape: bool,
@@ -43,10 +32,10 @@ pub struct Unclosed {
     pub body: Text,
 }
 
-/// Where in the file the next line stands.
+/// Where in the file the next line is.
 #[derive(Debug, Drop)]
-pub enum Stage {
-    /// At the top, where only directives have stood so far.
+pub enum Position {
+    /// At the top, where there were only directives so far.
     Top(Seen),
     /// Between logical lines.
     Between,
@@ -56,15 +45,15 @@ pub enum Stage {
     Bodies(Unclosed),
 }
 
-/// What some lines of a file have given.
+/// What the lines of a file that were read so far have given.
 #[derive(Debug, Drop)]
-pub struct Reading {
+pub struct FileState {
     pub escape: Escape,
     /// How many lines were read.
     pub count: u32,
-    pub stage: Stage,
+    pub position: Position,
     /// The logical lines that are complete.
     pub lines: Items<Line>,
-    /// All that is wrong with the lines.
+    /// All that is wrong with the lines, in the order in which it was found.
     pub faults: Items<Refusal>,
 }

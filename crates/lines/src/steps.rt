@@ -1,59 +1,58 @@
 ghost use Rattle.std.specs.Prelude.{◌≡◌, ◌++◌, ◌<◌, ◌-◌, ◌^◌, IfOk};
-ghost use Rattle.lines.specs.Blanks.{is_skipped};
 ghost use Rattle.lines.specs.Marks.{body_line, closes};
-ghost use Rattle.lines.specs.Joining.{initial, at_stage, noted, has_stood, with_seen, with_value, told_twice, directed, limited, completed, opened, closed, joined, heredoc_closed, body_grown, stopped, note_unclosed, ended};
-ghost use Rattle.lines.specs.Steps.{between_step, top_step, within_step, body_step, line_step};
+ghost use Rattle.lines.specs.PrivateSteps.{initial_state, at_position, with_fault, is_repeated, with_seen, take_value, refuse_repeated, read_directive};
+ghost use Rattle.lines.specs.PrivateSteps.{refuse_past_limit, complete_line, open_heredocs, close_line, join_line, close_heredoc, grow_body};
+ghost use Rattle.lines.specs.PrivateSteps.{end_continuation, refuse_unclosed, end_file, read_between, read_at_top, read_within, read_body_line, read_line};
 
-use crate::blanks::{after_tabs, continued_part, is_blank_line, is_comment, trimmed};
-use crate::directives::directive_of;
+use crate::blanks::{after_tabs, continued_part, is_skipped};
+use crate::directives::{Directive, directive_of};
 use crate::marks::marks_of;
-use crate::state::{Directive, Pending, Reading, Seen, Stage, Unclosed};
+use crate::state::{FileState, Pending, Position, Seen, Unclosed};
 use crate::{Escape, Heredoc, Line, Mark};
+use ascii::trimmed;
+use plain::limits::MOST_LINES;
 use plain::{Code, Exact, Items, Memory, Refusal, Text};
 use std::alloc::Global;
 
-/// How many logical lines a file may have.
-const MAX_LINES: usize = 4096;
-
-/// What no line has given.
-pub fn initial(alloc: Global) -> Reading
-    ensures { result ≡ initial }
+/// The state before the first line.
+pub fn initial_state(alloc: Global) -> FileState
+    ensures { result ≡ initial_state }
 {
     let seen = Seen {
         escape: false,
         syntax: false,
         check: false,
     };
-    Reading {
+    FileState {
         escape: Escape::Backslash,
         count: 0,
-        stage: Stage::Top(seen),
+        position: Position::Top(seen),
         lines: Items::new(alloc),
         faults: Items::new(alloc),
     }
 }
 
-/// The reading at another stage.
-fn at_stage(reading: Reading, stage: Stage) -> Reading
-    ensures { result ≡ at_stage reading stage }
+/// The state where the next line is at another position.
+fn at_position(state: FileState, position: Position) -> FileState
+    ensures { result ≡ at_position state position }
 {
-    let mut reading = reading;
-    reading.stage = stage;
-    reading
+    let mut state = state;
+    state.position = position;
+    state
 }
 
-/// The reading with one more thing that is wrong.
-fn noted(reading: Reading, code: Code, line: u32) -> Result<Reading, Memory>
-    ensures { IfOk result (λ r. r ≡ noted reading code line) }
+/// The state with one more fault.
+fn with_fault(state: FileState, code: Code, line: u32) -> Result<FileState, Memory>
+    ensures { IfOk result (λ r. r ≡ with_fault state code line) }
 {
-    let mut reading = reading;
-    reading.faults.push(Refusal { code, line })?;
-    Ok(reading)
+    let mut state = state;
+    state.faults.push(Refusal { code, line })?;
+    Ok(state)
 }
 
-/// Whether a directive's key has stood before.
-fn has_stood(seen: Seen, directive: Directive) -> bool
-    ensures { result ≡ has_stood seen directive }
+/// Whether a directive's key was there before.
+fn is_repeated(seen: Seen, directive: Directive) -> bool
+    ensures { result ≡ is_repeated seen directive }
 {
     match directive {
         Directive::Escape(_) => seen.escape,
@@ -62,7 +61,7 @@ fn has_stood(seen: Seen, directive: Directive) -> bool
     }
 }
 
-/// The keys that have stood, with a directive's.
+/// The keys that were there, with a directive's.
 fn with_seen(seen: Seen, directive: Directive) -> Seen
     ensures { result ≡ with_seen seen directive }
 {
@@ -75,86 +74,86 @@ fn with_seen(seen: Seen, directive: Directive) -> Seen
     seen
 }
 
-/// Takes over what a directive sets.
-fn with_value(reading: Reading, directive: Directive) -> Result<Reading, Memory>
-    ensures { IfOk result (λ r. r ≡ with_value reading directive) }
+/// Sets what a directive sets, or notes its bad value.
+fn take_value(state: FileState, directive: Directive) -> Result<FileState, Memory>
+    ensures { IfOk result (λ r. r ≡ take_value state directive) }
 {
     match directive {
         Directive::Escape(Some(escape)) => {
-            let mut reading = reading;
-            reading.escape = escape;
-            Ok(reading)
+            let mut state = state;
+            state.escape = escape;
+            Ok(state)
         }
         Directive::Escape(None) => {
-            let line = reading.count;
-            noted(reading, Code::R03, line)
+            let line = state.count;
+            with_fault(state, Code::R03, line)
         }
-        Directive::Syntax | Directive::Check => Ok(reading),
+        Directive::Syntax | Directive::Check => Ok(state),
     }
 }
 
-/// Notes a directive whose key has stood before.
-fn told_twice(reading: Reading, seen: Seen, directive: Directive) -> Result<Reading, Memory>
-    ensures { IfOk result (λ r. r ≡ told_twice reading seen directive) }
+/// Notes a directive whose key was there before.
+fn refuse_repeated(state: FileState, seen: Seen, directive: Directive) -> Result<FileState, Memory>
+    ensures { IfOk result (λ r. r ≡ refuse_repeated state seen directive) }
 {
-    if !has_stood(seen, directive) {
-        return Ok(reading);
+    if !is_repeated(seen, directive) {
+        return Ok(state);
     }
-    let line = reading.count;
-    noted(reading, Code::R02, line)
+    let line = state.count;
+    with_fault(state, Code::R02, line)
 }
 
-/// A directive stands on the line just counted.
-fn directed(reading: Reading, seen: Seen, directive: Directive) -> Result<Reading, Memory>
-    ensures { IfOk result (λ r. r ≡ directed reading seen directive) }
+/// Reads a directive on the line just counted.
+fn read_directive(state: FileState, seen: Seen, directive: Directive) -> Result<FileState, Memory>
+    ensures { IfOk result (λ r. r ≡ read_directive state seen directive) }
 {
-    let reading = told_twice(reading, seen, directive)?;
-    let reading = with_value(reading, directive)?;
-    Ok(at_stage(reading, Stage::Top(with_seen(seen, directive))))
+    let state = refuse_repeated(state, seen, directive)?;
+    let state = take_value(state, directive)?;
+    Ok(at_position(state, Position::Top(with_seen(seen, directive))))
 }
 
-/// Notes a logical line that stands behind as many as a file may have.
-fn limited(reading: Reading, number: u32) -> Result<Reading, Memory>
-    ensures { IfOk result (λ r. r ≡ limited reading number) }
+/// Notes the first logical line past as many as a file may have.
+fn refuse_past_limit(state: FileState, number: u32) -> Result<FileState, Memory>
+    ensures { IfOk result (λ r. r ≡ refuse_past_limit state number) }
 {
-    if reading.lines.len() == MAX_LINES {
-        return noted(reading, Code::R18, number);
+    if state.lines.len() == MOST_LINES {
+        return with_fault(state, Code::R18, number);
     }
-    Ok(reading)
+    Ok(state)
 }
 
-/// A logical line is complete.
-fn completed(
-    reading: Reading,
+/// Adds a logical line that is complete.
+fn complete_line(
+    state: FileState,
     number: u32,
     text: Text,
     heredocs: Items<Heredoc>,
-) -> Result<Reading, Memory>
-    ensures { IfOk result (λ r. r ≡ completed reading number text heredocs) }
+) -> Result<FileState, Memory>
+    ensures { IfOk result (λ r. r ≡ complete_line state number text heredocs) }
 {
-    let mut reading = at_stage(reading, Stage::Between);
-    let escape = reading.escape;
-    reading.lines.push(Line {
+    let mut state = at_position(state, Position::Between);
+    let escape = state.escape;
+    state.lines.push(Line {
         number,
         text,
         heredocs,
         escape,
     })?;
-    Ok(reading)
+    Ok(state)
 }
 
-/// A logical line's text is complete, and its heredocs' bodies follow, if it has marks.
-fn opened(
+/// Begins the heredocs of a logical line whose text is complete, or adds the line where it has no marks.
+fn open_heredocs(
     alloc: Global,
-    reading: Reading,
+    state: FileState,
     number: u32,
     text: Text,
     marks: Items<Mark>,
-) -> Result<Reading, Memory>
-    ensures { IfOk result (λ r. r ≡ opened reading number text marks) }
+) -> Result<FileState, Memory>
+    ensures { IfOk result (λ r. r ≡ open_heredocs state number text marks) }
 {
     let mark = match marks.as_slice() {
-        [] => return completed(reading, number, text, Items::new(alloc)),
+        [] => return complete_line(state, number, text, Items::new(alloc)),
         [first, ..] => first.copy(alloc)?,
     };
     let unclosed = Unclosed {
@@ -165,23 +164,23 @@ fn opened(
         mark,
         body: Text::from_string(String::new(alloc)),
     };
-    Ok(at_stage(reading, Stage::Bodies(unclosed)))
+    Ok(at_position(state, Position::Bodies(unclosed)))
 }
 
-/// The lines of a logical line have ended, and join to this text.
-fn closed(alloc: Global, reading: Reading, number: u32, text: &str) -> Result<Reading, Memory>
-    ensures { IfOk result (λ r. r ≡ closed reading number text.now) }
+/// Ends the lines of a logical line, which join to this text.
+fn close_line(alloc: Global, state: FileState, number: u32, text: &str) -> Result<FileState, Memory>
+    ensures { IfOk result (λ r. r ≡ close_line state number text.now) }
 {
     if text.is_empty() {
-        return Ok(at_stage(reading, Stage::Between));
+        return Ok(at_position(state, Position::Between));
     }
-    let reading = limited(reading, number)?;
+    let state = refuse_past_limit(state, number)?;
     let marks = marks_of(alloc, text)?;
-    opened(alloc, reading, number, Text::from_str(alloc, text)?, marks)
+    open_heredocs(alloc, state, number, Text::from_str(alloc, text)?, marks)
 }
 
-/// A text with another behind it.
-fn appended(text: Text, more: &str) -> Result<Text, Memory>
+/// A text with another one at its end.
+fn append(text: Text, more: &str) -> Result<Text, Memory>
     ensures { IfOk result (λ both. both ≡ text ++ more.now) }
 {
     let mut text = text.into_string();
@@ -189,29 +188,29 @@ fn appended(text: Text, more: &str) -> Result<Text, Memory>
     Ok(Text::from_string(text))
 }
 
-/// Adds a line to what the lines before it in its logical line have joined to.
-fn joined(
+/// Adds a line to the text of the lines before it in its logical line.
+fn join_line(
     alloc: Global,
-    reading: Reading,
+    state: FileState,
     number: u32,
     before: Text,
     line: &str,
-) -> Result<Reading, Memory>
-    ensures { IfOk result (λ r. r ≡ joined reading number before line.now) }
+) -> Result<FileState, Memory>
+    ensures { IfOk result (λ r. r ≡ join_line state number before line.now) }
 {
-    match continued_part(reading.escape, line) {
+    match continued_part(state.escape, line) {
         Some(part) => {
-            let text = appended(before, part)?;
-            Ok(at_stage(reading, Stage::Within(Pending { number, text })))
+            let text = append(before, part)?;
+            Ok(at_position(state, Position::Within(Pending { number, text })))
         }
         None => {
-            let text = appended(before, line)?;
-            closed(alloc, reading, number, trimmed(text.as_str()))
+            let text = append(before, line)?;
+            close_line(alloc, state, number, trimmed(text.as_str()))
         }
     }
 }
 
-/// What a line is to a heredoc of this mark.
+/// What a line adds to the body of a heredoc of this mark.
 fn body_line<'a>(mark: &Mark, line: &'a str) -> &'a str
     ensures { result.now ≡ body_line mark.now line.now }
 {
@@ -225,176 +224,142 @@ fn closes(mark: &Mark, line: &str) -> bool
     body_line(mark, line) == mark.name.as_str()
 }
 
-/// The heredoc that was read is closed, and the next one follows, if there is one.
-fn heredoc_closed(alloc: Global, reading: Reading, unclosed: Unclosed) -> Result<Reading, Memory>
-    ensures { IfOk result (λ r. r ≡ heredoc_closed reading unclosed) }
+/// Closes the heredoc that was read, and begins the next one or adds the logical line.
+fn close_heredoc(alloc: Global, state: FileState, unclosed: Unclosed) -> Result<FileState, Memory>
+    ensures { IfOk result (λ r. r ≡ close_heredoc state unclosed) }
 {
-    let Unclosed {
-        number,
-        text,
-        marks,
-        heredocs,
-        mark,
-        body,
-    } = unclosed;
-    let mut heredocs = heredocs;
-    heredocs.push(Heredoc { mark, body })?;
-    let mark = match marks.as_slice().get(heredocs.len()) {
-        None => return completed(reading, number, text, heredocs),
-        Some(next) => next.copy(alloc)?,
-    };
-    let unclosed = Unclosed {
-        number,
-        text,
-        marks,
-        heredocs,
-        mark,
-        body: Text::from_string(String::new(alloc)),
-    };
-    Ok(at_stage(reading, Stage::Bodies(unclosed)))
+    let mut unclosed = unclosed;
+    let Unclosed { mark, body, .. } = unclosed;
+    unclosed.heredocs.push(Heredoc { mark, body })?;
+    match unclosed.marks.as_slice().get(unclosed.heredocs.len()) {
+        None => complete_line(state, unclosed.number, unclosed.text, unclosed.heredocs),
+        Some(next) => {
+            unclosed.mark = next.copy(alloc)?;
+            unclosed.body = Text::from_string(String::new(alloc));
+            Ok(at_position(state, Position::Bodies(unclosed)))
+        }
+    }
 }
 
-/// A heredoc's body has one more line.
-fn body_grown(reading: Reading, unclosed: Unclosed, line: &str) -> Result<Reading, Memory>
-    ensures { IfOk result (λ r. r ≡ body_grown reading unclosed line.now) }
+/// Adds a line with its LF to the body of the heredoc that is read.
+fn grow_body(state: FileState, unclosed: Unclosed, line: &str) -> Result<FileState, Memory>
+    ensures { IfOk result (λ r. r ≡ grow_body state unclosed line.now) }
 {
-    let Unclosed {
-        number,
-        text,
-        marks,
-        heredocs,
-        mark,
-        body,
-    } = unclosed;
-    let body = appended(body, line)?;
-    let body = appended(body, "\n")?;
-    let unclosed = Unclosed {
-        number,
-        text,
-        marks,
-        heredocs,
-        mark,
-        body,
-    };
-    Ok(at_stage(reading, Stage::Bodies(unclosed)))
+    let mut unclosed = unclosed;
+    let body = append(unclosed.body, line)?;
+    unclosed.body = append(body, "\n")?;
+    Ok(at_position(state, Position::Bodies(unclosed)))
 }
 
-/// Whether a line is a comment or blank.
-fn is_skipped(line: &str) -> bool
-    ensures { result ≡ is_skipped line.now }
-{
-    is_blank_line(line) || is_comment(line)
-}
-
-/// One more line between logical lines.
-fn between_step(alloc: Global, reading: Reading, line: &str) -> Result<Reading, Memory>
-    ensures { IfOk result (λ r. r ≡ between_step reading line.now) }
+/// Reads a line between logical lines.
+fn read_between(alloc: Global, state: FileState, line: &str) -> Result<FileState, Memory>
+    ensures { IfOk result (λ r. r ≡ read_between state line.now) }
 {
     if is_skipped(line) {
-        return Ok(at_stage(reading, Stage::Between));
+        return Ok(at_position(state, Position::Between));
     }
-    let number = reading.count;
+    let number = state.count;
     let empty = Text::from_string(String::new(alloc));
-    joined(alloc, reading, number, empty, line)
+    join_line(alloc, state, number, empty, line)
 }
 
-/// One more line at the top.
-fn top_step(alloc: Global, reading: Reading, seen: Seen, line: &str) -> Result<Reading, Memory>
-    ensures { IfOk result (λ r. r ≡ top_step reading seen line.now) }
+/// Reads a line at the top, above which there are directives alone.
+fn read_at_top(alloc: Global, state: FileState, seen: Seen, line: &str) -> Result<FileState, Memory>
+    ensures { IfOk result (λ r. r ≡ read_at_top state seen line.now) }
 {
     match directive_of(line) {
-        Some(directive) => directed(reading, seen, directive),
-        None => between_step(alloc, reading, line),
+        Some(directive) => read_directive(state, seen, directive),
+        None => read_between(alloc, state, line),
     }
 }
 
-/// One more line inside a logical line that is continued.
-fn within_step(
+/// Reads a line inside a logical line that is continued.
+fn read_within(
     alloc: Global,
-    reading: Reading,
+    state: FileState,
     pending: Pending,
     line: &str,
-) -> Result<Reading, Memory>
-    ensures { IfOk result (λ r. r ≡ within_step reading pending line.now) }
+) -> Result<FileState, Memory>
+    ensures { IfOk result (λ r. r ≡ read_within state pending line.now) }
 {
     if is_skipped(line) {
-        return Ok(at_stage(reading, Stage::Within(pending)));
+        return Ok(at_position(state, Position::Within(pending)));
     }
     let Pending { number, text } = pending;
-    joined(alloc, reading, number, text, line)
+    join_line(alloc, state, number, text, line)
 }
 
-/// One more line in the heredocs of a logical line.
-fn body_step(
+/// Reads a line in the heredocs of a logical line.
+fn read_body_line(
     alloc: Global,
-    reading: Reading,
+    state: FileState,
     unclosed: Unclosed,
     line: &str,
-) -> Result<Reading, Memory>
-    ensures { IfOk result (λ r. r ≡ body_step reading unclosed line.now) }
+) -> Result<FileState, Memory>
+    ensures { IfOk result (λ r. r ≡ read_body_line state unclosed line.now) }
 {
     if closes(&unclosed.mark, line) {
-        return heredoc_closed(alloc, reading, unclosed);
+        return close_heredoc(alloc, state, unclosed);
     }
     let kept = body_line(&unclosed.mark, line);
-    body_grown(reading, unclosed, kept)
+    grow_body(state, unclosed, kept)
 }
 
-/// One more line of the file.
-#[tactic(auto, unfolding(crate::specs::Steps::line_step))]
-pub fn line_step(alloc: Global, reading: Reading, line: &str) -> Result<Reading, Memory>
-    requires { reading.count < 2 ^ 32 - 1 }
-    ensures { IfOk result (λ r. r ≡ line_step reading line.now) }
+/// Reads the next line of the file.
+#[tactic(auto, unfolding(crate::specs::PrivateSteps::read_line))]
+pub fn read_line(alloc: Global, state: FileState, line: &str) -> Result<FileState, Memory>
+    requires { state.count < 2 ^ 32 - 1 }
+    ensures { IfOk result (λ r. r ≡ read_line state line.now) }
 {
-    let Reading {
+    let FileState {
         escape,
         count,
-        stage,
+        position,
         lines,
         faults,
-    } = reading;
-    let counted = Reading {
+    } = state;
+    let count_line = FileState {
         escape,
         count: count + 1,
-        stage: Stage::Between,
+        position: Position::Between,
         lines,
         faults,
     };
-    match stage {
-        Stage::Top(seen) => top_step(alloc, counted, seen, line),
-        Stage::Between => between_step(alloc, counted, line),
-        Stage::Within(pending) => within_step(alloc, counted, pending, line),
-        Stage::Bodies(unclosed) => body_step(alloc, counted, unclosed, line),
+    match position {
+        Position::Top(seen) => read_at_top(alloc, count_line, seen, line),
+        Position::Between => read_between(alloc, count_line, line),
+        Position::Within(pending) => read_within(alloc, count_line, pending, line),
+        Position::Bodies(unclosed) => read_body_line(alloc, count_line, unclosed, line),
     }
 }
 
-/// What a text's lines have given at its end.
-pub fn ended(alloc: Global, reading: Reading) -> Result<Reading, Memory>
-    ensures { IfOk result (λ r. r ≡ ended reading) }
+/// The state at the end of the text.
+pub fn end_file(alloc: Global, state: FileState) -> Result<FileState, Memory>
+    ensures { IfOk result (λ r. r ≡ end_file state) }
 {
-    let reading = stopped(alloc, reading)?;
-    note_unclosed(reading)
+    let state = end_continuation(alloc, state)?;
+    refuse_unclosed(state)
 }
 
-/// The end of the text ends a continuation.
-fn stopped(alloc: Global, reading: Reading) -> Result<Reading, Memory>
-    ensures { IfOk result (λ r. r ≡ stopped reading reading.stage) }
+/// Ends a continuation where the text ends.
+fn end_continuation(alloc: Global, state: FileState) -> Result<FileState, Memory>
+    ensures { IfOk result (λ r. r ≡ end_continuation state state.position) }
 {
-    if let Stage::Within(pending) = &reading.stage {
+    if let Position::Within(pending) = &state.position {
         let number = pending.number;
         let text = Text::from_str(alloc, trimmed(pending.text.as_str()))?;
-        return closed(alloc, reading, number, text.as_str());
+        return close_line(alloc, state, number, text.as_str());
     }
-    Ok(reading)
+    Ok(state)
 }
 
 /// Notes a heredoc that the end of the text leaves unclosed.
-fn note_unclosed(reading: Reading) -> Result<Reading, Memory>
-    ensures { IfOk result (λ r. r ≡ note_unclosed reading reading.stage) }
+fn refuse_unclosed(state: FileState) -> Result<FileState, Memory>
+    ensures { IfOk result (λ r. r ≡ refuse_unclosed state state.position) }
 {
-    if let Stage::Bodies(unclosed) = &reading.stage {
+    if let Position::Bodies(unclosed) = &state.position {
         let number = unclosed.number;
-        return noted(reading, Code::R08, number);
+        return with_fault(state, Code::R08, number);
     }
-    Ok(reading)
+    Ok(state)
 }

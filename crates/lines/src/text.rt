@@ -1,18 +1,15 @@
 ghost use Rattle.std.specs.Prelude.{◌≡◌, ◌==◌, count_by, IfOk};
 ghost use Rattle.std.specs.Str.Lossy.{utf8_valid_len};
-ghost use Rattle.lines.specs.Joining.{initial, ended};
-ghost use Rattle.lines.specs.Steps.{after_lines};
+ghost use Rattle.lines.specs.PrivateSteps.{Reads};
 ghost use Rattle.lines.specs.Text.{without_byte_order_mark, text_lines, first_bad_line, IsShort, Answers};
 
 use crate::faults::least;
-use crate::state::Reading;
-use crate::steps::{ended, initial, line_step};
+use crate::state::FileState;
+use crate::steps::{end_file, initial_state, read_line};
 use crate::{Line, LineFault};
-use plain::{Code, Memory, Refusal};
+use plain::limits::MOST_LINES;
+use plain::{Code, Fault, Memory, Refusal};
 use std::alloc::Global;
-
-/// How many bytes a Dockerfile may have.
-pub const MAX_BYTES: usize = 1_048_576;
 
 /// A text without its leading byte order mark.
 fn without_byte_order_mark(text: &str) -> &str
@@ -24,16 +21,21 @@ fn without_byte_order_mark(text: &str) -> &str
     }
 }
 
-/// What a text's lines give.
-fn read_lines(alloc: Global, text: &str) -> Result<Reading, Memory>
+/// Reads a text's lines, and no more of them once there is a logical line past the limit: further lines don't change why the text is
+/// refused.
+#[tactic(auto, unfolding(plain::specs::Limits::most_dockerfile_bytes))]
+fn read_lines(alloc: Global, text: &str) -> Result<FileState, Memory>
     requires { IsShort text.now }
-    ensures { IfOk result (λ r. r ≡ ended (after_lines initial (text_lines text.now))) }
+    ensures { IfOk result (λ state. Reads (text_lines text.now) state) }
 {
-    let mut reading = initial(alloc);
+    let mut state = initial_state(alloc);
     for line in without_byte_order_mark(text).lines() {
-        reading = line_step(alloc, reading, line)?;
+        if state.lines.len() > MOST_LINES {
+            return Ok(state);
+        }
+        state = read_line(alloc, state, line)?;
     }
-    ended(alloc, reading)
+    end_file(alloc, state)
 }
 
 /// How many bytes are an LF.
@@ -44,6 +46,7 @@ fn line_feeds(bytes: &[u8]) -> usize
 }
 
 /// The line of the first byte with which a text stops being UTF-8.
+#[tactic(auto, unfolding(plain::specs::Limits::most_dockerfile_bytes))]
 fn bad_line(bytes: &[u8], valid: usize) -> u32
     requires short { IsShort bytes.now }
     requires valid { valid ≡ utf8_valid_len bytes.now }
@@ -61,17 +64,17 @@ pub fn lines_of(alloc: Global, bytes: &[u8]) -> Result<Vec<Line>, LineFault>
         Ok(text) => text,
         Err(fault) => {
             let line = bad_line(bytes, fault.valid_up_to());
-            return Err(LineFault::Refused(Refusal {
+            return Err(Fault::Because(Refusal {
                 code: Code::R01,
                 line,
             }));
         }
     };
-    let reading = read_lines(alloc, text)?;
-    match least(reading.faults.as_slice()) {
-        Some(refusal) => Err(LineFault::Refused(refusal)),
+    let state = read_lines(alloc, text)?;
+    match least(state.faults.as_slice()) {
+        Some(refusal) => Err(Fault::Because(refusal)),
         None => {
-            let Reading { lines, .. } = reading;
+            let FileState { lines, .. } = state;
             Ok(lines.into_vec())
         }
     }

@@ -1,7 +1,7 @@
 use Rattle.std.proofs.Common.{List, ℕ, sym, subst, arith}
 use Rattle.std.specs.Prelude.{IsCharBoundary}
 use Rattle.std.proofs.lemmas.Str.{IsCharBoundary-after_ascii}
-use Rattle.lines.proofs.NameLemmas.{starts_with-some}
+use Rattle.lines.proofs.BlankLemmas.{starts_with-some}
 use Rattle.lines.proofs.directives.after_sharp.Goals as goal
 
 pub range_from-requires : goal.range_from-requires

@@ -6,5 +6,5 @@ use Rattle.lines.proofs.faults.least.Goals as goal
 
 pub loop-fault-preserved : goal.loop-fault-preserved
 loop-fault-preserved c =
-    subst (λ (told : List Refusal). IsLeast told c.lesser.result) (sym (take_more c.args.faults.now c.loop-fault.fault-index _ c.loop-fault-test.true))
-    (c.lesser.ensures (take c.loop-fault.fault-index c.args.faults.now) c.loop-fault.invariant)
+    subst (λ (told : List Refusal). IsLeast told c.keep_lesser.result) (sym (take_more c.args.faults.now c.loop-fault.fault-index _ c.loop-fault-test.true))
+    (c.keep_lesser.ensures (take c.loop-fault.fault-index c.args.faults.now) c.loop-fault.invariant)

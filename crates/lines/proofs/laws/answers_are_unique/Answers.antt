@@ -1,4 +1,4 @@
-use Rattle.lines.specs.TextLaws.{lines_same, refusal_same, never_both}
+use Rattle.lines.proofs.TextLaws.{lines_same, refusal_same, never_both}
 use Rattle.lines.proofs.laws.answers_are_unique.Goals as goal
 
 pub returns : goal.returns

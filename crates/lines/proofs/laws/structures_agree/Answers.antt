@@ -1,5 +1,5 @@
-use Rattle.lines.specs.CutLaws.{structure_of}
-use Rattle.lines.specs.FileLaws.{IsFile-same}
+use Rattle.lines.proofs.CutLaws.{structure_of}
+use Rattle.lines.proofs.FileLaws.{IsFile-same}
 use Rattle.lines.proofs.laws.structures_agree.Goals as goal
 
 pub returns : goal.returns

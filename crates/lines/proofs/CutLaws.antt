@@ -6,16 +6,16 @@ use Rattle.plain.specs.declared.refusal.Code.TheVariants.{R08, R18}
 use Rattle.plain.specs.declared.refusal.Refusal.{Refusal}
 use Rattle.lines.specs.Blanks.{is_skipped}
 use Rattle.lines.specs.Directives.{directive_of}
-use Rattle.lines.specs.Escapes.{byte_of}
-use Rattle.lines.specs.File.{refused_at, AreDirectives, escape_below, directive_faults, goes_on, AreJoined, joined_text, AreInside, heredoc_of, AreBodies, AreUnclosed, line_of, AreBlocks, none, dropped, logical, open_ended, most_lines, numbers_of, IsFile}
+use Rattle.lines.specs.Escape.{byte_of}
+use Rattle.lines.specs.File.{refused_at, AreDirectives, escape_below, directive_faults, goes_on, AreJoined, joined_text, AreInside, heredoc_of, AreBodies, AreUnclosed, line_of, AreBlocks, none, dropped, logical, open_ended, numbers_of, IsFile, BeginsBelowDirectives}
+use Rattle.plain.specs.Limits.{most_lines}
 use Rattle.lines.specs.Marks.{marks_of, closes}
-use Rattle.lines.specs.declared.line.Escape as character
-use Rattle.lines.specs.declared.line.Escape.TheVariants.{Backslash}
+use Rattle.lines.specs.declared.escape.Escape as character
+use Rattle.lines.specs.declared.escape.Escape.TheVariants.{Backslash}
 use Rattle.lines.specs.declared.line.Heredoc.{Heredoc}
 use Rattle.lines.specs.declared.line.Line.{Line}
 use Rattle.lines.specs.declared.line.Mark.{Mark}
-use Rattle.lines.specs.declared.state.Directive.{Directive}
-use Rattle.lines.specs.File.{BeginsBelowDirectives}
+use Rattle.lines.specs.declared.directives.Directive.{Directive}
 
 -- a logical line is cut off from the lines that begin with it
 record IsHeadCut (e : ℕ) (line : List ℕ) (lines : List (List ℕ)) : Type 0 where
@@ -89,10 +89,10 @@ bodies_cut [] lines = inl (record { bodies = []; rest = lines; heredocs = []; is
 bodies_cut (mark ∷ marks) lines = bodies_cut_by mark marks lines (body_cut mark lines) (bodies_cut marks)
 
 -- the lines are cut into blocks
-record IsCut (escape : character.Escape) (above : ℕ) (lines : List (List ℕ)) : Type 0 where
-  found : List Line
-  unclosed : Option ℕ
-  blocks : AreBlocks escape above lines found unclosed
+pub record IsCut (escape : character.Escape) (above : ℕ) (lines : List (List ℕ)) : Type 0 where
+  pub found : List Line
+  pub unclosed : Option ℕ
+  pub blocks : AreBlocks escape above lines found unclosed
 
 fewer : (k a b c : ℕ) → a + 1 ≤ k + 1 → a ≡ b + c → c ≤ k
 fewer k a b c h e = omega arith
@@ -123,7 +123,7 @@ block_cut escape k above line lines false h few more =
     let c = head_cut (byte_of escape) line lines in
     logical_cut escape k above line lines few h more c (bodies_cut (marks_of (joined_text (byte_of escape) (line ∷ c.more))) c.rest)
 
-blocks_cut : (escape : character.Escape) (k above : ℕ) (lines : List (List ℕ)) → length lines ≤ k → IsCut escape above lines
+pub blocks_cut : (escape : character.Escape) (k above : ℕ) (lines : List (List ℕ)) → length lines ≤ k → IsCut escape above lines
 blocks_cut escape k above [] h = record { found = []; unclosed = None; blocks = none above }
 blocks_cut escape zero above (line ∷ lines) h = absurd (omega arith)
 blocks_cut escape (suc k) above (line ∷ lines) h = block_cut escape k above line lines (is_skipped line) refl (omega arith) (blocks_cut escape k)

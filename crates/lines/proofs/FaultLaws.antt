@@ -52,7 +52,7 @@ behind_same f g h i =
     let p = same_place f g h i in
     refusal_from f g p.0 (number_of-one f.code g.code p.1)
 
-at_one : (f g : Refusal) (fs : List Refusal) → IsBehindNone f fs → IsAmong g fs → IsNotBehind f g
+pub at_one : (f g : Refusal) (fs : List Refusal) → IsBehindNone f fs → IsAmong g fs → IsNotBehind f g
 at_one f g [] h i = absurd i
 at_one f g (x ∷ xs) h i = elim i [ inl e ↦ subst (IsNotBehind f) (sym e) h.0 | inr r ↦ at_one f g xs h.1 r ]
 

@@ -1,17 +1,18 @@
 -- Laws of a whole text: it has just one list of logical lines, or is refused in just one way, and never both.
-use Rattle.std.specs.Prelude.{◌≡◌, ◌≤◌, ◌⊎◌, ◌^◌, ℕ, Bool, true, false, List, [], length, nat_le, IsUtf8, refl}
+use Rattle.std.specs.Prelude.{◌≡◌, ◌≤◌, ◌⊎◌, ℕ, Bool, true, false, List, [], length, nat_le, IsUtf8, refl}
 use Rattle.std.specs.Str.{is_utf8}
 use Rattle.std.proofs.Common.{sym, ◌∙◌, subst, inl, inr, arith}
 use Rattle.std.proofs.lemmas.Bool.{true≢false}
 use Rattle.std.proofs.lemmas.Bool.Decides.{nat_tests}
 use Rattle.std.proofs.lemmas.Str.{is_utf8-from_IsUtf8, IsUtf8-from_is_utf8}
+use Rattle.plain.specs.Limits.{most_dockerfile_bytes}
 use Rattle.plain.specs.declared.refusal.Code.TheVariants.{R01, R18}
 use Rattle.plain.specs.declared.refusal.Refusal.{Refusal}
 use Rattle.lines.specs.Faults.{refusal, IsAmong, IsLeast}
-use Rattle.lines.specs.FaultLaws.{IsLeast-same, none_or_least}
+use Rattle.lines.proofs.FaultLaws.{IsLeast-same, none_or_least}
 use Rattle.lines.specs.File.{IsFile}
-use Rattle.lines.specs.CutLaws.{structure_of}
-use Rattle.lines.specs.FileLaws.{IsFile-same}
+use Rattle.lines.proofs.CutLaws.{structure_of}
+use Rattle.lines.proofs.FileLaws.{IsFile-same}
 use Rattle.lines.specs.Text.{IsShort, text_lines, first_bad_line, AreLines, IsRefused}
 use Rattle.lines.specs.declared.line.Line.{Line}
 
@@ -69,4 +70,4 @@ text_answered text (inl s) = short_answered text s (utf8_or_not text (is_utf8 te
 text_answered text (inr n) = inr (refusal R18 0, inl (n, refl))
 
 pub answered : (text : List ℕ) → IsAnswered text
-answered text = text_answered text (le_or_not (length text) (2 ^ 20) (nat_le (length text) (2 ^ 20)) refl)
+answered text = text_answered text (le_or_not (length text) most_dockerfile_bytes (nat_le (length text) most_dockerfile_bytes) refl)

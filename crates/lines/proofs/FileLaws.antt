@@ -9,21 +9,20 @@ use Rattle.plain.specs.declared.refusal.Code.TheVariants.{R02, R08}
 use Rattle.plain.specs.declared.refusal.Refusal.{Refusal}
 use Rattle.lines.specs.Directives.{directive_of}
 use Rattle.lines.specs.Faults.{refusal}
-use Rattle.lines.specs.File.{refused_at, have_one_key, AreDirectives, escape_below, twice_faults, value_faults, directive_faults, AreBlocks, most_lines, numbers_of, IsFile}
-use Rattle.lines.specs.Joining.{initial, at_stage, counted, noted, has_stood, with_seen, with_value, told_twice, directed, ended}
-use Rattle.lines.specs.Steps.{top_chosen, line_step, after_lines}
-use Rattle.lines.specs.declared.line.Escape as character
-use Rattle.lines.specs.declared.line.Escape.TheVariants.{Backslash}
+use Rattle.lines.specs.File.{refused_at, have_one_key, AreDirectives, escape_below, twice_faults, value_faults, directive_faults, AreBlocks, numbers_of, IsFile, BeginsBelowDirectives}
+use Rattle.plain.specs.Limits.{most_lines}
+use Rattle.lines.specs.PrivateSteps.{initial_state, at_position, count_line, with_fault, is_repeated, with_seen, take_value, refuse_repeated, read_directive, end_file, read_at_top_as, read_line, after_lines}
+use Rattle.lines.specs.declared.escape.Escape as character
+use Rattle.lines.specs.declared.escape.Escape.TheVariants.{Backslash}
 use Rattle.lines.specs.declared.line.Line.{Line}
-use Rattle.lines.specs.declared.state.Directive.{Directive}
-use Rattle.lines.specs.declared.state.Directive.TheVariants.{Escape, Syntax, Check}
+use Rattle.lines.specs.declared.directives.Directive.{Directive}
+use Rattle.lines.specs.declared.directives.Directive.TheVariants.{Escape, Syntax, Check}
 use Rattle.lines.specs.declared.state.Seen.{Seen}
-use Rattle.lines.specs.declared.state.Stage.TheVariants.{Top}
-use Rattle.lines.specs.declared.state.Reading.{Reading}
+use Rattle.lines.specs.declared.state.Position.TheVariants.{Top}
+use Rattle.lines.specs.declared.state.FileState.{FileState}
 use Rattle.std.proofs.Math.Bool.{or-true}
-use Rattle.lines.specs.File.{BeginsBelowDirectives}
-use Rattle.lines.specs.CutLaws.{structure_of}
-use Rattle.lines.specs.BlockLaws.{base, limits_at, blocks_given}
+use Rattle.lines.proofs.CutLaws.{structure_of}
+use Rattle.lines.proofs.BlockLaws.{base, limits_at, blocks_given}
 
 -- the directives at the top
 
@@ -31,8 +30,8 @@ use Rattle.lines.specs.BlockLaws.{base, limits_at, blocks_given}
 abbrev seen_of : List Directive → Seen
 seen_of above = record { escape = list_any (have_one_key (Escape None)) above; syntax = list_any (have_one_key Syntax) above; check = list_any (have_one_key Check) above }
 
-abbrev at_top : character.Escape → List Directive → List Refusal → Reading
-at_top escape above faults = record { escape = escape; count = length above; stage = Top (seen_of above); lines = []; faults = faults }
+abbrev at_top : character.Escape → List Directive → List Refusal → FileState
+at_top escape above faults = record { escape = escape; count = length above; position = Top (seen_of above); lines = []; faults = faults }
 
 or_false : (b : Bool) → (b || false) ≡ b
 or_false true = refl
@@ -58,41 +57,41 @@ seen_more above Check =
     let s = seen_other above Check (have_one_key Syntax) refl in
     let c = seen_same above Check (have_one_key Check) refl in cc
 
-stood_is : (above : List Directive) (d : Directive) → has_stood (seen_of above) d ≡ list_any (have_one_key d) above
+stood_is : (above : List Directive) (d : Directive) → is_repeated (seen_of above) d ≡ list_any (have_one_key d) above
 stood_is above (Escape value) = refl
 stood_is above Syntax = refl
 stood_is above Check = refl
 
 -- what a directive sets and refuses
-told_is : (r : Reading) (seen : Seen) (d : Directive) (b : Bool) → has_stood seen d ≡ b → told_twice r seen d ≡ record r { faults = r.faults ++ (if b then refusal R02 r.count ∷ [] else []) }
-told_is r seen d true h = ap (λ b. if b then noted r R02 r.count else r) h
-told_is r seen d false h = ap (λ b. if b then noted r R02 r.count else r) h ∙ ap (λ (x : List Refusal). record r { faults = x }) (sym (append-nil r.faults))
+told_is : (r : FileState) (seen : Seen) (d : Directive) (b : Bool) → is_repeated seen d ≡ b → refuse_repeated r seen d ≡ record r { faults = r.faults ++ (if b then refusal R02 r.count ∷ [] else []) }
+told_is r seen d true h = ap (λ b. if b then with_fault r R02 r.count else r) h
+told_is r seen d false h = ap (λ b. if b then with_fault r R02 r.count else r) h ∙ ap (λ (x : List Refusal). record r { faults = x }) (sym (append-nil r.faults))
 
-value_is : (r : Reading) (d : Directive) → with_value r d ≡ record r { escape = escape_below r.escape (d ∷ []); faults = r.faults ++ value_faults d r.count }
+value_is : (r : FileState) (d : Directive) → take_value r d ≡ record r { escape = escape_below r.escape (d ∷ []); faults = r.faults ++ value_faults d r.count }
 value_is r (Escape (Some named)) = ap (λ (x : List Refusal). record r { escape = named; faults = x }) (sym (append-nil r.faults))
 value_is r (Escape None) = refl
 value_is r Syntax = ap (λ (x : List Refusal). record r { faults = x }) (sym (append-nil r.faults))
 value_is r Check = ap (λ (x : List Refusal). record r { faults = x }) (sym (append-nil r.faults))
 
-directed_is : (r : Reading) (above : List Directive) (d : Directive) → r.count ≡ length above + 1
-    → directed r (seen_of above) d ≡ record { escape = escape_below r.escape (d ∷ []); count = r.count; stage = Top (seen_of (above ++ d ∷ [])); lines = r.lines; faults = (r.faults ++ twice_faults above d r.count) ++ value_faults d r.count }
+directed_is : (r : FileState) (above : List Directive) (d : Directive) → r.count ≡ length above + 1
+    → read_directive r (seen_of above) d ≡ record { escape = escape_below r.escape (d ∷ []); count = r.count; position = Top (seen_of (above ++ d ∷ [])); lines = r.lines; faults = (r.faults ++ twice_faults above d r.count) ++ value_faults d r.count }
 directed_is r above d h =
-    ap (λ (s : Reading). at_stage (with_value s d) (Top (with_seen (seen_of above) d))) (told_is r (seen_of above) d (list_any (have_one_key d) above) (stood_is above d))
-    ∙ ap (λ (s : Reading). at_stage s (Top (with_seen (seen_of above) d))) (value_is (record r { faults = r.faults ++ twice_faults above d r.count }) d)
-    ∙ ap (λ (seen : Seen). record { escape = escape_below r.escape (d ∷ []); count = r.count; stage = Top seen; lines = r.lines; faults = (r.faults ++ twice_faults above d r.count) ++ value_faults d r.count }) (seen_more above d)
+    ap (λ (s : FileState). at_position (take_value s d) (Top (with_seen (seen_of above) d))) (told_is r (seen_of above) d (list_any (have_one_key d) above) (stood_is above d))
+    ∙ ap (λ (s : FileState). at_position s (Top (with_seen (seen_of above) d))) (value_is (record r { faults = r.faults ++ twice_faults above d r.count }) d)
+    ∙ ap (λ (seen : Seen). record { escape = escape_below r.escape (d ∷ []); count = r.count; position = Top seen; lines = r.lines; faults = (r.faults ++ twice_faults above d r.count) ++ value_faults d r.count }) (seen_more above d)
 
 directive_line : (escape : character.Escape) (above : List Directive) (faults : List Refusal) (line : List ℕ) (d : Directive) → directive_of line ≡ Some d
-    → line_step (at_top escape above faults) line ≡ directed (counted (at_top escape above faults)) (seen_of above) d
-unfolding line_step
-directive_line escape above faults line d h = ap (top_chosen (counted (at_top escape above faults)) (seen_of above) line) h
+    → read_line (at_top escape above faults) line ≡ read_directive (count_line (at_top escape above faults)) (seen_of above) d
+unfolding read_line
+directive_line escape above faults line d h = ap (read_at_top_as (count_line (at_top escape above faults)) (seen_of above) line) h
 
 directive_walk : (escape : character.Escape) (above : List Directive) (faults : List Refusal) (line : List ℕ) (d : Directive) → directive_of line ≡ Some d
-    → line_step (at_top escape above faults) line
+    → read_line (at_top escape above faults) line
     ≡ at_top (escape_below escape (d ∷ [])) (above ++ d ∷ []) ((faults ++ twice_faults above d (length above + 1)) ++ value_faults d (length above + 1))
 directive_walk escape above faults line d h =
     directive_line escape above faults line d h
-    ∙ directed_is (counted (at_top escape above faults)) above d refl
-    ∙ ap (λ n. record { escape = escape_below escape (d ∷ []); count = n; stage = Top (seen_of (above ++ d ∷ [])); lines = []; faults = (faults ++ twice_faults above d (length above + 1)) ++ value_faults d (length above + 1) })
+    ∙ directed_is (count_line (at_top escape above faults)) above d refl
+    ∙ ap (λ n. record { escape = escape_below escape (d ∷ []); count = n; position = Top (seen_of (above ++ d ∷ [])); lines = []; faults = (faults ++ twice_faults above d (length above + 1)) ++ value_faults d (length above + 1) })
     (sym (length-append above (d ∷ [])))
 
 escape_more : (escape : character.Escape) (d : Directive) (ds : List Directive) → escape_below (escape_below escape (d ∷ [])) ds ≡ escape_below escape (d ∷ ds)
@@ -114,7 +113,7 @@ top_walk (d ∷ ds) escape above faults (line ∷ top) rest h =
     let value = value_faults d (length above + 1) in
     let more = directive_faults (above ++ d ∷ []) ds in
     let all : ((faults ++ twice) ++ value) ++ more ≡ faults ++ (twice ++ (value ++ more)) = append_assoc (faults ++ twice) value more ∙ append_assoc faults twice (value ++ more) in
-    ap (λ (s : Reading). after_lines s (top ++ rest)) (directive_walk escape above faults line d here)
+    ap (λ (s : FileState). after_lines s (top ++ rest)) (directive_walk escape above faults line d here)
     ∙ top_walk ds (escape_below escape (d ∷ [])) (above ++ d ∷ []) ((faults ++ twice) ++ value) top rest below
     ∙ ap (λ (e : character.Escape). after_lines (at_top e ((above ++ d ∷ []) ++ ds) (((faults ++ twice) ++ value) ++ more)) rest) (escape_more escape d ds)
     ∙ ap₂ (λ (x : List Directive) (y : List Refusal). after_lines (at_top (escape_below escape (d ∷ ds)) x y) rest) (append_assoc above (d ∷ []) ds) all
@@ -122,20 +121,20 @@ top_walk (d ∷ ds) escape above faults (line ∷ top) rest h =
 -- below the directives
 
 plain_line : (escape : character.Escape) (above : List Directive) (faults : List Refusal) (line : List ℕ) → directive_of line ≡ None
-    → line_step (at_top escape above faults) line ≡ line_step (base escape (length above) [] faults) line
-unfolding line_step
-plain_line escape above faults line h = ap (top_chosen (counted (at_top escape above faults)) (seen_of above) line) h
+    → read_line (at_top escape above faults) line ≡ read_line (base escape (length above) [] faults) line
+unfolding read_line
+plain_line escape above faults line h = ap (read_at_top_as (count_line (at_top escape above faults)) (seen_of above) line) h
 
 -- two readings have the same lines and faults
-abbrev GiveOne : Reading → Reading → Type 0
+abbrev GiveOne : FileState → FileState → Type 0
 GiveOne a b = (a.lines ≡ b.lines) × (a.faults ≡ b.faults)
 
 top_end : (escape : character.Escape) (above : List Directive) (faults : List Refusal) (rest : List (List ℕ)) → BeginsBelowDirectives rest
-    → GiveOne (ended (after_lines (at_top escape above faults) rest)) (ended (after_lines (base escape (length above) [] faults) rest))
+    → GiveOne (end_file (after_lines (at_top escape above faults) rest)) (end_file (after_lines (base escape (length above) [] faults) rest))
 top_end escape above faults [] h = (refl, refl)
 top_end escape above faults (line ∷ rest) h =
-    let e : ended (after_lines (at_top escape above faults) (line ∷ rest)) ≡ ended (after_lines (base escape (length above) [] faults) (line ∷ rest)) = ap (λ (s : Reading). ended (after_lines s rest)) (plain_line escape above faults line h) in
-    (ap (λ (s : Reading). s.lines) e, ap (λ (s : Reading). s.faults) e)
+    let e : end_file (after_lines (at_top escape above faults) (line ∷ rest)) ≡ end_file (after_lines (base escape (length above) [] faults) (line ∷ rest)) = ap (λ (s : FileState). end_file (after_lines s rest)) (plain_line escape above faults line h) in
+    (ap (λ (s : FileState). s.lines) e, ap (λ (s : FileState). s.faults) e)
 
 top_length : (top : List (List ℕ)) (ds : List Directive) → AreDirectives top ds → length top ≡ length ds
 top_length [] [] h = refl
@@ -145,26 +144,26 @@ top_length (line ∷ top) (d ∷ ds) h = let e = top_length top ds (cc) in omega
 
 -- a file's structure gives what reading its lines one by one gives
 pub IsFile-only : (lines : List (List ℕ)) (found : List Line) (faults : List Refusal) → IsFile lines found faults
-    → (found ≡ (ended (after_lines initial lines)).lines) × (faults ≡ (ended (after_lines initial lines)).faults)
+    → (found ≡ (end_file (after_lines initial_state lines)).lines) × (faults ≡ (end_file (after_lines initial_state lines)).faults)
 IsFile-only lines found faults f =
     let escape = escape_below Backslash f.directives in
     let fs = directive_faults [] f.directives in
-    let walk : ended (after_lines initial lines) ≡ ended (after_lines (at_top escape f.directives fs) f.rest) =
-    ap (λ x. ended (after_lines initial x)) f.cut ∙ ap ended (top_walk f.directives Backslash [] [] f.top f.rest f.read) in
+    let walk : end_file (after_lines initial_state lines) ≡ end_file (after_lines (at_top escape f.directives fs) f.rest) =
+    ap (λ x. end_file (after_lines initial_state x)) f.cut ∙ ap end_file (top_walk f.directives Backslash [] [] f.top f.rest f.read) in
     let top = top_end escape f.directives fs f.rest f.ended in
     let blocks = subst (λ n. AreBlocks escape n f.rest found f.unclosed) (top_length f.top f.directives f.read) f.blocks in
     let given = blocks_given escape (length f.directives) f.rest found f.unclosed blocks [] fs in
     let limits = limits_at most_lines 0 (numbers_of found f.unclosed) refl in (
-      sym (ap (λ (s : Reading). s.lines) walk ∙ top.0 ∙ given.lines),
-      f.wrong ∙ ap (λ x. fs ++ (x ++ refused_at R08 f.unclosed)) (sym limits) ∙ sym (ap (λ (s : Reading). s.faults) walk ∙ top.1 ∙ given.wrong),
+      sym (ap (λ (s : FileState). s.lines) walk ∙ top.0 ∙ given.lines),
+      f.wrong ∙ ap (λ x. fs ++ (x ++ refused_at R08 f.unclosed)) (sym limits) ∙ sym (ap (λ (s : FileState). s.faults) walk ∙ top.1 ∙ given.wrong),
     )
 
 -- and what that gives has the structure
-pub IsFile-is : (lines : List (List ℕ)) → IsFile lines (ended (after_lines initial lines)).lines (ended (after_lines initial lines)).faults
+pub IsFile-is : (lines : List (List ℕ)) → IsFile lines (end_file (after_lines initial_state lines)).lines (end_file (after_lines initial_state lines)).faults
 IsFile-is lines =
     let s = structure_of lines in
     let only = IsFile-only lines s.found s.faults s.file in
-    subst (λ (found : List Line). IsFile lines found (ended (after_lines initial lines)).faults) only.0 (subst (λ (faults : List Refusal). IsFile lines s.found faults) only.1 s.file)
+    subst (λ (found : List Line). IsFile lines found (end_file (after_lines initial_state lines)).faults) only.0 (subst (λ (faults : List Refusal). IsFile lines s.found faults) only.1 s.file)
 
 pub IsFile-same : (lines : List (List ℕ)) (found others : List Line) (faults wrong : List Refusal) → IsFile lines found faults → IsFile lines others wrong → (found ≡ others) × (faults ≡ wrong)
 IsFile-same lines found others faults wrong f g =

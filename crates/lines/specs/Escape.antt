@@ -1,7 +1,7 @@
 -- The escape characters, and their bytes.
 use Rattle.std.specs.Prelude.{ℕ, List, [], ◌∷◌, Option, Some, None, bytes_eq, if◌then◌else◌}
-use Rattle.lines.specs.declared.line.Escape.{Escape}
-use Rattle.lines.specs.declared.line.Escape.TheVariants.{Backslash, Backtick}
+use Rattle.lines.specs.declared.escape.Escape.{Escape}
+use Rattle.lines.specs.declared.escape.Escape.TheVariants.{Backslash, Backtick}
 
 -- the escape character's byte
 abbrev pub byte_of : Escape → ℕ
