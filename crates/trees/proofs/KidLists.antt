@@ -12,10 +12,11 @@ use Rattle.std.specs.BTreeMap.{insert_entry}
 use Rattle.std.specs.FinMap.{get, find, insert, slice_cmp-IsAntisymmetric, nat_cmp-IsAntisymmetric}
 use Rattle.std.specs.FinMap.Entries.{is_sorted, below_all, same_entries}
 use Rattle.trees.specs.declared.entry.Entry.{Entry}
-use Rattle.trees.specs.TreeMap.{TreeMap, name_cmp}
-use Rattle.trees.specs.NodeValue.{NodeValue, map_of, joined}
-use Rattle.trees.specs.TreeLaws.{same_tree}
-use Rattle.trees.specs.FrontLaws.{both_hold, both_first, both_second}
+use Rattle.paths.specs.Order.{name_cmp}
+use Rattle.trees.specs.TreeMap.{TreeMap}
+use Rattle.trees.specs.PrivateNode.{NodeValue, map_of, joined}
+use Rattle.trees.proofs.TreeLaws.{same_tree}
+use Rattle.paths.proofs.FrontLaws.{both_hold, both_first, both_second}
 use Rattle.trees.proofs.NodeSteps.{node_of}
 use Rattle.trees.proofs.NodeLaws.{get-map_of_root, get-map_of_cons, get-joined, get-joined_root}
 

@@ -1,5 +1,17 @@
-pub mod NodeLaws
-pub mod NodeSteps
-pub mod KidLists
-pub mod TreeSteps
-pub mod RowLists
+pub mod WayLaws
+pub mod TreeLaws
+pub mod CauseLaws
+pub mod SubtreeLaws
+pub mod OverLaws
+pub mod RemoveLaws
+pub mod CopyLaws
+pub mod CopyTrees
+mod NodeLaws
+mod NodeSteps
+mod KidLists
+mod RowLists
+mod TreeSteps
+mod OverSteps
+mod CutSteps
+mod CopySteps
+mod CopyRows

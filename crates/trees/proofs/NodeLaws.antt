@@ -6,12 +6,14 @@ use Rattle.std.specs.Ordering.{eq_by_cmp}
 use Rattle.std.specs.Map.{lookup}
 use Rattle.std.specs.BTreeMap.{is_at}
 use Rattle.std.specs.FinMap.{get, entries, retain_keys, find, get-empty, get-insert, get-retain_keys, get-entries}
-use Rattle.paths.specs.Order.{path_cmp, path_cmp_total, path_cmp-IsAntisymmetric}
+use Rattle.paths.specs.OrderLaws.{path_cmp_total, path_cmp-IsAntisymmetric}
+use Rattle.paths.specs.Order.{path_cmp}
 use Rattle.trees.specs.declared.entry.Entry.{Entry}
-use Rattle.trees.specs.TreeMap.{TreeMap, name_cmp}
-use Rattle.trees.specs.NodeValue.{NodeValue, map_of, begins_with, below_name, joined}
-use Rattle.trees.specs.FrontLaws.{path_eq-cons}
-use Rattle.trees.specs.TreeLaws.{get-insert_all}
+use Rattle.paths.specs.Order.{name_cmp}
+use Rattle.trees.specs.TreeMap.{TreeMap}
+use Rattle.trees.specs.PrivateNode.{NodeValue, map_of, begins_with, below_name, joined}
+use Rattle.paths.proofs.FrontLaws.{path_eq-cons}
+use Rattle.trees.proofs.TreeLaws.{get-insert_all}
 
 pub get-map_of_root : (n : NodeValue) → get (map_of n) [] ≡ Some n.top
 get-map_of_root n = get-insert path_cmp_total n.below [] n.top []

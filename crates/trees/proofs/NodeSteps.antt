@@ -14,12 +14,15 @@ use Rattle.paths.specs.Order.{path_cmp}
 use Rattle.trees.specs.declared.meta.Meta.{Meta}
 use Rattle.trees.specs.declared.entry.Entry.TheVariants.{Directory, File}
 use Rattle.trees.specs.declared.entry.Entry.{Entry}
-use Rattle.trees.specs.TreeMap.{name_cmp, is_front, is_blocked, is_file, is_directory}
-use Rattle.trees.specs.NodeValue.{NodeValue, map_of, joined, height_of, IsPlanted}
+use Rattle.paths.specs.Order.{name_cmp}
+use Rattle.paths.specs.Fronts.{is_front}
+use Rattle.trees.specs.TreeMap.{is_blocked, is_file, is_directory}
+use Rattle.trees.specs.PrivateNode.{NodeValue, map_of, joined, height_of, IsPlanted}
 use Rattle.trees.specs.Put.{planted}
-use Rattle.trees.specs.SubtreeLaws.{IsBelow}
-use Rattle.trees.specs.FrontLaws.{is_blocked-cons, open-from_fronts, name_same, path_eq-cons}
-use Rattle.trees.specs.TreeLaws.{same_tree}
+use Rattle.trees.specs.PrivateNode.{IsBelow}
+use Rattle.paths.proofs.FrontLaws.{name_same, path_eq-cons}
+use Rattle.trees.proofs.WayLaws.{is_blocked-cons, open-from_fronts}
+use Rattle.trees.proofs.TreeLaws.{same_tree}
 use Rattle.trees.proofs.NodeLaws.{get-map_of_root, get-map_of_cons, get-joined, lookup-find}
 
 -- the value of a node with this entry and these children
@@ -76,7 +79,7 @@ abbrev pub blocked_in : Option NodeValue → List (List ℕ) → Bool
 blocked_in None rest = false
 blocked_in (Some kid) rest = is_blocked (get (map_of kid)) rest
 
-blocked-in_kid : (kid : Option NodeValue) (rest : List (List ℕ)) → is_blocked (λ p. option_and_then (λ v. get (map_of v) p) kid) rest ≡ blocked_in kid rest
+pub blocked-in_kid : (kid : Option NodeValue) (rest : List (List ℕ)) → is_blocked (λ p. option_and_then (λ v. get (map_of v) p) kid) rest ≡ blocked_in kid rest
 blocked-in_kid None rest = open-from_fronts (λ _. None) rest (λ f g. refl)
 blocked-in_kid (Some kid) rest = refl
 
@@ -139,7 +142,7 @@ one_name : (tie same front : Bool) (old now : Option Entry) (d e : Entry) → (t
 one_name true same front old now d e h = h refl
 one_name false same front old now d e h = or_none old
 
-find_changed : (old_kids kids : List (List ℕ × NodeValue)) (name : List ℕ) (kid : NodeValue) → IsKid old_kids kids name kid → (d : List ℕ) → find name_cmp d kids ≡ cond (eq_by_cmp name_cmp d name) (Some kid) (find name_cmp d old_kids)
+pub find_changed : (old_kids kids : List (List ℕ × NodeValue)) (name : List ℕ) (kid : NodeValue) → IsKid old_kids kids name kid → (d : List ℕ) → find name_cmp d kids ≡ cond (eq_by_cmp name_cmp d name) (Some kid) (find name_cmp d old_kids)
 find_changed old_kids kids name kid changed d =
     sym (lookup-find d kids) ∙ changed.at d ∙ (λ i. cond ((eq_by_cmp_equiv nat_list_cmp_total).symm name d i) (Some kid) (lookup-find d old_kids i))
 
@@ -148,7 +151,7 @@ kept_kid true f kid o h = h refl
 kept_kid false f kid o h = refl
 
 module _ (old_kids kids : List (List ℕ × NodeValue)) (name : List ℕ) (rest : List (List ℕ)) (parent : Meta) (entry : Entry) (kid : NodeValue) (found : Option NodeValue)
-    (has : find name_cmp name old_kids ≡ found) (changed : IsKid old_kids kids name kid) (laid : IsPlanted (at_kid found) (map_of kid) rest parent entry) where
+    (has : find name_cmp name old_kids ≡ found) (changed : IsKid old_kids kids name kid) (changed_tree : IsPlanted (at_kid found) (map_of kid) rest parent entry) where
   pulled : (b : Bool) (f : NodeValue → Option Entry) (o : Option NodeValue) → option_and_then f (cond b (Some kid) o) ≡ cond b (f kid) (option_and_then f o)
   pulled true f o = refl
   pulled false f o = refl
@@ -160,7 +163,7 @@ module _ (old_kids kids : List (List ℕ × NodeValue)) (name : List ℕ) (rest 
       ∙ ap (λ o. at_kid o ds) (find_changed old_kids kids name kid changed d)
       ∙ pulled (eq_by_cmp name_cmp d name) (λ v. get (map_of v) ds) (find name_cmp d old_kids)
       ∙ one_name (eq_by_cmp name_cmp d name) (eq_by_cmp path_cmp ds rest) (is_front ds rest) before (get (map_of kid) ds) (Directory parent) entry
-      (λ tie. laid.at ds ∙ ap (λ o. cond (eq_by_cmp path_cmp ds rest) (Some entry) (option_or (at_kid o ds) (cond (is_front ds rest) (Some (Directory parent)) None))) (sym (ap (λ c. find name_cmp c old_kids) (name_same d name tie) ∙ has)))
+      (λ tie. changed_tree.at ds ∙ ap (λ o. cond (eq_by_cmp path_cmp ds rest) (Some entry) (option_or (at_kid o ds) (cond (is_front ds rest) (Some (Directory parent)) None))) (sym (ap (λ c. find name_cmp c old_kids) (name_same d name tie) ∙ has)))
       ∙ (λ i. cond (sym (path_eq-cons d name ds rest) i) (Some entry) (option_or (sym (get-joined old_kids d ds) i) (cond (is_front (d ∷ ds) (name ∷ rest)) (Some (Directory parent)) None)))
 
 kept_top : (o d : Option Entry) (top : Entry) → o ≡ Some top → Some top ≡ option_or o d
@@ -179,14 +182,14 @@ module _ (value : NodeValue) (top : Entry) (old_kids kids : List (List ℕ × No
   own = (λ i. get (map_of (sym is i)) []) ∙ get-map_of_root (node_of top old_kids)
 
   step_at : (rest : List (List ℕ)) → IsPlanted (at_kid found) (map_of kid) rest parent entry → (q : List (List ℕ)) → get (map_of (node_of top kids)) q ≡ planted (get (map_of value)) (name ∷ rest) parent entry q
-  step_at rest laid [] = get-map_of_root (node_of top kids) ∙ kept_top (get (map_of value) []) (Some (Directory parent)) top own
-  step_at rest laid (d ∷ ds) =
+  step_at rest changed_tree [] = get-map_of_root (node_of top kids) ∙ kept_top (get (map_of value) []) (Some (Directory parent)) top own
+  step_at rest changed_tree (d ∷ ds) =
       get-map_of_cons (node_of top kids) d ds
-      ∙ kids-planted old_kids kids name rest parent entry kid found here changed laid d ds
+      ∙ kids-planted old_kids kids name rest parent entry kid found here changed changed_tree d ds
       ∙ ap (λ o. cond (eq_by_cmp path_cmp (d ∷ ds) (name ∷ rest)) (Some entry) (option_or o (cond (is_front (d ∷ ds) (name ∷ rest)) (Some (Directory parent)) None))) (under d ds)
 
   pub plant-step : IsPlanted (at_kid found) (map_of kid) (take (length path - 1) (drop 1 path)) parent entry → IsPlanted (get (map_of value)) (map_of (node_of top kids)) path parent entry
-  plant-step laid = record { at = λ q. step_at (take (length path - 1) (drop 1 path)) laid q ∙ (λ i. planted (get (map_of value)) (sym (path-parts path name more first) i) parent entry q) }
+  plant-step changed_tree = record { at = λ q. step_at (take (length path - 1) (drop 1 path)) changed_tree q ∙ (λ i. planted (get (map_of value)) (sym (path-parts path name more first) i) parent entry q) }
 
   kept_at : (before : NodeValue) → found ≡ Some before → map_of kid ≡ map_of before → (q : List (List ℕ)) → get (map_of (node_of top kids)) q ≡ get (map_of value) q
   kept_at before was same [] = get-map_of_root (node_of top kids) ∙ sym own
@@ -203,15 +206,15 @@ module _ (value : NodeValue) (top : Entry) (old_kids kids : List (List ℕ × No
 
 pub chain-step : (none kids : List (List ℕ × NodeValue)) (path : List (List ℕ)) (name : List ℕ) (parent : Meta) (entry : Entry) (kid : NodeValue) → 1 ≤ length path → name ≡ get_or path 0 name → none ≡ [] → IsKid none kids name kid
     → IsPlanted (λ _. None) (map_of kid) (take (length path - 1) (drop 1 path)) parent entry → IsPlanted (λ _. None) (map_of (node_of (Directory parent) kids)) path parent entry
-chain-step none kids path name parent entry kid more first empty' changed laid =
-    record { at = λ q. chain_at kids name (take (length path - 1) (drop 1 path)) parent entry kid (subst (λ (o : List (List ℕ × NodeValue)). IsKid o kids name kid) empty' changed) laid q ∙ (λ i. planted (λ _. None) (sym (path-parts path name more first) i) parent entry q) }
+chain-step none kids path name parent entry kid more first empty' changed changed_tree =
+    record { at = λ q. chain_at kids name (take (length path - 1) (drop 1 path)) parent entry kid (subst (λ (o : List (List ℕ × NodeValue)). IsKid o kids name kid) empty' changed) changed_tree q ∙ (λ i. planted (λ _. None) (sym (path-parts path name more first) i) parent entry q) }
   where
     chain_at : (kids : List (List ℕ × NodeValue)) (name : List ℕ) (rest : List (List ℕ)) (parent : Meta) (entry : Entry) (kid : NodeValue) → IsKid [] kids name kid → IsPlanted (λ _. None) (map_of kid) rest parent entry
         → (q : List (List ℕ)) → get (map_of (node_of (Directory parent) kids)) q ≡ planted (λ _. None) (name ∷ rest) parent entry q
-    chain_at kids name rest parent entry kid changed laid [] = get-map_of_root (node_of (Directory parent) kids)
-    chain_at kids name rest parent entry kid changed laid (d ∷ ds) =
+    chain_at kids name rest parent entry kid changed changed_tree [] = get-map_of_root (node_of (Directory parent) kids)
+    chain_at kids name rest parent entry kid changed changed_tree (d ∷ ds) =
         get-map_of_cons (node_of (Directory parent) kids) d ds
-        ∙ kids-planted [] kids name rest parent entry kid None refl changed laid d ds
+        ∙ kids-planted [] kids name rest parent entry kid None refl changed changed_tree d ds
         ∙ ap (λ o. cond (eq_by_cmp path_cmp (d ∷ ds) (name ∷ rest)) (Some entry) (option_or o (cond (is_front (d ∷ ds) (name ∷ rest)) (Some (Directory parent)) None))) (get-empty path_cmp (d ∷ ds))
 
 -- a child is less high than its node

@@ -1,5 +1,5 @@
 -- The rows of a node are its own and then those of its children, in the order of their names.
-use Rattle.std.specs.Prelude.{◌≡◌, ℕ, Bool, true, false, ◌&&◌, ◌==◌, not, cond, T, Option, Some, None, List, [], ◌∷◌, ◌++◌, is_some, option_and_then, if◌then◌else◌}
+use Rattle.std.specs.Prelude.{◌≡◌, ℕ, Bool, true, false, ◌&&◌, not, cond, T, Option, Some, None, List, [], ◌∷◌, ◌++◌, is_some, option_and_then}
 use Rattle.std.proofs.Common.{sym, ap, refl, ◌∙◌, subst, true≢false, append_assoc, append-nil, Bor}
 use Rattle.std.specs.Option.{option_or}
 use Rattle.std.specs.Ordering.{eq_by_cmp, is_lt, is_eq, ordering_then}
@@ -7,22 +7,20 @@ use Rattle.std.specs.declared.cmp.Ordering.{Ordering}
 use Rattle.std.specs.declared.cmp.Ordering.TheVariants.{Less, Equal, Greater}
 use Rattle.std.specs.Cmp.{tied_itself}
 use Rattle.std.specs.Cmp.Lexicographic.{nat_list_cmp_total}
-use Rattle.std.specs.List.{list_all}
 use Rattle.std.specs.List.Sorted.{IsStrictlySortedBy}
 use Rattle.std.specs.Map.{keys_of, lookup}
 use Rattle.std.specs.BTreeMap.{is_at}
 use Rattle.std.specs.FinMap.{get, entries, entries_sorted, get-entries, find}
 use Rattle.std.specs.FinMap.Entries.{is_sorted, below_all, same_entries}
-use Rattle.std.proofs.lemmas.List.Folds.{list_all-append}
-use Rattle.paths.specs.Order.{path_cmp, path_cmp_total, path_cmp-IsAntisymmetric}
-use Rattle.paths.specs.Path.{IsClean, is_name, is_normal, is_whole}
-use Rattle.paths.specs.Reading.{walked, is_absolute, read_from}
-use Rattle.paths.specs.ReadingLaws.{pieces-join, walked-names}
+use Rattle.paths.specs.OrderLaws.{path_cmp_total, path_cmp-IsAntisymmetric}
+use Rattle.paths.specs.Order.{path_cmp}
+use Rattle.paths.specs.Path.{IsClean}
 use Rattle.trees.specs.declared.entry.Entry.{Entry}
-use Rattle.trees.specs.TreeMap.{name_cmp}
-use Rattle.trees.specs.NodeValue.{NodeValue, map_of, below_name}
-use Rattle.trees.specs.Rows.{shown, under}
-use Rattle.trees.specs.FrontLaws.{both_hold, both_first, both_second, name_same}
+use Rattle.paths.specs.Order.{name_cmp}
+use Rattle.trees.specs.PrivateNode.{NodeValue, map_of, below_name}
+use Rattle.trees.specs.Rows.{lent_rows}
+use Rattle.trees.specs.PrivateNode.{rows_under}
+use Rattle.paths.proofs.FrontLaws.{both_hold, both_first, both_second, name_same}
 use Rattle.trees.proofs.NodeLaws.{get-map_of_root, get-map_of_cons, get-joined, find-below_name, lookup-find}
 use Rattle.trees.proofs.NodeSteps.{node_of, at_kid}
 use Rattle.trees.proofs.KidLists.{sorted-from_keys}
@@ -133,19 +131,6 @@ not_true : (b : Bool) → not b ≡ true → b ≡ false
 not_true true e = sym e
 not_true false e = refl
 
--- reading one name below a directory gives the path of that name
-pub read-name : (p : List (List ℕ)) (name text : List ℕ) → text ≡ name → IsClean (p ++ name ∷ []) → read_from text p ≡ p ++ name ∷ []
-read-name p name text same clean =
-    let named : (is_normal name && is_whole name) ≡ true = both_first _ _ (both_second (list_all is_name p) (list_all is_name (name ∷ [])) (sym (list_all-append is_name p (name ∷ [])) ∙ clean.names)) in
-    let whole : is_whole name ≡ true = both_second (is_normal name) _ named in
-    (λ i. read_from (same i) p)
-    ∙ (λ i. walked (if relative name whole i then [] else p) (pieces-join name [] whole refl i))
-    ∙ walked-names p (name ∷ []) (both_hold _ _ (both_first _ _ named) refl)
-  where
-    relative : (name : List ℕ) → is_whole name ≡ true → is_absolute name ≡ false
-    relative [] w = refl
-    relative (b ∷ bs) w = not_true (b == 47) (both_first _ _ w)
-
 -- what stands below a name is what its child has
 pub kid-there : (value : NodeValue) (top : Entry) (kids : List (List ℕ × NodeValue)) (name : List ℕ) (kid : NodeValue) → node_of top kids ≡ value → lookup (is_at (name_cmp name)) kids ≡ Some kid → (q : List (List ℕ)) → get (map_of value) (name ∷ q) ≡ get (map_of kid) q
 kid-there value top kids name kid is has q =
@@ -162,37 +147,37 @@ pub below-clean : (value : NodeValue) (top : Entry) (kids : List (List ℕ × No
 below-clean value top kids name kid at below is has same clean q s =
     subst IsClean (sym (append_assoc at (name ∷ []) q) ∙ ap (λ x. x ++ q) (sym same)) (clean (name ∷ q) (ap is_some (kid-there value top kids name kid is has q) ∙ s))
 
-under-append : (at : List (List ℕ)) (xs ys : List (List (List ℕ) × Entry)) → under at (xs ++ ys) ≡ under at xs ++ under at ys
-under-append at [] ys = refl
-under-append at (x ∷ xs) ys = ap (λ r. (at ++ x.0, x.1) ∷ r) (under-append at xs ys)
+rows_under-append : (at : List (List ℕ)) (xs ys : List (List (List ℕ) × Entry)) → rows_under at (xs ++ ys) ≡ rows_under at xs ++ rows_under at ys
+rows_under-append at [] ys = refl
+rows_under-append at (x ∷ xs) ys = ap (λ r. (at ++ x.0, x.1) ∷ r) (rows_under-append at xs ys)
 
-under-child : (at : List (List ℕ)) (name : List ℕ) (rows : List (List (List ℕ) × Entry)) → under at (below_name name rows) ≡ under (at ++ name ∷ []) rows
-under-child at name [] = refl
-under-child at name (row ∷ rows) = λ i. (sym (append_assoc at (name ∷ []) row.0) i, row.1) ∷ under-child at name rows i
+rows_under-child : (at : List (List ℕ)) (name : List ℕ) (rows : List (List (List ℕ) × Entry)) → rows_under at (below_name name rows) ≡ rows_under (at ++ name ∷ []) rows
+rows_under-child at name [] = refl
+rows_under-child at name (row ∷ rows) = λ i. (sym (append_assoc at (name ∷ []) row.0) i, row.1) ∷ rows_under-child at name rows i
 
 -- one child's rows more
-pub rows-step : (at below : List (List ℕ)) (name : List ℕ) (kid : NodeValue) (its rest : List (List ℕ × NodeValue)) (before after all : List (List (List ℕ) × Entry)) → before ++ under at (rows_of its) ≡ all → its ≡ (name, kid) ∷ rest → below ≡ at ++ name ∷ [] → after ≡ before ++ under below (entries (map_of kid)) → after ++ under at (rows_of rest) ≡ all
+pub rows-step : (at below : List (List ℕ)) (name : List ℕ) (kid : NodeValue) (its rest : List (List ℕ × NodeValue)) (before after all : List (List (List ℕ) × Entry)) → before ++ rows_under at (rows_of its) ≡ all → its ≡ (name, kid) ∷ rest → below ≡ at ++ name ∷ [] → after ≡ before ++ rows_under below (entries (map_of kid)) → after ++ rows_under at (rows_of rest) ≡ all
 rows-step at below name kid its rest before after all so_far next same more =
-    ap (λ r. r ++ under at (rows_of rest)) (more ∙ ap (λ b. before ++ under b (entries (map_of kid))) same ∙ ap (λ r. before ++ r) (sym (under-child at name (entries (map_of kid)))))
-    ∙ append_assoc before (under at (below_name name (entries (map_of kid)))) (under at (rows_of rest))
-    ∙ ap (λ r. before ++ r) (sym (under-append at (below_name name (entries (map_of kid))) (rows_of rest)) ∙ ap (λ ks. under at (rows_of ks)) (sym next))
+    ap (λ r. r ++ rows_under at (rows_of rest)) (more ∙ ap (λ b. before ++ rows_under b (entries (map_of kid))) same ∙ ap (λ r. before ++ r) (sym (rows_under-child at name (entries (map_of kid)))))
+    ∙ append_assoc before (rows_under at (below_name name (entries (map_of kid)))) (rows_under at (rows_of rest))
+    ∙ ap (λ r. before ++ r) (sym (rows_under-append at (below_name name (entries (map_of kid))) (rows_of rest)) ∙ ap (λ ks. rows_under at (rows_of ks)) (sym next))
     ∙ so_far
 
-shown-append : (xs ys : List (List (List ℕ) × Bor Entry)) → shown (xs ++ ys) ≡ shown xs ++ shown ys
-shown-append [] ys = refl
-shown-append (x ∷ xs) ys = ap (λ r. (x.0, x.1.now) ∷ r) (shown-append xs ys)
+lent_rows-append : (xs ys : List (List (List ℕ) × Bor Entry)) → lent_rows (xs ++ ys) ≡ lent_rows xs ++ lent_rows ys
+lent_rows-append [] ys = refl
+lent_rows-append (x ∷ xs) ys = ap (λ r. (x.0, x.1.now) ∷ r) (lent_rows-append xs ys)
 
 -- all rows of a node
 pub rows-all : (value : NodeValue) (top : Entry) (kids its : List (List ℕ × NodeValue)) (at own : List (List ℕ)) (entry : Bor Entry) (old first : List (List (List ℕ) × Bor Entry)) (rows : List (List (List ℕ) × Entry)) → node_of top kids ≡ value → IsStrictlySortedBy name_cmp (keys_of kids)
-    → entry.now ≡ top → own ≡ at → first ≡ old ++ (own, entry) ∷ [] → its ≡ kids → rows ++ under at (rows_of []) ≡ shown first ++ under at (rows_of its) → rows ≡ shown old ++ under at (entries (map_of value))
+    → entry.now ≡ top → own ≡ at → first ≡ old ++ (own, entry) ∷ [] → its ≡ kids → rows ++ rows_under at (rows_of []) ≡ lent_rows first ++ rows_under at (rows_of its) → rows ≡ lent_rows old ++ rows_under at (entries (map_of value))
 rows-all value top kids its at own entry old first rows is ordered e o f lent done =
     sym (append-nil rows) ∙ done
-    ∙ (λ i. shown (f i) ++ under at (rows_of (lent i)))
-    ∙ ap (λ r. r ++ under at (rows_of kids)) (shown-append old ((own, entry) ∷ []))
-    ∙ append_assoc (shown old) ((own, entry.now) ∷ []) (under at (rows_of kids))
-    ∙ (λ i. shown old ++ ((o ∙ sym (append-nil at)) i, e i) ∷ under at (rows_of kids))
-    ∙ ap (λ r. shown old ++ under at r) (sym (entries-node value top kids is ordered))
+    ∙ (λ i. lent_rows (f i) ++ rows_under at (rows_of (lent i)))
+    ∙ ap (λ r. r ++ rows_under at (rows_of kids)) (lent_rows-append old ((own, entry) ∷ []))
+    ∙ append_assoc (lent_rows old) ((own, entry.now) ∷ []) (rows_under at (rows_of kids))
+    ∙ (λ i. lent_rows old ++ ((o ∙ sym (append-nil at)) i, e i) ∷ rows_under at (rows_of kids))
+    ∙ ap (λ r. lent_rows old ++ rows_under at r) (sym (entries-node value top kids is ordered))
 
-pub under-root : (rows : List (List (List ℕ) × Entry)) → under [] rows ≡ rows
-under-root [] = refl
-under-root (row ∷ rows) = ap (λ r. row ∷ r) (under-root rows)
+pub rows_under-root : (rows : List (List (List ℕ) × Entry)) → rows_under [] rows ≡ rows
+rows_under-root [] = refl
+rows_under-root (row ∷ rows) = ap (λ r. row ∷ r) (rows_under-root rows)

@@ -6,14 +6,16 @@ use Rattle.paths.specs.Path.{IsClean}
 use Rattle.trees.specs.declared.meta.Meta.{Meta}
 use Rattle.trees.specs.declared.entry.Entry.{Entry}
 use Rattle.trees.specs.declared.entry.Entry.TheVariants.{Directory, File}
-use Rattle.trees.specs.declared.fault.Cause.{Cause}
-use Rattle.trees.specs.declared.fault.Cause.TheVariants.{F1, F2}
+use Rattle.trees.specs.declared.cause.Cause.{Cause}
+use Rattle.trees.specs.declared.cause.Cause.TheVariants.{F1, F2}
 use Rattle.trees.specs.TreeMap.{TreeMap, IsTree, is_directory, is_file, meta_of, empty_tree, directory_meta}
 use Rattle.trees.specs.Subtree.{subtree}
-use Rattle.trees.specs.SubtreeLaws.{IsBelow, subtree-missing, subtree-file, subtree-directory, own-below, below-IsTree}
-use Rattle.trees.specs.Put.{placed, cause_at, put_cause, put_into}
-use Rattle.trees.specs.NodeValue.{NodeValue, map_of, IsPlanted}
-use Rattle.trees.specs.TreeLaws.{same_tree, get-placed, free-from_cause, placed-IsTree, empty-IsTree}
+use Rattle.trees.specs.PrivateNode.{IsBelow}
+use Rattle.trees.proofs.SubtreeLaws.{subtree-missing, subtree-file, subtree-directory, own-below, below-IsTree}
+use Rattle.trees.specs.Put.{placed, cause_at, put_into}
+use Rattle.trees.specs.PrivateNode.{NodeValue, map_of, IsPlanted}
+use Rattle.trees.proofs.TreeLaws.{same_tree, get-placed, free-from_cause, placed-IsTree, empty-IsTree}
+use Rattle.trees.proofs.CauseLaws.{tree_or-none}
 use Rattle.trees.proofs.NodeLaws.{get-map_of_root}
 
 -- where an entry was put stands the tree after a placement
@@ -29,11 +31,11 @@ pub put-kept : (old new : TreeMap) (a b : List (List ℕ)) (parent : Meta) (entr
 put-kept old new a b parent entry told same tree clean is none h = IsTree-planted old new b parent entry tree clean (ap (λ p. cause_at (get old) p entry) (sym same) ∙ sym is ∙ none) h
 
 pub put-done : (old new value : TreeMap) (path a b : List (List ℕ)) (parent : Meta) (entry : Entry) (told : Option Cause) → old ≡ value → a ≡ path → b ≡ path → parent ≡ directory_meta → told ≡ cause_at (get old) a entry → told ≡ None → IsPlanted (get old) new b parent entry
-    → (put_cause value path entry ≡ None) × (new ≡ put_into value path entry)
-put-done old new value path a b parent entry told view first second meta is none h = (
-  (λ i. cause_at (get (sym view i)) (sym first i) entry) ∙ sym is ∙ none,
-  placed-from_planted old new b parent entry h ∙ (λ i. placed (meta i) (view i) (second i) entry),
-)
+    → put_into value path entry ≡ Ok new
+put-done old new value path a b parent entry told view first second meta is none h =
+    tree_or-none (cause_at (get value) path entry) (placed directory_meta value path entry) new
+    ((λ i. cause_at (get (sym view i)) (sym first i) entry) ∙ sym is ∙ none)
+    (placed-from_planted old new b parent entry h ∙ (λ i. placed (meta i) (view i) (second i) entry))
 
 -- a leaf that is a plain directory stands for the empty tree
 pub leaf-empty : (leaf : NodeValue) → leaf.top ≡ Directory directory_meta → leaf.below ≡ empty → map_of leaf ≡ empty_tree
@@ -62,7 +64,7 @@ no_directory (Directory m) d = absurd (true≢false d)
 no_directory (File m c) d = refl
 
 -- what stands at the path of a node is the node's entry
-own-entry : (tree : TreeMap) (a : List (List ℕ)) (node : NodeValue) → IsBelow tree a (map_of node) → get tree a ≡ Some node.top
+pub own-entry : (tree : TreeMap) (a : List (List ℕ)) (node : NodeValue) → IsBelow tree a (map_of node) → get tree a ≡ Some node.top
 own-entry tree a node lies = own-below tree a (map_of node) lies ∙ get-map_of_root node
 
 -- a file stands there

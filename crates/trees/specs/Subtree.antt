@@ -1,15 +1,13 @@
 -- What lies under a path of a tree: the tree that a bind mount shows (Dockerfile reference, RUN --mount=type=bind). That a
--- missing path and a file are told apart is own.
-use Rattle.std.specs.Prelude.{◌≡◌, ℕ, Option, Some, None, Result, Ok, Err, List, [], ◌∷◌, if◌then◌else◌, nat_eq}
+-- missing path and a file are two causes is own.
+use Rattle.std.specs.Prelude.{ℕ, Option, Some, None, Ok, Err, List, [], ◌∷◌, if◌then◌else◌, nat_eq}
 use Rattle.std.specs.FinMap.{get, entries, from_entries}
 use Rattle.std.specs.Cmp.Lexicographic.{pointwise}
 use Rattle.trees.specs.declared.entry.Entry.{Entry}
 use Rattle.trees.specs.declared.entry.Entry.TheVariants.{Directory, File}
-use Rattle.trees.specs.declared.fault.Cause.{Cause}
-use Rattle.trees.specs.declared.fault.Cause.TheVariants.{F1, F2}
-use Rattle.trees.specs.declared.fault.TreeFault.{TreeFault}
-use Rattle.trees.specs.declared.fault.TreeFault.TheVariants.{Fails, Memory}
+use Rattle.trees.specs.declared.cause.Cause.TheVariants.{F1, F2}
 use Rattle.trees.specs.TreeMap.{TreeMap}
+use Rattle.trees.specs.Cause.{TreeOrCause}
 
 -- what a path is called from a front of it; none where it isn't at or below that front
 abbrev pub path_below : List (List ℕ) → List (List ℕ) → Option (List (List ℕ))
@@ -28,17 +26,15 @@ entries_below top [] = []
 entries_below top (e ∷ es) = with_entry (path_below top e.0) e.1 (entries_below top es)
 
 -- the tree of a directory, by what stands at its path: F1 where that is nothing, F2 where it is a file
-abbrev pub directory_tree : Option Entry → TreeMap → Result TreeMap Cause
+abbrev pub directory_tree : Option Entry → TreeMap → TreeOrCause
 directory_tree None below = Err F1
 directory_tree (Some (File meta content)) below = Err F2
 directory_tree (Some (Directory meta)) below = Ok below
 
--- what lies under a path, its own entry being the root
-abbrev pub subtree : TreeMap → List (List ℕ) → Result TreeMap Cause
-subtree tree path = directory_tree (get tree path) (from_entries (entries_below path (entries tree)))
+-- what lies at and below a path, as a map of the paths from there
+abbrev pub map_below : TreeMap → List (List ℕ) → TreeMap
+map_below tree path = from_entries (entries_below path (entries tree))
 
--- What a call that is asked for a subtree answers: the subtree, or the cause why there is none. Want of memory says nothing.
-abbrev pub IsSubtree : TreeMap → List (List ℕ) → Result TreeMap TreeFault → Type 0
-IsSubtree tree path (Ok below) = subtree tree path ≡ Ok below
-IsSubtree tree path (Err (Fails cause)) = subtree tree path ≡ Err cause
-IsSubtree tree path (Err Memory) = Unit {0}
+-- what lies under a path, its own entry being the root
+abbrev pub subtree : TreeMap → List (List ℕ) → TreeOrCause
+subtree tree path = directory_tree (get tree path) (map_below tree path)

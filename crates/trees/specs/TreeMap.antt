@@ -2,14 +2,12 @@
 --
 -- A path is the list of its components, each as its bytes; the root is the empty list. Nothing here knows how a tree is
 -- stored, and two trees are equal where they have equal entries at equal paths.
-use Rattle.std.specs.Prelude.{◌≡◌, ℕ, Bool, true, false, ◌&&◌, Option, Some, None, List, [], ◌∷◌, map, is_some}
-use Rattle.std.specs.Ordering.{eq_by_cmp, nat_cmp}
-use Rattle.std.specs.declared.cmp.Ordering.{Ordering}
-use Rattle.std.specs.Cmp.Lexicographic.{slice_cmp}
+use Rattle.std.specs.Prelude.{◌≡◌, ℕ, Bool, true, false, Option, Some, None, List, [], is_some}
 use Rattle.std.specs.List.{list_any}
 use Rattle.std.specs.FinMap.{FinMap, get, insert, empty}
 use Rattle.paths.specs.Order.{path_cmp}
 use Rattle.paths.specs.Path.{IsClean}
+use Rattle.paths.specs.Fronts.{is_front, fronts}
 use Rattle.trees.specs.declared.meta.Meta.{Meta}
 use Rattle.trees.specs.declared.entry.Entry.{Entry}
 use Rattle.trees.specs.declared.entry.Entry.TheVariants.{Directory, File}
@@ -42,22 +40,6 @@ is_file (Some (File meta content)) = true
 abbrev pub meta_of : Entry → Meta
 meta_of (Directory meta) = meta
 meta_of (File meta content) = meta
-
--- how the names of one directory are ordered: by their bytes
-abbrev pub name_cmp : List ℕ → List ℕ → Ordering
-name_cmp = slice_cmp nat_cmp
-
--- whether front is a proper front of path: path lies below it, at any depth
-abbrev pub is_front : List (List ℕ) → List (List ℕ) → Bool
-is_front [] [] = false
-is_front [] (c ∷ cs) = true
-is_front (d ∷ ds) [] = false
-is_front (d ∷ ds) (c ∷ cs) = eq_by_cmp name_cmp d c && is_front ds cs
-
--- the proper fronts of a path, the shortest first: those of /a/b are / and /a
-abbrev pub fronts : List (List ℕ) → List (List (List ℕ))
-fronts [] = []
-fronts (c ∷ cs) = [] ∷ map (λ front. c ∷ front) (fronts cs)
 
 -- whether a file stands on the way to a path
 abbrev pub is_blocked : (List (List ℕ) → Option Entry) → List (List ℕ) → Bool

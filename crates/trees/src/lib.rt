@@ -1,9 +1,9 @@
-// Trees of files, and the data of a command's run.
+// Trees of files, and what the instructions of a Dockerfile do to them.
 //
 // A tree is, for contracts, a finite map from paths to entries in which the root and all parents are directories (`IsTree` of
-// specs/TreeMap.antt); how it is stored can't be seen. The crate puts one entry at a path (`put_into`), and says what trees laid
-// over each other are (`over`); it knows no patterns and no COPY. Since the crates above speak of "what a RUN is asked and
-// answers" without an executor, these are plain data here.
+// specs/TreeMap.antt); how it is stored can't be seen. One entry is put at a path (`put_into`), a directory is made with its parents
+// (`made`), a path is taken away (`removed`), a COPY places its sources (`copied`), and trees are laid over each other (`over`,
+// `merged`). Each gives a tree or a cause (`TreeOrCause`). The crate knows no patterns: the sources of a COPY are paths.
 //
 // ```
 // let mut tree = Tree::empty(alloc);
@@ -12,22 +12,21 @@
 // ```
 #![tactic(auto)]
 
+mod apply;
+mod cause;
+mod changes;
 mod content;
+mod copy;
 mod entry;
-mod fault;
 pub mod laws;
 mod meta;
 mod node;
 mod put;
-mod run;
 mod tree;
 
+pub use cause::{Cause, TreeFault, TreeOrCause};
 pub use content::Content;
+pub use copy::{CopyOptions, CopySource};
 pub use entry::Entry;
-pub use fault::{Cause, TreeFault};
-pub use meta::{Meta, Mode};
-pub use run::{CacheUse, RunBind, RunOutcome, RunRequest, Variable};
+pub use meta::Meta;
 pub use tree::Tree;
-
-#[cfg(test)]
-mod tests;

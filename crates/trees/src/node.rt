@@ -1,13 +1,15 @@
-ghost use Rattle.std.specs.Prelude.{◌≡◌, ◌↔◌, ℕ, true, Some, None, List, [], ◌∷◌, ◌++◌, is_some, IsTrue, IfOk, OnOk, OnErr, MatchOption, option_copied};
+ghost use Rattle.std.specs.Prelude.{◌≡◌, ◌↔◌, ◌<◌, ℕ, true, Some, None, List, [], ◌∷◌, ◌++◌, is_some, drop, length, IsTrue, IfOk, OnOk, OnErr, MatchOption, option_copied};
 ghost use Rattle.std.specs.FinMap.{get, empty, entries};
 ghost use Rattle.paths.specs.Path.{IsClean};
-ghost use Rattle.trees.specs.Rows.{shown, under};
-ghost use Rattle.trees.specs.NodeValue.{map_of, IsPlanted};
-ghost use Rattle.trees.specs.SubtreeLaws.{IsBelow};
 ghost use Rattle.trees.specs.TreeMap.{is_blocked, is_directory, meta_of};
+ghost use Rattle.trees.specs.Rows.{lent_rows};
+ghost use Rattle.trees.specs.Over.{over};
+ghost use Rattle.trees.specs.Copy.{placements, kind_of};
+ghost use Rattle.trees.specs.PrivateNode.{map_of, IsPlanted, IsBelow, IsCut, rows_under};
 
-use crate::{Entry, Meta};
-use paths::Path;
+use crate::copy::Change;
+use crate::{CopyOptions, Entry, Meta};
+use paths::{LongPath, Path};
 use plain::{Exact, Memory, Text};
 use std::alloc::Global;
 use std::collections::BTreeMap;
@@ -23,7 +25,7 @@ pub(crate) struct Node {
 }
 
 impl Model for Node {
-    ghost use Rattle.trees.specs.NodeValue.{NodeValue, node_code, joined, height_of, height_falls};
+    ghost use Rattle.trees.specs.PrivateNode.{NodeValue, node_code, joined, height_of, height_falls};
     ghost use Rattle.std.proofs.Common.{arith};
 
     ghost Value = { NodeValue };
@@ -56,6 +58,13 @@ impl Node {
         self.entry.meta()
     }
 
+    /// This node's entry, lent.
+    pub(crate) fn entry(&self) -> &Entry
+        ensures { result.now ≡ self.now.top }
+    {
+        &self.entry
+    }
+
     /// Whether this node's entry is a directory.
     pub(crate) fn is_directory(&self) -> bool
         ensures { result ≡ is_directory (Some self.now.top) }
@@ -73,6 +82,16 @@ impl Node {
                 Some(kid) => kid.find(rest),
                 None => None,
             },
+        }
+    }
+
+    /// Whether what stands at a path below this node is a directory, if anything stands there.
+    pub(crate) fn kind(&self, path: &[Text]) -> Option<bool>
+        ensures { result ≡ kind_of (get (map_of self.now) path.now) }
+    {
+        match self.find(path) {
+            None => None,
+            Some(entry) => Some(entry.is_directory()),
         }
     }
 
@@ -193,25 +212,75 @@ impl Node {
         rows: &mut Vec<(Path, &'a Entry)>,
     ) -> Result<(), Memory>
         requires { (q : List (List ℕ)) → is_some (get (map_of self.now) q) ≡ true → IsClean (at.now ++ q) }
-        ensures { OnOk result (shown rows.new.items ≡ shown rows.old.items ++ under at.now (entries (map_of self.now))) }
+        ensures { OnOk result (lent_rows rows.new.items ≡ lent_rows rows.old.items ++ rows_under at.now (entries (map_of self.now))) }
     {
         rows.push((at.copy(alloc)?, &self.entry))?;
         for (name, kid) in self.kids.iter() {
-            let below = child(alloc, at, name)?;
+            let below = at.child(alloc, name)?;
             kid.push_rows(alloc, &below, rows)?;
         }
         Ok(())
     }
 }
 
-/// The path of an entry of this name in a directory. Paths of a tree are clean, so no limit is broken and the name is read as
-/// itself.
-fn child(alloc: Global, directory: &Path, name: &Text) -> Result<Path, Memory>
-    requires { IsClean (directory.now ++ name.now ∷ []) }
-    ensures { IfOk result (λ path. path ≡ directory.now ++ name.now ∷ []) }
-{
-    match directory.join(alloc, name.as_str()) {
-        Ok(path) => Ok(path),
-        Err(_) => Err(Memory),
+impl Node {
+    /// Lays another node over this one. Where there is no memory, this one is left half done.
+    pub(crate) fn lay_over(&mut self, alloc: Global, upper: &Node) -> Result<(), Memory>
+        ensures { OnOk result (map_of self.new ≡ over (map_of self.old) (map_of upper.now)) }
+    {
+        if !upper.entry.is_directory() {
+            *self = upper.copy(alloc)?;
+            return Ok(());
+        }
+        self.entry = upper.entry.copy(alloc)?;
+        for (name, kid) in upper.kids.iter() {
+            match self.kids.get_mut(name) {
+                Some(below) => below.lay_over(alloc, kid)?,
+                None => {
+                    self.kids.insert(name.copy(alloc)?, kid.copy(alloc)?)?;
+                }
+            }
+        }
+        Ok(())
+    }
+
+    /// Takes away what stands at a path below this node, with all below it. It takes no memory.
+    pub(crate) fn cut(&mut self, path: &[Text])
+        requires { 0 < length path.now }
+        ensures { IsCut (get (map_of self.old)) (get (map_of self.new)) path.now }
+    {
+        match path {
+            [] => {}
+            [name, rest @ ..] => {
+                if rest.is_empty() {
+                    self.kids.remove(name);
+                    return;
+                }
+                match self.kids.get_mut(name) {
+                    Some(kid) => kid.cut(rest),
+                    None => {}
+                }
+            }
+        }
+    }
+
+    /// Adds a change for each entry below this node, in path order: it is placed below `at`, at its path from this node.
+    pub(crate) fn push_changes(
+        &self,
+        alloc: Global,
+        options: &CopyOptions,
+        at: &LongPath,
+        changes: &mut Vec<Change>,
+    ) -> Result<(), Memory>
+        requires { (q : List (List ℕ)) → is_some (get (map_of self.now) q) ≡ true → IsClean q }
+        ensures { OnOk result (changes.new.items ≡ changes.old.items ++ placements options.now at.now (drop 1 (entries (map_of self.now)))) }
+    {
+        for (name, kid) in self.kids.iter() {
+            let below = at.child(alloc, name)?;
+            let entry = options.placed_entry(alloc, &kid.entry)?;
+            changes.push(Change::Place(below.copy(alloc)?, entry))?;
+            kid.push_changes(alloc, options, &below, changes)?;
+        }
+        Ok(())
     }
 }

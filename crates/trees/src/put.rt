@@ -1,6 +1,6 @@
 ghost use Rattle.std.specs.Prelude.{◌≡◌, ◌≤◌, length, option_copied};
 ghost use Rattle.std.specs.FinMap.{get};
-ghost use Rattle.trees.specs.NodeValue.{map_of};
+ghost use Rattle.trees.specs.PrivateNode.{map_of};
 ghost use Rattle.trees.specs.Put.{cause_at, clash_of};
 
 use crate::node::Node;
@@ -19,7 +19,7 @@ fn clash_of(there: Option<&Entry>, entry: &Entry) -> Option<Cause>
 }
 
 /// Why an entry can't be placed at a path, if it can't. A path of ours is never too deep.
-pub(crate) fn cause_of(root: &Node, path: &[Text], entry: &Entry) -> Option<Cause>
+pub(crate) fn cause_at(root: &Node, path: &[Text], entry: &Entry) -> Option<Cause>
     requires { length path.now ≤ 64 }
     ensures { result ≡ cause_at (get (map_of root.now)) path.now entry.now }
 {

@@ -1,16 +1,24 @@
-ghost use Rattle.std.specs.Prelude.{◌≡◌, Some, [], IfOk, option_copied};
+ghost use Rattle.std.specs.Prelude.{◌≡◌, Some, None, [], IfOk, MatchOption, option_copied};
 ghost use Rattle.std.specs.FinMap.{get, entries};
-ghost use Rattle.trees.specs.Rows.{shown};
-ghost use Rattle.trees.specs.TreeMap.{IsTree, empty_tree};
 ghost use Rattle.trees.specs.declared.entry.Entry.TheVariants.{Directory};
-ghost use Rattle.trees.specs.Put.{IsPut};
-ghost use Rattle.trees.specs.Subtree.{IsSubtree};
+ghost use Rattle.trees.specs.TreeMap.{IsTree, empty_tree};
+ghost use Rattle.trees.specs.Cause.{GivesTree, ChangesTree};
+ghost use Rattle.trees.specs.Rows.{lent_rows};
+ghost use Rattle.trees.specs.Put.{put_into};
+ghost use Rattle.trees.specs.Make.{made};
+ghost use Rattle.trees.specs.Remove.{removed};
+ghost use Rattle.trees.specs.Subtree.{subtree};
+ghost use Rattle.trees.specs.Over.{over, merged};
+ghost use Rattle.trees.specs.Copy.{copied};
+ghost use Rattle.trees.specs.PrivateNode.{map_of, IsBelow};
 
+use crate::apply::{apply_all, make};
+use crate::changes::{changes_of, goes_into, is_any_missing};
 use crate::node::Node;
-use crate::put::cause_of;
-use crate::{Cause, Entry, Meta, TreeFault};
+use crate::put::cause_at;
+use crate::{Cause, CopyOptions, CopySource, Entry, Meta, TreeFault};
 use paths::Path;
-use plain::{Exact, Memory};
+use plain::{Exact, Fault, Memory};
 use std::alloc::Global;
 use std::marker::Model;
 
@@ -22,7 +30,7 @@ pub struct Tree {
 
 impl Model for Tree {
     ghost use Rattle.trees.specs.TreeMap.{TreeMap, IsTree};
-    ghost use Rattle.trees.specs.NodeValue.{tree_code, map_of};
+    ghost use Rattle.trees.specs.PrivateNode.{tree_code, map_of};
 
     ghost Value = { TreeMap };
 
@@ -58,9 +66,17 @@ impl Tree {
         self.root.find(path.components())
     }
 
+    /// The node at a path, if something stands there.
+    pub(crate) fn node_at(&self, path: &Path) -> Option<&Node>
+        ensures at { MatchOption result (get self.now path.now ≡ None) (λ node. IsBelow self.now path.now (map_of node.now)) }
+        ensures tree { IsTree self.now }
+    {
+        self.root.node_at(path.components())
+    }
+
     /// All entries with their paths, in path order, the root first. Paths are made, and the entries are lent.
     pub fn entries(&self, alloc: Global) -> Result<Vec<(Path, &Entry)>, Memory>
-        ensures { IfOk result (λ rows. shown rows.items ≡ entries self.now) }
+        ensures { IfOk result (λ rows. lent_rows rows.items ≡ entries self.now) }
     {
         let mut rows = Vec::new(alloc);
         self.root.push_rows(alloc, &Path::root(alloc), &mut rows)?;
@@ -72,36 +88,143 @@ impl Tree {
     /// It fails with `F1` where nothing stands at the path, as where a file stands on the way to it, and with `F2` where a file
     /// stands there (own; it is what a bind mount of `RUN` asks).
     pub fn subtree(&self, alloc: Global, path: &Path) -> Result<Tree, TreeFault>
-        ensures { IsSubtree self.now path.now result }
+        ensures { GivesTree (subtree self.now path.now) result }
     {
         match self.root.node_at(path.components()) {
-            None => Err(TreeFault::Fails(Cause::F1)),
+            None => Err(Fault::Because(Cause::F1)),
             Some(node) => {
                 if !node.is_directory() {
-                    return Err(TreeFault::Fails(Cause::F2));
+                    return Err(Fault::Because(Cause::F2));
                 }
                 let root = node.copy(alloc)?;
                 Ok(Tree { root })
             }
         }
     }
+}
 
+impl Tree {
     /// Puts one entry at a path. Missing parents are made, 0755 and 0:0. A file that stands there is replaced; a directory that
     /// stands there takes mode and owner and keeps what is below it.
     ///
     /// It fails with `F2` where a file stands on the way, or where the entry is a directory and a file stands there; else with
     /// `F4` where the entry is a file and a directory stands there, as at the root. After any fault the tree is as it was.
     pub fn put(&mut self, alloc: Global, path: &Path, entry: Entry) -> Result<(), TreeFault>
-        ensures { IsPut self.old self.new path.now entry result }
+        ensures { ChangesTree (put_into self.old path.now entry) self.old self.new result }
     {
-        match cause_of(&self.root, path.components(), &entry) {
-            Some(cause) => Err(TreeFault::Fails(cause)),
+        match cause_at(&self.root, path.components(), &entry) {
+            Some(cause) => Err(Fault::Because(cause)),
             None => {
                 self.root
                     .plant(alloc, path.components(), Meta::directory(), entry)?;
                 Ok(())
             }
         }
+    }
+
+    /// Makes a directory with its parents, 0755 and 0:0, where nothing stands; where a directory stands, nothing changes.
+    ///
+    /// It fails with `F2` where a file stands at the path or on the way to it. After any fault the tree is as it was.
+    pub fn mkdirs(&mut self, alloc: Global, path: &Path) -> Result<(), TreeFault>
+        ensures { ChangesTree (made self.old path.now) self.old self.new result }
+    {
+        make(alloc, &mut self.root, &Meta::directory(), path)
+    }
+
+    /// Takes away what stands at a path, with all that lies below it.
+    ///
+    /// It fails with `F1` where nothing stands there, and at the root. After any fault the tree is as it was.
+    pub fn remove(&mut self, path: &Path) -> Result<(), TreeFault>
+        ensures { ChangesTree (removed self.old path.now) self.old self.new result }
+    {
+        let parts = path.components();
+        if parts.is_empty() {
+            return Err(Fault::Because(Cause::F1));
+        }
+        match self.root.kind(parts) {
+            None => Err(Fault::Because(Cause::F1)),
+            Some(_) => {
+                self.root.cut(parts);
+                Ok(())
+            }
+        }
+    }
+
+    /// Places what a COPY places, all of it or nothing: the sources are looked up in `from`, and `dest` is the destination.
+    ///
+    /// It fails with `F1` where a source isn't there, else with the cause of the first entry that can't be placed: `F5` its path has
+    /// more than 64 components; `F3` this COPY placed an entry there before, and they aren't both directories; `F2` and `F4` as for
+    /// [`put`](Tree::put). After any fault the tree is as it was.
+    pub fn copy_into(
+        &mut self,
+        alloc: Global,
+        from: &Tree,
+        sources: &[CopySource],
+        dest: &Path,
+        options: &CopyOptions,
+    ) -> Result<(), TreeFault>
+        ensures { ChangesTree (copied self.old from.now sources.now dest.now options.now) self.old self.new result }
+    {
+        let tree = self
+            .copy(alloc)?
+            .copied(alloc, from, sources, dest, options)?;
+        *self = tree;
+        Ok(())
+    }
+}
+
+impl Tree {
+    /// This tree with what a COPY places in it, as [`copy_into`](Tree::copy_into) does it, out of this tree itself: nothing of it is
+    /// copied, and after a fault it is gone.
+    pub fn copied(
+        self,
+        alloc: Global,
+        from: &Tree,
+        sources: &[CopySource],
+        dest: &Path,
+        options: &CopyOptions,
+    ) -> Result<Tree, TreeFault>
+        ensures { GivesTree (copied self from.now sources.now dest.now options.now) result }
+    {
+        if is_any_missing(from, sources) {
+            return Err(Fault::Because(Cause::F1));
+        }
+        let into = goes_into(&self.root, dest, options);
+        let changes = changes_of(alloc, options, into, from, dest, sources)?;
+        let Tree { mut root } = self;
+        apply_all(alloc, &mut root, &options.parent_meta(), changes)?;
+        Ok(Tree { root })
+    }
+
+    /// The upper tree laid over the lower one: the upper's entry where it has one; else the lower's where no file of the upper
+    /// stands on the way to it. The upper's root and directories win too, with their modes and owners.
+    pub fn over(alloc: Global, lower: &Tree, upper: &Tree) -> Result<Tree, Memory>
+        ensures { IfOk result (λ tree. tree ≡ over lower.now upper.now) }
+    {
+        lower.copy(alloc)?.under(alloc, upper)
+    }
+
+    /// The upper tree laid over this one, out of this tree itself: nothing of it is copied, and after `Memory` it is gone.
+    pub fn under(self, alloc: Global, upper: &Tree) -> Result<Tree, Memory>
+        ensures { IfOk result (λ tree. tree ≡ over self upper.now) }
+    {
+        let Tree { mut root } = self;
+        root.lay_over(alloc, &upper.root)?;
+        Ok(Tree { root })
+    }
+
+    /// Trees laid over each other from the left, the first at the bottom; of none, the empty tree.
+    pub fn merged(alloc: Global, trees: &[Tree]) -> Result<Tree, Memory>
+        ensures { IfOk result (λ tree. tree ≡ merged trees.now) }
+    {
+        let [first, rest @ ..] = trees else {
+            return Ok(Tree::empty(alloc));
+        };
+        let mut tree = first.copy(alloc)?;
+        for upper in rest {
+            tree = tree.under(alloc, upper)?;
+        }
+        Ok(tree)
     }
 }
 

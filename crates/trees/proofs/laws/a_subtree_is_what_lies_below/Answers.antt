@@ -1,4 +1,4 @@
-use Rattle.trees.specs.SubtreeLaws.{subtree-shown, subtree-IsTree, subtree-root, subtree-blocked}
+use Rattle.trees.proofs.SubtreeLaws.{subtree-shown, subtree-IsTree, subtree-root, subtree-blocked}
 use Rattle.trees.proofs.laws.a_subtree_is_what_lies_below.Goals as goal
 
 pub returns : goal.returns

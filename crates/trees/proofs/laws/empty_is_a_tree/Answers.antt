@@ -1,4 +1,4 @@
-use Rattle.trees.specs.TreeLaws.{empty-IsTree, get-empty_tree}
+use Rattle.trees.proofs.TreeLaws.{empty-IsTree, get-empty_tree}
 use Rattle.trees.proofs.laws.empty_is_a_tree.Goals as goal
 
 pub returns : goal.returns

@@ -1,4 +1,4 @@
-use Rattle.trees.specs.TreeLaws.{same_tree}
+use Rattle.trees.proofs.TreeLaws.{same_tree}
 use Rattle.trees.proofs.laws.trees_are_their_entries.Goals as goal
 
 pub returns : goal.returns

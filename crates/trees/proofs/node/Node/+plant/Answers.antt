@@ -1,7 +1,7 @@
 use Rattle.std.proofs.Common.{ap, subst, refl, IsSome}
 use Rattle.std.proofs.lemmas.Result.{on_ok_weaker, on_err_weaker}
 use Rattle.std.specs.declared.option.Option.{Option}
-use Rattle.trees.specs.NodeValue.{NodeValue}
+use Rattle.trees.specs.PrivateNode.{NodeValue}
 use Rattle.trees.proofs.NodeSteps.{own-planted, plant-step, keep-step, kid-under, kid-from}
 use Rattle.trees.proofs.node.Node.+plant.Goals as goal
 

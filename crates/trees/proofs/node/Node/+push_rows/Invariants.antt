@@ -1,5 +1,6 @@
 use Rattle.std.proofs.Common.{◌≡◌, ◌++◌}
-use Rattle.trees.specs.Rows.{shown, under}
+use Rattle.trees.specs.Rows.{lent_rows}
+use Rattle.trees.specs.PrivateNode.{rows_under}
 use Rattle.trees.proofs.RowLists.{rows_of}
 use Rattle.trees.proofs.node.Node.+push_rows.Given as goal
 
@@ -8,4 +9,4 @@ decreases-push_rows l = l.self.now.height
 
 -- the rows so far and those of the children that are left
 abbrev pub invariant-loop-name : goal.invariant-loop-name
-invariant-loop-name l = shown l.rows.items ++ under l.at (rows_of l.name-iterator) ≡ shown l.initial.rows.items ++ under l.at (rows_of l.initial.name-iterator)
+invariant-loop-name l = lent_rows l.rows.items ++ rows_under l.at (rows_of l.name-iterator) ≡ lent_rows l.initial.rows.items ++ rows_under l.at (rows_of l.initial.name-iterator)

@@ -1,5 +1,5 @@
 use Rattle.std.proofs.Common.{◌≡◌, ◌↔◌}
-use Rattle.trees.specs.NodeValue.{map_of}
+use Rattle.trees.specs.PrivateNode.{map_of}
 use Rattle.trees.proofs.KidLists.{kid_maps}
 use Rattle.trees.proofs.node.Node.+same.Given as goal
 

@@ -1,11 +1,12 @@
 use Rattle.std.proofs.Common.{◌∙◌, ◌++◌}
 use Rattle.std.specs.FinMap.{entries}
-use Rattle.trees.specs.Rows.{shown, under}
-use Rattle.trees.proofs.RowLists.{under-root}
+use Rattle.trees.specs.Rows.{lent_rows}
+use Rattle.trees.specs.PrivateNode.{rows_under}
+use Rattle.trees.proofs.RowLists.{rows_under-root}
 use Rattle.trees.proofs.tree.Tree.entries.Goals as goal
 
 pub returns : goal.returns
 returns c =
     c.in_ok-push_rows.ensures
-    ∙ (λ i. shown (c.new-rows.ensures.items i) ++ under (c.root.ensures i) (entries (c.self.view_is i)))
-    ∙ under-root (entries c.args.self.now)
+    ∙ (λ i. lent_rows (c.new-rows.ensures.items i) ++ rows_under (c.root.ensures i) (entries (c.self.view_is i)))
+    ∙ rows_under-root (entries c.args.self.now)

@@ -1,0 +1,204 @@
+-- From the steps of a COPY's code to what its calls promise.
+use Rattle.std.specs.Prelude.{◌≡◌, ℕ, Bool, true, false, ◌||◌, cond, Option, Some, None, Result, Ok, Err, List, [], ◌∷◌, ◌++◌, length, is_some, nat_lt}
+use Rattle.std.proofs.Common.{sym, ap, refl, ◌∙◌, subst, true≢false, append-nil, append_assoc}
+use Rattle.std.specs.Option.{option_or}
+use Rattle.std.specs.Ordering.{eq_by_cmp}
+use Rattle.std.specs.Map.{lookup}
+use Rattle.std.specs.BTreeMap.{is_at}
+use Rattle.std.specs.FinMap.{get}
+use Rattle.std.proofs.lemmas.Bool.{le-ltb}
+use Rattle.std.specs.Cmp.{eq_by_cmp_equiv}
+use Rattle.paths.specs.OrderLaws.{path_cmp_total}
+use Rattle.paths.specs.Order.{path_cmp}
+use Rattle.paths.specs.Path.{IsClean}
+use Rattle.trees.specs.declared.meta.Meta.{Meta}
+use Rattle.trees.specs.declared.entry.Entry.{Entry}
+use Rattle.trees.specs.declared.entry.Entry.TheVariants.{Directory, File}
+use Rattle.trees.specs.declared.copy.Change.{Change}
+use Rattle.trees.specs.declared.copy.Change.TheVariants.{Place, Make}
+use Rattle.trees.specs.declared.cause.Cause.{Cause}
+use Rattle.trees.specs.declared.cause.Cause.TheVariants.{F2, F3, F5}
+use Rattle.plain.specs.declared.fault.Fault.{Fault}
+use Rattle.plain.specs.declared.fault.Fault.TheVariants.{Because, Memory}
+use Rattle.paths.specs.Fronts.{is_front}
+use Rattle.trees.specs.TreeMap.{TreeMap, directory_meta, IsTree, is_directory, is_file, is_blocked}
+use Rattle.trees.specs.Cause.{ChangesTree}
+use Rattle.trees.specs.Put.{cause_at, placed, clash_of}
+use Rattle.trees.specs.Make.{make_cause, with_directory, made_with, made}
+use Rattle.trees.specs.PrivateNode.{IsPlanted}
+use Rattle.trees.specs.Copy.{changed_tree, kind_of, kind_placed, is_repeated, change_cause, first_cause}
+use Rattle.trees.specs.PrivateCopy.{IsChanged, AppliesChange, TellsCause, with_change, kind_by}
+use Rattle.trees.proofs.CauseLaws.{tree_or-ok, tree_or-none, tree_or-err}
+use Rattle.trees.proofs.CopyLaws.{get-with_directory, with_directory-new, with_directory-kept, changed_tree-more, kind_placed-more}
+use Rattle.trees.proofs.SubtreeLaws.{way-open}
+use Rattle.trees.proofs.TreeLaws.{placed-IsTree, free-from_cause}
+use Rattle.trees.proofs.TreeSteps.{placed-from_planted}
+
+abbrev pub Paths : Type 0
+Paths = List (List ℕ)
+
+-- ---- the fault of a placement
+
+shallow-cause : (before : List (List ℕ) → Option Bool) (at : List (List ℕ) → Option Entry) (p : List (List ℕ)) (e : Entry) (deep twice : Bool) → nat_lt 64 (length p) ≡ deep → deep ≡ false → is_repeated (before p) e ≡ twice
+    → change_cause before at (Place p e) ≡ cond twice (Some F3) (cause_at at p e)
+shallow-cause before at p e deep twice d n t = λ i. cond ((d ∙ n) i) (Some F5) (cond (t i) (Some F3) (cause_at at p e))
+
+pub repeated-cause : (before : List (List ℕ) → Option Bool) (at : List (List ℕ) → Option Entry) (p : List (List ℕ)) (e : Entry) (told : Bool) → IsClean p → told ≡ is_repeated (before p) e → told ≡ true → Some F3 ≡ change_cause before at (Place p e)
+repeated-cause before at p e told clean is t = sym (shallow-cause before at p e _ true refl (le-ltb 64 (length p) clean.few) (sym is ∙ t))
+
+pub other-cause : (before : List (List ℕ) → Option Bool) (at : List (List ℕ) → Option Entry) (p a : List (List ℕ)) (e : Entry) (told : Bool) (cause : Option Cause) → IsClean p → a ≡ p → told ≡ is_repeated (before p) e → told ≡ false → cause ≡ cause_at at a e → cause ≡ change_cause before at (Place p e)
+other-cause before at p a e told cause clean same is t c = c ∙ ap (λ x. cause_at at x e) same ∙ sym (shallow-cause before at p e _ false refl (le-ltb 64 (length p) clean.few) (sym is ∙ t))
+
+-- a path that is too deep
+pub deep-cause : (before : List (List ℕ) → Option Bool) (at : List (List ℕ) → Option Entry) (p : List (List ℕ)) (e : Entry) → nat_lt 64 (length p) ≡ true → change_cause before at (Place p e) ≡ Some F5
+deep-cause before at p e d = λ i. cond (d i) (Some F5) (cond (is_repeated (before p) e) (Some F3) (cause_at at p e))
+
+pub free-placement : (at : List (List ℕ) → Option Entry) (p : List (List ℕ)) (e : Entry) (deep twice : Bool) → cond deep (Some F5) (cond twice (Some F3) (cause_at at p e)) ≡ None → cause_at at p e ≡ None
+free-placement at p e true twice is = absurd (true≢false (ap is_some is))
+free-placement at p e false true is = absurd (true≢false (ap is_some is))
+free-placement at p e false false is = is
+
+-- ---- what was placed
+
+updated : (new old : List (List (List ℕ) × Bool)) (p q : List (List ℕ)) (e : Entry) (tie : Bool) → eq_by_cmp path_cmp q p ≡ tie → lookup (is_at (path_cmp q)) new ≡ cond tie (Some (is_directory (Some e))) (lookup (is_at (path_cmp q)) old)
+    → lookup (is_at (path_cmp q)) new ≡ option_or (kind_of (cond (eq_by_cmp path_cmp q p) (Some e) None)) (lookup (is_at (path_cmp q)) old)
+updated new old p q e true t is = is ∙ sym (ap (λ b. option_or (kind_of (cond b (Some e) None)) (lookup (is_at (path_cmp q)) old)) t)
+updated new old p q e false t is = is ∙ sym (ap (λ b. option_or (kind_of (cond b (Some e) None)) (lookup (is_at (path_cmp q)) old)) t)
+
+pub place-done : (meta : Meta) (old new : TreeMap) (p a : List (List ℕ)) (e : Entry) (placed_old placed_new : List (List (List ℕ) × Bool)) (told : Option Cause) (kind : Bool)
+    → told ≡ change_cause (λ q. lookup (is_at (path_cmp q)) placed_old) (get old) (Place p e) → told ≡ None → kind ≡ is_directory (Some e) → a ≡ p → IsTree old → IsClean p → IsPlanted (get old) new a meta e
+    → ((q : List (List ℕ)) → lookup (is_at (path_cmp q)) placed_new ≡ cond (is_at (path_cmp p) q) (Some kind) (lookup (is_at (path_cmp q)) placed_old))
+    → IsChanged meta (Place p e) (λ q. lookup (is_at (path_cmp q)) placed_old) old (λ q. lookup (is_at (path_cmp q)) placed_new) new
+place-done meta old new p a e placed_old placed_new told kind is none dir same tree clean h updates =
+    let fine : change_cause (λ q. lookup (is_at (path_cmp q)) placed_old) (get old) (Place p e) ≡ None = sym is ∙ none in
+    let map : new ≡ placed meta old p e = placed-from_planted old new a meta e h ∙ ap (λ x. placed meta old x e) same in
+    record {
+      fine = fine;
+      map = map;
+      kinds = λ q. updated placed_new placed_old p q e (eq_by_cmp path_cmp q p) refl (updates q ∙ (λ i. cond ((eq_by_cmp_equiv path_cmp_total).symm p q i) (Some (dir i)) (lookup (is_at (path_cmp q)) placed_old)));
+      tree = subst IsTree (sym map) (placed-IsTree meta old p e tree clean (free-from_cause (get old) p e (free-placement (get old) p e _ _ fine)));
+    }
+
+-- ---- a making
+
+pub blocked-make : (at : List (List ℕ) → Option Entry) (p : List (List ℕ)) (shut : Bool) → shut ≡ is_blocked at p → shut ≡ true → Some F2 ≡ make_cause at p
+blocked-make at p shut is t = λ i. cond ((sym t ∙ is) i || is_file (at p)) (Some F2) None
+
+with_directory-of : (meta : Meta) (old : TreeMap) (p : List (List ℕ)) (o : Option Entry) (shut : Bool) → IsTree old → IsClean p → get old p ≡ o → is_blocked (get old) p ≡ shut → cond (shut || is_file o) (Some F2) None ≡ None → IsTree (with_directory meta old p)
+with_directory-of meta old p o true tree clean is way none = absurd (true≢false (ap is_some none))
+with_directory-of meta old p None false tree clean is way none =
+    subst IsTree (sym (with_directory-new meta old p is)) (placed-IsTree meta old p (Directory meta) tree clean (record { few = le-ltb 64 (length p) clean.few; way = way; clash = ap (λ x. clash_of x (Directory meta)) is }))
+with_directory-of meta old p (Some (Directory m)) false tree clean is way none = subst IsTree (sym (with_directory-kept meta old p tree (ap is_directory is))) tree
+with_directory-of meta old p (Some (File m b)) false tree clean is way none = absurd (true≢false (ap is_some none))
+
+-- a tree in which a directory was made is a tree
+pub with_directory-IsTree : (meta : Meta) (old : TreeMap) (p : List (List ℕ)) → IsTree old → IsClean p → make_cause (get old) p ≡ None → IsTree (with_directory meta old p)
+with_directory-IsTree meta old p tree clean none = with_directory-of meta old p (get old p) _ tree clean refl refl none
+
+no-kind : (o : Option Entry) → kind_of o ≡ None → o ≡ None
+no-kind None e = refl
+no-kind (Some x) e = absurd (true≢false (ap is_some e))
+
+pub make-new : (meta : Meta) (old new : TreeMap) (p a : List (List ℕ)) (told : Option Cause) (kind : Option Bool) → a ≡ p → told ≡ make_cause (get old) a → told ≡ None → kind ≡ kind_of (get old a) → kind ≡ None → IsPlanted (get old) new a meta (Directory meta)
+    → made_with meta old p ≡ Ok new
+make-new meta old new p a told kind same is none kind-is nothing h =
+    tree_or-none (make_cause (get old) p) (with_directory meta old p) new
+    (ap (make_cause (get old)) (sym same) ∙ sym is ∙ none)
+    (placed-from_planted old new a meta (Directory meta) h ∙ sym (with_directory-new meta old a (no-kind (get old a) (sym kind-is ∙ nothing))) ∙ ap (with_directory meta old) same)
+
+stands : (o : Option Entry) (shut b : Bool) → kind_of o ≡ Some b → cond (shut || is_file o) (Some F2) None ≡ None → is_directory o ≡ true
+stands None shut b k none = absurd (true≢false (sym (ap is_some k)))
+stands (Some (Directory m)) shut b k none = refl
+stands (Some (File m c)) true b k none = absurd (true≢false (ap is_some none))
+stands (Some (File m c)) false b k none = absurd (true≢false (ap is_some none))
+
+pub make-kept : (meta : Meta) (old : TreeMap) (p a : List (List ℕ)) (told : Option Cause) (kind : Option Bool) (b : Bool) → a ≡ p → IsTree old → told ≡ make_cause (get old) a → told ≡ None → kind ≡ kind_of (get old a) → kind ≡ Some b
+    → made_with meta old p ≡ Ok old
+make-kept meta old p a told kind b same tree is none kind-is there =
+    let fine : make_cause (get old) a ≡ None = sym is ∙ none in
+    tree_or-none (make_cause (get old) p) (with_directory meta old p) old
+    (ap (make_cause (get old)) (sym same) ∙ fine)
+    (sym (with_directory-kept meta old a tree (stands (get old a) (is_blocked (get old) a) b (sym kind-is ∙ there) fine)) ∙ ap (with_directory meta old) same)
+
+pub make-new-tree : (meta : Meta) (old new : TreeMap) (p a : List (List ℕ)) (told : Option Cause) (kind : Option Bool) → a ≡ p → IsTree old → IsClean p → told ≡ make_cause (get old) a → told ≡ None → kind ≡ kind_of (get old a) → kind ≡ None → IsPlanted (get old) new a meta (Directory meta) → IsTree new
+make-new-tree meta old new p a told kind same tree clean is none kind-is nothing h =
+    let done = tree_or-ok _ _ _ (make-new meta old new p a told kind same is none kind-is nothing h) in
+    subst IsTree done.1 (with_directory-IsTree meta old p tree clean done.0)
+
+-- what stands at each path after a making
+pub get-made : (tree new : TreeMap) (path q : List (List ℕ)) → made tree path ≡ Ok new
+    → get new q ≡ option_or (get tree q) (cond (is_front q path || eq_by_cmp path_cmp q path) (Some (Directory directory_meta)) None)
+get-made tree new path q done =
+    ap (λ m. get m q) (sym (tree_or-ok (make_cause (get tree) path) (with_directory directory_meta tree path) new done).1)
+    ∙ get-with_directory directory_meta tree path q
+
+pub made-IsTree : (tree new : TreeMap) (path : List (List ℕ)) → IsTree tree → IsClean path → made tree path ≡ Ok new → IsTree new
+made-IsTree tree new path tree_is clean done =
+    let is = tree_or-ok (make_cause (get tree) path) (with_directory directory_meta tree path) new done in
+    subst IsTree is.1 (with_directory-IsTree directory_meta tree path tree_is clean is.0)
+
+open_directory : (at : List (List ℕ) → Option Entry) (p : List (List ℕ)) (meta : Meta) (shut : Bool) → is_blocked at p ≡ shut → shut ≡ false → at p ≡ Some (Directory meta) → make_cause at p ≡ None
+open_directory at p meta shut way open_way there = λ i. cond ((way ∙ open_way) i || is_file (there i)) (Some F2) None
+
+-- where a directory stands, nothing changes
+pub made-kept : (tree : TreeMap) (path : List (List ℕ)) (meta : Meta) → IsTree tree → get tree path ≡ Some (Directory meta) → made tree path ≡ Ok tree
+made-kept tree path meta is there =
+    tree_or-none (make_cause (get tree) path) (with_directory directory_meta tree path) tree
+    (open_directory (get tree) path meta _ refl (way-open tree path is (ap is_some there)) there)
+    (sym (with_directory-kept directory_meta tree path is (ap is_directory there)))
+
+-- from a making to a change
+pub make-change : (meta : Meta) (old new : TreeMap) (p : List (List ℕ)) (before : List (List ℕ) → Option Bool) (result : Result (Unit {0}) (Fault Cause)) → IsTree new → ChangesTree (made_with meta old p) old new result
+    → AppliesChange meta (Make p) before old before new result
+make-change meta old new p before (Ok done) tree h =
+    let is = tree_or-ok (make_cause (get old) p) (with_directory meta old p) new h in
+    record { fine = is.0; map = sym is.1; kinds = λ q. refl; tree = tree }
+make-change meta old new p before (Err (Because cause)) tree h = tree_or-err (make_cause (get old) p) (with_directory meta old p) cause h.0
+make-change meta old new p before (Err Memory) tree h = tt
+
+-- ---- one change after another
+
+pub record IsSoFar (meta : Meta) (old : TreeMap) (before rest all : List Change) (kinds_now : List (List (List ℕ) × Bool)) (now : TreeMap) : Type 0 where
+  pub causes : first_cause meta old before rest ≡ first_cause meta old [] all
+  pub whole : before ++ rest ≡ all
+  pub map : now ≡ changed_tree meta old before
+  pub kinds : (q : List (List ℕ)) → kind_placed before q ≡ lookup (is_at (path_cmp q)) kinds_now
+  pub tree : IsTree now
+
+pub so_far-start : (meta : Meta) (old : TreeMap) (rest all : List Change) (none : List (List (List ℕ) × Bool)) → rest ≡ all → none ≡ [] → IsTree old → IsSoFar meta old [] rest all none old
+so_far-start meta old rest all none same empty tree = record {
+  causes = ap (first_cause meta old []) same;
+  whole = same;
+  map = refl;
+  kinds = λ q. ap (lookup (is_at (path_cmp q))) (sym empty);
+  tree = tree;
+}
+
+module _ (meta : Meta) (old : TreeMap) (before rest more all : List Change) (change : Change) (kinds_now : List (List (List ℕ) × Bool)) (now : TreeMap) (h : IsSoFar meta old before more all kinds_now now) (next : more ≡ change ∷ rest) where
+  change-is : change_cause (kind_placed before) (get (changed_tree meta old before)) change ≡ change_cause (λ q. lookup (is_at (path_cmp q)) kinds_now) (get now) change
+  change-is = λ i. change_cause (λ q. h.kinds q i) (get (sym h.map i)) change
+
+  whole-is : option_or (change_cause (kind_placed before) (get (changed_tree meta old before)) change) (first_cause meta old (before ++ change ∷ []) rest) ≡ first_cause meta old [] all
+  whole-is = ap (first_cause meta old before) (sym next) ∙ h.causes
+
+  pub so_far-step : (kinds_then : List (List (List ℕ) × Bool)) (then_tree : TreeMap) → IsChanged meta change (λ q. lookup (is_at (path_cmp q)) kinds_now) now (λ q. lookup (is_at (path_cmp q)) kinds_then) then_tree → IsSoFar meta old (before ++ change ∷ []) rest all kinds_then then_tree
+  so_far-step kinds_then then_tree s = record {
+    causes = sym (ap (λ o. option_or o (first_cause meta old (before ++ change ∷ []) rest)) (change-is ∙ s.fine)) ∙ whole-is;
+    whole = append_assoc before (change ∷ []) rest ∙ ap (λ xs. before ++ xs) (sym next) ∙ h.whole;
+    map = s.map ∙ ap (λ t. with_change meta t change) h.map ∙ sym (changed_tree-more meta old before change);
+    kinds = λ q. kind_placed-more before change q ∙ ap (option_or (kind_by change q)) (h.kinds q) ∙ sym (s.kinds q);
+    tree = s.tree;
+  }
+
+  pub so_far-fault : (cause : Cause) → change_cause (λ q. lookup (is_at (path_cmp q)) kinds_now) (get now) change ≡ Some cause → first_cause meta old [] all ≡ Some cause
+  so_far-fault cause c = sym whole-is ∙ ap (λ o. option_or o (first_cause meta old (before ++ change ∷ []) rest)) (change-is ∙ c)
+
+pub so_far-end : (meta : Meta) (old : TreeMap) (before rest all : List Change) (kinds_now : List (List (List ℕ) × Bool)) (now : TreeMap) → IsSoFar meta old before rest all kinds_now now → rest ≡ [] → (first_cause meta old [] all ≡ None) × ((now ≡ changed_tree meta old all) × IsTree now)
+so_far-end meta old before rest all kinds_now now h none = (
+  sym h.causes ∙ ap (first_cause meta old before) none,
+  (h.map ∙ ap (changed_tree meta old) (sym (append-nil before) ∙ ap (λ xs. before ++ xs) (sym none) ∙ h.whole), h.tree),
+)
+
+pub told-change : (meta : Meta) (old : TreeMap) (change : Change) (before after : List (List ℕ) → Option Bool) (new : TreeMap) (fault : (Fault Cause)) → AppliesChange meta change before old after new (Err fault) → TellsCause fault (change_cause before (get old) change)
+told-change meta old change before after new (Because cause) h = h
+told-change meta old change before after new Memory h = tt

@@ -1,5 +1,0 @@
-use Rattle.trees.specs.RunLaws.{mounts_fit-means, ids_differ-means}
-use Rattle.trees.proofs.laws.mounts_are_tested_in_pairs.Goals as goal
-
-pub returns : goal.returns
-returns c = record { targets = mounts_fit-means; ids = ids_differ-means }

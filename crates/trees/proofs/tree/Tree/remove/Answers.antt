@@ -1,0 +1,9 @@
+use Rattle.trees.proofs.CutSteps.{remove-done, remove-tree, long-path, there-of}
+use Rattle.trees.proofs.tree.Tree.remove.Goals as goal
+
+pub invariant_of-self : goal.invariant_of-self
+invariant_of-self c = remove-tree _ _ c.components-parts.result.now c.self.invariant (long-path _ c.is_empty.result c.is_empty.ensures c.if-is_empty.false) c.cut.ensures
+
+pub returns-in-Some : goal.returns-in-Some
+returns-in-Some c =
+    remove-done _ _ _ c.components-parts.result.now _ c.self.view_is c.components-parts.ensures.value (long-path _ c.is_empty.result c.is_empty.ensures c.if-is_empty.false) (there-of _ c.kind.result _ c.kind.ensures c.in-Some.is) c.cut.ensures

@@ -1,0 +1,46 @@
+-- By what the functions inside this crate that carry out a COPY are stated: one change after another.
+use Rattle.std.specs.Prelude.{◌≡◌, ℕ, Bool, Option, Some, None, Result, Ok, Err, List, []}
+use Rattle.std.specs.Option.{option_or}
+use Rattle.std.specs.FinMap.{get}
+use Rattle.plain.specs.declared.fault.Fault.{Fault}
+use Rattle.plain.specs.declared.fault.Fault.TheVariants.{Because, Memory}
+use Rattle.trees.specs.declared.meta.Meta.{Meta}
+use Rattle.trees.specs.declared.copy.Change.{Change}
+use Rattle.trees.specs.declared.copy.Change.TheVariants.{Place, Make}
+use Rattle.trees.specs.declared.cause.Cause.{Cause}
+use Rattle.trees.specs.TreeMap.{TreeMap, IsTree}
+use Rattle.trees.specs.Put.{placed}
+use Rattle.trees.specs.Make.{with_directory}
+use Rattle.trees.specs.Copy.{placed_by, kind_of, change_cause, first_cause, changed_tree}
+
+-- the tree after one change more
+abbrev pub with_change : Meta → TreeMap → Change → TreeMap
+with_change meta tree (Place path entry) = placed meta tree path entry
+with_change meta tree (Make path) = with_directory meta tree path
+
+-- the kind of what a change places at q, if it places anything there
+abbrev pub kind_by : Change → List (List ℕ) → Option Bool
+kind_by change q = kind_of (placed_by change q)
+
+-- a change was made: it has no cause to fail; before and after are the kinds of what is placed so far
+pub record IsChanged (meta : Meta) (change : Change) (before : List (List ℕ) → Option Bool) (old : TreeMap) (after : List (List ℕ) → Option Bool) (new : TreeMap) : Type 0 where
+  pub fine : change_cause before (get old) change ≡ None
+  pub map : new ≡ with_change meta old change
+  pub kinds : (q : List (List ℕ)) → after q ≡ option_or (kind_by change q) (before q)
+  pub tree : IsTree new
+
+-- a call makes a change or tells its cause; after a fault nothing is said of the tree
+abbrev pub AppliesChange : Meta → Change → (List (List ℕ) → Option Bool) → TreeMap → (List (List ℕ) → Option Bool) → TreeMap → Result (Unit {0}) (Fault Cause) → Type 0
+AppliesChange meta change before old after new (Ok done) = IsChanged meta change before old after new
+AppliesChange meta change before old after new (Err (Because cause)) = change_cause before (get old) change ≡ Some cause
+AppliesChange meta change before old after new (Err Memory) = Unit {0}
+
+-- a fault tells this cause
+abbrev pub TellsCause : Fault Cause → Option Cause → Type 0
+TellsCause (Because cause) found = found ≡ Some cause
+TellsCause Memory found = Unit {0}
+
+-- a call makes all changes, or tells the cause of the first that fails
+abbrev pub AppliesChanges : Meta → List Change → TreeMap → TreeMap → Result (Unit {0}) (Fault Cause) → Type 0
+AppliesChanges meta changes old new (Ok done) = (first_cause meta old [] changes ≡ None) × ((new ≡ changed_tree meta old changes) × IsTree new)
+AppliesChanges meta changes old new (Err fault) = TellsCause fault (first_cause meta old [] changes)

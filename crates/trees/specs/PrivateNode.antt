@@ -1,0 +1,75 @@
+-- What a node of a stored tree stands for: its own entry, the map of what is below it, and how high it is.
+--
+-- A node knows the names of its children and not its own path, so its map's paths begin at the node itself.
+use Rattle.std.specs.Prelude.{◌≡◌, ℕ, ◌+◌, ◌≤◌, Bool, false, cond, Option, None, List, [], ◌∷◌, ◌++◌, map, not, refl}
+use Rattle.std.specs.Coded.{Coded, code_by, coded×, coded_ℕ, coded_list}
+use Rattle.std.specs.Ordering.{eq_by_cmp}
+use Rattle.std.specs.Map.{values_of}
+use Rattle.std.specs.FinMap.{get, insert, empty, entries, retain_keys, code}
+use Rattle.std.proofs.Common.{arith}
+use denote.Param.Weighed.{most}
+use Rattle.paths.specs.Path.{is_at_or_under}
+use Rattle.trees.specs.declared.meta.Meta.{Meta}
+use Rattle.trees.specs.declared.entry.Entry.{Entry}
+use Rattle.trees.specs.contracts.entry.Entry as entries_of
+use Rattle.paths.specs.Order.{name_cmp}
+use Rattle.trees.specs.TreeMap.{TreeMap}
+use Rattle.trees.specs.Over.{insert_all}
+use Rattle.trees.specs.Put.{planted}
+
+-- a node, as contracts see it
+pub record NodeValue : Type 0 where
+  pub top : Entry
+  pub below : TreeMap
+  pub height : ℕ
+
+-- the code of a tree's value
+abbrev pub tree_code : Coded TreeMap
+tree_code = code (coded_list (coded_list coded_ℕ)) entries_of.the_row.coded
+
+-- the code of a node's value, as the pair of its entry and the rest; it says nothing of how a node lies in memory
+abbrev pub node_code : Coded NodeValue
+node_code =
+    code_by (Entry × (TreeMap × ℕ)) (coded× entries_of.the_row.coded (coded× tree_code coded_ℕ)) (λ n. (n.top, (n.below, n.height))) (λ p. record { top = p.0; below = p.1.0; height = p.1.1 }) (λ _. refl)
+
+-- the map of a node: its own entry at the root, and what is below it
+abbrev pub map_of : NodeValue → TreeMap
+map_of node = insert node.below [] node.top
+
+-- whether a path begins with this name
+abbrev pub begins_with : List ℕ → List (List ℕ) → Bool
+begins_with name [] = false
+begins_with name (c ∷ cs) = eq_by_cmp name_cmp c name
+
+-- the rows of a child, seen from its parent
+abbrev pub below_name : List ℕ → List (List (List ℕ) × Entry) → List (List (List ℕ) × Entry)
+below_name name rows = map (λ row. (name ∷ row.0, row.1)) rows
+
+-- what is below a node with these children; of a name that stands twice, the first counts
+abbrev pub joined : List (List ℕ × NodeValue) → TreeMap
+joined [] = empty
+joined (kid ∷ kids) = insert_all (below_name kid.0 (entries (map_of kid.1))) (retain_keys (joined kids) (λ path. not (begins_with kid.0 path)))
+
+-- how high a node with these children is: a node without children has the height 0
+abbrev pub height_of : List (List ℕ × NodeValue) → ℕ
+height_of kids = most (λ kid. kid.height + 1) (values_of kids)
+
+-- each child is less high than its node
+pub height_falls : (kids : List (List ℕ × NodeValue)) → most (λ kid. kid.height + 1) (values_of kids) ≤ height_of kids
+height_falls kids = omega arith
+
+-- the map of a node in which an entry stands at a path, `old` being what stood before
+pub record IsPlanted (old : List (List ℕ) → Option Entry) (new : TreeMap) (path : List (List ℕ)) (parent : Meta) (entry : Entry) : Type 0 where
+  pub at : (q : List (List ℕ)) → get new q ≡ planted old path parent entry q
+
+-- below is the map of what lies at and below top in a tree
+pub record IsBelow (tree : TreeMap) (top : List (List ℕ)) (below : TreeMap) : Type 0 where
+  pub at : (q : List (List ℕ)) → get below q ≡ get tree (top ++ q)
+
+-- what stood at each path, without a path and all that lay below it
+pub record IsCut (old new : List (List ℕ) → Option Entry) (path : List (List ℕ)) : Type 0 where
+  pub at : (q : List (List ℕ)) → new q ≡ cond (is_at_or_under q path) None (old q)
+
+-- rows as they are seen from further up: each path below this one
+abbrev pub rows_under : List (List ℕ) → List (List (List ℕ) × Entry) → List (List (List ℕ) × Entry)
+rows_under top rows = map (λ row. (top ++ row.0, row.1)) rows

@@ -1,0 +1,146 @@
+// The changes of a COPY are made on a node, one after another.
+
+ghost use Rattle.std.specs.Prelude.{◌≡◌};
+ghost use Rattle.std.specs.FinMap.{get};
+ghost use Rattle.std.specs.Map.{lookup};
+ghost use Rattle.std.specs.BTreeMap.{is_at};
+ghost use Rattle.paths.specs.Order.{path_cmp};
+ghost use Rattle.trees.specs.declared.copy.Change.TheVariants.{Place};
+ghost use Rattle.trees.specs.TreeMap.{IsTree};
+ghost use Rattle.trees.specs.Cause.{ChangesTree};
+ghost use Rattle.trees.specs.Make.{make_cause, made_with};
+ghost use Rattle.trees.specs.Copy.{is_repeated, change_cause};
+ghost use Rattle.trees.specs.PrivateCopy.{AppliesChange, AppliesChanges};
+ghost use Rattle.trees.specs.PrivateNode.{map_of};
+
+use crate::copy::Change;
+use crate::node::Node;
+use crate::put::cause_at;
+use crate::{Cause, Entry, Meta, TreeFault};
+use paths::Path;
+use plain::{Fault, Text};
+use std::alloc::Global;
+use std::collections::BTreeMap;
+
+/// Makes the changes, one after another. After a fault the root is left half done.
+pub(crate) fn apply_all(
+    alloc: Global,
+    root: &mut Node,
+    parent: &Meta,
+    changes: Vec<Change>,
+) -> Result<(), TreeFault>
+    requires { IsTree (map_of root.old) }
+    ensures { AppliesChanges parent.now changes.items (map_of root.old) (map_of root.new) result }
+{
+    let mut placed = BTreeMap::new(alloc);
+    for change in changes {
+        apply(alloc, root, &mut placed, parent, change)?;
+    }
+    Ok(())
+}
+
+/// Makes one change. `placed` has each path at which this COPY placed an entry, and whether that is a directory.
+fn apply(
+    alloc: Global,
+    root: &mut Node,
+    placed: &mut BTreeMap<Path, bool>,
+    parent: &Meta,
+    change: Change,
+) -> Result<(), TreeFault>
+    requires { IsTree (map_of root.old) }
+    ensures { AppliesChange parent.now change (λ q. lookup (is_at (path_cmp q)) placed.old.entries) (map_of root.old)
+        (λ q. lookup (is_at (path_cmp q)) placed.new.entries) (map_of root.new) result }
+{
+    match change {
+        Change::Make(path) => make(alloc, root, parent, &path),
+        Change::Place(path, entry) => match path.into_path() {
+            None => Err(Fault::Because(Cause::F5)),
+            Some(path) => place(alloc, root, placed, parent, path, entry),
+        },
+    }
+}
+
+/// Places an entry at a path that isn't too deep.
+fn place(
+    alloc: Global,
+    root: &mut Node,
+    placed: &mut BTreeMap<Path, bool>,
+    parent: &Meta,
+    path: Path,
+    entry: Entry,
+) -> Result<(), TreeFault>
+    requires { IsTree (map_of root.old) }
+    ensures { AppliesChange parent.now (Place path entry) (λ q. lookup (is_at (path_cmp q)) placed.old.entries) (map_of root.old)
+        (λ q. lookup (is_at (path_cmp q)) placed.new.entries) (map_of root.new) result }
+{
+    if let Some(cause) = placement_cause(root, placed, &path, &entry) {
+        return Err(Fault::Because(cause));
+    }
+    let is_directory = entry.is_directory();
+    root.plant(alloc, path.components(), *parent, entry)?;
+    placed.insert(path, is_directory)?;
+    Ok(())
+}
+
+/// Why an entry can't be placed at a path that isn't too deep, if it can't.
+fn placement_cause(
+    root: &Node,
+    placed: &BTreeMap<Path, bool>,
+    path: &Path,
+    entry: &Entry,
+) -> Option<Cause>
+    ensures { result ≡ change_cause (λ q. lookup (is_at (path_cmp q)) placed.now.entries) (get (map_of root.now)) (Place path.now entry.now) }
+{
+    let parts = path.components();
+    if is_repeated(placed, path, entry) {
+        return Some(Cause::F3);
+    }
+    cause_at(root, parts, entry)
+}
+
+/// Whether an entry is placed where one was placed before, and they aren't both directories.
+fn is_repeated(placed: &BTreeMap<Path, bool>, path: &Path, entry: &Entry) -> bool
+    ensures { result ≡ is_repeated (lookup (is_at (path_cmp path.now)) placed.now.entries) entry.now }
+{
+    match placed.get(path) {
+        None => false,
+        Some(was_directory) => !(*was_directory && entry.is_directory()),
+    }
+}
+
+/// Makes a directory with its parents, all of this meta, where nothing stands. After a fault the root is as it was.
+pub(crate) fn make(
+    alloc: Global,
+    root: &mut Node,
+    meta: &Meta,
+    path: &Path,
+) -> Result<(), TreeFault>
+    requires { IsTree (map_of root.old) }
+    ensures result { ChangesTree (made_with meta.now (map_of root.old) path.now) (map_of root.old) (map_of root.new) result }
+    ensures tree { IsTree (map_of root.new) }
+{
+    let parts = path.components();
+    if let Some(cause) = make_cause(root, parts) {
+        return Err(Fault::Because(cause));
+    }
+    match root.kind(parts) {
+        None => {
+            root.plant(alloc, parts, *meta, Entry::Directory(*meta))?;
+            Ok(())
+        }
+        Some(_) => Ok(()),
+    }
+}
+
+/// Why a directory can't be made, if it can't.
+fn make_cause(root: &Node, path: &[Text]) -> Option<Cause>
+    ensures { result ≡ make_cause (get (map_of root.now)) path.now }
+{
+    if root.is_blocked(path) {
+        return Some(Cause::F2);
+    }
+    match root.kind(path) {
+        Some(false) => Some(Cause::F2),
+        _ => None,
+    }
+}

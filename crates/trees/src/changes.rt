@@ -1,0 +1,179 @@
+// From the sources of a COPY to its changes. Nothing is placed here: the tree copied from and the options say all.
+
+ghost use Rattle.std.specs.Prelude.{◌≡◌, ◌++◌, ◌∷◌, [], drop, length, ◌-◌, IfOk, OnOk};
+ghost use Rattle.std.specs.List.{list_any};
+ghost use Rattle.paths.specs.Name.{IsComponent};
+ghost use Rattle.trees.specs.Copy.{file_path, path_changes, paths_changes, source_changes, changes_of, is_missing, is_absent, goes_into};
+ghost use Rattle.trees.specs.PrivateNode.{map_of};
+
+use crate::copy::Change;
+use crate::node::Node;
+use crate::{CopyOptions, CopySource, Entry, Meta, Tree};
+use paths::{LongPath, Path};
+use plain::{Exact, Memory, Text};
+use std::alloc::Global;
+
+/// Whether one of the sources isn't there.
+pub(crate) fn is_any_missing(from: &Tree, sources: &[CopySource]) -> bool
+    ensures { result ≡ list_any (is_missing from.now) sources.now }
+{
+    for source in sources {
+        if is_missing(from, source) {
+            return true;
+        }
+    }
+    false
+}
+
+/// Whether a source isn't there.
+fn is_missing(from: &Tree, source: &CopySource) -> bool
+    ensures { result ≡ is_missing from.now source.now }
+{
+    match source {
+        CopySource::Found(paths) => paths.is_empty() || is_any_absent(from, paths.as_slice()),
+        CopySource::Data(_, _) => false,
+    }
+}
+
+/// Whether nothing stands at one of these paths.
+fn is_any_absent(from: &Tree, paths: &[Path]) -> bool
+    ensures { result ≡ list_any (is_absent from.now) paths.now }
+{
+    for path in paths {
+        if is_absent(from, path) {
+            return true;
+        }
+    }
+    false
+}
+
+/// Whether nothing stands at a path.
+fn is_absent(from: &Tree, path: &Path) -> bool
+    ensures { result ≡ is_absent from.now path.now }
+{
+    match from.get(path) {
+        None => true,
+        Some(_) => false,
+    }
+}
+
+/// Whether files go into the destination.
+pub(crate) fn goes_into(root: &Node, dest: &Path, options: &CopyOptions) -> bool
+    ensures { result ≡ goes_into (map_of root.now) dest.now options.now }
+{
+    if options.into {
+        return true;
+    }
+    match root.kind(dest.components()) {
+        Some(true) => true,
+        _ => false,
+    }
+}
+
+/// The changes of a COPY, in order.
+pub(crate) fn changes_of(
+    alloc: Global,
+    options: &CopyOptions,
+    into: bool,
+    from: &Tree,
+    dest: &Path,
+    sources: &[CopySource],
+) -> Result<Vec<Change>, Memory>
+    ensures { IfOk result (λ changes. changes.items ≡ changes_of options.now into from.now dest.now sources.now) }
+{
+    let mut changes = Vec::new(alloc);
+    for source in sources {
+        push_source(alloc, options, into, from, dest, source, &mut changes)?;
+    }
+    Ok(changes)
+}
+
+/// Adds the changes of one source.
+fn push_source(
+    alloc: Global,
+    options: &CopyOptions,
+    into: bool,
+    from: &Tree,
+    dest: &Path,
+    source: &CopySource,
+    changes: &mut Vec<Change>,
+) -> Result<(), Memory>
+    ensures { OnOk result (changes.new.items ≡ changes.old.items ++ source_changes options.now into from.now dest.now source.now) }
+{
+    match source {
+        CopySource::Found(paths) => {
+            push_paths(alloc, options, into, from, dest, paths.as_slice(), changes)
+        }
+        CopySource::Data(name, content) => {
+            let path = file_path(alloc, into, dest, name.as_text())?;
+            let entry = Entry::File(options.placed_meta(Meta::file()), content.copy(alloc)?);
+            changes.push(Change::Place(path, entry))?;
+            Ok(())
+        }
+    }
+}
+
+/// Adds the changes of these matches.
+fn push_paths(
+    alloc: Global,
+    options: &CopyOptions,
+    into: bool,
+    from: &Tree,
+    dest: &Path,
+    paths: &[Path],
+    changes: &mut Vec<Change>,
+) -> Result<(), Memory>
+    ensures { OnOk result (changes.new.items ≡ changes.old.items ++ paths_changes options.now into from.now dest.now paths.now) }
+{
+    for path in paths {
+        push_path(alloc, options, into, from, dest, path, changes)?;
+    }
+    Ok(())
+}
+
+/// Adds the changes of one match.
+fn push_path(
+    alloc: Global,
+    options: &CopyOptions,
+    into: bool,
+    from: &Tree,
+    dest: &Path,
+    path: &Path,
+    changes: &mut Vec<Change>,
+) -> Result<(), Memory>
+    ensures { OnOk result (changes.new.items ≡ changes.old.items ++ path_changes options.now into from.now dest.now path.now) }
+{
+    let Some(node) = from.node_at(path) else {
+        return Ok(());
+    };
+    if node.is_directory() {
+        changes.push(Change::Make(dest.copy(alloc)?))?;
+        return node.push_changes(alloc, options, &LongPath::of(alloc, dest)?, changes);
+    }
+    let place = match_path(alloc, into, dest, path)?;
+    changes.push(Change::Place(place, options.placed_entry(alloc, node.entry())?))?;
+    Ok(())
+}
+
+/// Where a file that is a match goes.
+fn match_path(alloc: Global, into: bool, dest: &Path, path: &Path) -> Result<LongPath, Memory>
+    ensures { IfOk result (λ place. place ≡ file_path into dest.now (drop (length path.now - 1) path.now)) }
+{
+    match path.components() {
+        [] => LongPath::of(alloc, dest),
+        [.., name] => file_path(alloc, into, dest, name),
+    }
+}
+
+/// Where a file of this name goes.
+fn file_path(alloc: Global, into: bool, dest: &Path, name: &Text) -> Result<LongPath, Memory>
+    requires { IsComponent name.now }
+    ensures { IfOk result (λ place. place ≡ file_path into dest.now (name.now ∷ [])) }
+{
+    let place = LongPath::of(alloc, dest)?;
+    if into {
+        place.child(alloc, name)
+    } else {
+        Ok(place)
+    }
+}
