@@ -1,0 +1,14 @@
+use Rattle.std.proofs.Common.{◌≡◌, ◌∙◌}
+use Rattle.globs.specs.Component.{plain_parts, relates_to_name}
+use Rattle.globs.proofs.Tests.{matched}
+use Rattle.globs.proofs.component.Component.matches.Goals as goal
+
+pub returns-in-Plain : goal.returns-in-Plain
+returns-in-Plain c =
+    let parts : plain_parts c.as_str.result.now ≡ c.args.self.now = cc in
+    matched _ _ _ c.is_name.ensures ∙ (λ i. relates_to_name (parts i) (c.as_str-in-Plain.ensures i))
+
+pub returns-in-Parts : goal.returns-in-Parts
+returns-in-Parts c =
+    let parts : c.as_slice.result.now ≡ c.args.self.now = cc in
+    matched _ c.as_slice.result.now c.as_str-in-Parts.result.now c.name_can_be_cut.ensures ∙ (λ i. relates_to_name (parts i) (c.as_str-in-Parts.ensures i))

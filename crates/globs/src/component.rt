@@ -1,0 +1,99 @@
+ghost use Rattle.std.specs.Prelude.{◌≡◌, ◌↔◌, IsTrue, IfOk, IfSome};
+ghost use Rattle.std.specs.Str.{chars};
+ghost use Rattle.globs.specs.Component.{RelatesToName, relates_to_name, plain_parts};
+ghost use Rattle.globs.specs.PrivateShape.{are_plain};
+ghost use Rattle.globs.specs.Reading.{parts_of};
+
+use crate::part::{Part, name_can_be_cut};
+use crate::reading::read_parts;
+use crate::sign::sign_of;
+use crate::text::first_and_rest;
+use plain::{Items, Memory, Text};
+use std::alloc::Global;
+use std::marker::Model;
+
+/// The pattern of one component of a path: contracts see the list of its parts.
+#[derive(Debug, Drop)]
+pub struct Component {
+    shape: Shape,
+}
+
+/// How a component's pattern is kept. Most are plain names, which are compared by their bytes.
+#[derive(Debug, Drop)]
+pub(crate) enum Shape {
+    /// Just this name.
+    Plain(Text),
+    /// These parts.
+    Parts(Items<Part>),
+}
+
+impl Model for Component {
+    ghost use Rattle.std.specs.Prelude.{List};
+    ghost use Rattle.globs.specs.declared.part.Part.{Part};
+    ghost use Rattle.globs.specs.PrivateShape.{parts_in};
+
+    ghost Value = { List Part };
+
+    ghost view = { λ c. parts_in c.shape };
+}
+
+/// Whether all characters of a text stand for themselves outside of classes.
+fn is_plain(text: &str) -> bool
+    ensures { result ≡ are_plain (chars text.now) }
+{
+    let mut left = text;
+    while let Some((character, rest)) = first_and_rest(left) {
+        if !sign_of(character).is_plain() {
+            return false;
+        }
+        left = rest;
+    }
+    true
+}
+
+/// Whether a name is the one that a plain pattern stands for.
+fn is_name(own: &str, name: &str) -> bool
+    ensures { IsTrue result ↔ RelatesToName (plain_parts own.now) name.now }
+{
+    own == name
+}
+
+impl Component {
+    /// The pattern that a component's text spells; none where it is malformed. The text has no `/`, else it relates to no name.
+    pub fn read(alloc: Global, text: &str) -> Result<Option<Component>, Memory>
+        ensures { IfOk result (λ found. found ≡ parts_of (chars text.now)) }
+    {
+        if is_plain(text) {
+            let name = Text::from_str(alloc, text)?;
+            return Ok(Some(Component {
+                shape: Shape::Plain(name),
+            }));
+        }
+        match read_parts(alloc, text)? {
+            Some(parts) => Ok(Some(Component {
+                shape: Shape::Parts(parts),
+            })),
+            None => Ok(None),
+        }
+    }
+
+    /// Whether the pattern relates to a name. It takes no memory.
+    pub fn matches(&self, name: &Text) -> bool
+        ensures { result ≡ relates_to_name self.now name.now }
+    {
+        match &self.shape {
+            Shape::Plain(own) => is_name(own.as_str(), name.as_str()),
+            Shape::Parts(parts) => name_can_be_cut(parts.as_slice(), name.as_str()),
+        }
+    }
+
+    /// The one name that the pattern relates to, where it has no sign of patterns; none for others, also where they relate to one name.
+    pub fn plain_name(&self) -> Option<&Text>
+        ensures { IfSome result (λ name. self.now ≡ plain_parts name.now) }
+    {
+        match &self.shape {
+            Shape::Plain(text) => Some(text),
+            Shape::Parts(_) => None,
+        }
+    }
+}
