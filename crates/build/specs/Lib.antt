@@ -1,3 +1,4 @@
+pub mod Config
 pub mod Ends
 pub mod Faults
 pub mod Meaning

@@ -6,8 +6,9 @@ use Rattle.trees.specs.TreeMap.{TreeMap, empty_tree}
 use Rattle.trees.specs.declared.fault.Cause.{Cause}
 use Rattle.trees.specs.declared.run.RunRequest.{RunRequest}
 use Rattle.llb.specs.Value.{Out, Value, ended, tree_of}
-use Rattle.bundle.specs.Bundle.{bundle_of}
+use Rattle.bundle.specs.Bundle.{bundle_of, bundle_with}
 use Rattle.bundle.specs.Answer.{built_text, failed_text}
+use Rattle.build.specs.Config.{plain_config}
 use Rattle.build.specs.declared.limits.Limits.{Limits}
 use Rattle.build.specs.declared.status.Status.{Status}
 use Rattle.build.specs.declared.status.Status.TheVariants.{Built, Failed, Refused}
@@ -76,14 +77,14 @@ served_stage command = record { base = scratch; instructions = record { line = 2
 pub record Serves (limits : Limits) (bundle : List ℕ) (stage : Stage) : Type 0 where
   pub text : List ℕ
   pub command : List ℕ
-  pub reads : bundle_of limits.bundle bundle ≡ Some text
+  pub reads : bundle_of limits.bundle bundle ≡ Some (bundle_with text)
   pub served : IsServed limits.dockerfile text command
   pub is : stage ≡ served_stage command
 
 -- An answer of this status and text tells what a stage comes to: built, with its tree and the plain configuration, only where
 -- it has a tree; failed, with an instruction that fails and its cause, only where it has none.
 abbrev pub Tells : Out → Stage → Status → List ℕ → Type 0
-Tells out stage Built text = (tree : TreeMap) × (stage_tree out stage ≡ Some tree) × (text ≡ built_text (entries tree))
+Tells out stage Built text = (tree : TreeMap) × (stage_tree out stage ≡ Some tree) × (text ≡ built_text plain_config (entries tree))
 Tells out stage Failed text =
     (line : ℕ) × (cause : Cause) × (stage_tree out stage ≡ None) × Fails out stage line cause × (text ≡ failed_text line cause)
 Tells out stage Refused text = ⊥

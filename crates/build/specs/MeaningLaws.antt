@@ -7,6 +7,7 @@ use Rattle.trees.specs.TreeMap.{TreeMap, empty_tree}
 use Rattle.trees.specs.declared.fault.Cause.{Cause}
 use Rattle.llb.specs.Value.{Out, Value, tree_of}
 use Rattle.bundle.specs.Answer.{built_text, failed_text}
+use Rattle.build.specs.Config.{plain_config}
 use Rattle.build.specs.declared.status.Status.{Status}
 use Rattle.build.specs.declared.status.Status.TheVariants as status
 use Rattle.build.specs.Meaning.{Base, scratch, Instruction, run, Placed, Stage, base_tree, given, tree_after, stage_tree, Fails, Tells}
@@ -81,7 +82,7 @@ pub one_told : (out : Out) (stage : Stage) (these those : Status) (text other : 
 one_told out stage status.Built status.Built text other this that =
     let both : Some this.0 ≡ Some that.0 = sym this.1 ∙ that.1 in
     let same : this.0 ≡ that.0 = cc in
-    (refl, this.2 ∙ (ap (λ tree. built_text (entries tree)) same ∙ sym that.2))
+    (refl, this.2 ∙ (ap (λ tree. built_text plain_config (entries tree)) same ∙ sym that.2))
 one_told out stage status.Built status.Failed text other this that =
     let both : Some this.0 ≡ None = sym this.1 ∙ that.2 in
     absurd cc
@@ -143,7 +144,7 @@ some_told out stage = by_outcome (outcome out base.0 stage.instructions)
 
     by_outcome : ((last : TreeMap) × (tree_after out (Some base.0) stage.instructions ≡ Some last)) ⊎ FailsIn out (Some base.0) stage.instructions → (these : Status) × (text : List ℕ) × Tells out stage these text
     by_outcome (inl built) =
-        (status.Built, built_text (entries built.0), (built.0, ap (λ tree. tree_after out tree stage.instructions) base.1 ∙ built.1, refl))
+        (status.Built, built_text plain_config (entries built.0), (built.0, ap (λ tree. tree_after out tree stage.instructions) base.1 ∙ built.1, refl))
     by_outcome (inr fails) =
         let is : Fails out stage fails.failing.line fails.cause = record {
           before = fails.front;

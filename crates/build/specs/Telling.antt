@@ -3,6 +3,7 @@ use Rattle.std.specs.Prelude.{◌≡◌, ℕ, List, Result, Ok, Err}
 use Rattle.std.specs.FinMap.{entries}
 use Rattle.llb.specs.Value.{Out}
 use Rattle.bundle.specs.Answer.{built_text, failed_text}
+use Rattle.build.specs.Config.{plain_config}
 use Rattle.solver.specs.declared.answer.Answer.{Answer}
 use Rattle.solver.specs.declared.answer.Answer.TheVariants as answer
 use Rattle.build.specs.declared.limits.Limits.{Limits}
@@ -20,7 +21,7 @@ status_of (answer.Failed place cause) = Failed
 
 -- the text that tells an answer
 abbrev pub text_of : {C : Type 0} → Answer C → List ℕ
-text_of (answer.Built tree config) = built_text (entries tree)
+text_of (answer.Built tree config) = built_text plain_config (entries tree)
 text_of (answer.Failed place cause) = failed_text place cause
 
 -- a line tells a stage: it is a text that does, and LF

@@ -32,5 +32,3 @@ pub use limits::{LIMITS, Limits};
 pub use planning::plan_of;
 pub use status::{BuildFault, Status};
 
-#[cfg(test)]
-mod tests;

@@ -2,6 +2,7 @@ ghost use Rattle.std.specs.Prelude.{◌≡◌, IfOk};
 ghost use Rattle.build.specs.Meaning.{served_stage, line_of};
 ghost use Rattle.build.specs.Telling.{status_of, text_of, TellsStage, TellsBundle};
 
+use crate::config::plain_value;
 use crate::served::served_command;
 use crate::told::Told;
 use crate::{BuildFault, Limits, PlainConfig, Status, plan_of};
@@ -47,7 +48,8 @@ fn tell_answer(alloc: Global, answer: &Answer<PlainConfig>) -> Result<Told, Memo
     match answer {
         Answer::Built(tree, PlainConfig) => {
             let entries = tree.entries(alloc)?;
-            let text = built_answer(alloc, entries.as_slice())?;
+            let config = plain_value(alloc)?;
+            let text = built_answer(alloc, config, entries.as_slice())?;
             line_of(Status::Built, text)
         }
         Answer::Failed { place, cause } => {

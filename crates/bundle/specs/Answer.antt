@@ -42,19 +42,11 @@ entry_data path (File meta content) = file_data meta (encode_lower content) (mod
 
 -- all entries of a tree, in the order that they are given in
 abbrev pub tree_data : List (List (List ℕ) × Entry) → Data
-tree_data entries = array (items_of (map (λ placed. entry_data placed.0 placed.1) entries))
+tree_data entries = array (items_of (map (λ row. entry_data row.0 row.1) entries))
 
--- the plain configuration (OCI image specification): that of a stage in which nothing was configured
-unfoldable pub plain_config : Data
-plain_config = object (member (codes "architecture") (string (codes "amd64"))
-    (member (codes "config") (object no_members)
-    (member (codes "os") (string (codes "linux"))
-    (member (codes "rootfs") (object (member (codes "diff_ids") (array no_items)
-    (member (codes "type") (string (codes "layers")) no_members))) no_members))))
-
--- the answer of a build that gave a tree
-unfoldable pub built_data : List (List (List ℕ) × Entry) → Data
-built_data entries = object (member (codes "config") plain_config
+-- the answer of a build that gave a tree of these entries, with its configuration
+unfoldable pub built_data : Data → List (List (List ℕ) × Entry) → Data
+built_data config entries = object (member (codes "config") config
     (member (codes "result") (string (codes "built"))
     (member (codes "tree") (tree_data entries) no_members)))
 
@@ -64,9 +56,9 @@ failed_data line cause = object (member (codes "cause") (string (cause_text caus
     (member (codes "line") (number (unsigned line))
     (member (codes "result") (string (codes "failed")) no_members)))
 
--- the text of the answer of a build that gave a tree of these entries
-abbrev pub built_text : List (List (List ℕ) × Entry) → List ℕ
-built_text entries = compact_text (built_data entries)
+-- the text of the answer of a build that gave a tree of these entries, with its configuration
+abbrev pub built_text : Data → List (List (List ℕ) × Entry) → List ℕ
+built_text config entries = compact_text (built_data config entries)
 
 -- the text of the answer of a build in which the instruction on a line failed
 abbrev pub failed_text : ℕ → Cause → List ℕ

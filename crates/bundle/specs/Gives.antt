@@ -1,14 +1,15 @@
 -- What a reader tells of a value that it reads, in both directions (own).
 use Rattle.std.specs.Prelude.{◌≡◌, Option, Some, None, Result, Ok, Err}
-use Rattle.bundle.specs.declared.fault.BundleFault.{BundleFault}
-use Rattle.bundle.specs.declared.fault.BundleFault.TheVariants.{NotYet, Memory}
+use Rattle.plain.specs.declared.fault.Fault.{Fault}
+use Rattle.plain.specs.declared.fault.Fault.TheVariants.{Because, Memory}
+use Rattle.bundle.specs.declared.fault.NotYet.{NotYet}
 
 -- what a fault tells of a value: that there is none; want of memory tells nothing
-abbrev pub TellsFault : {A : Type 0} → BundleFault → Option A → Type 0
-TellsFault NotYet reading = reading ≡ None
+abbrev pub TellsFault : {A : Type 0} → Fault NotYet → Option A → Type 0
+TellsFault (Because fault) reading = reading ≡ None
 TellsFault Memory reading = Unit {0}
 
 -- a reader answers the value that the definition gives, and a fault where it gives none
-abbrev pub Gives : {T A : Type 0} → (T → A) → Result T BundleFault → Option A → Type 0
-Gives shown (Ok x) reading = reading ≡ Some (shown x)
-Gives shown (Err e) reading = TellsFault e reading
+abbrev pub Gives : {T : Type 0} → Result T Fault NotYet → Option T → Type 0
+Gives (Ok x) reading = reading ≡ Some x
+Gives (Err e) reading = TellsFault e reading

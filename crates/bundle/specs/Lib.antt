@@ -1,4 +1,3 @@
 pub mod Answer
 pub mod Bundle
 pub mod Gives
-pub mod Messages

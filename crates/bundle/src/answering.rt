@@ -1,8 +1,9 @@
-ghost use Rattle.std.specs.Prelude.{◌≡◌, ◌<◌, ◌+◌, IfOk, map};
+ghost use Rattle.std.specs.Prelude.{◌≡◌, ◌<◌, ◌+◌, IfOk, false, map};
+ghost use Rattle.serde_json.specs.Written.{has_float};
 ghost use Rattle.std.specs.String.{string_bytes};
 ghost use Rattle.serde_json.specs.View.{view};
 ghost use Rattle.trees.specs.declared.entry.Entry.TheVariants.{Directory, File};
-ghost use Rattle.bundle.specs.Answer.{mode_text, directory_data, file_data, entry_data, tree_data, plain_config, built_data, failed_data, built_text, failed_text};
+ghost use Rattle.bundle.specs.Answer.{mode_text, directory_data, file_data, entry_data, tree_data, built_data, failed_data, built_text, failed_text};
 
 use paths::Path;
 use plain::{Memory, Text};
@@ -10,12 +11,18 @@ use serde_json::{Value, json};
 use std::alloc::{AllocError, Global};
 use trees::{Cause, Entry, Meta, Mode};
 
-/// The answer of a build that gave a tree of these entries and the plain configuration: one line of compact
-/// JSON, without the LF that ends it.
-pub fn built_answer(alloc: Global, entries: &[(Path, &Entry)]) -> Result<Text, Memory>
-    ensures { IfOk result (λ text. text ≡ built_text (map (λ placed. (placed.0, placed.1.now)) entries.now)) }
+/// The answer of a build that gave a tree of these entries, with the image's configuration as JSON: one line of compact JSON, without
+/// the LF that ends it. No number in a configuration is a float.
+pub fn built_answer(
+    alloc: Global,
+    config: Value,
+    entries: &[(Path, &Entry)],
+) -> Result<Text, Memory>
+    requires whole { has_float (view config) ≡ false }
+    ensures { IfOk result (λ text. text
+        ≡ built_text (view config) (map (λ row. (row.0, row.1.now)) entries.now)) }
 {
-    let answer = built_value(alloc, entries)?;
+    let answer = built_value(alloc, config, entries)?;
     let text = answer.to_string(alloc)?;
     Ok(Text::from_string(text))
 }
@@ -31,34 +38,20 @@ pub fn failed_answer(alloc: Global, line: u32, cause: Cause) -> Result<Text, Mem
 
 /// The answer of a build that gave a tree, as JSON.
 #[tactic(auto, unfolding(crate::specs::Answer::built_data))]
-fn built_value(alloc: Global, entries: &[(Path, &Entry)]) -> Result<Value, Memory>
-    ensures { IfOk result (λ v. view v ≡ built_data (map (λ placed. (placed.0, placed.1.now)) entries.now)) }
+fn built_value(alloc: Global, config: Value, entries: &[(Path, &Entry)]) -> Result<Value, Memory>
+    ensures { IfOk result (λ v. view v ≡ built_data (view config) (map (λ row. (row.0, row.1.now)) entries.now)) }
 {
     let tree = tree_value(alloc, entries)?;
-    let config = plain_config_value(alloc)?;
     Ok(json!(in alloc; {"config": config, "result": "built", "tree": tree})?)
-}
-
-/// The configuration of a stage in which nothing was configured.
-#[tactic(auto, unfolding(crate::specs::Answer::plain_config))]
-fn plain_config_value(alloc: Global) -> Result<Value, Memory>
-    ensures { IfOk result (λ v. view v ≡ plain_config) }
-{
-    Ok(json!(in alloc; {
-        "architecture": "amd64",
-        "config": {},
-        "os": "linux",
-        "rootfs": {"diff_ids": [], "type": "layers"}
-    })?)
 }
 
 /// The entries of a tree, in the order that they are given in.
 fn tree_value(alloc: Global, entries: &[(Path, &Entry)]) -> Result<Value, Memory>
-    ensures { IfOk result (λ v. view v ≡ tree_data (map (λ placed. (placed.0, placed.1.now)) entries.now)) }
+    ensures { IfOk result (λ v. view v ≡ tree_data (map (λ row. (row.0, row.1.now)) entries.now)) }
 {
     let mut values = Vec::with_capacity(alloc, entries.len())?;
-    for placed in entries {
-        values.push(entry_value(alloc, &placed.0, placed.1)?)?;
+    for row in entries {
+        values.push(entry_value(alloc, &row.0, row.1)?)?;
     }
     Ok(Value::Array(values))
 }

@@ -19,8 +19,6 @@ mod reading;
 
 pub use answering::{built_answer, failed_answer};
 pub use bundle::Bundle;
-pub use fault::BundleFault;
+pub use fault::{BundleFault, NotYet};
 pub use reading::read_bundle;
 
-#[cfg(test)]
-mod tests;

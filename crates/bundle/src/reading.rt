@@ -5,8 +5,8 @@ ghost use Rattle.serde_json.specs.Find.{as_str};
 ghost use Rattle.bundle.specs.Gives.{Gives};
 ghost use Rattle.bundle.specs.Bundle.{has_only, dockerfile_in, bundle_in, bundle_of};
 
-use crate::{Bundle, BundleFault};
-use plain::Text;
+use crate::{Bundle, BundleFault, NotYet};
+use plain::{Fault, Text};
 use serde_json::{Map, Value};
 use std::alloc::Global;
 
@@ -16,18 +16,18 @@ use std::alloc::Global;
 /// `NotYet` is answered only where the bytes are no such bundle; of such bytes no bundle is ever answered. `Memory` says nothing
 /// of them.
 pub fn read_bundle(alloc: Global, most: usize, bytes: &[u8]) -> Result<Bundle, BundleFault>
-    ensures { Gives (λ bundle. bundle.dockerfile) result (bundle_of most bytes.now) }
+    ensures { Gives result (bundle_of most bytes.now) }
 {
     if bytes.len() > most {
-        return Err(BundleFault::NotYet);
+        return Err(Fault::Because(NotYet));
     }
     match Value::from_slice(alloc, bytes) {
         Ok(value) => read_members(alloc, &value),
         Err(e) => {
             if e.is_memory() {
-                Err(BundleFault::Memory)
+                Err(Fault::Memory)
             } else {
-                Err(BundleFault::NotYet)
+                Err(Fault::Because(NotYet))
             }
         }
     }
@@ -36,16 +36,16 @@ pub fn read_bundle(alloc: Global, most: usize, bytes: &[u8]) -> Result<Bundle, B
 /// The bundle that a value is.
 #[tactic(auto, unfolding(crate::specs::Bundle::bundle_in))]
 fn read_members(alloc: Global, value: &Value) -> Result<Bundle, BundleFault>
-    ensures { Gives (λ bundle. bundle.dockerfile) result (bundle_in (view value.now)) }
+    ensures { Gives result (bundle_in (view value.now)) }
 {
     let Some(members) = value.as_object() else {
-        return Err(BundleFault::NotYet);
+        return Err(Fault::Because(NotYet));
     };
     if !has_only(members, &["dockerfile"]) {
-        return Err(BundleFault::NotYet);
+        return Err(Fault::Because(NotYet));
     }
     let Some(dockerfile) = value.get("dockerfile") else {
-        return Err(BundleFault::NotYet);
+        return Err(Fault::Because(NotYet));
     };
     let dockerfile = read_dockerfile(alloc, dockerfile)?;
     Ok(Bundle { dockerfile })
@@ -54,16 +54,16 @@ fn read_members(alloc: Global, value: &Value) -> Result<Bundle, BundleFault>
 /// The text of the Dockerfile that a value is.
 #[tactic(auto, unfolding(crate::specs::Bundle::dockerfile_in))]
 fn read_dockerfile(alloc: Global, value: &Value) -> Result<Text, BundleFault>
-    ensures { Gives (λ text. text) result (dockerfile_in (view value.now)) }
+    ensures { Gives result (dockerfile_in (view value.now)) }
 {
     let Some(members) = value.as_object() else {
-        return Err(BundleFault::NotYet);
+        return Err(Fault::Because(NotYet));
     };
     if !has_only(members, &["text"]) {
-        return Err(BundleFault::NotYet);
+        return Err(Fault::Because(NotYet));
     }
     let Some(text) = value.get("text").and_then(Value::as_str) else {
-        return Err(BundleFault::NotYet);
+        return Err(Fault::Because(NotYet));
     };
     let text = Text::from_str(alloc, text)?;
     Ok(text)

@@ -8,7 +8,7 @@ use Rattle.bundle.proofs.answering.built_answer.Goals as goal
 
 pub returns : goal.returns
 returns c =
-    let entries : List (List (List ℕ) × Entry) = map {A = List (List ℕ) × Bor Entry} (λ placed. (placed.0, placed.1.now)) c.args.entries.now in
-    let answer : view c.in_ok-answer.answer ≡ built_data entries = c.in_ok-answer.ensures in
-    let plain : has_float (view c.in_ok-answer.answer) ≡ false = ap has_float answer ∙ built_is_plain entries in
+    let entries : List (List (List ℕ) × Entry) = map {A = List (List ℕ) × Bor Entry} (λ row. (row.0, row.1.now)) c.args.entries.now in
+    let answer : view c.in_ok-answer.answer ≡ built_data (view c.args.config) entries = c.in_ok-answer.ensures in
+    let plain : has_float (view c.in_ok-answer.answer) ≡ false = ap has_float answer ∙ built_is_plain (view c.args.config) entries c.requires.whole in
     c.from_string.ensures ∙ (c.in_ok-text.ensures.text plain ∙ ap compact_text answer)

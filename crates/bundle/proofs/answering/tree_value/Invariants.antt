@@ -5,6 +5,6 @@ use Rattle.bundle.specs.Answer.{entry_data}
 use Rattle.bundle.proofs.answering.tree_value.Given as goal
 
 -- the values so far are those of the entries so far
-abbrev pub invariant-loop-placed : goal.invariant-loop-placed
-invariant-loop-placed l =
-    map view l.values.items ≡ map {A = List (List ℕ) × Entry} (λ placed. entry_data placed.0 placed.1) (map {A = List (List ℕ) × Bor Entry} (λ placed. (placed.0, placed.1.now)) (take l.placed-index l.entries))
+abbrev pub invariant-loop-row : goal.invariant-loop-row
+invariant-loop-row l =
+    map view l.values.items ≡ map {A = List (List ℕ) × Entry} (λ row. entry_data row.0 row.1) (map {A = List (List ℕ) × Bor Entry} (λ row. (row.0, row.1.now)) (take l.row-index l.entries))

@@ -1,0 +1,116 @@
+-- What the program does with a command line: what it writes where, and the status that it ends with (own).
+use Rattle.std.specs.Prelude.{◌≡◌, ◌≢◌, ◌⊎◌, ℕ, List, [], ◌∷◌, ◌++◌, map, Result, Ok, Err, codes}
+use Rattle.std.specs.Borrow.{Bor}
+use Rattle.plain.specs.declared.fault.Fault.{Fault}
+use Rattle.plain.specs.declared.fault.Fault.TheVariants.{Because, Memory}
+use Rattle.clap.specs.Words.{fault_of, subcommand_of, IsAmong}
+use Rattle.clap.specs.declared.error.kind.ErrorKind.{ErrorKind}
+use Rattle.clap.specs.declared.error.kind.ErrorKind.TheVariants.{DisplayHelp, DisplayVersion, OutOfMemory}
+use Rattle.command.specs.CommandLine.{whole_command}
+use Rattle.command.specs.Tasks.{IsTaskOf}
+use Rattle.command.specs.declared.task.Task.{Task}
+use Rattle.llb.specs.Value.{Out}
+use Rattle.build.specs.declared.status.Status.{Status}
+use Rattle.build.specs.declared.status.BuildFault.{BuildFault}
+use Rattle.build.specs.Ends.{Devices, Ends, program_limits}
+use Rattle.build.specs.Faults.{exit_status}
+use Rattle.build.specs.Messages.{fault_text}
+use Rattle.program.specs.declared.words.NotText.{NotText}
+use Rattle.program.specs.Saying.{Stream, Says}
+
+-- the reader and the writer of a build, and the writer on which is said why there is no whole answer
+pub record Streams : Type 0 where
+  pub devices : Devices
+  pub errors : Stream
+
+abbrev pub streams : Devices → Stream → Streams
+streams devices errors = record { devices = devices; errors = errors }
+
+-- the writer on which answers are written
+abbrev pub output_of : Streams → Stream
+output_of now = record { written = now.devices.written; failed = now.devices.failed_writes }
+
+-- a text as a line
+abbrev pub line_of : List ℕ → List ℕ
+line_of text = text ++ 10 ∷ []
+
+-- what is said on the stream for errors of how a build ended: nothing where an answer was written, else why there is none
+abbrev pub SaysEnd : Result Status BuildFault → Stream → Stream → Type 0
+SaysEnd (Ok status) old new = new ≡ old
+SaysEnd (Err fault) old new = Says (line_of (fault_text fault)) old new
+
+-- a build was run, and the program ends with its status
+pub record Builds (out : Out) (old new : Streams) (status : ℕ) : Type 0 where
+  pub ended : Result Status BuildFault
+  pub ends : Ends program_limits out old.devices new.devices ended
+  pub says : SaysEnd ended old.errors new.errors
+  pub is : status ≡ exit_status ended
+
+-- what clap says where answers are written, and not as a fault
+abbrev pub IsHelp : ErrorKind → Type 0
+IsHelp kind = (kind ≡ DisplayHelp) ⊎ (kind ≡ DisplayVersion)
+
+-- some text was said on one stream, and nothing on another
+pub record SaysOn (old new other_old other_new : Stream) : Type 0 where
+  pub text : List ℕ
+  pub some : text ≢ []
+  pub says : Says text old new
+  pub other : other_new ≡ other_old
+
+-- there was no memory to read the words: that is said on the stream for errors, and nothing is said where answers are written
+pub record WantsMemory (output new_output errors new_errors : Stream) (status : ℕ) : Type 0 where
+  pub says : Says (codes "out of memory\n") errors new_errors
+  pub quiet : new_output ≡ output
+  pub is : status ≡ 3
+
+-- What is said of words that clap refuses, by the kind that it tells: help and the version where answers are written, a mistake on the
+-- stream for errors.
+abbrev pub SaysKind : ErrorKind → Stream → Stream → Stream → Stream → Type 0
+SaysKind kind output new_output errors new_errors =
+    (IsHelp kind × SaysOn output new_output errors new_errors) ⊎ ((¬ IsHelp kind) × SaysOn errors new_errors output new_output)
+
+-- words that clap refuses were refused, or there was no memory to say why
+abbrev pub IsRefused : ErrorKind → Stream → Stream → Stream → Stream → ℕ → Type 0
+IsRefused kind output new_output errors new_errors status =
+    WantsMemory output new_output errors new_errors status
+    ⊎ ((kind ≢ OutOfMemory) × SaysKind kind output new_output errors new_errors × (status ≡ 2))
+
+-- nothing was read
+pub record IsUnread (old new : Streams) : Type 0 where
+  pub left : new.devices.left ≡ old.devices.left
+  pub failed_reads : new.devices.failed_reads ≡ old.devices.failed_reads
+
+-- what was said on the two writers, nothing being read
+abbrev pub OnWriters : (Stream → Stream → Stream → Stream → ℕ → Type 0) → Streams → Streams → ℕ → Type 0
+OnWriters Said old new status = IsUnread old new × Said (output_of old) (output_of new) old.errors new.errors status
+
+-- a mistake in the words
+abbrev pub Mistakes : Stream → Stream → Stream → Stream → ℕ → Type 0
+Mistakes output new_output errors new_errors status = SaysOn errors new_errors output new_output × (status ≡ 2)
+
+-- clap finds something of this kind in the words: a mistake, or that help is asked for
+pub record Refuses (words : List (List ℕ)) (old new : Streams) (status : ℕ) : Type 0 where
+  pub kind : ErrorKind
+  pub is : IsAmong kind (fault_of whole_command words)
+  pub unread : IsUnread old new
+  pub says : SaysKind kind (output_of old) (output_of new) old.errors new.errors
+  pub ends : status ≡ 2
+
+-- the words spell a task, which was done
+pub record Performs (out : Out) (words : List (List ℕ)) (old new : Streams) (status : ℕ) : Type 0 where
+  pub task : Task
+  pub spelled : IsTaskOf (subcommand_of whole_command words) task
+  pub faultless : fault_of whole_command words ≡ []
+  pub builds : Builds out old new status
+
+-- What the program does with the words of a command line, the program's name first, or where there are none: it does the task that
+-- they spell; or it says what is wrong with them, or help; or there was no memory to read them.
+abbrev pub Runs : Out → Result (List (List ℕ)) (Fault NotText) → Streams → Streams → ℕ → Type 0
+Runs out (Err (Because fault)) old new status = OnWriters Mistakes old new status
+Runs out (Err Memory) old new status = OnWriters WantsMemory old new status
+Runs out (Ok words) old new status = OnWriters WantsMemory old new status ⊎ (Refuses words old new status ⊎ Performs out words old new status)
+
+-- the words that were lent, where there are some
+abbrev pub texts_in : Result (Bor (List (Bor (List ℕ)))) (Fault NotText) → Result (List (List ℕ)) (Fault NotText)
+texts_in (Ok words) = Ok (map (λ word. word.now) words.now)
+texts_in (Err fault) = Err fault

@@ -1,0 +1,18 @@
+// What the program does, whole: the words of a command line, a reader and two writers in, an exit status out.
+//
+// It is no `main`: it opens nothing and knows no system. `dfsolve` joins it to standard input, output and error. It decides nothing of
+// a build either: `command` reads the words and `build` does the work.
+//
+// Its central definition is `Runs` in specs/Runs.antt: for every end of every command what is written where, and the status.
+//
+// ```
+// run_program(alloc, Ok(["dfsolve", "build"].as_slice()), &mut input, &mut output, &mut errors, &Fixture)    // 0, 1, 2 or 3
+// ```
+#![tactic(auto)]
+
+mod running;
+mod saying;
+mod words;
+
+pub use running::run_program;
+pub use words::{NotText, WordsFault};
