@@ -2,7 +2,7 @@
 use Rattle.std.proofs.Common.{◌≡◌, ℕ, zero, suc, List, [], ◌∷◌, Some, Err, ◌++◌, length, slice_index_or, refl, sym, ap, subst, arith}
 use Rattle.std.specs.FinMap.{empty}
 use Rattle.trees.specs.TreeMap.{TreeMap, empty_tree}
-use Rattle.trees.specs.declared.fault.Cause.{Cause}
+use Rattle.trees.specs.declared.cause.Cause.{Cause}
 use Rattle.llb.specs.Graph.{GraphValue}
 use Rattle.llb.specs.Places.{least_line}
 use Rattle.llb.specs.Sources.{SourcesValue}

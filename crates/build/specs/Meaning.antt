@@ -3,8 +3,8 @@
 use Rattle.std.specs.Prelude.{◌≡◌, ℕ, List, [], ◌∷◌, ◌++◌, Option, Some, None, Err, codes}
 use Rattle.std.specs.FinMap.{entries}
 use Rattle.trees.specs.TreeMap.{TreeMap, empty_tree}
-use Rattle.trees.specs.declared.fault.Cause.{Cause}
-use Rattle.trees.specs.declared.run.RunRequest.{RunRequest}
+use Rattle.trees.specs.declared.cause.Cause.{Cause}
+use Rattle.runs.specs.declared.run.RunRequest.{RunRequest}
 use Rattle.llb.specs.Value.{Out, Value, ended, tree_of}
 use Rattle.bundle.specs.Bundle.{bundle_of, bundle_with}
 use Rattle.bundle.specs.Answer.{built_text, failed_text}

@@ -4,7 +4,7 @@ use Rattle.std.specs.Prelude.{◌≡◌, ◌⊎◌, ℕ, List, [], ◌∷◌, �
 use Rattle.std.specs.FinMap.{entries}
 use Rattle.std.proofs.Common.{inl, inr, sym, ap, ◌∙◌}
 use Rattle.trees.specs.TreeMap.{TreeMap, empty_tree}
-use Rattle.trees.specs.declared.fault.Cause.{Cause}
+use Rattle.trees.specs.declared.cause.Cause.{Cause}
 use Rattle.llb.specs.Value.{Out, Value, tree_of}
 use Rattle.bundle.specs.Answer.{built_text, failed_text}
 use Rattle.build.specs.Config.{plain_config}

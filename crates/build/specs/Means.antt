@@ -1,6 +1,6 @@
 -- When a plan means a stage: under every executor the graph's values are what the stage's instructions give.
 use Rattle.std.specs.Prelude.{◌≡◌, ℕ, [], Err, slice_index_or}
-use Rattle.trees.specs.declared.fault.Cause.{Cause}
+use Rattle.trees.specs.declared.cause.Cause.{Cause}
 use Rattle.llb.specs.Places.{least_line}
 use Rattle.llb.specs.Plan.{PlanValue, problem_of, IsValue, vertex_value}
 use Rattle.llb.specs.Value.{Out, tree_of}

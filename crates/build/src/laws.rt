@@ -1,6 +1,6 @@
 // The laws of what a bundle means, claimed: each function's contract is one law, and its body is empty.
 ghost use Rattle.std.specs.Prelude.{◌≡◌, ℕ, List, None};
-ghost use Rattle.trees.specs.declared.fault.Cause.{Cause};
+ghost use Rattle.trees.specs.declared.cause.Cause.{Cause};
 ghost use Rattle.llb.specs.Plan.{PlanValue};
 ghost use Rattle.llb.specs.Value.{Out};
 ghost use Rattle.solver.specs.Answer.{IsAnswer};

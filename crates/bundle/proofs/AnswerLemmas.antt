@@ -4,7 +4,7 @@ use Rattle.serde_json.specs.Data.{Data}
 use Rattle.serde_json.specs.Written.{has_float, items_have_float}
 use Rattle.trees.specs.declared.entry.Entry.{Entry}
 use Rattle.trees.specs.declared.entry.Entry.TheVariants.{Directory, File}
-use Rattle.trees.specs.declared.fault.Cause.{Cause}
+use Rattle.trees.specs.declared.cause.Cause.{Cause}
 use Rattle.bundle.specs.Answer.{entry_data, items_of, built_data, failed_data}
 
 entry_is_plain : (path : List (List ℕ)) (entry : Entry) → has_float (entry_data path entry) ≡ false

@@ -4,11 +4,11 @@ use Rattle.hex.specs.Hex.{encode_lower}
 use Rattle.serde_json.specs.Data.{Data, boolean, number, unsigned, string, array, object, Items, no_items, item, no_members, member}
 use Rattle.serde_json.specs.Written.{compact_text}
 use Rattle.paths.specs.Path.{text_of}
-use Rattle.trees.specs.Messages.{cause_text}
+use Rattle.trees.specs.Cause.{cause_text}
 use Rattle.trees.specs.declared.meta.Meta.{Meta}
 use Rattle.trees.specs.declared.entry.Entry.{Entry}
 use Rattle.trees.specs.declared.entry.Entry.TheVariants.{Directory, File}
-use Rattle.trees.specs.declared.fault.Cause.{Cause}
+use Rattle.trees.specs.declared.cause.Cause.{Cause}
 
 -- a mode as four octal digits
 abbrev pub mode_text : ℕ → List ℕ

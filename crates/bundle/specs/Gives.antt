@@ -10,6 +10,6 @@ TellsFault (Because fault) reading = reading ≡ None
 TellsFault Memory reading = Unit {0}
 
 -- a reader answers the value that the definition gives, and a fault where it gives none
-abbrev pub Gives : {T : Type 0} → Result T Fault NotYet → Option T → Type 0
+abbrev pub Gives : {T : Type 0} → Result T (Fault NotYet) → Option T → Type 0
 Gives (Ok x) reading = reading ≡ Some x
 Gives (Err e) reading = TellsFault e reading

@@ -6,10 +6,10 @@ ghost use Rattle.trees.specs.declared.entry.Entry.TheVariants.{Directory, File};
 ghost use Rattle.bundle.specs.Answer.{mode_text, directory_data, file_data, entry_data, tree_data, built_data, failed_data, built_text, failed_text};
 
 use paths::Path;
-use plain::{Memory, Text};
+use plain::{Memory, Mode, Text};
 use serde_json::{Value, json};
 use std::alloc::{AllocError, Global};
-use trees::{Cause, Entry, Meta, Mode};
+use trees::{Cause, Entry, Meta};
 
 /// The answer of a build that gave a tree of these entries, with the image's configuration as JSON: one line of compact JSON, without
 /// the LF that ends it. No number in a configuration is a float.
