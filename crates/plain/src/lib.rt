@@ -1,11 +1,12 @@
-// The plain data that every crate above speaks in: lists, bytes, one type of text, the one error for want of memory, and two
-// small enums that several crates share: a refusal's `Code`, and the `Sharing` of a cache mount.
+// The plain data that every crate above speaks in: lists, bytes, one type of text, the one error for want of memory and the one
+// type of why a call gives no answer, and small values that several crates share: a refusal's `Code`, the `Sharing` of a cache mount,
+// a `Variable`, an `Owner`, a `Mode`, and the limits of the rules.
 //
 // Contracts see a list as a list, and bytes and text as lists of numbers: `Items<T>`, `Bytes` and `Text` show no capacity and no
 // pointer, as std's `Vec` and `String` do. So a struct or an enum made of them is, in a contract, the very data that a definition
 // speaks of, and "equal" means that nothing tells the two apart.
 //
-// It is no library of collections: nothing is searched, sorted or mapped here. What a code or a sharing leads to is told by the
+// It is no library of collections: nothing is searched, sorted or mapped here. What a code, a sharing or a limit leads to is said by the
 // crates that use them. Its central definition is the list that each type is seen as (`impl Model`), and `Exact`, the trait of
 // values that are compared and copied exactly.
 //
@@ -42,6 +43,3 @@ pub use refusal::{Code, Refusal};
 pub use sharing::Sharing;
 pub use text::Text;
 pub use variable::Variable;
-
-#[cfg(test)]
-mod tests;

@@ -3,8 +3,8 @@ ghost use Rattle.plain.specs.Codes.{number_of};
 
 use std::fmt;
 
-/// Why a build's input is refused. Where an input has several faults, the one that is told will be the least by
-/// the phase that finds it, then by line, then by the code's number; no contract says so yet.
+/// Why a build's input is refused, as the `07` of `R07`. Where an input has several faults, the crates that find them say which one is
+/// answered.
 #[derive(Clone, Copy, Debug, PartialEq, Eq)]
 pub enum Code {
     /// The text is not UTF-8.
@@ -90,8 +90,7 @@ impl fmt::Display for Code {
     }
 }
 
-/// A refusal of an input: its code, and the line at which it is told, counted from 1; line 0 where it is
-/// none of a line.
+/// A refusal of an input: its code, and the line that it is about, counted from 1; line 0 where it is about none.
 #[derive(Clone, Copy, Debug, PartialEq, Eq)]
 pub struct Refusal {
     pub code: Code,

@@ -1,0 +1,120 @@
+use plain::*;
+use std::test::Fail;
+
+#[test]
+fn items_are_a_list(rt: HostRuntime) -> Result<(), Fail> {
+    let mut items = Items::new(rt.alloc());
+    assert!(rt; items.is_empty());
+    items.push(3u8)?;
+    items.push(5)?;
+    let twin = items.copy(rt.alloc())?;
+    assert!(rt; items.same(&twin));
+    items.push(5)?;
+    assert!(rt; !items.same(&twin));
+    assert_eq!(rt; items.len(), 3);
+    let copied = copied_items(rt.alloc(), items.as_slice())?;
+    assert_eq!(rt; copied.as_slice(), [3u8, 5, 5].as_slice());
+    let again = Items::from_vec(twin.into_vec());
+    assert_eq!(rt; again.as_slice(), [3u8, 5].as_slice());
+    Ok(())
+}
+
+#[test]
+fn texts_are_ordered_by_their_bytes(rt: HostRuntime) -> Result<(), Fail> {
+    let alloc = rt.alloc();
+    // In UTF-16 `𝒜` (1D49C) would be below `ﬀ` (FB00).
+    for (low, high) in [("", "a"), ("ab", "b"), ("B", "a"), ("z", "é"), ("ﬀ", "𝒜")] {
+        let low = Text::from_str(alloc, low)?;
+        let high = Text::from_str(alloc, high)?;
+        assert!(rt; low < high && low != high && !low.same(&high));
+    }
+    let word = Text::from_string(String::from_str(alloc, "né")?);
+    assert!(rt; word.same(&word.copy(alloc)?));
+    assert_eq!(rt; word.len(), 3);
+    assert_eq!(rt; word.as_str(), "né");
+    assert_eq!(rt; word.into_string().as_str(), "né");
+    Ok(())
+}
+
+#[test]
+fn bytes_need_not_be_text(rt: HostRuntime) -> Result<(), Fail> {
+    let alloc = rt.alloc();
+    let bytes = Bytes::from_slice(alloc, &[255, 0])?;
+    assert!(rt; bytes.same(&bytes.copy(alloc)?));
+    assert_eq!(rt; bytes.len(), 2);
+    let longer = Bytes::from_vec([255u8, 0, 0].to_vec(alloc)?);
+    assert!(rt; !bytes.same(&longer));
+    assert_eq!(rt; longer.as_slice(), [255u8, 0, 0].as_slice());
+    assert_eq!(rt; bytes.into_vec().as_slice(), [255u8, 0].as_slice());
+    Ok(())
+}
+
+#[test]
+fn small_values_are_copied(rt: HostRuntime) -> Result<(), Fail> {
+    let alloc = rt.alloc();
+    assert!(rt; 7u8.same(&7u8.copy(alloc)?) && 7u16.same(&7u16.copy(alloc)?));
+    assert!(rt; 7u32.same(&7u32.copy(alloc)?) && true.same(&true.copy(alloc)?));
+    assert!(rt; Sharing::Locked.same(&Sharing::Locked.copy(alloc)?));
+    let owner = Owner { user: 1, group: 2 };
+    assert!(rt; owner.same(&owner.copy(alloc)?));
+    let some: Option<Text> = Some(Text::from_str(alloc, "a")?);
+    assert!(rt; some.same(&some.copy(alloc)?) && !some.same(&None));
+    let fine: Result<u8, Sharing> = Ok(7);
+    assert!(rt; fine.same(&fine.copy(alloc)?) && !fine.same(&Err(Sharing::Shared)));
+    let name = Text::from_str(alloc, "PATH")?;
+    let value = Text::from_str(alloc, "/bin")?;
+    let variable = Variable { name, value };
+    assert!(rt; variable.same(&variable.copy(alloc)?));
+    Ok(())
+}
+
+#[test]
+fn modes_end_at_07777(rt: HostRuntime) -> Result<(), Fail> {
+    let Some(mode) = Mode::new(0o7777) else {
+        assert!(rt; false, "07777 is a mode");
+        return Ok(());
+    };
+    assert_eq!(rt; mode.bits(), 4095);
+    assert!(rt; mode.same(&mode.copy(rt.alloc())?) && mode != Mode::file());
+    assert!(rt; Mode::new(0o10000).is_none());
+    assert_eq!(rt; Mode::directory().bits(), 0o755);
+    Ok(())
+}
+
+/// A fault of a call that finds no memory.
+fn refused(memory: Memory) -> Result<u8, Fault<Sharing>> {
+    Err(memory)?;
+    Ok(0)
+}
+
+#[test]
+fn want_of_memory_is_a_fault(rt: HostRuntime) {
+    assert_eq!(rt; refused(Memory), Err(Fault::Memory));
+    assert!(rt; Fault::Because(Sharing::Shared) != Fault::Memory);
+}
+
+#[test]
+fn lists_grow_together(rt: HostRuntime) -> Result<(), Fail> {
+    let mut these = Vec::new(rt.alloc());
+    let mut those = Vec::new(rt.alloc());
+    growth::room(&mut these, 1)?;
+    growth::room(&mut those, 1)?;
+    growth::add(&mut these, 1u8);
+    growth::add(&mut those, 2u8);
+    assert!(rt; these.len() == 1 && those.len() == 1);
+    Ok(())
+}
+
+#[test]
+fn codes_are_numbered_as_they_are_named(rt: HostRuntime) -> Result<(), Fail> {
+    for (code, name) in [(Code::R01, "R01"), (Code::R09, "R09"), (Code::R20, "R20")] {
+        assert_eq!(rt; code.to_string(rt.alloc())?.as_str(), name);
+    }
+    let refusal = Refusal {
+        code: Code::R05,
+        line: 1,
+    };
+    assert!(rt; refusal == refusal);
+    assert_eq!(rt; Memory.to_string(rt.alloc())?.as_str(), "out of memory");
+    Ok(())
+}

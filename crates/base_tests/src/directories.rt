@@ -1,0 +1,142 @@
+use paths::*;
+use plain::{Exact, Fault, Text};
+use std::alloc::Global;
+use std::test::Fail;
+
+/// The path of a text that is read from the root.
+fn at(alloc: Global, text: &str) -> Result<Path, PathFault> {
+    Path::read(alloc, text, &Path::root(alloc))
+}
+
+/// `times` copies of a piece, and then an end.
+fn repeated(alloc: Global, piece: &str, times: usize, end: &str) -> Result<Text, Fail> {
+    let mut text = piece.repeat(alloc, times)?;
+    text.push_str(end)?;
+    Ok(Text::from_string(text))
+}
+
+#[test]
+fn texts_are_read_and_cleaned(rt: HostRuntime) -> Result<(), Fail> {
+    for (base, text, want) in [
+        ("/", "", "/"),
+        ("/", "//", "/"),
+        ("/", ".", "/"),
+        ("/", "a//b/./c", "/a/b/c"),
+        ("/", "../..", "/"),
+        ("/", "/a/../../b/./c/", "/b/c"),
+        ("/", "..a/b../...", "/..a/b../..."),
+        ("/", "a b/\u{0}\n/~", "/a b/\u{0}\n/~"),
+        ("/", "é/日本/..", "/é"),
+        ("/w/x", "", "/w/x"),
+        ("/w/x", "y", "/w/x/y"),
+        ("/w/x", "../y", "/w/y"),
+        ("/w/x", "../../../y", "/y"),
+        ("/w/x", "//y/", "/y"),
+    ] {
+        let path = at(rt.alloc(), base)?.join(rt.alloc(), text)?;
+        assert_eq!(rt; path.text(rt.alloc())?.as_str(), want);
+    }
+    Ok(())
+}
+
+#[test]
+fn limits_count_for_the_cleaned_path(rt: HostRuntime) -> Result<(), Fail> {
+    for (deep, long, end, want) in [
+        (64, 0, "", Ok(64)),
+        (65, 0, "", Err(Fault::Because(PathLimit::TooDeep))),
+        (65, 0, "/..", Ok(64)),
+        (70, 0, "/../../..", Err(Fault::Because(PathLimit::TooDeep))),
+        (63, 255, "", Ok(64)),
+        (63, 256, "", Err(Fault::Because(PathLimit::TooLong))),
+        (63, 256, "/..", Ok(63)),
+        (63, 253, "é", Ok(64)),
+        (63, 254, "é", Err(Fault::Because(PathLimit::TooLong))),
+        (64, 256, "", Err(Fault::Because(PathLimit::TooDeep))),
+        (63, 256, "/c", Err(Fault::Because(PathLimit::TooDeep))),
+        (63, 256, "/c/..", Err(Fault::Because(PathLimit::TooLong))),
+    ] {
+        let name = repeated(rt.alloc(), "b", long, end)?;
+        let text = repeated(rt.alloc(), "a/", deep, name.as_str())?;
+        let depth = at(rt.alloc(), text.as_str()).map(|path| path.depth());
+        assert_eq!(rt; depth, want, "{deep} {long} {end}");
+    }
+    Ok(())
+}
+
+#[test]
+fn long_texts_are_read_at_once(rt: HostRuntime) -> Result<(), Fail> {
+    // About a million bytes each; the last two are deep before they climb, or stay so.
+    let climb = repeated(rt.alloc(), "../", 199_999, "")?;
+    for (piece, times, end, want) in [
+        ("/.//", 250_000, "", Ok(0)),
+        ("a/b/../../", 100_000, "c", Ok(1)),
+        ("../", 300_000, "c", Ok(1)),
+        ("a/", 200_000, climb.as_str(), Ok(1)),
+        ("a/", 500_000, "", Err(Fault::Because(PathLimit::TooDeep))),
+    ] {
+        let text = repeated(rt.alloc(), piece, times, end)?;
+        let depth = at(rt.alloc(), text.as_str()).map(|path| path.depth());
+        assert_eq!(rt; depth, want, "{piece}");
+    }
+    Ok(())
+}
+
+#[test]
+fn a_path_shows_its_parts(rt: HostRuntime) -> Result<(), Fail> {
+    let alloc = rt.alloc();
+    let root = Path::root(alloc);
+    assert!(rt; root.is_root() && root.name().is_none() && root.parent(alloc)?.is_none());
+    let path = at(alloc, "usr/bin")?;
+    assert!(rt; !path.is_root() && path.same(&path.copy(alloc)?) && !path.same(&root));
+    assert_eq!(rt; path.components().len(), 2);
+    let Some(name) = path.name() else {
+        assert!(rt; false, "it is not the root");
+        return Ok(());
+    };
+    assert_eq!(rt; name.as_str(), "bin");
+    let Some(parent) = path.parent(alloc)? else {
+        assert!(rt; false, "it is not the root");
+        return Ok(());
+    };
+    assert_eq!(rt; parent.text(alloc)?.as_str(), "/usr");
+    assert!(rt; path.is_at_or_under(&parent) && !parent.is_at_or_under(&path));
+    Ok(())
+}
+
+#[test]
+fn names_are_components(rt: HostRuntime) -> Result<(), Fail> {
+    let alloc = rt.alloc();
+    for text in ["", ".", "..", "a/b", "/"] {
+        assert!(rt; Name::new(Text::from_str(alloc, text)?).is_none(), "{text}");
+    }
+    assert!(rt; Name::new(repeated(alloc, "b", 256, "")?).is_none());
+    let Some(name) = Name::new(repeated(alloc, "b", 255, "")?) else {
+        assert!(rt; false, "255 bytes are a name");
+        return Ok(());
+    };
+    assert!(rt; name.same(&name.copy(alloc)?));
+    let top = Path::root(alloc).child(alloc, name.as_text())?;
+    assert_eq!(rt; top.depth(), 1);
+    let long = LongPath::of(alloc, &top)?.child(alloc, name.as_text())?;
+    assert!(rt; long.same(&long.copy(alloc)?));
+    assert_eq!(rt; long.components().len(), 2);
+    assert!(rt; long.into_path().is_some());
+    Ok(())
+}
+
+#[test]
+fn paths_are_ordered_by_components(rt: HostRuntime) -> Result<(), Fail> {
+    // By the bytes of the whole text `/a-b` would come before `/a/b`.
+    for (low, high) in [
+        ("/", "/a"),
+        ("/a", "/a/b"),
+        ("/a/b", "/a-b"),
+        ("/a/z", "/aa"),
+        ("/z", "/é"),
+    ] {
+        let low = at(rt.alloc(), low)?;
+        let high = at(rt.alloc(), high)?;
+        assert!(rt; low < high && low != high);
+    }
+    Ok(())
+}
