@@ -1,3 +1,5 @@
+pub mod FlagLaws
 pub mod LabelLemmas
-pub mod PieceLemmas
+pub mod PartLaws
+pub mod QuoteLaws
 pub mod WordLemmas

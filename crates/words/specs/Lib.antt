@@ -1,11 +1,8 @@
-pub mod Flags
+pub mod Class
+pub mod Cutting
+pub mod Flag
 pub mod Form
-pub mod Messages
 pub mod Pairs
-pub mod PartLaws
 pub mod Parts
-pub mod PieceLaws
-pub mod Pieces
-pub mod PlaceLaws
-pub mod Places
-pub mod Reading
+pub mod Quote
+pub mod ReadParts

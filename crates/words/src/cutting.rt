@@ -1,12 +1,12 @@
 ghost use Rattle.std.specs.Prelude.{◌≡◌, ◌++◌, true, false, map, IfOk, MatchResult};
-ghost use Rattle.lines.specs.Blanks.{if_any};
-ghost use Rattle.words.specs.Parts.{AreWords, IsOpen};
-ghost use Rattle.words.specs.Reading.{words, ends_open};
+ghost use Rattle.ascii.specs.Pieces.{if_any};
+ghost use Rattle.words.specs.Cutting.{AreWords, IsOpen, words, ends_open};
 
-use crate::class::{Place, class_of};
-use crate::fault::Fault;
+use crate::class::class_of;
+use crate::fault::TextFault;
+use crate::quote::QuoteState;
 use lines::Escape;
-use plain::{Code, Memory};
+use plain::{Code, Fault, Memory};
 use std::alloc::Global;
 
 /// The words of a text: what stands between its blanks, where quotes and the escape character hold blanks together
@@ -21,14 +21,14 @@ pub fn split<'a>(alloc: Global, escape: Escape, text: &'a str) -> Result<Vec<&'a
 {
     let mut found = Vec::new(alloc);
     let mut start = 0;
-    let mut place = Place::Outside;
+    let mut state = QuoteState::Outside;
     for (index, byte) in text.as_bytes().iter().enumerate() {
         let class = class_of(escape, *byte);
-        if place.cuts(class) {
+        if state.cuts(class) {
             push_word(&mut found, &text[start..index])?;
             start = index + 1;
         }
-        place = place.after(class);
+        state = state.after(class);
     }
     push_word(&mut found, &text[start..])?;
     Ok(found)
@@ -47,12 +47,12 @@ fn push_word<'a>(found: &mut Vec<&'a str>, word: &'a str) -> Result<(), Memory>
 /// Whether each quote of a text is closed: R09 exactly where one is open.
 ///
 /// It is a call of its own because other faults of a line are told before that one.
-pub fn closed(escape: Escape, text: &str) -> Result<(), Fault>
-    ensures open { MatchResult result (λ _. ¬ (IsOpen escape text.now)) (λ fault. (fault ≡ Fault.Refused Code.R09) × IsOpen escape text.now) }
-    ensures value { MatchResult result (λ _. ends_open escape text.now ≡ false) (λ fault. (fault ≡ Fault.Refused Code.R09) × (ends_open escape text.now ≡ true)) }
+pub fn closed(escape: Escape, text: &str) -> Result<(), TextFault>
+    ensures open { MatchResult result (λ _. ¬ (IsOpen escape text.now)) (λ fault. (fault ≡ Fault.Because Code.R09) × IsOpen escape text.now) }
+    ensures value { MatchResult result (λ _. ends_open escape text.now ≡ false) (λ fault. (fault ≡ Fault.Because Code.R09) × (ends_open escape text.now ≡ true)) }
 {
     if ends_open(escape, text) {
-        return Err(Fault::Refused(Code::R09));
+        return Err(Fault::Because(Code::R09));
     }
     Ok(())
 }
@@ -61,9 +61,9 @@ pub fn closed(escape: Escape, text: &str) -> Result<(), Fault>
 fn ends_open(escape: Escape, text: &str) -> bool
     ensures { result ≡ ends_open escape text.now }
 {
-    let mut place = Place::Outside;
+    let mut state = QuoteState::Outside;
     for byte in text.as_bytes() {
-        place = place.after(class_of(escape, *byte));
+        state = state.after(class_of(escape, *byte));
     }
-    place.is_quote()
+    state.is_in_quotes()
 }

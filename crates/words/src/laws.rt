@@ -1,13 +1,14 @@
-// What is proved of the definitions alone. The functions do nothing: their contracts are laws.
+// Laws of the definitions. The functions do nothing: what is proved of them, their contracts, are the laws.
 
 ghost use Rattle.std.specs.Prelude.{◌≡◌, ◌↔◌, ℕ, true, List, Option};
-ghost use Rattle.lines.specs.Blanks.{pieces};
+ghost use Rattle.ascii.specs.Pieces.{pieces};
 ghost use Rattle.lines.specs.Marks.{after_flags};
-ghost use Rattle.lines.specs.declared.line.Escape.{Escape};
-ghost use Rattle.words.specs.Parts.{Part, IsMadeOf, AreWords, IsOpen, AreUnquoted};
-ghost use Rattle.words.specs.Reading.{parts, words, ends_open};
+ghost use Rattle.lines.specs.declared.escape.Escape.{Escape};
+ghost use Rattle.words.specs.Parts.{Part, IsMadeOf};
+ghost use Rattle.words.specs.Cutting.{AreWords, IsOpen, AreUnquoted, words, ends_open};
+ghost use Rattle.words.specs.ReadParts.{parts};
 ghost use Rattle.words.specs.Pairs.{IsLabelCut, label_pair};
-ghost use Rattle.words.specs.Flags.{behind_flags};
+ghost use Rattle.words.specs.Flag.{behind_flags};
 
 /// Each text is made of just one list of parts.
 pub fn parts_are_unique()

@@ -1,7 +1,8 @@
 ghost use Rattle.std.specs.Prelude.{◌≡◌, option_map};
 ghost use Rattle.words.specs.Pairs.{pair, label_pair};
 
-use crate::class::{Place, class_of};
+use crate::class::class_of;
+use crate::quote::QuoteState;
 use lines::Escape;
 
 /// A word cut at its first `=`, wherever that stands: none where there is no `=`.
@@ -19,13 +20,13 @@ pub fn pair(word: &str) -> Option<(&str, &str)>
 pub fn label_pair(escape: Escape, word: &str) -> Option<(&str, &str)>
     ensures { option_map (λ cut. (cut.0.now, cut.1.now)) result ≡ label_pair escape word.now }
 {
-    let mut place = Place::Outside;
+    let mut state = QuoteState::Outside;
     for (index, byte) in word.as_bytes().iter().enumerate() {
         let class = class_of(escape, *byte);
-        if place.splits(class) {
+        if state.splits(class) {
             return Some((&word[..index], &word[index + 1..]));
         }
-        place = place.after(class);
+        state = state.after(class);
     }
     None
 }

@@ -1,5 +1,5 @@
 use Rattle.std.proofs.Common.{sym, ◌∙◌, true≢false, refl}
-use Rattle.words.specs.PartLaws.{IsOpen-from, IsOpen-is}
+use Rattle.words.proofs.PartLaws.{IsOpen-from, IsOpen-is}
 use Rattle.words.proofs.cutting.closed.Goals as goal
 
 pub returns-then-ends_open-clause-open : goal.returns-then-ends_open-clause-open

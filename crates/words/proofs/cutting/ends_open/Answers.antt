@@ -1,4 +1,4 @@
-use Rattle.words.specs.PlaceLaws.{open_from-is}
+use Rattle.words.proofs.QuoteLaws.{open_from-is}
 use Rattle.words.proofs.cutting.ends_open.Goals as goal
 
 pub loop-byte-init : goal.loop-byte-init

@@ -1,4 +1,4 @@
-use Rattle.words.specs.PartLaws.{parts-made, parts-only}
+use Rattle.words.proofs.PartLaws.{parts-made, parts-only}
 use Rattle.words.proofs.laws.parts_are_unique.Goals as goal
 
 pub returns-clause-some : goal.returns-clause-some

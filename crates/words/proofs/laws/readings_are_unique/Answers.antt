@@ -1,4 +1,4 @@
-use Rattle.words.specs.PartLaws.{words-only, words-at, IsOpen-is, IsOpen-from, label_pair-only, label_pair-at}
+use Rattle.words.proofs.PartLaws.{words-only, words-at, IsOpen-is, IsOpen-from, label_pair-only, label_pair-at}
 use Rattle.words.proofs.laws.readings_are_unique.Goals as goal
 
 pub returns : goal.returns

@@ -3,15 +3,19 @@ use Rattle.std.specs.Prelude.{◌≡◌, ℕ, ◌==◌, Bool, true, false, List,
 use Rattle.std.proofs.Common.{sym, ◌∙◌, ap, ap₂, subst, append_assoc, append-nil, arith}
 use Rattle.std.proofs.lemmas.Bool.{true≢false}
 use Rattle.std.proofs.lemmas.Bool.Decides.{nat_tests}
-use Rattle.lines.specs.Blanks.{is_blank, if_any, pieces, pieces_from}
-use Rattle.lines.specs.Escapes.{byte_of}
-use Rattle.lines.specs.declared.line.Escape.{Escape}
-use Rattle.lines.specs.declared.line.Escape.TheVariants.{Backslash, Backtick}
+use Rattle.ascii.specs.Blanks.{is_blank}
+use Rattle.ascii.specs.Pieces.{if_any, pieces}
+use Rattle.ascii.proofs.PieceLaws.{pieces_from, pieces-read}
+use Rattle.lines.specs.Escape.{byte_of}
+use Rattle.lines.specs.declared.escape.Escape.{Escape}
+use Rattle.lines.specs.declared.escape.Escape.TheVariants.{Backslash, Backtick}
 use Rattle.words.specs.declared.class.Class.{Class}
 use Rattle.words.specs.declared.class.Class.TheVariants.{Blank, SingleQuote, DoubleQuote, Dollar, Equals, EscapeCharacter, Other}
-use Rattle.words.specs.Parts.{class_of, Held, kept, freed, Part, blank, plain, escaped, single, double, open_single, open_double, held_text, part_text, written, IsPlain, is_single, AreInSingle, acts_before, IsIdleBefore, IsKept, AreInDouble, Stands, AllStand, IsMadeOf, words_among, AreWords, has_open, IsOpen, is_bare, AreUnquoted}
+use Rattle.words.specs.Class.{class_of}
+use Rattle.words.specs.Parts.{Held, kept, freed, Part, blank, plain, escaped, single, double, open_single, open_double, held_text, part_text, written, IsPlain, is_single, AreInSingle, acts_before, IsIdleBefore, IsKept, AreInDouble, Stands, AllStand, IsMadeOf}
+use Rattle.words.specs.Cutting.{words_among, AreWords, has_open, IsOpen, is_bare, AreUnquoted, words, ends_open}
 use Rattle.words.specs.Pairs.{cut_parts, IsLabelCut, label_pair}
-use Rattle.words.specs.Reading.{Begun, nothing, escaping, in_single, in_double, in_double_escaping, ended_by, begun_by, ended_at_end, parts_from, parts, words, ends_open}
+use Rattle.words.specs.ReadParts.{Begun, nothing, escaping, in_single, in_double, in_double_escaping, ended_by, begun_by, ended_at_end, parts_from, parts}
 
 -- what a class says of its character
 abbrev pub Means : Escape → Class → ℕ → Type 0
@@ -361,4 +365,4 @@ bare_words e word (c ∷ cs) h = bare_by e word c cs (is_blank c) refl h.0 (bare
 
 pub words-unquoted : (e : Escape) (text : List ℕ) → AreUnquoted e text → words e text ≡ pieces text
 unfolding parts words
-words-unquoted e text h = bare_words e [] text h
+words-unquoted e text h = bare_words e [] text h ∙ pieces-read text

@@ -1,11 +1,12 @@
 use Rattle.std.proofs.Common.{◌≡◌, ◌++◌, ◌∷◌, [], List, ℕ, true, rules, sym, ◌∙◌, ap, ap₂, subst, append_assoc, append-nil, length, ◌<◌}
-use Rattle.lines.specs.Blanks.{after_blanks}
+use Rattle.ascii.specs.Blanks.{after_blanks}
 use Rattle.lines.specs.Marks.{is_flag}
-use Rattle.words.specs.Pieces.{from_blank, first_piece, behind_piece}
-use Rattle.words.specs.Flags.{flag_of, flags, behind_flags}
-use Rattle.words.specs.PieceLaws.{after_blanks-twice, flags-after_blanks, behind_flags-after_blanks, flags-flag, behind_flags-flag, flags-none, behind_flags-none, behind_flag-shorter}
-use Rattle.words.specs.declared.leading.Flag.{Flag}
-use Rattle.words.proofs.leading.flags.Goals as goal
+use Rattle.ascii.specs.Pieces.{from_blank, first_piece, behind_piece}
+use Rattle.words.specs.Flag.{flag_of, flags, behind_flags}
+use Rattle.ascii.proofs.BlankLaws.{after_blanks-twice}
+use Rattle.words.proofs.FlagLaws.{flags-after_blanks, behind_flags-after_blanks, flags-flag, behind_flags-flag, flags-none, behind_flags-none, behind_flag-shorter}
+use Rattle.words.specs.declared.flag.Flag.{Flag}
+use Rattle.words.proofs.flag.flags.Goals as goal
 
 begins_so : (text rest : List ℕ) → rest ≡ after_blanks text → after_blanks rest ≡ rest
 begins_so text rest h = ap after_blanks h ∙ after_blanks-twice text ∙ sym h

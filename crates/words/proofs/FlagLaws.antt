@@ -1,55 +1,15 @@
--- Laws of pieces and flags: the first piece, and what is left behind the flags.
-use Rattle.std.specs.Prelude.{◌≡◌, ◌<◌, ◌≤◌, ℕ, zero, suc, ◌==◌, ◌&&◌, Bool, true, false, List, [], ◌∷◌, ◌++◌, length, drop, map, if◌then◌else◌, refl}
+-- Laws of flags: the first ones of the pieces of a text, and what is left behind them.
+use Rattle.std.specs.Prelude.{◌≡◌, ◌<◌, ℕ, zero, suc, ◌==◌, ◌&&◌, Bool, true, false, List, [], ◌∷◌, length, drop, map, if◌then◌else◌, refl}
 use Rattle.std.specs.List.{take_while}
-use Rattle.std.proofs.Common.{sym, ◌∙◌, ap, ap₂, subst, cond, arith, append_assoc, append-nil, true≢false}
+use Rattle.std.proofs.Common.{sym, ◌∙◌, ap, ap₂, subst, cond, get_or, arith, true≢false}
 use Rattle.std.proofs.lemmas.Bool.Decides.{nat_tests}
 use Rattle.std.proofs.lemmas.List.Sums.{take_while-cons}
-use Rattle.lines.specs.Blanks.{is_blank, after_blanks, if_any, pieces, pieces_from}
+use Rattle.ascii.specs.Blanks.{is_blank, after_blanks}
+use Rattle.ascii.specs.Pieces.{pieces, until_blank, from_blank, first_piece, behind_piece}
+use Rattle.ascii.proofs.BlankLaws.{after_blanks-twice}
+use Rattle.ascii.proofs.PieceLaws.{pieces-after_blanks, pieces-begun, cut}
 use Rattle.lines.specs.Marks.{is_flag, after_flags}
-use Rattle.words.specs.Pieces.{until_blank, from_blank, first_piece, behind_piece}
-use Rattle.words.specs.Flags.{flag_of, flag_pieces, flags, behind_pieces, behind_flags}
-
--- leading blanks are in no piece
-
-after_blanks-twice_by : (c : ℕ) (cs : List ℕ) (b : Bool) → is_blank c ≡ b → after_blanks (after_blanks cs) ≡ after_blanks cs → after_blanks (if b then after_blanks cs else c ∷ cs) ≡ (if b then after_blanks cs else c ∷ cs)
-after_blanks-twice_by c cs true h i = i
-after_blanks-twice_by c cs false h i = rw h refl
-
-pub after_blanks-twice : (text : List ℕ) → after_blanks (after_blanks text) ≡ after_blanks text
-after_blanks-twice [] = refl
-after_blanks-twice (c ∷ cs) = after_blanks-twice_by c cs (is_blank c) refl (after_blanks-twice cs)
-
-pieces-after_blanks_by : (c : ℕ) (cs : List ℕ) (b : Bool) → is_blank c ≡ b → pieces_from [] (after_blanks cs) ≡ pieces_from [] cs
-    → pieces_from [] (if b then after_blanks cs else c ∷ cs) ≡ (if b then pieces_from [] cs else pieces_from (c ∷ []) cs)
-pieces-after_blanks_by c cs true h i = i
-pieces-after_blanks_by c cs false h i = rw h refl
-
-pub pieces-after_blanks : (text : List ℕ) → pieces (after_blanks text) ≡ pieces text
-pieces-after_blanks [] = refl
-pieces-after_blanks (c ∷ cs) = pieces-after_blanks_by c cs (is_blank c) refl (pieces-after_blanks cs)
-
--- a piece that was begun ends at the next blank
-
-if_any-some : (part : List ℕ) (c : ℕ) → if_any (part ++ c ∷ []) ≡ (part ++ c ∷ []) ∷ []
-if_any-some [] c = refl
-if_any-some (d ∷ ds) c = refl
-
-begun_by_test : (part : List ℕ) (d c : ℕ) (cs : List ℕ) (b : Bool) → is_blank c ≡ b
-    → pieces_from ((part ++ d ∷ []) ++ c ∷ []) cs ≡ ((part ++ d ∷ []) ++ c ∷ until_blank cs) ∷ pieces_from [] (from_blank cs)
-    → (if b then if_any (part ++ d ∷ []) ++ pieces_from [] cs else pieces_from ((part ++ d ∷ []) ++ c ∷ []) cs)
-    ≡ ((part ++ d ∷ []) ++ (if b then [] else c ∷ until_blank cs)) ∷ pieces_from [] (if b then c ∷ cs else from_blank cs)
-begun_by_test part d c cs true h i = ap (λ (ps : List (List ℕ)). ps ++ pieces_from [] cs) (if_any-some part d) ∙ ap (λ t. t ∷ pieces_from [] cs) (sym (append-nil (part ++ d ∷ []))) ∙ rw h refl
-begun_by_test part d c cs false h i = i
-
-pieces_from-begun : (part : List ℕ) (d : ℕ) (text : List ℕ) → pieces_from (part ++ d ∷ []) text ≡ ((part ++ d ∷ []) ++ until_blank text) ∷ pieces_from [] (from_blank text)
-pieces_from-begun part d [] = if_any-some part d ∙ ap (λ t. t ∷ []) (sym (append-nil (part ++ d ∷ [])))
-pieces_from-begun part d (c ∷ cs) =
-    begun_by_test part d c cs (is_blank c) refl
-    (pieces_from-begun (part ++ d ∷ []) c cs ∙ ap (λ t. t ∷ pieces_from [] (from_blank cs)) (append_assoc (part ++ d ∷ []) (c ∷ []) (until_blank cs)))
-
--- a text that begins with no blank has its first piece first
-pieces-begun : (c : ℕ) (cs : List ℕ) → is_blank c ≡ false → pieces (c ∷ cs) ≡ until_blank (c ∷ cs) ∷ pieces (from_blank (c ∷ cs))
-pieces-begun c cs h = rw h (pieces_from-begun [] c cs)
+use Rattle.words.specs.Flag.{flag_of, flag_pieces, flags, behind_pieces, behind_flags}
 
 -- a text without leading blanks is empty or begins with no blank
 data Begins : List ℕ → Type 0 where
@@ -183,27 +143,17 @@ unfolding behind_flags
 behind_flags-none text s h = ap (λ (ps : List (List ℕ)). behind_pieces (length ps) text) (flag_pieces-none text s h) ∙ s
 
 -- what stands behind a flag is shorter
-
-length-after_blanks_by : (c : ℕ) (cs : List ℕ) (b : Bool) → length (after_blanks cs) ≤ length cs → length (if b then after_blanks cs else c ∷ cs) ≤ length (c ∷ cs)
-length-after_blanks_by c cs true h = omega arith
-length-after_blanks_by c cs false h = omega arith
-
-length-after_blanks : (text : List ℕ) → length (after_blanks text) ≤ length text
-length-after_blanks [] = omega arith
-length-after_blanks (c ∷ cs) = length-after_blanks_by c cs (is_blank c) (length-after_blanks cs)
-
-length-from_blank_by : (c : ℕ) (cs : List ℕ) (b : Bool) → length (from_blank cs) ≤ length cs → length (if b then c ∷ cs else from_blank cs) ≤ length (c ∷ cs)
-length-from_blank_by c cs true h = omega arith
-length-from_blank_by c cs false h = omega arith
-
-length-from_blank : (text : List ℕ) → length (from_blank text) ≤ length text
-length-from_blank [] = omega arith
-length-from_blank (c ∷ cs) = length-from_blank_by c cs (is_blank c) (length-from_blank cs)
-
-shorter_by : (rest : List ℕ) → length (behind_piece (45 ∷ 45 ∷ rest)) < length (45 ∷ 45 ∷ rest)
-shorter_by rest = let a = length-after_blanks (from_blank rest) in let b = length-from_blank rest in omega arith
-
 pub behind_flag-shorter : (text : List ℕ) → is_flag text ≡ true → length (behind_piece text) < length text
 behind_flag-shorter text h =
     let found = dashes text h in
-    subst (λ (t : List ℕ). length (behind_piece t) < length t) (sym found.1) (shorter_by found.0)
+    subst (λ (t : List ℕ). length (behind_piece t) < length t) (sym found.1) (cut (45 ∷ 45 ∷ found.0) refl (omega arith)).less
+
+-- a flag may be cut behind its dashes
+
+dashed_at : (rest : List ℕ) → (1 < length (45 ∷ 45 ∷ rest)) × (get_or (45 ∷ 45 ∷ rest) 1 0 < 128)
+dashed_at rest = (omega arith, omega arith)
+
+pub second_dash : (text : List ℕ) → is_flag text ≡ true → (1 < length text) × (get_or text 1 0 < 128)
+second_dash text h =
+    let found = dashes text h in
+    subst (λ (t : List ℕ). (1 < length t) × (get_or t 1 0 < 128)) (sym found.1) (dashed_at found.0)

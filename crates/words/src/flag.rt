@@ -1,19 +1,19 @@
 ghost use Rattle.std.specs.Prelude.{◌≡◌, true, IfOk};
 ghost use Rattle.lines.specs.Marks.{is_flag};
-ghost use Rattle.words.specs.Flags.{flag_of, flags, behind_flags};
+ghost use Rattle.words.specs.Flag.{flag_of, flags, behind_flags};
 
-use crate::blanks::first_piece;
 use crate::pairs::pair;
-use lines::after_blanks;
+use ascii::{after_blanks, first_piece};
+use lines::is_flag;
 use plain::{Items, Memory, Text};
 use std::alloc::Global;
 
 /// A flag of an instruction, as `--from=build`.
 #[derive(Debug, Drop)]
 pub struct Flag {
-    /// What stands behind the two dashes, up to the first `=`. Of `--` alone it is empty.
+    /// What follows the two dashes, up to the first `=`. Of `--` alone it is empty.
     pub name: Text,
-    /// What stands behind that `=`, with any further ones; none where there is no `=`. It may be empty.
+    /// What follows that `=`, with any further ones; none where there is no `=`. It may be empty.
     pub value: Option<Text>,
 }
 
@@ -33,13 +33,6 @@ pub fn flags<'a>(alloc: Global, text: &'a str) -> Result<(Items<Flag>, &'a str),
         rest = behind;
     }
     Ok((found, rest))
-}
-
-/// Whether a text begins with two dashes.
-fn is_flag(text: &str) -> bool
-    ensures { result ≡ is_flag text.now }
-{
-    matches!(text.as_bytes(), [b'-', b'-', ..])
 }
 
 /// The flag that a piece is.

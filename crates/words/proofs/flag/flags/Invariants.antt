@@ -1,7 +1,7 @@
 use Rattle.std.proofs.Common.{◌≡◌, ◌++◌, length}
-use Rattle.lines.specs.Blanks.{after_blanks}
-use Rattle.words.specs.Flags.{flags, behind_flags}
-use Rattle.words.proofs.leading.flags.Given as goal
+use Rattle.ascii.specs.Blanks.{after_blanks}
+use Rattle.words.specs.Flag.{flags, behind_flags}
+use Rattle.words.proofs.flag.flags.Given as goal
 use denote.Shadow.{shadow}
 use denote.Text.{Utf8}
 

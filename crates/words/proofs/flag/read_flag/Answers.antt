@@ -1,6 +1,6 @@
 use Rattle.std.proofs.lemmas.Str.{IsCharBoundary-after_ascii}
-use Rattle.words.proofs.PieceLemmas.{second_dash}
-use Rattle.words.proofs.leading.read_flag.Goals as goal
+use Rattle.words.proofs.FlagLaws.{second_dash}
+use Rattle.words.proofs.flag.read_flag.Goals as goal
 
 pub range_from-text-requires : goal.range_from-text-requires
 range_from-text-requires c =

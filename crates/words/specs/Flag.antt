@@ -1,10 +1,12 @@
+-- The flags with which the arguments of an instruction begin: pieces `--name` and `--name=value` (Dockerfile reference; that they know no quotes
+-- and that `--` alone is one: own).
 use Rattle.std.specs.Prelude.{ℕ, zero, suc, List, Option, Some, None, length, drop, map}
 use Rattle.std.specs.List.{take_while}
-use Rattle.lines.specs.Blanks.{after_blanks, pieces}
+use Rattle.ascii.specs.Blanks.{after_blanks}
+use Rattle.ascii.specs.Pieces.{pieces, behind_piece}
 use Rattle.lines.specs.Marks.{is_flag}
 use Rattle.words.specs.Pairs.{pair}
-use Rattle.words.specs.Pieces.{behind_piece}
-use Rattle.words.specs.declared.leading.Flag.{Flag}
+use Rattle.words.specs.declared.flag.Flag.{Flag}
 
 -- the flag of a text without its dashes, by the text's cut at its first `=`
 abbrev pub flag_cut : List ℕ → Option (List ℕ × List ℕ) → Flag
