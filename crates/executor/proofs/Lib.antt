@@ -1,4 +1,5 @@
-pub mod CutLemmas
-pub mod JoinLemmas
-pub mod NumberLemmas
-pub mod ScriptLemmas
+pub mod ScriptLaws
+pub mod FixtureLaws
+mod CutLemmas
+mod JoinLemmas
+mod ScriptLemmas

@@ -1,6 +1,5 @@
-pub mod Tells
 pub mod Fixture
-pub mod FixtureLaws
+pub mod FixtureExits
 pub mod Number
 pub mod Script
-pub mod ScriptLaws
+pub mod PrivateOutcome

@@ -1,28 +1,22 @@
 -- How the words of a run become commands (own): a script is cut into lines, and a line into words.
-use Rattle.std.specs.Prelude.{ℕ, Bool, true, false, ◌||◌, ◌==◌, List, [], ◌∷◌, ◌++◌, map, filter, codes, nat_eq, if◌then◌else◌, Option, Some, None}
+use Rattle.std.specs.Prelude.{ℕ, Bool, true, false, ◌==◌, List, [], ◌∷◌, ◌++◌, map, filter, codes, nat_eq, if◌then◌else◌, Option, Some, None}
 use Rattle.std.specs.List.{slice_split}
 use Rattle.std.specs.Cmp.Lexicographic.{pointwise}
-use Rattle.trees.specs.declared.run.RunRequest.{RunRequest}
-use Rattle.executor.specs.declared.script.Cut.{Cut}
-use Rattle.executor.specs.declared.script.Cut.TheVariants.{AtBlank, AtLineFeed}
+use Rattle.ascii.specs.Pieces.{pieces}
+use Rattle.runs.specs.declared.run.RunRequest.{RunRequest}
 
--- at which bytes a text is cut: into words at a space or a tab, into lines at a line feed
-abbrev pub is_cut_at : Cut → ℕ → Bool
-is_cut_at AtBlank byte = (byte == 32) || (byte == 9)
-is_cut_at AtLineFeed byte = byte == 10
+-- at which bytes a script is cut into lines
+abbrev pub is_line_feed : ℕ → Bool
+is_line_feed byte = byte == 10
 
--- whether a list has an element
-abbrev pub is_filled : {X : Type 0} → List X → Bool
-is_filled [] = false
-is_filled (x ∷ xs) = true
+-- whether a line has a word
+abbrev pub has_word : List (List ℕ) → Bool
+has_word [] = false
+has_word (word ∷ words) = true
 
--- the words of a line: the longest runs of bytes that are no blanks
-abbrev pub words : List ℕ → List (List ℕ)
-words line = filter is_filled (slice_split (is_cut_at AtBlank) line)
-
--- the commands of a script, each as its words: one for each line that has a word
+-- the commands of a script, each as its words: one for each line that has a word. A line's words are its pieces between blanks
 abbrev pub commands : List ℕ → List (List (List ℕ))
-commands script = filter is_filled (map words (slice_split (is_cut_at AtLineFeed) script))
+commands script = filter has_word (map pieces (slice_split is_line_feed script))
 
 -- whether two texts have the same bytes
 abbrev pub is_text : List ℕ → List ℕ → Bool

@@ -1,14 +1,14 @@
 // What is proved of the definitions alone. The functions do nothing: their contracts are laws.
 
 ghost use Rattle.std.specs.Prelude.{◌≡◌, ◌<◌, ◌∷◌, [], ◌++◌, List, ℕ, Some, None, codes, if◌then◌else◌};
-ghost use Rattle.trees.specs.declared.run.RunRequest.{RunRequest};
-ghost use Rattle.trees.specs.declared.run.RunOutcome.TheVariants.{Exit};
+ghost use Rattle.runs.specs.declared.run.RunRequest.{RunRequest};
+ghost use Rattle.runs.specs.declared.run.RunOutcome.TheVariants.{Exit};
 ghost use Rattle.executor.specs.Script.{is_text, script_of, commands, with_script};
 ghost use Rattle.executor.specs.Fixture.{and_then, fixture_out};
 
 use crate::Executor;
 
-/// Whatever the executor, a status that it tells is from 1 to 255.
+/// Whatever the executor, a status that it answers is from 1 to 255.
 pub fn exit_is_a_status<E: Executor>()
     ensures { (executor : E) (request : RunRequest) (status : ℕ)
         → E.out executor request ≡ Exit status → (0 < status) × (status < 256) }
@@ -17,7 +17,7 @@ pub fn exit_is_a_status<E: Executor>()
 /// Where nothing is mounted, the lines of a script are run one after another: what follows a line feed goes on from the
 /// tree that the lines before it left, and isn't begun where they ended with a status.
 //
-// That nothing is mounted isn't needed yet, since the fixture serves no mounts: it is kept for when it does.
+// It holds with mounts too as long as the fixture knows none. Once it does, a bind that a line wrote to is no longer the request's.
 pub fn fixture_runs_line_by_line()
     ensures { (request : RunRequest) (front : List (List ℕ)) (first second : List ℕ)
         → request.binds ≡ [] → request.caches ≡ []

@@ -20,7 +20,4 @@ mod stop;
 
 pub use executor::Executor;
 pub use fixture::Fixture;
-pub use trees::{RunOutcome as Outcome, RunRequest as Request};
-
-#[cfg(test)]
-mod tests;
+pub use runs::{RunOutcome as Outcome, RunRequest as Request};

@@ -1,29 +1,27 @@
 ghost use Rattle.std.specs.Prelude.{◌≡◌};
-ghost use Rattle.std.specs.Str.{all_ascii_digits};
-ghost use Rattle.executor.specs.Number.{status_of};
+ghost use Rattle.executor.specs.Number.{status_from, status_of};
+
+use ascii::parse_number;
 
 /// The exit status that a text writes: decimal digits alone, leading zeros allowed, from 1 to 255.
-pub fn status_of(text: &str) -> Option<u8>
+pub(crate) fn status_of(text: &str) -> Option<u8>
     ensures { result ≡ status_of text.now }
 {
-    if !is_digits(text.as_bytes()) {
-        return None;
-    }
-    match text.parse::<u8>() {
-        Ok(0) => None,
-        Ok(status) => Some(status),
-        Err(_) => None,
-    }
+    status_from(parse_number(text))
 }
 
-/// Whether a text has decimal digits alone.
-fn is_digits(text: &[u8]) -> bool
-    ensures { result ≡ all_ascii_digits text.now }
+/// A number as an exit status, where it is one from 1 to 255.
+fn status_from(number: Option<u32>) -> Option<u8>
+    ensures { result ≡ status_from number }
 {
-    for byte in text {
-        if !byte.is_ascii_digit() {
-            return false;
+    match number {
+        Some(number) => {
+            if 0 < number && number < 256 {
+                Some(number as u8)
+            } else {
+                None
+            }
         }
+        None => None,
     }
-    true
 }

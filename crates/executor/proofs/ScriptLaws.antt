@@ -4,8 +4,8 @@ use Rattle.std.specs.List.{slice_split, onto_first}
 use Rattle.std.proofs.Common.{refl, sym, ap, ◌∙◌}
 use Rattle.std.proofs.lemmas.List.{map-append}
 use Rattle.std.proofs.lemmas.List.Elements.{filter-append}
-use Rattle.executor.specs.declared.script.Cut.TheVariants.{AtLineFeed}
-use Rattle.executor.specs.Script.{is_cut_at, is_filled, is_text, words, commands, script_of}
+use Rattle.executor.specs.Script.{is_line_feed, has_word, is_text, commands, script_of}
+use Rattle.ascii.specs.Pieces.{pieces}
 
 -- lists that begin with one, with others behind them
 record HasFirst (parts : List (List ℕ)) : Type 0 where
@@ -42,7 +42,7 @@ slice_split-append p y e (x ∷ xs) ys =
 
 pub commands-append : (first second : List ℕ) → commands (first ++ 10 ∷ second) ≡ commands first ++ commands second
 commands-append first second =
-    ap (λ lines. filter is_filled (map words lines)) (slice_split-append (is_cut_at AtLineFeed) 10 refl first second) ∙ ap (filter is_filled) (map-append words (slice_split (is_cut_at AtLineFeed) first) (slice_split (is_cut_at AtLineFeed) second)) ∙ filter-append is_filled (map words (slice_split (is_cut_at AtLineFeed) first)) (map words (slice_split (is_cut_at AtLineFeed) second))
+    ap (λ lines. filter has_word (map pieces lines)) (slice_split-append is_line_feed 10 refl first second) ∙ ap (filter has_word) (map-append pieces (slice_split is_line_feed first) (slice_split is_line_feed second)) ∙ filter-append has_word (map pieces (slice_split is_line_feed first)) (map pieces (slice_split is_line_feed second))
 
 pub script_of-append : (front : List (List ℕ)) (flag script : List ℕ) → script_of (front ++ flag ∷ script ∷ []) ≡ cond (is_text flag (codes "-c")) (Some script) None
 script_of-append [] flag script = refl

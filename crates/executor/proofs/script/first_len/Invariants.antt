@@ -1,6 +1,0 @@
-use Rattle.std.proofs.Common.{◌≡◌, ◌<◌, ℕ, false, get_or}
-use Rattle.executor.specs.Script.{is_cut_at}
-use Rattle.executor.proofs.script.first_len.Given as goal
-
-abbrev pub invariant-loop-index : goal.invariant-loop-index
-invariant-loop-index l = (k : ℕ) → k < l.index → is_cut_at l.cut (get_or l.text k 0) ≡ false
