@@ -1,7 +1,7 @@
 -- What the value of tokens is: that of the word that they stand for.
 use Rattle.std.proofs.Common.{◌≡◌, ℕ, zero, suc, Bool, true, false, List, [], ◌∷◌, ◌++◌, Option, refl, ap, subst, ◌∙◌, sym, append_assoc, append-nil}
 use Rattle.std.specs.Prelude.{if◌then◌else◌, Result}
-use Rattle.words.specs.declared.fault.Fault.{Fault}
+use Rattle.plain.specs.declared.fault.Fault.{Fault}
 use Rattle.expand.specs.Value.{Parts, is_filled, text_of, value}
 use Rattle.expand.specs.PrivateTokens.{innermost, around, with_plain, levels, word_of}
 use Rattle.expand.specs.PrivateExpanding.{run}

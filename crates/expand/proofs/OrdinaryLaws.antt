@@ -6,13 +6,15 @@ use Rattle.std.proofs.lemmas.Bool.{true≢false}
 use Rattle.std.proofs.lemmas.Bool.Decides.{nat_tests}
 use Rattle.std.proofs.lemmas.Str.{encode_ascii, encodes-chars}
 use lib.Utf8.{encode, encodes}
-use Rattle.lines.specs.Blanks.{is_blank}
-use Rattle.lines.specs.Escapes.{byte_of}
-use Rattle.lines.specs.declared.line.Escape.{Escape}
-use Rattle.lines.specs.declared.line.Escape.TheVariants.{Backslash, Backtick}
+use Rattle.ascii.specs.Blanks.{is_blank}
+use Rattle.lines.specs.Escape.{byte_of}
+use Rattle.lines.specs.declared.escape.Escape.{Escape}
+use Rattle.lines.specs.declared.escape.Escape.TheVariants.{Backslash, Backtick}
 use Rattle.words.specs.declared.class.Class.{Class}
 use Rattle.words.specs.declared.class.Class.TheVariants.{Blank, SingleQuote, DoubleQuote, Dollar, Equals, EscapeCharacter, Other}
-use Rattle.words.specs.Parts.{class_of, Held, kept, Part, blank, plain, held_text, part_text, IsPlain, written as parts_text, Stands as PartStands, AllStand, is_bare, has_open}
+use Rattle.words.specs.Class.{class_of}
+use Rattle.words.specs.Parts.{Held, kept, Part, blank, plain, held_text, part_text, IsPlain, written as parts_text, Stands as PartStands, AllStand}
+use Rattle.words.specs.Cutting.{is_bare, has_open}
 use Rattle.expand.specs.Value.{Parts, no_part, byte, with_text, value}
 use Rattle.expand.specs.Scan.{marked_held, marked_part, marked, is_freed, AreFreed, IsScanned, IsScannedBare, IsScannedQuoted}
 use Rattle.expand.specs.Syntax.{Syntax, ended, standing, active, written, Stands, parts_of}

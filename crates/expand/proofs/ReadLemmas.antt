@@ -11,7 +11,7 @@ use Rattle.expand.specs.PrivateOutput.{bytewise}
 use Rattle.expand.specs.PrivateReading.{IsStep, Step, step, sign_of, pieces_from, pieces}
 use Rattle.expand.specs.declared.state.Reading.{Reading}
 use Rattle.std.specs.Str.{chars}
-use Rattle.lines.specs.declared.line.Escape.{Escape}
+use Rattle.lines.specs.declared.escape.Escape.{Escape}
 use Rattle.expand.specs.declared.kind.Kind.{Kind}
 use Rattle.expand.specs.PrivateScan.{scanned}
 use Rattle.expand.specs.Word.{word}

@@ -4,17 +4,19 @@ use Rattle.std.proofs.Common.{sym, ◌∙◌, ap, ap₂, subst, append_assoc, ap
 use Rattle.std.proofs.lemmas.Bool.{true≢false}
 use Rattle.std.proofs.lemmas.Bool.Decides.{nat_tests}
 use Rattle.std.specs.Str.{IsUtf8, chars}
-use Rattle.lines.specs.Escapes.{byte_of}
-use Rattle.lines.specs.declared.line.Escape.{Escape}
+use Rattle.lines.specs.Escape.{byte_of}
+use Rattle.lines.specs.declared.escape.Escape.{Escape}
 use Rattle.words.specs.declared.class.Class.{Class}
 use Rattle.words.specs.declared.class.Class.TheVariants.{Blank, SingleQuote, DoubleQuote, Dollar, EscapeCharacter}
-use Rattle.words.specs.Parts.{class_of, Held, kept, freed, Part, held_text, has_open}
-use Rattle.words.specs.Reading.{Begun, nothing, escaping, in_single, in_double, in_double_escaping, ended_by, begun_by, ended_at_end, parts_from, parts, ends_open}
-use Rattle.words.specs.PartLaws.{parts-made, parts-only}
-use Rattle.words.specs.Places.{place_after}
-use Rattle.words.specs.PlaceLaws.{place_of, place_more, has_open-more, ends_open-chars}
-use Rattle.words.specs.declared.class.Place.{Place}
-use Rattle.words.specs.declared.class.Place.TheVariants.{Outside}
+use Rattle.words.specs.Class.{class_of}
+use Rattle.words.specs.Parts.{Held, kept, freed, Part, held_text}
+use Rattle.words.specs.Cutting.{has_open, ends_open}
+use Rattle.words.specs.ReadParts.{Begun, nothing, escaping, in_single, in_double, in_double_escaping, ended_by, begun_by, ended_at_end, parts_from, parts}
+use Rattle.words.proofs.PartLaws.{parts-made, parts-only}
+use Rattle.words.specs.Quote.{state_after}
+use Rattle.words.proofs.QuoteLaws.{state_of, state_more, has_open-more, ends_open-chars}
+use Rattle.words.specs.declared.quote.QuoteState.{QuoteState}
+use Rattle.words.specs.declared.quote.QuoteState.TheVariants.{Outside}
 use Rattle.expand.specs.Scan.{marked_held, marked_part, marked, is_freed, IsIdleBefore, AreFreed, IsScannedBare, IsScannedQuoted, IsScanned}
 use Rattle.expand.specs.PrivateScan.{emitted, emitted_at_end, quoted_from, bare_from, quoted_unless, scanned}
 use Rattle.expand.specs.declared.character.Character.{Character}
@@ -71,7 +73,7 @@ held-idle e hs c = held-more hs (kept (byte_of e) ∷ kept c ∷ []) ∙ ap (λ 
 quotes_end : (ms : List Character) → ms ++ [] ≡ (ms ++ []) ++ []
 quotes_end ms = sym (append-nil (ms ++ []))
 
-marks_more : (e : Escape) (b : Begun) (k : Class) (c : ℕ) → begun_marks b ++ emitted e (place_of b) k c ≡ marked (ended_by b k c) ++ begun_marks (begun_by e b k c)
+marks_more : (e : Escape) (b : Begun) (k : Class) (c : ℕ) → begun_marks b ++ emitted e (state_of b) k c ≡ marked (ended_by b k c) ++ begun_marks (begun_by e b k c)
 marks_more e nothing Blank c = refl
 marks_more e nothing _ c = refl
 marks_more e escaping Blank c = refl
@@ -86,7 +88,7 @@ marks_more e (in_double_escaping hs) Dollar c = held-more hs (freed c ∷ [])
 marks_more e (in_double_escaping hs) EscapeCharacter c = held-more hs (freed c ∷ [])
 marks_more e (in_double_escaping hs) _ c = held-idle e hs c
 
-at_end : (e : Escape) (b : Begun) → found (ended_at_end e b) ≡ option_map (λ (t : List Character). begun_marks b ++ t) (emitted_at_end e (place_of b))
+at_end : (e : Escape) (b : Begun) → found (ended_at_end e b) ≡ option_map (λ (t : List Character). begun_marks b ++ t) (emitted_at_end e (state_of b))
 at_end e nothing = refl
 at_end e escaping = refl
 at_end e (in_single cs) = refl
@@ -94,16 +96,16 @@ at_end e (in_double hs) = refl
 at_end e (in_double_escaping hs) = refl
 
 -- going through a text character by character leaves what its parts leave
-quoted_from-found : (e : Escape) (b : Begun) (text : List ℕ) → found (parts_from e b text) ≡ option_map (λ (t : List Character). begun_marks b ++ t) (quoted_from e (place_of b) text)
+quoted_from-found : (e : Escape) (b : Begun) (text : List ℕ) → found (parts_from e b text) ≡ option_map (λ (t : List Character). begun_marks b ++ t) (quoted_from e (state_of b) text)
 quoted_from-found e b [] = at_end e b
 quoted_from-found e b (c ∷ cs) =
     let k : Class = class_of e c in
     let next : Begun = begun_by e b k c in
     found_more b k c (parts_from e next cs)
     ∙ ap (λ (o : Option (List Character)). option_map (λ (t : List Character). marked (ended_by b k c) ++ t) o) (quoted_from-found e next cs)
-    ∙ map_twice (marked (ended_by b k c)) (begun_marks next) (quoted_from e (place_of next) cs)
-    ∙ ap₂ (λ (ms : List Character) (p : Place). option_map (λ (t : List Character). ms ++ t) (quoted_from e p cs)) (sym (marks_more e b k c)) (sym (place_more e b k c))
-    ∙ sym (map_twice (begun_marks b) (emitted e (place_of b) k c) (quoted_from e (place_after (place_of b) k) cs))
+    ∙ map_twice (marked (ended_by b k c)) (begun_marks next) (quoted_from e (state_of next) cs)
+    ∙ ap₂ (λ (ms : List Character) (p : QuoteState). option_map (λ (t : List Character). ms ++ t) (quoted_from e p cs)) (sym (marks_more e b k c)) (sym (state_more e b k c))
+    ∙ sym (map_twice (begun_marks b) (emitted e (state_of b) k c) (quoted_from e (state_after (state_of b) k) cs))
 
 map_none : (o : Option (List Character)) → option_map (λ (t : List Character). t) o ≡ o
 map_none None = refl

@@ -2,7 +2,7 @@
 use Rattle.std.specs.Prelude.{◌≡◌, ℕ, List, Option, Some, None, option_map, option_and_then, refl}
 use Rattle.std.proofs.Common.{sym, ◌∙◌, ap}
 use Rattle.std.specs.Str.{chars}
-use Rattle.lines.specs.declared.line.Escape.{Escape}
+use Rattle.lines.specs.declared.escape.Escape.{Escape}
 use Rattle.expand.specs.Value.{Parts}
 use Rattle.expand.specs.PrivateTokens.{word_of}
 use Rattle.expand.specs.PrivatePieces.{Piece, tokens}

@@ -1,8 +1,8 @@
 -- How a word is expanded token by token: what the private functions of src/expanding.rt say.
 use Rattle.std.specs.Prelude.{◌≡◌, ◌<◌, ◌≤◌, ℕ, suc, zero, List, [], ◌∷◌, ◌++◌, if◌then◌else◌, Option, length, Result, Ok, Err}
 use Rattle.plain.specs.declared.refusal.Code.TheVariants.{R18}
-use Rattle.words.specs.declared.fault.Fault.{Fault}
-use Rattle.words.specs.declared.fault.Fault.TheVariants.{Refused, Memory}
+use Rattle.plain.specs.declared.fault.Fault.{Fault}
+use Rattle.plain.specs.declared.fault.Fault.TheVariants.{Because, Memory}
 use Rattle.expand.specs.Value.{is_filled, text_of}
 use Rattle.expand.specs.declared.token.Token.{Token}
 use Rattle.expand.specs.declared.token.Token.TheVariants.{Plain, Variable, Default, Alternative, Close}
@@ -24,5 +24,5 @@ run s (suc n) (Close ∷ ts) = run s n ts
 -- a piece is added to a text within a limit, or the two together are longer
 abbrev pub IsPushed : ℕ → List ℕ → List ℕ → List ℕ → Result (Unit {0}) Fault → Type 0
 IsPushed limit old piece new (Ok u) = (new ≡ old ++ piece) × (length new ≤ limit)
-IsPushed limit old piece new (Err (Refused code)) = (code ≡ R18) × (limit < length (old ++ piece))
+IsPushed limit old piece new (Err (Because code)) = (code ≡ R18) × (limit < length (old ++ piece))
 IsPushed limit old piece new (Err Memory) = Unit {0}

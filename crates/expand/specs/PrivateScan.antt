@@ -1,14 +1,16 @@
 -- How a text is scanned character by character: what the private functions of src/scan.rt say.
 use Rattle.std.specs.Prelude.{ℕ, Bool, true, false, List, [], ◌∷◌, ◌++◌, ◌==◌, if◌then◌else◌, Option, Some, None, option_map}
-use Rattle.lines.specs.Escapes.{byte_of}
-use Rattle.lines.specs.declared.line.Escape.{Escape}
-use Rattle.words.specs.Parts.{class_of, acts_before, has_open}
-use Rattle.words.specs.Places.{place_after}
-use Rattle.words.specs.Reading.{parts}
+use Rattle.lines.specs.Escape.{byte_of}
+use Rattle.lines.specs.declared.escape.Escape.{Escape}
+use Rattle.words.specs.Class.{class_of}
+use Rattle.words.specs.Parts.{acts_before}
+use Rattle.words.specs.Cutting.{has_open}
+use Rattle.words.specs.Quote.{state_after}
+use Rattle.words.specs.ReadParts.{parts}
 use Rattle.words.specs.declared.class.Class.{Class}
 use Rattle.words.specs.declared.class.Class.TheVariants.{SingleQuote, DoubleQuote, EscapeCharacter}
-use Rattle.words.specs.declared.class.Place.{Place}
-use Rattle.words.specs.declared.class.Place.TheVariants.{Outside, Escaped, Single, Double, DoubleEscaped}
+use Rattle.words.specs.declared.quote.QuoteState.{QuoteState}
+use Rattle.words.specs.declared.quote.QuoteState.TheVariants.{Outside, Escaped, Single, Double, DoubleEscaped}
 use Rattle.expand.specs.Scan.{marked, is_freed}
 use Rattle.expand.specs.declared.character.Character.{Character}
 use Rattle.expand.specs.declared.character.Character.TheVariants.{Active, Literal}
@@ -16,7 +18,7 @@ use Rattle.expand.specs.declared.kind.Kind.{Kind}
 use Rattle.expand.specs.declared.kind.Kind.TheVariants.{Quoted, Unquoted}
 
 -- what one more character of a class leaves. An escape character is held back until it is known whether it acts
-abbrev pub emitted : Escape → Place → Class → ℕ → List Character
+abbrev pub emitted : Escape → QuoteState → Class → ℕ → List Character
 emitted e Outside SingleQuote c = []
 emitted e Outside DoubleQuote c = []
 emitted e Outside EscapeCharacter c = []
@@ -30,15 +32,15 @@ emitted e Double _ c = Active c ∷ []
 emitted e DoubleEscaped k c = if acts_before k then Literal c ∷ [] else Active (byte_of e) ∷ Active c ∷ []
 
 -- what the end of the text leaves; none in a quote
-abbrev pub emitted_at_end : Escape → Place → Option (List Character)
+abbrev pub emitted_at_end : Escape → QuoteState → Option (List Character)
 emitted_at_end e Outside = Some []
 emitted_at_end e Escaped = Some (Active (byte_of e) ∷ [])
 emitted_at_end e _ = None
 
 -- what a text leaves
-abbrev pub quoted_from : Escape → Place → List ℕ → Option (List Character)
+abbrev pub quoted_from : Escape → QuoteState → List ℕ → Option (List Character)
 quoted_from e p [] = emitted_at_end e p
-quoted_from e p (c ∷ cs) = option_map (λ found. emitted e p (class_of e c) c ++ found) (quoted_from e (place_after p (class_of e c)) cs)
+quoted_from e p (c ∷ cs) = option_map (λ found. emitted e p (class_of e c) c ++ found) (quoted_from e (state_after p (class_of e c)) cs)
 
 -- an escape character at the end of a text stands for itself (own)
 abbrev pub bare_at_end : Escape → Bool → List Character

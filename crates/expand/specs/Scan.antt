@@ -1,8 +1,9 @@
 -- The scan of a text: which of its characters are active, and which text is left.
 use Rattle.std.specs.Prelude.{◌≡◌, ℕ, Bool, true, false, List, [], ◌∷◌, ◌++◌, ◌==◌, ◌||◌, map}
-use Rattle.lines.specs.Escapes.{byte_of}
-use Rattle.lines.specs.declared.line.Escape.{Escape}
-use Rattle.words.specs.Parts.{Held, kept, freed, Part, blank, plain, escaped, single, double, open_single, open_double, held_text, IsMadeOf, has_open}
+use Rattle.lines.specs.Escape.{byte_of}
+use Rattle.lines.specs.declared.escape.Escape.{Escape}
+use Rattle.words.specs.Parts.{Held, kept, freed, Part, blank, plain, escaped, single, double, open_single, open_double, held_text, IsMadeOf}
+use Rattle.words.specs.Cutting.{has_open}
 use Rattle.expand.specs.Syntax.{dollar}
 use Rattle.expand.specs.declared.character.Character.{Character}
 use Rattle.expand.specs.declared.character.Character.TheVariants.{Active, Literal}

@@ -2,8 +2,8 @@
 
 ghost use Rattle.std.specs.Prelude.{◌≡◌, ◌≢◌, ◌↔◌, ◌++◌, [], ℕ, true, List, Option, Some, None};
 ghost use Rattle.std.specs.Str.{IsUtf8, chars};
-ghost use Rattle.lines.specs.declared.line.Escape.{Escape};
-ghost use Rattle.words.specs.Reading.{ends_open};
+ghost use Rattle.lines.specs.declared.escape.Escape.{Escape};
+ghost use Rattle.words.specs.Cutting.{ends_open};
 ghost use Rattle.expand.specs.Value.{Parts, no_part, variable, with_default, with_alternative, with_text, value};
 ghost use Rattle.expand.specs.Syntax.{Syntax, Stands, written};
 ghost use Rattle.expand.specs.Word.{IsWord, AreOrdinary, word};

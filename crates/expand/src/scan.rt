@@ -1,14 +1,14 @@
 ghost use Rattle.std.specs.Prelude.{◌≡◌, ◌++◌, false, Some, IfOk, option_map};
 ghost use Rattle.expand.specs.Scan.{is_freed};
 ghost use Rattle.expand.specs.PrivateScan.{scanned, bare_from, emitted, quoted_from};
-ghost use Rattle.words.specs.declared.class.Place.{Place};
+ghost use Rattle.words.specs.declared.quote.QuoteState.{QuoteState};
 
 use crate::character::Character;
 use crate::kind::Kind;
 use lines::Escape;
 use plain::Memory;
 use std::alloc::Global;
-use words::{Class, Place};
+use words::{Class, QuoteState};
 
 /// The characters that a text leaves, each marked; none where a quote is open.
 ///
@@ -34,24 +34,24 @@ pub fn scan(
 fn emit(
     found: &mut Vec<Character>,
     escape: Escape,
-    place: Place,
+    place: QuoteState,
     class: Class,
     character: char,
 ) -> Result<(), Memory>
     ensures { IfOk result (λ _. found.new.items ≡ found.old.items ++ emitted escape place class character) }
 {
     match (place, class) {
-        (Place::Outside, Class::SingleQuote | Class::DoubleQuote | Class::EscapeCharacter) => {}
-        (Place::Outside, _) => found.push(Character::Active(character))?,
-        (Place::Escaped, _) => found.push(Character::Literal(character))?,
-        (Place::Single, Class::SingleQuote) => {}
-        (Place::Single, _) => found.push(Character::Literal(character))?,
-        (Place::Double, Class::DoubleQuote | Class::EscapeCharacter) => {}
-        (Place::Double, _) => found.push(Character::Active(character))?,
-        (Place::DoubleEscaped, Class::DoubleQuote | Class::Dollar | Class::EscapeCharacter) => {
+        (QuoteState::Outside, Class::SingleQuote | Class::DoubleQuote | Class::EscapeCharacter) => {}
+        (QuoteState::Outside, _) => found.push(Character::Active(character))?,
+        (QuoteState::Escaped, _) => found.push(Character::Literal(character))?,
+        (QuoteState::Single, Class::SingleQuote) => {}
+        (QuoteState::Single, _) => found.push(Character::Literal(character))?,
+        (QuoteState::Double, Class::DoubleQuote | Class::EscapeCharacter) => {}
+        (QuoteState::Double, _) => found.push(Character::Active(character))?,
+        (QuoteState::DoubleEscaped, Class::DoubleQuote | Class::Dollar | Class::EscapeCharacter) => {
             found.push(Character::Literal(character))?
         }
-        (Place::DoubleEscaped, _) => {
+        (QuoteState::DoubleEscaped, _) => {
             found.push(Character::Active(char::from(escape.byte())))?;
             found.push(Character::Active(character))?
         }
@@ -64,22 +64,22 @@ fn scan_quoted(
     escape: Escape,
     text: &[char],
 ) -> Result<Option<Vec<Character>>, Memory>
-    ensures { IfOk result (λ found. option_map (λ v. v.items) found ≡ quoted_from escape Place.Outside text.now) }
+    ensures { IfOk result (λ found. option_map (λ v. v.items) found ≡ quoted_from escape QuoteState.Outside text.now) }
 {
     let mut found = Vec::with_capacity(alloc, text.len())?;
-    let mut place = Place::Outside;
+    let mut place = QuoteState::Outside;
     for character in text {
         let class = Class::of(escape, *character);
         emit(&mut found, escape, place, class, *character)?;
         place = place.after(class);
     }
     match place {
-        Place::Outside => Ok(Some(found)),
-        Place::Escaped => {
+        QuoteState::Outside => Ok(Some(found)),
+        QuoteState::Escaped => {
             found.push(Character::Active(char::from(escape.byte())))?;
             Ok(Some(found))
         }
-        Place::Single | Place::Double | Place::DoubleEscaped => Ok(None),
+        QuoteState::Single | QuoteState::Double | QuoteState::DoubleEscaped => Ok(None),
     }
 }
 

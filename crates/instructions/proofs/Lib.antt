@@ -1,2 +1,4 @@
-pub mod CutLemmas
-pub mod TextLemmas
+mod CutLemmas
+mod LeastLaws
+mod SpellsLaws
+mod TextLemmas

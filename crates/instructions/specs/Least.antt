@@ -3,8 +3,8 @@ use Rattle.std.specs.Prelude.{◌≡◌, ◌≤◌, Bool, true, List, [], ◌∷
 use Rattle.plain.specs.Codes.{number_of}
 use Rattle.plain.specs.declared.refusal.Code.{Code}
 use Rattle.plain.specs.declared.refusal.Code.TheVariants.{R01, R02, R03, R04, R05, R06, R07, R08, R09, R10, R11, R12, R13, R14, R15, R16, R17, R18, R19, R20}
-use Rattle.words.specs.declared.fault.Fault.{Fault}
-use Rattle.words.specs.declared.fault.Fault.TheVariants.{Refused, Memory}
+use Rattle.plain.specs.declared.fault.Fault.{Fault}
+use Rattle.plain.specs.declared.fault.Fault.TheVariants.{Because, Memory}
 
 -- the codes in ascending order
 abbrev pub all_codes : List Code
@@ -27,5 +27,5 @@ IsLeast due c = (due c ≡ true) × ((d : Code) → due d ≡ true → number_of
 -- is due, else the least code; want of memory says nothing of the text
 abbrev pub Meets : {X : Type 0} → Option X → (Code → Bool) → Result X Fault → Type 0
 Meets made due (Ok x) = (made ≡ Some x) × (least due ≡ None)
-Meets made due (Err (Refused c)) = least due ≡ Some c
+Meets made due (Err (Because c)) = least due ≡ Some c
 Meets made due (Err Memory) = Unit {0}

@@ -2,14 +2,15 @@
 -- mark stands alone, that no body is empty or begins with `#!`, and that there is something to run: own).
 use Rattle.std.specs.Prelude.{ℕ, ◌==◌, ◌||◌, ◌&&◌, Bool, true, false, not, List, [], ◌∷◌, Option, Some, None, is_some, option_map, length, nat_lt}
 use Rattle.std.specs.List.{list_any}
+use Rattle.plain.specs.Limits.{most_mounts}
 use Rattle.plain.specs.declared.refusal.Code.{Code}
 use Rattle.plain.specs.declared.refusal.Code.TheVariants.{R06, R07, R08, R17, R18}
 use Rattle.lines.specs.declared.line.Heredoc.{Heredoc}
-use Rattle.words.specs.Flags.{flags, behind_flags}
+use Rattle.words.specs.Flag.{flags, behind_flags}
 use Rattle.words.specs.Form.{json_form}
-use Rattle.words.specs.Pieces.{behind_piece}
+use Rattle.ascii.specs.Pieces.{behind_piece}
 use Rattle.options.specs.Mounts.{are_mount_flags, mounts}
-use Rattle.instructions.specs.Commands.{command_of}
+use Rattle.instructions.specs.Command.{command_of}
 use Rattle.instructions.specs.declared.instruction.InstructionKind.{InstructionKind}
 use Rattle.instructions.specs.declared.instruction.InstructionKind.TheVariants.{Run}
 use Rattle.instructions.specs.declared.instruction.Command.{Command}
@@ -33,19 +34,23 @@ is_mark_beside [] rest = false
 is_mark_beside (h ∷ []) rest = not (length (behind_piece rest) == 0)
 is_mark_beside (h ∷ second ∷ hs) rest = true
 
+-- the two characters with which a script names its interpreter (Linux, execve)
+
+abbrev pub hash : ℕ
+hash = 35
+
+abbrev pub exclamation_mark : ℕ
+exclamation_mark = 33
+
 -- whether a text begins with `#!`
 abbrev pub names_interpreter : List ℕ → Bool
 names_interpreter [] = false
 names_interpreter (c ∷ []) = false
-names_interpreter (c ∷ d ∷ rest) = (c == 35) && (d == 33)
+names_interpreter (c ∷ d ∷ rest) = (c == hash) && (d == exclamation_mark)
 
 -- what a text behind RUN is read as, in a line with these heredocs
 abbrev pub run_read : List Heredoc → List ℕ → Option InstructionKind
 run_read hs text = option_map (λ ms. Run ms (run_command hs (behind_flags text))) (mounts (flags text))
-
--- how many mounts a RUN has at most (own)
-abbrev pub most_mounts : ℕ
-most_mounts = 16
 
 -- the codes that are due for RUN with these heredocs and what stands behind it; its flags are all mounts where R07 isn't due
 abbrev pub run_due : List Heredoc → List ℕ → Code → Bool

@@ -1,147 +1,139 @@
-ghost use Rattle.std.specs.Prelude.{◌≡◌, ◌∷◌, ◌==◌, ℕ, false, not, is_some, List, length, filter, nat_lt, option_map, IfOk};
+ghost use Rattle.std.specs.Prelude.{◌≡◌, false, length, nat_lt};
 ghost use Rattle.options.specs.Lists.{all_some};
-ghost use Rattle.expand.specs.Reading.{word};
-ghost use Rattle.instructions.specs.Copy.{files, body_of, document, sources, arguments_of, has_bad_text, are_refused, copy_read, copy_due};
+ghost use Rattle.expand.specs.Word.{Finds};
+ghost use Rattle.instructions.specs.Copy.{pattern_of, body_of, document_of, source_of, left_behind, sources, arguments_of, are_all_sources, are_refused, copy_read, copy_due};
 ghost use Rattle.instructions.specs.Expanded.{kind_of};
 ghost use Rattle.instructions.specs.Least.{Meets};
-ghost use Rattle.instructions.specs.Lists.{lacks_one};
-ghost use Rattle.instructions.specs.Names.{is_mark};
-ghost use Rattle.instructions.specs.Shown.{shown};
+ghost use Rattle.instructions.specs.PrivateLent.{lent_texts};
 
-use crate::expanded::{kind_of, texts, word_of};
+use crate::expanded::{kind_of, texts};
 use crate::names::is_mark;
 use crate::{Body, InstructionKind, Source};
 use expand::{Kind, Word};
 use lines::{Escape, Heredoc};
 use options::{are_copy_flags, copy_flags, has_from};
-use plain::{Code, Exact, Items, Memory};
+use plain::{Code, Exact, Items};
 use std::alloc::Global;
 use words::{Fault, Flag, closed, flags, json_form};
 
-/// The source of a text that is no mark, where it is a word.
-fn files(alloc: Global, is_list: bool, escape: Escape, text: &str) -> Result<Option<Source>, Memory>
-    ensures { IfOk result (λ source. source ≡ files is_list escape text.now) }
+/// The source of a text that is no mark; R09 where it is no word.
+fn read_pattern(alloc: Global, is_list: bool, escape: Escape, text: &str) -> Result<Source, Fault>
+    ensures { Finds (pattern_of is_list escape text.now) result }
 {
-    match word_of(alloc, kind_of(is_list), escape, text)? {
-        Some(pattern) => Ok(Some(Source::Files(pattern))),
-        None => Ok(None),
-    }
+    let pattern = Word::read(alloc, kind_of(is_list), escape, text)?;
+    Ok(Source::Files(pattern))
 }
 
-/// The body of a heredoc, where it is its own value or a word.
-fn body_of(alloc: Global, escape: Escape, heredoc: &Heredoc) -> Result<Option<Body>, Memory>
-    ensures { IfOk result (λ body. body ≡ body_of escape heredoc.now) }
+/// The body of a heredoc; R09 where it is expanded and is no word.
+fn read_body(alloc: Global, escape: Escape, heredoc: &Heredoc) -> Result<Body, Fault>
+    ensures { Finds (body_of escape heredoc.now) result }
 {
     if heredoc.mark.quoted {
-        return Ok(Some(Body::Literal(heredoc.body.copy(alloc)?)));
+        return Ok(Body::Literal(heredoc.body.copy(alloc)?));
     }
-    match word_of(alloc, Kind::Body, escape, heredoc.body.as_str())? {
-        Some(body) => Ok(Some(Body::Expanded(body))),
-        None => Ok(None),
-    }
+    let body = Word::read(alloc, Kind::Unquoted, escape, heredoc.body.as_str())?;
+    Ok(Body::Expanded(body))
 }
 
-/// The file that a heredoc is, where its body can be read.
-fn document(alloc: Global, escape: Escape, heredoc: &Heredoc) -> Result<Option<Source>, Memory>
-    ensures { IfOk result (λ source. source ≡ document escape heredoc.now) }
+/// The file that a heredoc is; R09 where its body is expanded and is no word.
+fn read_document(alloc: Global, escape: Escape, heredoc: &Heredoc) -> Result<Source, Fault>
+    ensures { Finds (document_of escape heredoc.now) result }
 {
-    let Some(body) = body_of(alloc, escape, heredoc)? else {
-        return Ok(None);
-    };
+    let body = read_body(alloc, escape, heredoc)?;
     let name = heredoc.mark.name.copy(alloc)?;
-    Ok(Some(Source::Document { name, body }))
+    Ok(Source::Document { name, body })
 }
 
-/// A text's source and the heredocs that are left for those behind it.
-fn next_source<'a>(
+/// The source of a text before which these heredocs are left; R09 where what is expanded is no word.
+fn read_source(
     alloc: Global,
     is_list: bool,
     escape: Escape,
-    heredocs: &'a [Heredoc],
+    heredocs: &[Heredoc],
     text: &str,
-) -> Result<(Option<Source>, &'a [Heredoc]), Memory>
-    ensures { IfOk result (λ next. (ts : List (List ℕ)) → sources is_list escape heredocs.entry.now (text.now ∷ ts) ≡ next.0 ∷ sources is_list escape next.1.now ts) }
+) -> Result<Source, Fault>
+    ensures { Finds (source_of is_list escape heredocs.now text.now) result }
 {
-    if let [heredoc, others @ ..] = heredocs {
-        if is_mark(text) {
-            return Ok((document(alloc, escape, heredoc)?, others));
-        }
+    match heredocs {
+        [heredoc, ..] if is_mark(text) => read_document(alloc, escape, heredoc),
+        _ => read_pattern(alloc, is_list, escape, text),
     }
-    Ok((files(alloc, is_list, escape, text)?, heredocs))
 }
 
-/// The sources of texts, where a mark is the next heredoc and each text or body that is expanded is a word.
-fn sources(
+/// The heredocs that are left behind a text.
+fn left_behind<'a>(heredocs: &'a [Heredoc], text: &str) -> &'a [Heredoc]
+    ensures { result.now ≡ left_behind heredocs.entry.now text.now }
+{
+    match heredocs {
+        [_, others @ ..] if is_mark(text) => others,
+        _ => heredocs,
+    }
+}
+
+/// The sources of texts, where a mark is the next heredoc; R09 where what is expanded is no word.
+fn read_sources(
     alloc: Global,
     is_list: bool,
     escape: Escape,
     heredocs: &[Heredoc],
     texts: &[&str],
-) -> Result<Option<Items<Source>>, Memory>
-    ensures sources { IfOk result (λ found. found ≡ all_some (sources is_list escape heredocs.now (shown texts.now))) }
-    ensures lacking { IfOk result (λ found. lacks_one (sources is_list escape heredocs.now (shown texts.now)) ≡ not (is_some found)) }
+) -> Result<Items<Source>, Fault>
+    ensures { Finds (all_some (sources is_list escape heredocs.now (lent_texts texts.now))) result }
 {
     let mut left = heredocs;
     let mut found = Items::new(alloc);
     for text in texts {
-        let (source, others) = next_source(alloc, is_list, escape, left, text)?;
-        let Some(source) = source else {
-            return Ok(None);
-        };
+        let source = read_source(alloc, is_list, escape, left, text)?;
         found.push(source)?;
-        left = others;
+        left = left_behind(left, text);
     }
-    Ok(Some(found))
+    Ok(found)
 }
 
-/// How many of the texts are marks.
-fn count_marks(texts: &[&str]) -> usize
-    ensures { result ≡ length (filter is_mark (shown texts.now)) }
+/// Whether each heredoc's mark is one of these sources, and no other source is a mark.
+fn are_all_sources(heredocs: &[Heredoc], texts: &[&str]) -> bool
+    ensures { result ≡ are_all_sources heredocs.now (lent_texts texts.now) }
 {
-    let mut count: usize = 0;
+    let mut left = heredocs;
     for text in texts {
-        if is_mark(text) {
-            count += 1;
+        if left.is_empty() && is_mark(text) {
+            return false;
         }
+        left = left_behind(left, text);
     }
-    count
+    left.is_empty()
 }
 
 /// Whether heredocs aren't allowed: a mark is no source of its own, or sources are taken from elsewhere.
-#[tactic(auto, using(crate::proofs::TextLemmas::but_last_shown))]
+#[tactic(auto, using(crate::proofs::TextLemmas::but_last_lent))]
 fn are_refused(is_list: bool, heredocs: &[Heredoc], texts: &[&str], flags: &[Flag]) -> bool
     requires { nat_lt (length texts.now) 2 ≡ false }
-    ensures { result ≡ are_refused is_list heredocs.now (shown texts.now) flags.now }
+    ensures { result ≡ are_refused is_list heredocs.now (lent_texts texts.now) flags.now }
 {
-    let marks = count_marks(&texts[..texts.len() - 1]);
-    !heredocs.is_empty() && (is_list || marks != heredocs.len() || has_from(flags))
+    let are_sources = are_all_sources(heredocs, &texts[..texts.len() - 1]);
+    !heredocs.is_empty() && (is_list || !are_sources || has_from(flags))
 }
 
-/// The sources and the destination of texts, of which there are two at least, where each that is expanded is a word.
-#[tactic(auto, using(crate::proofs::TextLemmas::but_last_shown, crate::proofs::TextLemmas::last_of_shown))]
-fn arguments(
+/// The sources and the destination of texts, of which there are two at least; R09 where what is expanded is no word.
+#[tactic(auto, using(crate::proofs::TextLemmas::but_last_lent, crate::proofs::TextLemmas::last_of_lent))]
+fn read_arguments(
     alloc: Global,
     is_list: bool,
     escape: Escape,
     heredocs: &[Heredoc],
     texts: &[&str],
-) -> Result<Option<(Items<Source>, Word)>, Memory>
+) -> Result<(Items<Source>, Word), Fault>
     requires { nat_lt (length texts.now) 2 ≡ false }
-    ensures arguments { IfOk result (λ found. found ≡ arguments_of is_list escape heredocs.now (shown texts.now)) }
-    ensures lacking { IfOk result (λ found. has_bad_text is_list escape heredocs.now (shown texts.now) ≡ not (is_some found)) }
+    ensures { Finds (arguments_of is_list escape heredocs.now (lent_texts texts.now)) result }
 {
     let last = texts.len() - 1;
-    let Some(sources) = sources(alloc, is_list, escape, heredocs, &texts[..last])? else {
-        return Ok(None);
-    };
-    match word_of(alloc, kind_of(is_list), escape, texts[last])? {
-        Some(destination) => Ok(Some((sources, destination))),
-        None => Ok(None),
-    }
+    let sources = read_sources(alloc, is_list, escape, heredocs, &texts[..last])?;
+    let destination = Word::read(alloc, kind_of(is_list), escape, texts[last])?;
+    Ok((sources, destination))
 }
 
 /// COPY: flags, then sources and a destination, as words or as a list in JSON.
-pub fn read_copy(
+pub(crate) fn read_copy(
     alloc: Global,
     escape: Escape,
     heredocs: &[Heredoc],
@@ -165,9 +157,7 @@ pub fn read_copy(
     if !is_list {
         closed(escape, rest)?;
     }
-    let Some((sources, destination)) = arguments(alloc, is_list, escape, heredocs, &texts)? else {
-        return Err(Fault::Refused(Code::R09));
-    };
+    let (sources, destination) = read_arguments(alloc, is_list, escape, heredocs, &texts)?;
     let Some(flags) = copy_flags(alloc, flags.as_slice())? else {
         return Err(Fault::Refused(Code::R16));
     };

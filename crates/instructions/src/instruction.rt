@@ -27,7 +27,7 @@ pub enum InstructionKind {
     },
     /// `ENV name=value`, one or more of them, or `ENV name value`.
     Env {
-        variables: Items<Variable>,
+        assignments: Items<Assignment>,
     },
     /// `LABEL key=value`, one or more of them.
     Label {
@@ -78,7 +78,7 @@ pub enum InstructionKind {
     },
 }
 
-/// A variable that ARG declares.
+/// A variable that ARG declares, and the word of its default.
 #[derive(Debug, Drop)]
 pub struct Argument {
     /// A letter or `_` followed by letters, digits and `_`.
@@ -86,9 +86,9 @@ pub struct Argument {
     pub default: Option<Word>,
 }
 
-/// A variable that ENV sets.
+/// A variable that ENV sets, and the word of its value.
 #[derive(Debug, Drop)]
-pub struct Variable {
+pub struct Assignment {
     /// A letter or `_` followed by letters, digits and `_`.
     pub name: Text,
     pub value: Word,

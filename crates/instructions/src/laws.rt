@@ -4,7 +4,7 @@ ghost use Rattle.std.specs.Prelude.{◌≡◌, ◌⊎◌, Bool, false, Some, Non
 ghost use Rattle.plain.specs.declared.refusal.Code.{Code};
 ghost use Rattle.lines.specs.declared.line.Line.{Line};
 ghost use Rattle.instructions.specs.Least.{least, IsLeast};
-ghost use Rattle.instructions.specs.Spells.{is_due, Spells};
+ghost use Rattle.instructions.specs.Parsing.{is_due, Spells};
 ghost use Rattle.instructions.specs.declared.instruction.Instruction.{Instruction};
 
 /// A line spells one instruction at most.

@@ -1,59 +1,17 @@
 ghost use Rattle.std.specs.Prelude.{◌≡◌, Bool, is_some, option_map};
 ghost use Rattle.std.specs.List.{list_all};
+ghost use Rattle.std.specs.Str.{str_eq_ignore_ascii_case};
 ghost use Rattle.lines.specs.Blanks.{starts_with};
-ghost use Rattle.lines.specs.Marks.{is_in_name, are_in_name, is_name, is_quoted_by, mark_from, after_two};
-ghost use Rattle.instructions.specs.Names.{is_digit, is_letter, is_variable_name, is_in_stage_name, has_stage_form, is_stage_name, is_mark};
+ghost use Rattle.lines.specs.Marks.{is_quoted_by, mark_from, after_two};
+ghost use Rattle.instructions.specs.Names.{is_in_stage_name, has_stage_form, is_stage_name, is_mark};
 
-use crate::keyword::is_word;
+use ascii::{is_digit, is_letter, is_name};
 
-/// Whether a byte is a digit.
-pub fn is_digit(byte: u8) -> bool
-    ensures { result ≡ is_digit byte }
+/// Whether two names differ in the case of their letters at most.
+pub(crate) fn is_same_name(one: &str, other: &str) -> bool
+    ensures { result ≡ str_eq_ignore_ascii_case one.now other.now }
 {
-    byte.is_ascii_digit()
-}
-
-/// Whether a byte is a letter.
-fn is_letter(byte: u8) -> bool
-    ensures { result ≡ is_letter byte }
-{
-    matches!(byte, b'A'..=b'Z' | b'a'..=b'z')
-}
-
-/// Whether a byte may stand in the name of a variable.
-fn is_in_name(byte: u8) -> bool
-    ensures { result ≡ is_in_name byte }
-{
-    is_letter(byte) || byte == b'_' || is_digit(byte)
-}
-
-/// Whether bytes may all stand in the name of a variable.
-fn are_in_name(bytes: &[u8]) -> bool
-    ensures { result ≡ are_in_name bytes.now }
-{
-    for byte in bytes {
-        if !is_in_name(*byte) {
-            return false;
-        }
-    }
-    true
-}
-
-/// Whether bytes are the name of a variable.
-fn is_name(bytes: &[u8]) -> bool
-    ensures { result ≡ is_name bytes.now }
-{
-    match bytes {
-        [] => false,
-        [first, rest @ ..] => (is_letter(*first) || *first == b'_') && are_in_name(rest),
-    }
-}
-
-/// Whether a text is the name of a variable: a letter or `_` followed by letters, digits or `_`.
-pub fn is_variable_name(name: &str) -> bool
-    ensures { result ≡ is_variable_name name.now }
-{
-    is_name(name.as_bytes())
+    one.eq_ignore_ascii_case(other)
 }
 
 /// Whether a byte may stand in the name of a stage.
@@ -86,10 +44,10 @@ fn has_stage_form(bytes: &[u8]) -> bool
 }
 
 /// Whether a text is the name of a stage: of that form, and not `scratch`.
-pub fn is_stage_name(name: &str) -> bool
+pub(crate) fn is_stage_name(name: &str) -> bool
     ensures { result ≡ is_stage_name name.now }
 {
-    has_stage_form(name.as_bytes()) && !is_word(b"scratch", name.as_bytes())
+    has_stage_form(name.as_bytes()) && !is_same_name(name, "scratch")
 }
 
 /// Whether a text stands in a pair of these quotes.
@@ -135,7 +93,7 @@ fn is_dashed(text: &[u8]) -> bool
 
 /// Whether a word is the mark of a heredoc, as `<<-"EOF"`.
 #[tactic(auto, unfolding(crate::specs::Names::is_mark))]
-pub fn is_mark(word: &str) -> bool
+pub(crate) fn is_mark(word: &str) -> bool
     ensures { result ≡ is_mark word.now }
 {
     let Some(rest) = after_two(word.as_bytes()) else {

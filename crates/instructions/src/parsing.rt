@@ -1,18 +1,21 @@
 ghost use Rattle.std.specs.Prelude.{option_map};
 ghost use Rattle.instructions.specs.Least.{Meets};
-ghost use Rattle.instructions.specs.Spells.{named_read, named_due, IsParsed};
+ghost use Rattle.instructions.specs.Parsing.{named_read, named_due, IsParsed};
 
-use crate::arguments::read_arg;
-use crate::commands::{read_command, read_shell};
+use crate::arg::read_arg;
+use crate::command::{read_cmd, read_entrypoint};
 use crate::copy::read_copy;
+use crate::env::read_env;
+use crate::expose::read_expose;
+use crate::from::read_from;
 use crate::keyword::{Keyword, keyword_of};
-use crate::labels::read_label;
+use crate::label::read_label;
+use crate::one_word::{read_stop_signal, read_user, read_workdir};
 use crate::run::read_run;
-use crate::stage::read_from;
-use crate::texts::{read_expose, read_only_word, read_volume};
-use crate::variables::read_env;
-use crate::{Fault, Instruction, InstructionKind};
-use lines::Line;
+use crate::shell::read_shell;
+use crate::volume::read_volume;
+use crate::{Instruction, InstructionKind};
+use lines::{Line, LineFault};
 use plain::{Code, Refusal};
 use std::alloc::Global;
 use words::first_piece;
@@ -29,7 +32,7 @@ use words::first_piece;
 /// the image of FROM, the defaults of ARG, the values of ENV, the keys and values of LABEL, and the bodies of COPY whose mark
 /// stands in no quotes.
 /// The line's heredocs are taken to be those of its marks, as a reader of lines gives them.
-pub fn parse(alloc: Global, line: &Line) -> Result<Instruction, Fault>
+pub fn parse(alloc: Global, line: &Line) -> Result<Instruction, LineFault>
     ensures { IsParsed line.now result }
 {
     let (name, rest) = first_piece(line.text.as_str());
@@ -38,9 +41,9 @@ pub fn parse(alloc: Global, line: &Line) -> Result<Instruction, Fault>
         Ok(kind) => Ok(Instruction { line: number, kind }),
         Err(words::Fault::Refused(code)) => {
             let refusal = Refusal { code, line: number };
-            Err(Fault::Refused(refusal))
+            Err(LineFault::Refused(refusal))
         }
-        Err(words::Fault::Memory) => Err(Fault::Memory),
+        Err(words::Fault::Memory) => Err(LineFault::Memory),
     }
 }
 
@@ -56,35 +59,22 @@ fn read(
     let Some(keyword) = keyword else {
         return Err(words::Fault::Refused(Code::R04));
     };
+    let escape = line.escape;
+    let heredocs = line.heredocs.as_slice();
     match keyword {
-        Keyword::From => read_from(alloc, line.escape, rest),
-        Keyword::Arg => read_arg(alloc, line.escape, rest),
-        Keyword::Env => read_env(alloc, line.escape, rest),
-        Keyword::Label => read_label(alloc, line.escape, rest),
-        Keyword::Expose => read_expose(alloc, line.escape, rest),
-        Keyword::User => match read_only_word(alloc, line.escape, rest) {
-            Ok(user) => Ok(InstructionKind::User { user }),
-            Err(fault) => Err(fault),
-        },
-        Keyword::Workdir => match read_only_word(alloc, line.escape, rest) {
-            Ok(path) => Ok(InstructionKind::Workdir { path }),
-            Err(fault) => Err(fault),
-        },
-        Keyword::StopSignal => match read_only_word(alloc, line.escape, rest) {
-            Ok(signal) => Ok(InstructionKind::StopSignal { signal }),
-            Err(fault) => Err(fault),
-        },
-        Keyword::Volume => read_volume(alloc, line.escape, rest),
+        Keyword::From => read_from(alloc, escape, rest),
+        Keyword::Arg => read_arg(alloc, escape, rest),
+        Keyword::Env => read_env(alloc, escape, rest),
+        Keyword::Label => read_label(alloc, escape, rest),
+        Keyword::Expose => read_expose(alloc, escape, rest),
+        Keyword::User => read_user(alloc, escape, rest),
+        Keyword::Workdir => read_workdir(alloc, escape, rest),
+        Keyword::StopSignal => read_stop_signal(alloc, escape, rest),
+        Keyword::Volume => read_volume(alloc, escape, rest),
         Keyword::Shell => read_shell(alloc, rest),
-        Keyword::Cmd => match read_command(alloc, rest) {
-            Ok(command) => Ok(InstructionKind::Cmd { command }),
-            Err(fault) => Err(fault),
-        },
-        Keyword::Entrypoint => match read_command(alloc, rest) {
-            Ok(command) => Ok(InstructionKind::Entrypoint { command }),
-            Err(fault) => Err(fault),
-        },
-        Keyword::Run => read_run(alloc, line.heredocs.as_slice(), rest),
-        Keyword::Copy => read_copy(alloc, line.escape, line.heredocs.as_slice(), rest),
+        Keyword::Cmd => read_cmd(alloc, rest),
+        Keyword::Entrypoint => read_entrypoint(alloc, rest),
+        Keyword::Run => read_run(alloc, heredocs, rest),
+        Keyword::Copy => read_copy(alloc, escape, heredocs, rest),
     }
 }

@@ -4,16 +4,14 @@ ghost use Rattle.words.specs.Form.{json_form};
 ghost use Rattle.instructions.specs.Least.{Meets};
 ghost use Rattle.instructions.specs.Run.{run_command, is_wordless, is_mark_beside, names_interpreter, run_read, run_due};
 
-use crate::commands::command_of;
+use crate::command::command_of;
 use crate::{Command, InstructionKind};
 use lines::Heredoc;
 use options::{are_mount_flags, mounts};
+use plain::limits::MOST_MOUNTS;
 use plain::{Code, Exact, Memory};
 use std::alloc::Global;
 use words::{Fault, first_piece, flags, json_form};
-
-/// The most mounts that a RUN has.
-const MOST_MOUNTS: usize = 16;
 
 /// The command: the body of the heredoc, else what the rest of the line is.
 fn run_command(alloc: Global, heredocs: &[Heredoc], rest: &str) -> Result<Command, Memory>
@@ -35,8 +33,8 @@ fn is_wordless(alloc: Global, text: &str) -> Result<bool, Memory>
     }
 }
 
-/// Whether a body is empty.
-fn have_empty_body(heredocs: &[Heredoc]) -> bool
+/// Whether one of the bodies is empty.
+fn has_empty_body(heredocs: &[Heredoc]) -> bool
     ensures { result ≡ list_any (λ h. length h.body == 0) heredocs.now }
 {
     for heredoc in heredocs {
@@ -65,8 +63,8 @@ fn names_interpreter(body: &[u8]) -> bool
     matches!(body, [b'#', b'!', ..])
 }
 
-/// Whether one of the bodies does.
-fn have_interpreter(heredocs: &[Heredoc]) -> bool
+/// Whether one of the bodies names its interpreter.
+fn has_interpreter(heredocs: &[Heredoc]) -> bool
     ensures { result ≡ list_any (λ h. names_interpreter h.body) heredocs.now }
 {
     for heredoc in heredocs {
@@ -78,17 +76,21 @@ fn have_interpreter(heredocs: &[Heredoc]) -> bool
 }
 
 /// RUN: mounts, then one heredoc's mark, or a list in JSON, or a text for the shell.
-pub fn read_run(alloc: Global, heredocs: &[Heredoc], text: &str) -> Result<InstructionKind, Fault>
+pub(crate) fn read_run(
+    alloc: Global,
+    heredocs: &[Heredoc],
+    text: &str,
+) -> Result<InstructionKind, Fault>
     ensures { Meets (run_read heredocs.now text.now) (run_due heredocs.now text.now) result }
 {
     let (flags, rest) = flags(alloc, text)?;
-    if rest.is_empty() || is_wordless(alloc, rest)? || have_empty_body(heredocs) {
+    if rest.is_empty() || is_wordless(alloc, rest)? || has_empty_body(heredocs) {
         return Err(Fault::Refused(Code::R06));
     }
     if !are_mount_flags(flags.as_slice()) {
         return Err(Fault::Refused(Code::R07));
     }
-    if is_mark_beside(heredocs, rest) || have_interpreter(heredocs) {
+    if is_mark_beside(heredocs, rest) || has_interpreter(heredocs) {
         return Err(Fault::Refused(Code::R08));
     }
     let Some(mounts) = mounts(alloc, flags.as_slice())? else {

@@ -4,10 +4,11 @@ use Rattle.std.specs.Prelude.{Result, Ok, Err}
 use Rattle.std.specs.Result.{IsErrAnd}
 use Rattle.std.proofs.lemmas.Bool.{lt-ltb, le-ltb}
 use Rattle.std.proofs.lemmas.List.{at_drop_more}
-use Rattle.words.specs.declared.fault.Fault.{Fault}
-use Rattle.words.specs.declared.fault.Fault.TheVariants.{Refused, Memory}
+use Rattle.plain.specs.declared.fault.Fault.{Fault}
+use Rattle.plain.specs.declared.fault.Fault.TheVariants.{Because, Memory}
 use Rattle.expand.specs.Value.{value}
-use Rattle.expand.specs.Expanding.{Expands, longest}
+use Rattle.expand.specs.Expanding.{Expands}
+use Rattle.plain.specs.Limits.{most_text_bytes}
 use Rattle.instructions.specs.declared.instruction.Variable.{Variable}
 use Rattle.scopes.specs.PrivateEvaluate.{Says}
 use Rattle.scopes.specs.Evaluate.{Values, env_line, env_texts, is_one_long}
@@ -21,10 +22,10 @@ line-step : (b : Values) (vs : List Variable) (i : ℕ) (v : Variable) → i < l
 line-step b vs i v lt is = at_drop_more (env_line b) vs i v lt ∙ ap (λ (u : Variable). Env u.name (value b u.value) ∷ env_line b (drop (i + 1) vs)) (sym is)
 
 -- a text that isn't too long is passed
-pub long-step : (b : Values) (vs : List Variable) (i : ℕ) (v : Variable) (all : Bool) → i < length vs → v ≡ get_or vs i v → length (value b v.value) ≤ longest
+pub long-step : (b : Values) (vs : List Variable) (i : ℕ) (v : Variable) (all : Bool) → i < length vs → v ≡ get_or vs i v → length (value b v.value) ≤ most_text_bytes
     → is_one_long (env_texts b (drop i vs)) ≡ all → is_one_long (env_texts b (drop (i + 1) vs)) ≡ all
 long-step b vs i v all lt is le h =
-    let short : is_one_long (value b v.value ∷ env_texts b (drop (i + 1) vs)) ≡ is_one_long (env_texts b (drop (i + 1) vs)) = rw (le-ltb longest (length (value b v.value)) le) refl in
+    let short : is_one_long (value b v.value ∷ env_texts b (drop (i + 1) vs)) ≡ is_one_long (env_texts b (drop (i + 1) vs)) = rw (le-ltb most_text_bytes (length (value b v.value)) le) refl in
     sym short ∙ ap is_one_long (sym (texts-step b vs i v lt is)) ∙ h
 
 pub said-step : (b : Values) (vs : List Variable) (i : ℕ) (v : Variable) (line new all : List Declaration) (n t : List ℕ) → i < length vs → v ≡ get_or vs i v → n ≡ v.name → t ≡ value b v.value
@@ -34,12 +35,12 @@ said-step b vs i v line new all n t lt is h j k m =
     ∙ append_assoc line (Env v.name (value b v.value) ∷ []) (env_line b (drop (i + 1) vs)) ∙ ap (λ (ds : List Declaration). line ++ ds) (sym (line-step b vs i v lt is)) ∙ m
 
 -- one that is ends the line
-says-long : (line : List Declaration) (texts rest : List (List ℕ)) (text : List ℕ) (f : Fault) → Expands longest text (Err f) → is_one_long (text ∷ rest) ≡ is_one_long texts → Says line texts (Err f)
-says-long line texts rest text (Refused code) h i = (h.0, sym i ∙ rw (lt-ltb longest (length text) h.1) refl)
+says-long : (line : List Declaration) (texts rest : List (List ℕ)) (text : List ℕ) (f : Fault) → Expands most_text_bytes text (Err f) → is_one_long (text ∷ rest) ≡ is_one_long texts → Says line texts (Err f)
+says-long line texts rest text (Because code) h i = (h.0, sym i ∙ rw (lt-ltb most_text_bytes (length text) h.1) refl)
 says-long line texts rest text Memory h i = tt
 
 pub says-refused : (b : Values) (vs : List Variable) (i : ℕ) (v : Variable) (line : List Declaration) (f : Fault) (r : Result (List Declaration) Fault) → IsErrAnd r (λ e. e ≡ f) → i < length vs → v ≡ get_or vs i v
-    → Expands longest (value b v.value) (Err f) → is_one_long (env_texts b (drop i vs)) ≡ is_one_long (env_texts b vs) → Says line (env_texts b vs) r
+    → Expands most_text_bytes (value b v.value) (Err f) → is_one_long (env_texts b (drop i vs)) ≡ is_one_long (env_texts b vs) → Says line (env_texts b vs) r
 says-refused b vs i v line f (Ok found) same lt is h j = absurd same
 says-refused b vs i v line f (Err e) same lt is h j =
     subst (λ (d : Fault). Says line (env_texts b vs) (Err d)) (sym same)

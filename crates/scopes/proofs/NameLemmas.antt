@@ -7,7 +7,7 @@ use Rattle.std.specs.Cmp.Lexicographic.{nat_list_eq_equiv}
 use Rattle.std.proofs.lemmas.Bool.{true≢false}
 use Rattle.std.proofs.lemmas.Bool.Decides.{nat_tests}
 use Rattle.std.proofs.lemmas.List.{map-append}
-use Rattle.lines.specs.Marks.{begins_name, is_in_name, are_in_name, is_name}
+use Rattle.ascii.specs.Names.{begins_name, is_in_name, are_in_name, is_name}
 use Rattle.instructions.specs.declared.instruction.Argument.{Argument}
 use Rattle.instructions.specs.declared.instruction.Variable.{Variable}
 use Rattle.scopes.specs.Evaluate.{Values, env_line, arg_line}

@@ -2,10 +2,10 @@
 use Rattle.std.specs.Prelude.{◌≡◌, ℕ, Bool, true, false, List, ◌++◌, map, Option, Some, None, length, Result, Ok, Err, nat_lt}
 use Rattle.std.specs.List.{filter_map, list_any}
 use Rattle.plain.specs.declared.refusal.Code.TheVariants.{R18}
-use Rattle.words.specs.declared.fault.Fault.{Fault}
-use Rattle.words.specs.declared.fault.Fault.TheVariants.{Refused, Memory}
+use Rattle.plain.specs.declared.fault.Fault.{Fault}
+use Rattle.plain.specs.declared.fault.Fault.TheVariants.{Because, Memory}
 use Rattle.expand.specs.Value.{Parts, value}
-use Rattle.expand.specs.Expanding.{longest}
+use Rattle.plain.specs.Limits.{most_text_bytes}
 use Rattle.instructions.specs.declared.instruction.Argument.{Argument}
 use Rattle.instructions.specs.declared.instruction.Variable.{Variable}
 use Rattle.scopes.specs.declared.declaration.Declaration.{Declaration}
@@ -50,11 +50,11 @@ arg_texts before args arguments = filter_map (λ a. expanded_default before (arg
 
 -- one of the texts is longer than an expanded text may be
 abbrev pub is_one_long : List (List ℕ) → Bool
-is_one_long texts = list_any (λ text. nat_lt longest (length text)) texts
+is_one_long texts = list_any (λ text. nat_lt most_text_bytes (length text)) texts
 
 -- what a call on a line answers, and the scope after it, `texts` being those that the line expands, perhaps none: the line is
 -- added where none of them is too long; else R18, and the scope is as it was, as it is for want of memory
 abbrev pub Declares : List Declaration → List Declaration → List (List ℕ) → List Declaration → Result (Unit {0}) Fault → Type 0
 Declares old line texts new (Ok u) = (new ≡ kept (old ++ line)) × (is_one_long texts ≡ false)
-Declares old line texts new (Err (Refused code)) = (new ≡ old) × (code ≡ R18) × (is_one_long texts ≡ true)
+Declares old line texts new (Err (Because code)) = (new ≡ old) × (code ≡ R18) × (is_one_long texts ≡ true)
 Declares old line texts new (Err Memory) = new ≡ old

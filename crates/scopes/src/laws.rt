@@ -2,7 +2,7 @@
 
 ghost use Rattle.std.specs.Prelude.{◌≡◌, ◌≢◌, ℕ, Bool, true, List, [], ◌∷◌, ◌++◌, map, Option, Some, None};
 ghost use Rattle.std.specs.List.{list_all};
-ghost use Rattle.lines.specs.Marks.{is_name};
+ghost use Rattle.ascii.specs.Names.{is_name};
 ghost use Rattle.instructions.specs.declared.instruction.Argument.{Argument};
 ghost use Rattle.instructions.specs.declared.instruction.Variable.{Variable};
 ghost use Rattle.scopes.specs.History.{ScopeLine, texts, history, scope_after};

@@ -33,7 +33,7 @@ impl Model for Scope {
 
     ghost Value = { List Declaration };
 
-    ghost use Rattle.scopes.specs.Scope.{kept};
+    ghost use Rattle.scopes.specs.Scope.{kept, value_in};
     ghost use Rattle.scopes.specs.PrivateMaps.{declared};
 
     ghost view = { λ s. declared s.variables.entries s.arguments.entries };
@@ -143,7 +143,6 @@ impl Scope {
 }
 
 impl Lookup for Scope {
-    ghost use Rattle.scopes.specs.Scope.{value_in};
 
     ghost value_of = { λ scope name. value_in scope name };
 

@@ -1,5 +1,5 @@
 use Rattle.std.proofs.Common.{drop, ◌≡◌, ◌++◌}
-use Rattle.lines.specs.Escapes.{byte_of}
+use Rattle.lines.specs.Escape.{byte_of}
 use Rattle.std.specs.Prelude.{false}
 use Rattle.expand.specs.PrivateScan.{bare_from}
 use Rattle.expand.proofs.scan.scan_bare.Given as goal

@@ -2,7 +2,7 @@ use Rattle.std.proofs.Common.{drop, ◌≡◌, ◌++◌, List}
 use Rattle.std.specs.Prelude.{option_map}
 use Rattle.expand.specs.PrivateScan.{quoted_from}
 use Rattle.expand.specs.declared.character.Character.{Character}
-use Rattle.words.specs.declared.class.Place.TheVariants.{Outside}
+use Rattle.words.specs.declared.quote.QuoteState.TheVariants.{Outside}
 use Rattle.expand.proofs.scan.scan_quoted.Given as goal
 
 abbrev pub invariant-loop-character : goal.invariant-loop-character

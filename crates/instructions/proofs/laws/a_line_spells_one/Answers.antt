@@ -1,4 +1,4 @@
-use Rattle.instructions.specs.SpellsLaws.{spelled_once}
+use Rattle.instructions.proofs.SpellsLaws.{spelled_once}
 use Rattle.instructions.proofs.laws.a_line_spells_one.Goals as goal
 
 pub returns : goal.returns

@@ -1,4 +1,4 @@
-use Rattle.instructions.specs.SpellsLaws.{spelled_or_refused, never_both}
+use Rattle.instructions.proofs.SpellsLaws.{spelled_or_refused, never_both}
 use Rattle.instructions.proofs.laws.lines_are_spelled_or_refused.Goals as goal
 
 pub returns : goal.returns

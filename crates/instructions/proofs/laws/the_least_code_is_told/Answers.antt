@@ -1,4 +1,4 @@
-use Rattle.instructions.specs.LeastLaws.{least_is, none_due}
+use Rattle.instructions.proofs.LeastLaws.{least_is, none_due}
 use Rattle.instructions.proofs.laws.the_least_code_is_told.Goals as goal
 
 pub returns : goal.returns

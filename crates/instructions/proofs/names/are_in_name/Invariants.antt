@@ -1,6 +1,0 @@
-use Rattle.std.proofs.Common.{◌≡◌, drop}
-use Rattle.lines.specs.Marks.{are_in_name}
-use Rattle.instructions.proofs.names.are_in_name.Given as goal
-
-abbrev pub invariant-loop-byte : goal.invariant-loop-byte
-invariant-loop-byte l = are_in_name (drop l.byte-index l.bytes) ≡ are_in_name l.bytes

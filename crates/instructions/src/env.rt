@@ -1,0 +1,118 @@
+ghost use Rattle.std.specs.Prelude.{◌≡◌, Some, option_map, IfOk};
+ghost use Rattle.words.specs.Pairs.{pair};
+ghost use Rattle.expand.specs.Word.{Finds};
+ghost use Rattle.instructions.specs.Env.{pairs_among, pair_alone, assignment_of, assignments_of, has_bad_name, env_read, env_due};
+ghost use Rattle.instructions.specs.Least.{Meets};
+ghost use Rattle.instructions.specs.PrivateLent.{lent_texts, lent_pair, lent_pairs};
+
+use crate::{Assignment, InstructionKind};
+use ascii::is_name;
+use expand::{Kind, Word};
+use lines::Escape;
+use plain::{Code, Items, Memory, Text};
+use std::alloc::Global;
+use words::{Fault, closed, first_piece, pair, split};
+
+/// The names and values of words `name=value`, where there are any and each has an `=`.
+#[tactic(auto, using(options::specs::ListLaws::behind_none, options::specs::ListLaws::behind_some))]
+fn pairs_among<'a>(
+    alloc: Global,
+    words: &[&'a str],
+) -> Result<Option<Vec<(&'a str, &'a str)>>, Memory>
+    ensures { IfOk result (λ found. option_map (λ pairs. lent_pairs pairs.items) found ≡ pairs_among pair (lent_texts words.now)) }
+{
+    if words.is_empty() {
+        return Ok(None);
+    }
+    let mut pairs = Vec::new(alloc);
+    for word in words {
+        match pair(word) {
+            Some(pair) => pairs.push(pair)?,
+            None => return Ok(None),
+        }
+    }
+    Ok(Some(pairs))
+}
+
+/// A name and a value, where there is a value.
+fn pair_alone<'a>(
+    alloc: Global,
+    name: &'a str,
+    value: &'a str,
+) -> Result<Option<Vec<(&'a str, &'a str)>>, Memory>
+    ensures { IfOk result (λ found. option_map (λ pairs. lent_pairs pairs.items) found ≡ pair_alone name.now value.now) }
+{
+    if value.is_empty() {
+        return Ok(None);
+    }
+    let mut pairs = Vec::new(alloc);
+    pairs.push((name, value))?;
+    Ok(Some(pairs))
+}
+
+/// The assignment of a name and a value; R09 where the value is no word.
+fn read_assignment(alloc: Global, escape: Escape, pair: &(&str, &str)) -> Result<Assignment, Fault>
+    ensures { Finds (assignment_of escape (lent_pair pair.now)) result }
+{
+    let (name, value) = *pair;
+    let value = Word::read(alloc, Kind::Quoted, escape, value)?;
+    let name = Text::from_str(alloc, name)?;
+    Ok(Assignment { name, value })
+}
+
+/// The assignments of names and values; R09 where a value is no word.
+fn read_assignments(
+    alloc: Global,
+    escape: Escape,
+    pairs: &[(&str, &str)],
+) -> Result<Items<Assignment>, Fault>
+    ensures { Finds (assignments_of escape (lent_pairs pairs.now)) result }
+{
+    let mut found = Items::new(alloc);
+    for pair in pairs {
+        let assignment = read_assignment(alloc, escape, pair)?;
+        found.push(assignment)?;
+    }
+    Ok(found)
+}
+
+/// Whether one of the names is none of a variable.
+fn has_bad_name(pairs: &[(&str, &str)]) -> bool
+    ensures { result ≡ has_bad_name (Some (lent_pairs pairs.now)) }
+{
+    for (name, _) in pairs {
+        if !is_name(name.as_bytes()) {
+            return true;
+        }
+    }
+    false
+}
+
+/// ENV: `name=value`, one or more of them, or `name value`.
+pub(crate) fn read_env(
+    alloc: Global,
+    escape: Escape,
+    text: &str,
+) -> Result<InstructionKind, Fault>
+    ensures { Meets (env_read escape text.now) (env_due escape text.now) result }
+{
+    let (name, value) = first_piece(text);
+    let has_pairs = pair(name).is_some();
+    let pairs = if has_pairs {
+        let words = split(alloc, escape, text)?;
+        pairs_among(alloc, &words)?
+    } else {
+        pair_alone(alloc, name, value)?
+    };
+    let Some(pairs) = pairs else {
+        return Err(Fault::Refused(Code::R06));
+    };
+    if has_pairs {
+        closed(escape, text)?;
+    }
+    let assignments = read_assignments(alloc, escape, &pairs)?;
+    if has_bad_name(&pairs) {
+        return Err(Fault::Refused(Code::R10));
+    }
+    Ok(InstructionKind::Env { assignments })
+}
