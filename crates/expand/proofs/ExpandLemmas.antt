@@ -2,6 +2,7 @@
 use Rattle.std.proofs.Common.{◌≡◌, ℕ, zero, suc, Bool, true, false, List, [], ◌∷◌, ◌++◌, Option, refl, ap, subst, ◌∙◌, sym, append_assoc, append-nil}
 use Rattle.std.specs.Prelude.{if◌then◌else◌, Result}
 use Rattle.plain.specs.declared.fault.Fault.{Fault}
+use Rattle.plain.specs.declared.refusal.Code.{Code}
 use Rattle.expand.specs.Value.{Parts, is_filled, text_of, value}
 use Rattle.expand.specs.PrivateTokens.{innermost, around, with_plain, levels, word_of}
 use Rattle.expand.specs.PrivateExpanding.{run}
@@ -75,10 +76,10 @@ run-value s ts w h i =
     run-values s 0 ts ∙ values-split s (levels ts) ∙ ap (λ (ws : List Parts). value s (innermost (levels ts)) ++ values s ws) h
     ∙ append-nil (value s (innermost (levels ts))) ∙ ap (λ (u : Parts). value s u) i
 
-expands_at : (l m : ℕ) (t u : List ℕ) (r : Result (List ℕ) Fault) → l ≡ m → t ≡ u → Expands l t r → Expands m u r
+expands_at : (l m : ℕ) (t u : List ℕ) (r : Result (List ℕ) (Fault Code)) → l ≡ m → t ≡ u → Expands l t r → Expands m u r
 expands_at l m t u r h i k = subst (λ n. Expands n u r) h (subst (λ v. Expands l v r) i k)
 
-pub expands_value : (limit : ℕ) (s : List ℕ → Option (List ℕ)) (ts us : List Token) (w : Parts) (r : Result (List ℕ) Fault) → us ≡ ts → around (levels ts) ≡ [] → word_of ts ≡ w
+pub expands_value : (limit : ℕ) (s : List ℕ → Option (List ℕ)) (ts us : List Token) (w : Parts) (r : Result (List ℕ) (Fault Code)) → us ≡ ts → around (levels ts) ≡ [] → word_of ts ≡ w
     → Expands limit (run s 0 us) r → Expands limit (value s w) r
 expands_value limit s ts us w r h i j k = expands_at limit limit (run s 0 us) (value s w) r refl (ap (λ (vs : List Token). run s 0 vs) h ∙ run-value s ts w i j) k
 
@@ -86,5 +87,5 @@ most_text_bytes-is : 1048576 ≡ most_text_bytes
 unfolding most_text_bytes
 most_text_bytes-is = refl
 
-pub expands_longest : (text : List ℕ) (r : Result (List ℕ) Fault) → Expands 1048576 text r → Expands most_text_bytes text r
+pub expands_longest : (text : List ℕ) (r : Result (List ℕ) (Fault Code)) → Expands 1048576 text r → Expands most_text_bytes text r
 expands_longest text r h = expands_at 1048576 most_text_bytes text text r most_text_bytes-is refl h

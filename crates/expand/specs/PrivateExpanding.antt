@@ -2,6 +2,7 @@
 use Rattle.std.specs.Prelude.{◌≡◌, ◌<◌, ◌≤◌, ℕ, suc, zero, List, [], ◌∷◌, ◌++◌, if◌then◌else◌, Option, length, Result, Ok, Err}
 use Rattle.plain.specs.declared.refusal.Code.TheVariants.{R18}
 use Rattle.plain.specs.declared.fault.Fault.{Fault}
+use Rattle.plain.specs.declared.refusal.Code.{Code}
 use Rattle.plain.specs.declared.fault.Fault.TheVariants.{Because, Memory}
 use Rattle.expand.specs.Value.{is_filled, text_of}
 use Rattle.expand.specs.declared.token.Token.{Token}
@@ -22,7 +23,7 @@ run s (suc n) (Alternative v ∷ ts) = run s (suc (suc n)) ts
 run s (suc n) (Close ∷ ts) = run s n ts
 
 -- a piece is added to a text within a limit, or the two together are longer
-abbrev pub IsPushed : ℕ → List ℕ → List ℕ → List ℕ → Result (Unit {0}) Fault → Type 0
+abbrev pub IsPushed : ℕ → List ℕ → List ℕ → List ℕ → Result (Unit {0}) (Fault Code) → Type 0
 IsPushed limit old piece new (Ok u) = (new ≡ old ++ piece) × (length new ≤ limit)
 IsPushed limit old piece new (Err (Because code)) = (code ≡ R18) × (limit < length (old ++ piece))
 IsPushed limit old piece new (Err Memory) = Unit {0}

@@ -5,6 +5,7 @@ use Rattle.lines.specs.Escape.{byte_of}
 use Rattle.lines.specs.declared.escape.Escape.{Escape}
 use Rattle.plain.specs.declared.refusal.Code.TheVariants.{R09}
 use Rattle.plain.specs.declared.fault.Fault.{Fault}
+use Rattle.plain.specs.declared.refusal.Code.{Code}
 use Rattle.plain.specs.declared.fault.Fault.TheVariants.{Because, Memory}
 use Rattle.expand.specs.PrivatePieces.{tokens}
 use Rattle.expand.specs.PrivateReading.{pieces}
@@ -27,13 +28,13 @@ unfoldable pub word : Kind → Escape → List ℕ → Option Parts
 word kind escape text = option_map (λ ps. word_of (tokens ps)) (option_and_then pieces (scanned kind escape (chars text)))
 
 -- what reading gives where it can find this, or nothing: what is found, or R09; want of memory says nothing of what was read
-abbrev pub Finds : {X : Type 0} → Option X → Result X Fault → Type 0
+abbrev pub Finds : {X : Type 0} → Option X → Result X (Fault Code) → Type 0
 Finds found (Ok value) = found ≡ Some value
 Finds found (Err (Because code)) = (code ≡ R09) × (found ≡ None)
 Finds found (Err Memory) = Unit {0}
 
 -- what reading a text gives: its word; R09 where it is none, since a quote is open or a substitution is bad
-abbrev pub Reads : Kind → Escape → List ℕ → Result Parts Fault → Type 0
+abbrev pub Reads : Kind → Escape → List ℕ → Result Parts (Fault Code) → Type 0
 Reads kind escape text (Ok word) = IsWord kind escape text word
 Reads kind escape text (Err (Because code)) = (code ≡ R09) × ((word : Parts) → ¬ (IsWord kind escape text word))
 Reads kind escape text (Err Memory) = Unit {0}

@@ -9,16 +9,16 @@ use crate::lookup::Lookup;
 use crate::token::Token;
 use crate::word::Word;
 use plain::limits::MOST_TEXT_BYTES;
-use plain::{Code, Text};
+use plain::{Code, Fault, Text};
 use std::alloc::Global;
-use words::Fault;
+use words::TextFault;
 
 /// The value of a word under a scope: the values of its parts, joined.
 ///
 /// A variable that is unset has the empty text. The default of `${v:-word}` counts where v is unset or empty, the
 /// alternative of `${v:+word}` where it is neither. R18 exactly where the value has more than 1,048,576 bytes; no text
 /// longer than that is built to find out.
-pub fn expand<S: Lookup>(alloc: Global, word: &Word, scope: &S) -> Result<Text, Fault>
+pub fn expand<S: Lookup>(alloc: Global, word: &Word, scope: &S) -> Result<Text, TextFault>
     ensures { Expands most_text_bytes (value (S.value_of scope.now) word.now) result }
 {
     expand_tokens(alloc, word.tokens(), scope, MOST_TEXT_BYTES)
@@ -32,7 +32,7 @@ fn expand_tokens<S: Lookup>(
     tokens: &[Token],
     scope: &S,
     limit: usize,
-) -> Result<Text, Fault>
+) -> Result<Text, TextFault>
     ensures { Expands limit (run (S.value_of scope.now) 0 tokens.now) result }
 {
     let mut text = String::new(alloc);
@@ -73,12 +73,12 @@ fn value_at<'a, S: Lookup>(scope: &'a S, name: &Text) -> &'a str
 }
 
 /// Adds a piece of text: R18 where the whole would be longer than the limit.
-fn push_within(text: &mut String, piece: &str, limit: usize) -> Result<(), Fault>
+fn push_within(text: &mut String, piece: &str, limit: usize) -> Result<(), TextFault>
     requires { string_len text.old ≤ limit }
     ensures { IsPushed limit (string_bytes text.old) piece.now (string_bytes text.new) result }
 {
     if piece.len() > limit - text.len() {
-        return Err(Fault::Refused(Code::R18));
+        return Err(Fault::Because(Code::R18));
     }
     text.push_str(piece)?;
     Ok(())

@@ -34,13 +34,13 @@ pub fn scan(
 fn emit(
     found: &mut Vec<Character>,
     escape: Escape,
-    place: QuoteState,
+    state: QuoteState,
     class: Class,
     character: char,
 ) -> Result<(), Memory>
-    ensures { IfOk result (λ _. found.new.items ≡ found.old.items ++ emitted escape place class character) }
+    ensures { IfOk result (λ _. found.new.items ≡ found.old.items ++ emitted escape state class character) }
 {
-    match (place, class) {
+    match (state, class) {
         (QuoteState::Outside, Class::SingleQuote | Class::DoubleQuote | Class::EscapeCharacter) => {}
         (QuoteState::Outside, _) => found.push(Character::Active(character))?,
         (QuoteState::Escaped, _) => found.push(Character::Literal(character))?,
@@ -67,13 +67,13 @@ fn scan_quoted(
     ensures { IfOk result (λ found. option_map (λ v. v.items) found ≡ quoted_from escape QuoteState.Outside text.now) }
 {
     let mut found = Vec::with_capacity(alloc, text.len())?;
-    let mut place = QuoteState::Outside;
+    let mut state = QuoteState::Outside;
     for character in text {
         let class = Class::of(escape, *character);
-        emit(&mut found, escape, place, class, *character)?;
-        place = place.after(class);
+        emit(&mut found, escape, state, class, *character)?;
+        state = state.after(class);
     }
-    match place {
+    match state {
         QuoteState::Outside => Ok(Some(found)),
         QuoteState::Escaped => {
             found.push(Character::Active(char::from(escape.byte())))?;

@@ -12,10 +12,10 @@ use crate::reading::read;
 use crate::scan::scan;
 use crate::token::Token;
 use lines::Escape;
-use plain::{Code, Items, Memory};
+use plain::{Code, Fault, Items, Memory};
 use std::alloc::Global;
 use std::marker::Model;
-use words::Fault;
+use words::TextFault;
 
 /// A text that is expanded: a list of parts, each plain text, a variable, a variable with a default word or a variable with
 /// an alternative word, words within it being such lists as well (Dockerfile reference, environment replacement).
@@ -43,14 +43,14 @@ impl Word {
     ///
     /// R09 exactly where the text is none: a quote is open, a `${` doesn't go on with a name and then `}`, `:-` or `:+`, a
     /// word within it has no `}` of its own, or more than 32 `${` stand within one another.
-    pub fn read(alloc: Global, kind: Kind, escape: Escape, text: &str) -> Result<Word, Fault>
+    pub fn read(alloc: Global, kind: Kind, escape: Escape, text: &str) -> Result<Word, TextFault>
         ensures word { Reads kind escape text.now result }
         ensures found { Finds (word kind escape text.now) result }
     {
         let characters = characters_of(alloc, text)?;
         match read_tokens(alloc, kind, escape, characters.as_slice())? {
             Some(tokens) => Ok(Word { tokens }),
-            None => Err(Fault::Refused(Code::R09)),
+            None => Err(Fault::Because(Code::R09)),
         }
     }
 

@@ -25,7 +25,7 @@ IsLeast due c = (due c ≡ true) × ((d : Code) → due d ≡ true → number_of
 
 -- what reading a text answers, of which `made` can be made and for which these codes are due: what is made where no code
 -- is due, else the least code; want of memory says nothing of the text
-abbrev pub Meets : {X : Type 0} → Option X → (Code → Bool) → Result X Fault → Type 0
+abbrev pub Meets : {X : Type 0} → Option X → (Code → Bool) → Result X (Fault Code) → Type 0
 Meets made due (Ok x) = (made ≡ Some x) × (least due ≡ None)
 Meets made due (Err (Because c)) = least due ≡ Some c
 Meets made due (Err Memory) = Unit {0}

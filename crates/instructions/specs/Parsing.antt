@@ -80,7 +80,7 @@ Spells line i = (named_read (keyword_in line) line (behind_piece line.text) ≡ 
 
 -- what reading a line answers: the instruction that it spells, or the least code that is due with the line's number; want of
 -- memory says nothing of the line
-abbrev pub IsParsed : Line → Result Instruction Fault → Type 0
+abbrev pub IsParsed : Line → Result Instruction (Fault Code) → Type 0
 IsParsed line (Ok i) = Spells line i
 IsParsed line (Err (Because f)) = (f.line ≡ line.number) × (least (is_due line) ≡ Some f.code)
 IsParsed line (Err Memory) = Unit {0}

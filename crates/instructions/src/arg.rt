@@ -8,9 +8,9 @@ use crate::{Argument, InstructionKind};
 use ascii::is_name;
 use expand::{Kind, Word};
 use lines::Escape;
-use plain::{Code, Items, Memory, Text};
+use plain::{Code, Fault, Items, Memory, Text};
 use std::alloc::Global;
-use words::{Fault, closed, pair, split};
+use words::{TextFault, closed, pair, split};
 
 /// The name of a word of ARG, and its default where it is cut.
 fn argument_cut(word: &str) -> (&str, Option<&str>)
@@ -41,7 +41,7 @@ fn read_argument(
     alloc: Global,
     escape: Escape,
     cut: &(&str, Option<&str>),
-) -> Result<Argument, Fault>
+) -> Result<Argument, TextFault>
     ensures { Finds (argument_of escape (lent_argument cut.now)) result }
 {
     let (name, default) = *cut;
@@ -58,7 +58,7 @@ fn read_arguments(
     alloc: Global,
     escape: Escape,
     cuts: &[(&str, Option<&str>)],
-) -> Result<Items<Argument>, Fault>
+) -> Result<Items<Argument>, TextFault>
     ensures { Finds (arguments_of escape (lent_arguments cuts.now)) result }
 {
     let mut found = Items::new(alloc);
@@ -86,18 +86,18 @@ pub(crate) fn read_arg(
     alloc: Global,
     escape: Escape,
     text: &str,
-) -> Result<InstructionKind, Fault>
+) -> Result<InstructionKind, TextFault>
     ensures { Meets (arg_read escape text.now) (arg_due escape text.now) result }
 {
     let words = split(alloc, escape, text)?;
     if words.is_empty() {
-        return Err(Fault::Refused(Code::R06));
+        return Err(Fault::Because(Code::R06));
     }
     closed(escape, text)?;
     let cuts = argument_cuts(alloc, &words)?;
     let arguments = read_arguments(alloc, escape, &cuts)?;
     if has_bad_name(&cuts) {
-        return Err(Fault::Refused(Code::R10));
+        return Err(Fault::Because(Code::R10));
     }
     Ok(InstructionKind::Arg { arguments })
 }

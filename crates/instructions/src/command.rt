@@ -3,9 +3,9 @@ ghost use Rattle.instructions.specs.Command.{command_of, command_read, command_d
 ghost use Rattle.instructions.specs.Least.{Meets};
 
 use crate::{Command, InstructionKind};
-use plain::{Code, Memory, Text};
+use plain::{Code, Fault, Memory, Text};
 use std::alloc::Global;
-use words::{Fault, json_form};
+use words::{TextFault, json_form};
 
 /// The command that a text is: a list in JSON, else a text for the shell.
 pub(crate) fn command_of(alloc: Global, text: &str) -> Result<Command, Memory>
@@ -18,17 +18,17 @@ pub(crate) fn command_of(alloc: Global, text: &str) -> Result<Command, Memory>
 }
 
 /// The command of CMD or ENTRYPOINT.
-fn read_command(alloc: Global, text: &str) -> Result<Command, Fault>
+fn read_command(alloc: Global, text: &str) -> Result<Command, TextFault>
     ensures { Meets (command_read text.now) (command_due text.now) result }
 {
     if text.is_empty() {
-        return Err(Fault::Refused(Code::R06));
+        return Err(Fault::Because(Code::R06));
     }
     Ok(command_of(alloc, text)?)
 }
 
 /// CMD: a command.
-pub(crate) fn read_cmd(alloc: Global, text: &str) -> Result<InstructionKind, Fault>
+pub(crate) fn read_cmd(alloc: Global, text: &str) -> Result<InstructionKind, TextFault>
     ensures { Meets (option_map (λ command. InstructionKind.Cmd command) (command_read text.now)) (command_due text.now) result }
 {
     let command = read_command(alloc, text)?;
@@ -36,7 +36,7 @@ pub(crate) fn read_cmd(alloc: Global, text: &str) -> Result<InstructionKind, Fau
 }
 
 /// ENTRYPOINT: a command.
-pub(crate) fn read_entrypoint(alloc: Global, text: &str) -> Result<InstructionKind, Fault>
+pub(crate) fn read_entrypoint(alloc: Global, text: &str) -> Result<InstructionKind, TextFault>
     ensures { Meets (option_map (λ command. InstructionKind.Entrypoint command) (command_read text.now)) (command_due text.now) result }
 {
     let command = read_command(alloc, text)?;

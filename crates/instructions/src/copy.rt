@@ -12,12 +12,12 @@ use crate::{Body, InstructionKind, Source};
 use expand::{Kind, Word};
 use lines::{Escape, Heredoc};
 use options::{are_copy_flags, copy_flags, has_from};
-use plain::{Code, Exact, Items};
+use plain::{Code, Exact, Fault, Items};
 use std::alloc::Global;
-use words::{Fault, Flag, closed, flags, json_form};
+use words::{TextFault, Flag, closed, flags, json_form};
 
 /// The source of a text that is no mark; R09 where it is no word.
-fn read_pattern(alloc: Global, is_list: bool, escape: Escape, text: &str) -> Result<Source, Fault>
+fn read_pattern(alloc: Global, is_list: bool, escape: Escape, text: &str) -> Result<Source, TextFault>
     ensures { Finds (pattern_of is_list escape text.now) result }
 {
     let pattern = Word::read(alloc, kind_of(is_list), escape, text)?;
@@ -25,7 +25,7 @@ fn read_pattern(alloc: Global, is_list: bool, escape: Escape, text: &str) -> Res
 }
 
 /// The body of a heredoc; R09 where it is expanded and is no word.
-fn read_body(alloc: Global, escape: Escape, heredoc: &Heredoc) -> Result<Body, Fault>
+fn read_body(alloc: Global, escape: Escape, heredoc: &Heredoc) -> Result<Body, TextFault>
     ensures { Finds (body_of escape heredoc.now) result }
 {
     if heredoc.mark.quoted {
@@ -36,7 +36,7 @@ fn read_body(alloc: Global, escape: Escape, heredoc: &Heredoc) -> Result<Body, F
 }
 
 /// The file that a heredoc is; R09 where its body is expanded and is no word.
-fn read_document(alloc: Global, escape: Escape, heredoc: &Heredoc) -> Result<Source, Fault>
+fn read_document(alloc: Global, escape: Escape, heredoc: &Heredoc) -> Result<Source, TextFault>
     ensures { Finds (document_of escape heredoc.now) result }
 {
     let body = read_body(alloc, escape, heredoc)?;
@@ -51,7 +51,7 @@ fn read_source(
     escape: Escape,
     heredocs: &[Heredoc],
     text: &str,
-) -> Result<Source, Fault>
+) -> Result<Source, TextFault>
     ensures { Finds (source_of is_list escape heredocs.now text.now) result }
 {
     match heredocs {
@@ -77,7 +77,7 @@ fn read_sources(
     escape: Escape,
     heredocs: &[Heredoc],
     texts: &[&str],
-) -> Result<Items<Source>, Fault>
+) -> Result<Items<Source>, TextFault>
     ensures { Finds (all_some (sources is_list escape heredocs.now (lent_texts texts.now))) result }
 {
     let mut left = heredocs;
@@ -122,7 +122,7 @@ fn read_arguments(
     escape: Escape,
     heredocs: &[Heredoc],
     texts: &[&str],
-) -> Result<(Items<Source>, Word), Fault>
+) -> Result<(Items<Source>, Word), TextFault>
     requires { nat_lt (length texts.now) 2 ≡ false }
     ensures { Finds (arguments_of is_list escape heredocs.now (lent_texts texts.now)) result }
 {
@@ -138,7 +138,7 @@ pub(crate) fn read_copy(
     escape: Escape,
     heredocs: &[Heredoc],
     text: &str,
-) -> Result<InstructionKind, Fault>
+) -> Result<InstructionKind, TextFault>
     ensures { Meets (copy_read escape heredocs.now text.now) (copy_due escape heredocs.now text.now) result }
 {
     let (flags, rest) = flags(alloc, text)?;
@@ -146,20 +146,20 @@ pub(crate) fn read_copy(
     let is_list = form.is_some();
     let texts = texts(alloc, escape, rest, &form)?;
     if texts.len() < 2 {
-        return Err(Fault::Refused(Code::R06));
+        return Err(Fault::Because(Code::R06));
     }
     if !are_copy_flags(flags.as_slice()) {
-        return Err(Fault::Refused(Code::R07));
+        return Err(Fault::Because(Code::R07));
     }
     if are_refused(is_list, heredocs, &texts, flags.as_slice()) {
-        return Err(Fault::Refused(Code::R08));
+        return Err(Fault::Because(Code::R08));
     }
     if !is_list {
         closed(escape, rest)?;
     }
     let (sources, destination) = read_arguments(alloc, is_list, escape, heredocs, &texts)?;
     let Some(flags) = copy_flags(alloc, flags.as_slice())? else {
-        return Err(Fault::Refused(Code::R16));
+        return Err(Fault::Because(Code::R16));
     };
     Ok(InstructionKind::Copy {
         sources,

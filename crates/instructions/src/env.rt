@@ -6,12 +6,12 @@ ghost use Rattle.instructions.specs.Least.{Meets};
 ghost use Rattle.instructions.specs.PrivateLent.{lent_texts, lent_pair, lent_pairs};
 
 use crate::{Assignment, InstructionKind};
-use ascii::is_name;
+use ascii::{first_piece, is_name};
 use expand::{Kind, Word};
 use lines::Escape;
-use plain::{Code, Items, Memory, Text};
+use plain::{Code, Fault, Items, Memory, Text};
 use std::alloc::Global;
-use words::{Fault, closed, first_piece, pair, split};
+use words::{TextFault, closed, pair, split};
 
 /// The names and values of words `name=value`, where there are any and each has an `=`.
 #[tactic(auto, using(options::specs::ListLaws::behind_none, options::specs::ListLaws::behind_some))]
@@ -51,7 +51,7 @@ fn pair_alone<'a>(
 }
 
 /// The assignment of a name and a value; R09 where the value is no word.
-fn read_assignment(alloc: Global, escape: Escape, pair: &(&str, &str)) -> Result<Assignment, Fault>
+fn read_assignment(alloc: Global, escape: Escape, pair: &(&str, &str)) -> Result<Assignment, TextFault>
     ensures { Finds (assignment_of escape (lent_pair pair.now)) result }
 {
     let (name, value) = *pair;
@@ -65,7 +65,7 @@ fn read_assignments(
     alloc: Global,
     escape: Escape,
     pairs: &[(&str, &str)],
-) -> Result<Items<Assignment>, Fault>
+) -> Result<Items<Assignment>, TextFault>
     ensures { Finds (assignments_of escape (lent_pairs pairs.now)) result }
 {
     let mut found = Items::new(alloc);
@@ -93,7 +93,7 @@ pub(crate) fn read_env(
     alloc: Global,
     escape: Escape,
     text: &str,
-) -> Result<InstructionKind, Fault>
+) -> Result<InstructionKind, TextFault>
     ensures { Meets (env_read escape text.now) (env_due escape text.now) result }
 {
     let (name, value) = first_piece(text);
@@ -105,14 +105,14 @@ pub(crate) fn read_env(
         pair_alone(alloc, name, value)?
     };
     let Some(pairs) = pairs else {
-        return Err(Fault::Refused(Code::R06));
+        return Err(Fault::Because(Code::R06));
     };
     if has_pairs {
         closed(escape, text)?;
     }
     let assignments = read_assignments(alloc, escape, &pairs)?;
     if has_bad_name(&pairs) {
-        return Err(Fault::Refused(Code::R10));
+        return Err(Fault::Because(Code::R10));
     }
     Ok(InstructionKind::Env { assignments })
 }

@@ -7,7 +7,7 @@ use expand::{Kind, Word};
 use lines::Escape;
 use plain::{Items, Memory, Text};
 use std::alloc::Global;
-use words::{Fault, split};
+use words::{TextFault, split};
 
 /// The words that texts are; R09 where one of them is none.
 pub(crate) fn all_words(
@@ -15,7 +15,7 @@ pub(crate) fn all_words(
     kind: Kind,
     escape: Escape,
     texts: &[&str],
-) -> Result<Items<Word>, Fault>
+) -> Result<Items<Word>, TextFault>
     ensures { Finds (all_words kind escape (lent_texts texts.now)) result }
 {
     let mut found = Items::new(alloc);

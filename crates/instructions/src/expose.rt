@@ -5,21 +5,21 @@ use crate::InstructionKind;
 use crate::expanded::all_words;
 use expand::Kind;
 use lines::Escape;
-use plain::Code;
+use plain::{Code, Fault};
 use std::alloc::Global;
-use words::{Fault, closed, split};
+use words::{TextFault, closed, split};
 
 /// EXPOSE: one word or more.
 pub(crate) fn read_expose(
     alloc: Global,
     escape: Escape,
     text: &str,
-) -> Result<InstructionKind, Fault>
+) -> Result<InstructionKind, TextFault>
     ensures { Meets (expose_read escape text.now) (expose_due escape text.now) result }
 {
     let words = split(alloc, escape, text)?;
     if words.is_empty() {
-        return Err(Fault::Refused(Code::R06));
+        return Err(Fault::Because(Code::R06));
     }
     closed(escape, text)?;
     let ports = all_words(alloc, Kind::Quoted, escape, &words)?;

@@ -7,9 +7,9 @@ use crate::InstructionKind;
 use crate::names::{is_same_name, is_stage_name};
 use expand::{Kind, Word};
 use lines::Escape;
-use plain::{Code, Memory, Text};
+use plain::{Code, Fault, Memory, Text};
 use std::alloc::Global;
-use words::{Fault, closed, flags, split};
+use words::{TextFault, closed, flags, split};
 
 /// The image and the name of a FROM's words, where they are as it wants them.
 fn stage_words<'a>(words: &'a [&'a str]) -> Option<(&'a str, Option<&'a str>)>
@@ -53,21 +53,21 @@ pub(crate) fn read_from(
     alloc: Global,
     escape: Escape,
     text: &str,
-) -> Result<InstructionKind, Fault>
+) -> Result<InstructionKind, TextFault>
     ensures { Meets (from_read escape text.now) (from_due escape text.now) result }
 {
     let (flags, rest) = flags(alloc, text)?;
     let words = split(alloc, escape, rest)?;
     let Some((image, name)) = stage_words(&words) else {
-        return Err(Fault::Refused(Code::R06));
+        return Err(Fault::Because(Code::R06));
     };
     if !flags.is_empty() {
-        return Err(Fault::Refused(Code::R07));
+        return Err(Fault::Because(Code::R07));
     }
     closed(escape, rest)?;
     let image = Word::read(alloc, Kind::Quoted, escape, image)?;
     if is_bad_name(name) {
-        return Err(Fault::Refused(Code::R10));
+        return Err(Fault::Because(Code::R10));
     }
     let name = copied_name(alloc, name)?;
     Ok(InstructionKind::From { image, name })

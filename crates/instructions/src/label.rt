@@ -9,9 +9,9 @@ ghost use Rattle.instructions.specs.PrivateLent.{lent_texts, lent_pair, lent_pai
 use crate::{InstructionKind, Label};
 use expand::{Kind, Word};
 use lines::Escape;
-use plain::{Code, Items, Memory};
+use plain::{Code, Fault, Items, Memory};
 use std::alloc::Global;
-use words::{Fault, closed, label_pair, split};
+use words::{TextFault, closed, label_pair, split};
 
 /// The keys and values of words `key=value`, where there are any and each has an `=` outside quotes and escapes.
 #[tactic(auto, using(options::specs::ListLaws::behind_none, options::specs::ListLaws::behind_some))]
@@ -36,7 +36,7 @@ fn label_pairs_among<'a>(
 }
 
 /// The label of a key and a value; R09 where one of them is no word.
-fn read_one_label(alloc: Global, escape: Escape, pair: &(&str, &str)) -> Result<Label, Fault>
+fn read_one_label(alloc: Global, escape: Escape, pair: &(&str, &str)) -> Result<Label, TextFault>
     ensures { Finds (label_of escape (lent_pair pair.now)) result }
 {
     let (key, value) = *pair;
@@ -50,7 +50,7 @@ fn read_labels(
     alloc: Global,
     escape: Escape,
     pairs: &[(&str, &str)],
-) -> Result<Items<Label>, Fault>
+) -> Result<Items<Label>, TextFault>
     ensures { Finds (labels_of escape (lent_pairs pairs.now)) result }
 {
     let mut found = Items::new(alloc);
@@ -66,12 +66,12 @@ pub(crate) fn read_label(
     alloc: Global,
     escape: Escape,
     text: &str,
-) -> Result<InstructionKind, Fault>
+) -> Result<InstructionKind, TextFault>
     ensures { Meets (label_read escape text.now) (label_due escape text.now) result }
 {
     let words = split(alloc, escape, text)?;
     let Some(pairs) = label_pairs_among(alloc, escape, &words)? else {
-        return Err(Fault::Refused(Code::R06));
+        return Err(Fault::Because(Code::R06));
     };
     closed(escape, text)?;
     let labels = read_labels(alloc, escape, &pairs)?;

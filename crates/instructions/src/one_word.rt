@@ -6,9 +6,9 @@ ghost use Rattle.instructions.specs.PrivateLent.{lent_texts};
 use crate::InstructionKind;
 use expand::{Kind, Word};
 use lines::Escape;
-use plain::Code;
+use plain::{Code, Fault};
 use std::alloc::Global;
-use words::{Fault, closed, split};
+use words::{TextFault, closed, split};
 
 /// The text of which there is just one.
 fn only_text<'a>(texts: &'a [&'a str]) -> Option<&'a str>
@@ -21,12 +21,12 @@ fn only_text<'a>(texts: &'a [&'a str]) -> Option<&'a str>
 }
 
 /// The argument of an instruction that has just one word.
-fn read_one_word(alloc: Global, escape: Escape, text: &str) -> Result<Word, Fault>
+fn read_one_word(alloc: Global, escape: Escape, text: &str) -> Result<Word, TextFault>
     ensures { Meets (one_word_read escape text.now) (one_word_due escape text.now) result }
 {
     let words = split(alloc, escape, text)?;
     let Some(argument) = only_text(&words) else {
-        return Err(Fault::Refused(Code::R06));
+        return Err(Fault::Because(Code::R06));
     };
     closed(escape, text)?;
     let word = Word::read(alloc, Kind::Quoted, escape, argument)?;
@@ -38,7 +38,7 @@ pub(crate) fn read_user(
     alloc: Global,
     escape: Escape,
     text: &str,
-) -> Result<InstructionKind, Fault>
+) -> Result<InstructionKind, TextFault>
     ensures { Meets (option_map (λ user. InstructionKind.User user) (one_word_read escape text.now)) (one_word_due escape text.now) result }
 {
     let user = read_one_word(alloc, escape, text)?;
@@ -50,7 +50,7 @@ pub(crate) fn read_workdir(
     alloc: Global,
     escape: Escape,
     text: &str,
-) -> Result<InstructionKind, Fault>
+) -> Result<InstructionKind, TextFault>
     ensures { Meets (option_map (λ path. InstructionKind.Workdir path) (one_word_read escape text.now)) (one_word_due escape text.now) result }
 {
     let path = read_one_word(alloc, escape, text)?;
@@ -62,7 +62,7 @@ pub(crate) fn read_stop_signal(
     alloc: Global,
     escape: Escape,
     text: &str,
-) -> Result<InstructionKind, Fault>
+) -> Result<InstructionKind, TextFault>
     ensures { Meets (option_map (λ signal. InstructionKind.StopSignal signal) (one_word_read escape text.now)) (one_word_due escape text.now) result }
 {
     let signal = read_one_word(alloc, escape, text)?;

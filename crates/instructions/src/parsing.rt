@@ -15,10 +15,10 @@ use crate::run::read_run;
 use crate::shell::read_shell;
 use crate::volume::read_volume;
 use crate::{Instruction, InstructionKind};
+use ascii::first_piece;
 use lines::{Line, LineFault};
-use plain::{Code, Refusal};
+use plain::{Code, Fault, Refusal};
 use std::alloc::Global;
-use words::first_piece;
 
 /// The instruction that a logical line spells (Dockerfile reference), with its flags, mounts and heredocs, and the line's
 /// number.
@@ -39,9 +39,9 @@ pub fn parse(alloc: Global, line: &Line) -> Result<Instruction, LineFault>
     let number = line.number;
     match read(alloc, keyword_of(name), line, rest) {
         Ok(kind) => Ok(Instruction { line: number, kind }),
-        Err(words::Fault::Refused(code)) => {
+        Err(words::Fault::Because(code)) => {
             let refusal = Refusal { code, line: number };
-            Err(LineFault::Refused(refusal))
+            Err(LineFault::Because(refusal))
         }
         Err(words::Fault::Memory) => Err(LineFault::Memory),
     }
@@ -57,7 +57,7 @@ fn read(
     ensures { Meets (named_read keyword line.now rest.now) (named_due keyword line.now rest.now) result }
 {
     let Some(keyword) = keyword else {
-        return Err(words::Fault::Refused(Code::R04));
+        return Err(words::Fault::Because(Code::R04));
     };
     let escape = line.escape;
     let heredocs = line.heredocs.as_slice();

@@ -6,12 +6,13 @@ ghost use Rattle.instructions.specs.Run.{run_command, is_wordless, is_mark_besid
 
 use crate::command::command_of;
 use crate::{Command, InstructionKind};
+use ascii::first_piece;
 use lines::Heredoc;
 use options::{are_mount_flags, mounts};
 use plain::limits::MOST_MOUNTS;
-use plain::{Code, Exact, Memory};
+use plain::{Code, Exact, Fault, Memory};
 use std::alloc::Global;
-use words::{Fault, first_piece, flags, json_form};
+use words::{TextFault, flags, json_form};
 
 /// The command: the body of the heredoc, else what the rest of the line is.
 fn run_command(alloc: Global, heredocs: &[Heredoc], rest: &str) -> Result<Command, Memory>
@@ -80,24 +81,24 @@ pub(crate) fn read_run(
     alloc: Global,
     heredocs: &[Heredoc],
     text: &str,
-) -> Result<InstructionKind, Fault>
+) -> Result<InstructionKind, TextFault>
     ensures { Meets (run_read heredocs.now text.now) (run_due heredocs.now text.now) result }
 {
     let (flags, rest) = flags(alloc, text)?;
     if rest.is_empty() || is_wordless(alloc, rest)? || has_empty_body(heredocs) {
-        return Err(Fault::Refused(Code::R06));
+        return Err(Fault::Because(Code::R06));
     }
     if !are_mount_flags(flags.as_slice()) {
-        return Err(Fault::Refused(Code::R07));
+        return Err(Fault::Because(Code::R07));
     }
     if is_mark_beside(heredocs, rest) || has_interpreter(heredocs) {
-        return Err(Fault::Refused(Code::R08));
+        return Err(Fault::Because(Code::R08));
     }
     let Some(mounts) = mounts(alloc, flags.as_slice())? else {
-        return Err(Fault::Refused(Code::R17));
+        return Err(Fault::Because(Code::R17));
     };
     if flags.len() > MOST_MOUNTS {
-        return Err(Fault::Refused(Code::R18));
+        return Err(Fault::Because(Code::R18));
     }
     let command = run_command(alloc, heredocs, rest)?;
     Ok(InstructionKind::Run { mounts, command })

@@ -4,23 +4,23 @@ ghost use Rattle.instructions.specs.Volume.{volume_read, volume_due};
 use crate::InstructionKind;
 use crate::expanded::{all_words, kind_of, texts};
 use lines::Escape;
-use plain::Code;
+use plain::{Code, Fault};
 use std::alloc::Global;
-use words::{Fault, closed, json_form};
+use words::{TextFault, closed, json_form};
 
 /// VOLUME: a list in JSON, or words, one text or more.
 pub(crate) fn read_volume(
     alloc: Global,
     escape: Escape,
     text: &str,
-) -> Result<InstructionKind, Fault>
+) -> Result<InstructionKind, TextFault>
     ensures { Meets (volume_read escape text.now) (volume_due escape text.now) result }
 {
     let form = json_form(alloc, text)?;
     let is_list = form.is_some();
     let texts = texts(alloc, escape, text, &form)?;
     if texts.is_empty() {
-        return Err(Fault::Refused(Code::R06));
+        return Err(Fault::Because(Code::R06));
     }
     if !is_list {
         closed(escape, text)?;

@@ -5,6 +5,7 @@ use Rattle.std.specs.Result.{IsErrAnd}
 use Rattle.std.proofs.lemmas.Bool.{lt-ltb, le-ltb}
 use Rattle.std.proofs.lemmas.List.{at_drop_more}
 use Rattle.plain.specs.declared.fault.Fault.{Fault}
+use Rattle.plain.specs.declared.refusal.Code.{Code}
 use Rattle.plain.specs.declared.fault.Fault.TheVariants.{Because, Memory}
 use Rattle.expand.specs.Value.{value}
 use Rattle.expand.specs.Expanding.{Expands}
@@ -35,13 +36,13 @@ said-step b vs i v line new all n t lt is h j k m =
     ∙ append_assoc line (Env v.name (value b v.value) ∷ []) (env_line b (drop (i + 1) vs)) ∙ ap (λ (ds : List Declaration). line ++ ds) (sym (line-step b vs i v lt is)) ∙ m
 
 -- one that is ends the line
-says-long : (line : List Declaration) (texts rest : List (List ℕ)) (text : List ℕ) (f : Fault) → Expands most_text_bytes text (Err f) → is_one_long (text ∷ rest) ≡ is_one_long texts → Says line texts (Err f)
+says-long : (line : List Declaration) (texts rest : List (List ℕ)) (text : List ℕ) (f : Fault Code) → Expands most_text_bytes text (Err f) → is_one_long (text ∷ rest) ≡ is_one_long texts → Says line texts (Err f)
 says-long line texts rest text (Because code) h i = (h.0, sym i ∙ rw (lt-ltb most_text_bytes (length text) h.1) refl)
 says-long line texts rest text Memory h i = tt
 
-pub says-refused : (b : Values) (vs : List Variable) (i : ℕ) (v : Variable) (line : List Declaration) (f : Fault) (r : Result (List Declaration) Fault) → IsErrAnd r (λ e. e ≡ f) → i < length vs → v ≡ get_or vs i v
+pub says-refused : (b : Values) (vs : List Variable) (i : ℕ) (v : Variable) (line : List Declaration) (f : Fault Code) (r : Result (List Declaration) (Fault Code)) → IsErrAnd r (λ e. e ≡ f) → i < length vs → v ≡ get_or vs i v
     → Expands most_text_bytes (value b v.value) (Err f) → is_one_long (env_texts b (drop i vs)) ≡ is_one_long (env_texts b vs) → Says line (env_texts b vs) r
 says-refused b vs i v line f (Ok found) same lt is h j = absurd same
 says-refused b vs i v line f (Err e) same lt is h j =
-    subst (λ (d : Fault). Says line (env_texts b vs) (Err d)) (sym same)
+    subst (λ (d : Fault Code). Says line (env_texts b vs) (Err d)) (sym same)
     (says-long line (env_texts b vs) (env_texts b (drop (i + 1) vs)) (value b v.value) f h (ap is_one_long (sym (texts-step b vs i v lt is)) ∙ j))

@@ -3,6 +3,7 @@ use Rattle.std.specs.Prelude.{◌≡◌, ℕ, Bool, true, false, List, ◌++◌,
 use Rattle.std.specs.List.{filter_map, list_any}
 use Rattle.plain.specs.declared.refusal.Code.TheVariants.{R18}
 use Rattle.plain.specs.declared.fault.Fault.{Fault}
+use Rattle.plain.specs.declared.refusal.Code.{Code}
 use Rattle.plain.specs.declared.fault.Fault.TheVariants.{Because, Memory}
 use Rattle.expand.specs.Value.{Parts, value}
 use Rattle.plain.specs.Limits.{most_text_bytes}
@@ -54,7 +55,7 @@ is_one_long texts = list_any (λ text. nat_lt most_text_bytes (length text)) tex
 
 -- what a call on a line answers, and the scope after it, `texts` being those that the line expands, perhaps none: the line is
 -- added where none of them is too long; else R18, and the scope is as it was, as it is for want of memory
-abbrev pub Declares : List Declaration → List Declaration → List (List ℕ) → List Declaration → Result (Unit {0}) Fault → Type 0
+abbrev pub Declares : List Declaration → List Declaration → List (List ℕ) → List Declaration → Result (Unit {0}) (Fault Code) → Type 0
 Declares old line texts new (Ok u) = (new ≡ kept (old ++ line)) × (is_one_long texts ≡ false)
 Declares old line texts new (Err (Because code)) = (new ≡ old) × (code ≡ R18) × (is_one_long texts ≡ true)
 Declares old line texts new (Err Memory) = new ≡ old

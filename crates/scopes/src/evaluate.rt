@@ -10,14 +10,14 @@ use expand::expand;
 use instructions::{Argument, Variable};
 use plain::{Exact, Items, Text};
 use std::alloc::Global;
-use words::Fault;
+use words::TextFault;
 
 /// What an ENV line says under the scope before it; R18 where a value is too long, and there alone.
 pub fn variable_declarations(
     alloc: Global,
     variables: &[Variable],
     before: &Scope,
-) -> Result<Items<Declaration>, Fault>
+) -> Result<Items<Declaration>, TextFault>
     ensures { Says (env_line (value_in before.now) variables.now) (env_texts (value_in before.now) variables.now) result }
 {
     let mut line = Items::new(alloc);
@@ -36,7 +36,7 @@ pub fn argument_declarations(
     before: &Scope,
     args: &Args,
     outer: &Scope,
-) -> Result<Items<Declaration>, Fault>
+) -> Result<Items<Declaration>, TextFault>
     ensures { Says (arg_line (value_in before.now) (arg_value args.now) (value_in outer.now) arguments.now) (arg_texts (value_in before.now) (arg_value args.now) arguments.now) result }
 {
     let mut line = Items::new(alloc);
@@ -55,7 +55,7 @@ fn argument_value(
     before: &Scope,
     args: &Args,
     outer: &Scope,
-) -> Result<Option<Text>, Fault>
+) -> Result<Option<Text>, TextFault>
     ensures { Gives (expanded_default (value_in before.now) (arg_value args.now argument.now.name) argument.now.default) (or_else (arg_value args.now argument.now.name) (fallback (value_in before.now) (value_in outer.now argument.now.name) argument.now.default)) result }
 {
     let name = argument.name.as_str();

@@ -15,7 +15,7 @@ use instructions::{Argument, Variable};
 use plain::{Items, Memory, Text};
 use std::alloc::Global;
 use std::marker::Model;
-use words::Fault;
+use words::TextFault;
 
 /// What names have values by the ENV and ARG lines so far.
 ///
@@ -64,7 +64,7 @@ impl Scope {
         arguments: &[Argument],
         args: &Args,
         outer: &Scope,
-    ) -> Result<(), Fault>
+    ) -> Result<(), TextFault>
         ensures { Declares self.old (arg_line (value_in self.old) (arg_value args.now) (value_in outer.now) arguments.now) (arg_texts (value_in self.old) (arg_value args.now) arguments.now) self.new result }
     {
         let line = argument_declarations(alloc, arguments, self, args, outer)?;
@@ -76,7 +76,7 @@ impl Scope {
     /// environment replacement).
     ///
     /// R18 where a value has more than 1,048,576 bytes, and there alone. After a fault the scope is as it was.
-    pub fn set_env(&mut self, alloc: Global, variables: &[Variable]) -> Result<(), Fault>
+    pub fn set_env(&mut self, alloc: Global, variables: &[Variable]) -> Result<(), TextFault>
         ensures { Declares self.old (env_line (value_in self.old) variables.now) (env_texts (value_in self.old) variables.now) self.new result }
     {
         let line = variable_declarations(alloc, variables, self)?;

@@ -7,4 +7,4 @@ use Rattle.expand.proofs.scan.scan_quoted.Given as goal
 
 abbrev pub invariant-loop-character : goal.invariant-loop-character
 invariant-loop-character l =
-    option_map (λ (ms : List Character). l.found.items ++ ms) (quoted_from l.escape l.place (drop l.character-index l.text)) ≡ quoted_from l.escape Outside l.text
+    option_map (λ (ms : List Character). l.found.items ++ ms) (quoted_from l.escape l.state (drop l.character-index l.text)) ≡ quoted_from l.escape Outside l.text
