@@ -1,7 +1,6 @@
-pub mod CopyFlags
-pub mod Items
-pub mod ListLaws
+pub mod Copy
+pub mod Item
 pub mod Lists
-pub mod Mounts
+pub mod Mount
 pub mod Numbers
-pub mod Values
+pub mod Value

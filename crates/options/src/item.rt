@@ -1,6 +1,6 @@
 ghost use Rattle.std.specs.Prelude.{◌≡◌, map, option_map, IfOk};
 ghost use Rattle.std.specs.List.{list_any};
-ghost use Rattle.options.specs.Items.{shown, place_of, has_key, value_at, has_twice};
+ghost use Rattle.options.specs.Item.{shown, number_of, has_key, value_at, has_twice};
 
 use plain::{Memory, Text};
 use std::alloc::Global;
@@ -25,9 +25,9 @@ pub enum Key {
 }
 
 impl Key {
-    /// The key's place among the keys, which tells it from the others.
-    fn place(self) -> u8
-        ensures { result ≡ place_of self }
+    /// The number of the key, which no other key has.
+    fn number(self) -> u8
+        ensures { result ≡ number_of self }
     {
         match self {
             Key::Kind => 0,
@@ -53,7 +53,7 @@ pub struct Item<'a> {
 fn has_key(key: Key, item: &Item) -> bool
     ensures { result ≡ has_key key (shown item.now) }
 {
-    item.key.place() == key.place()
+    item.key.number() == key.number()
 }
 
 /// The value of a key: that of the first item that has it.
@@ -69,7 +69,7 @@ pub fn value_at<'a>(key: Key, items: &[Item<'a>]) -> Option<&'a str>
 }
 
 /// A copy of the value of a key.
-pub fn copied_value(alloc: Global, key: Key, items: &[Item]) -> Result<Option<Text>, Memory>
+pub fn copy_value(alloc: Global, key: Key, items: &[Item]) -> Result<Option<Text>, Memory>
     ensures { IfOk result (λ value. value ≡ value_at key (map shown items.now)) }
 {
     match value_at(key, items) {

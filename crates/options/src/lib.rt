@@ -1,11 +1,11 @@
 // What the flags of COPY and RUN say: `--from`, `--chown`, `--chmod` and `--link`, and the mounts of `--mount`.
 //
-// It is given flags as `words` cuts them, and reads their names and values. It knows nothing else of a line, and doesn't say
-// in which order faults are told: each call answers for one fault alone, whatever the others are. A stage, an image or a
-// path that a flag names isn't looked for here.
+// It is given flags as `words` cuts them, and reads their names and values. It knows nothing else of a line, and doesn't say in which
+// order faults are told: each call answers for one fault alone, whatever the others are. A stage, an image or a path that a flag names
+// isn't looked for here.
 //
-// The central definitions are `copy_flags` in specs/CopyFlags.antt and `mounts` in specs/Mounts.antt: what a list of flags says,
-// where their values are well-formed.
+// The central definitions are `copy_flags` in specs/Copy.antt and `mounts` in specs/Mount.antt: what a list of flags says, where their
+// values are well-formed. `laws` says what follows of flags that COPY and RUN know.
 //
 // ```
 // let (flags, rest) = flags(alloc, "--from=a --chown=1 --link f /d")?;
@@ -14,16 +14,12 @@
 // ```
 #![tactic(auto)]
 
-mod copying;
+mod copy;
 mod item;
+pub mod laws;
 mod mount;
-mod mounting;
 mod numbers;
 mod value;
 
-pub use copying::{CopyFlags, Owner, are_copy_flags, copy_flags, has_from};
-pub use mount::{Mount, MountKind};
-pub use mounting::{are_mount_flags, mounts};
-
-#[cfg(test)]
-mod tests;
+pub use copy::{CopyFlags, are_copy_flags, copy_flags, has_from};
+pub use mount::{Mount, MountKind, are_mount_flags, mounts};

@@ -1,5 +1,5 @@
 ghost use Rattle.std.specs.Prelude.{◌≡◌};
-ghost use Rattle.options.specs.Values.{is_filled, is_truth};
+ghost use Rattle.options.specs.Value.{is_filled, is_truth};
 
 use plain::Text;
 

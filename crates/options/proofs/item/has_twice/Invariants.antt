@@ -1,5 +1,5 @@
 use Rattle.std.proofs.Common.{◌≡◌, length, map}
-use Rattle.options.specs.Items.{shown, has_twice}
+use Rattle.options.specs.Item.{shown, has_twice}
 use Rattle.options.proofs.item.has_twice.Given as goal
 
 abbrev pub invariant-loop-rest : goal.invariant-loop-rest

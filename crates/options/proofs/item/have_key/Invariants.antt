@@ -1,6 +1,6 @@
 use Rattle.std.proofs.Common.{◌≡◌, drop, map}
 use Rattle.std.specs.List.{list_any}
-use Rattle.options.specs.Items.{shown, has_key}
+use Rattle.options.specs.Item.{shown, has_key}
 use Rattle.options.proofs.item.have_key.Given as goal
 
 abbrev pub invariant-loop-item : goal.invariant-loop-item

@@ -1,5 +1,5 @@
 use Rattle.std.proofs.Common.{◌≡◌, drop, map}
-use Rattle.options.specs.Items.{shown, value_at}
+use Rattle.options.specs.Item.{shown, value_at}
 use Rattle.options.proofs.item.value_at.Given as goal
 
 abbrev pub invariant-loop-item : goal.invariant-loop-item

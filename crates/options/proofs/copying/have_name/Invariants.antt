@@ -1,7 +1,0 @@
-use Rattle.std.proofs.Common.{◌≡◌, drop}
-use Rattle.std.specs.List.{list_any}
-use Rattle.options.specs.Values.{is_named}
-use Rattle.options.proofs.copying.have_name.Given as goal
-
-abbrev pub invariant-loop-flag : goal.invariant-loop-flag
-invariant-loop-flag l = list_any (is_named l.name) (drop l.flag-index l.flags) ≡ list_any (is_named l.name) l.flags
