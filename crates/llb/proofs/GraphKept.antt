@@ -1,13 +1,13 @@
 -- Adding keeps a graph a graph.
-use Rattle.std.specs.Prelude.{◌≡◌, ◌<◌, ℕ, zero, suc, ◌⊎◌, Option, Some, None, List, [], ◌∷◌, ◌++◌, IsTrue, length, slice_get, slice_set, slice_index_or, refl}
-use Rattle.std.specs.Option.{ForSome}
+use Rattle.std.specs.Prelude.{◌≡◌, ◌<◌, ℕ, zero, suc, ◌⊎◌, Some, List, [], ◌∷◌, ◌++◌, IsTrue, length, slice_get, slice_set, slice_index_or, refl}
 use Rattle.std.proofs.Common.{arith, ap, sym, ◌∙◌, subst, inl, inr, length-append, length-set}
 use Rattle.std.proofs.lemmas.Option.{slice_get-get_or, slice_get_within}
 use Rattle.llb.specs.declared.vertex.Vertex.{Vertex}
-use Rattle.llb.specs.Operation.{is_operation}
-use Rattle.llb.specs.Places.{IsLine, AreLines, with_line, lines_of, places_with}
-use Rattle.llb.proofs.PlacesLaws.{AscendFrom-with_line}
-use Rattle.llb.specs.Graph.{most_vertices, IsAfterInputs, IsNew, AreVertices, IsGraph}
+use Rattle.llb.specs.WellFormed.{is_well_formed}
+use Rattle.plain.specs.Limits.{most_vertices}
+use Rattle.llb.specs.Places.{AreLines, with_lines, places_with}
+use Rattle.llb.proofs.PlacesLaws.{AreLines-with_lines}
+use Rattle.llb.specs.Graph.{IsAfterInputs, IsNew, AreVertices, IsGraph}
 
 -- an element of a list with one more is an old one or the last
 pub last_cases : {X : Type 0} (xs : List X) (x : X) (k : ℕ) (y : X) → slice_get (xs ++ x ∷ []) k ≡ Some y → (slice_get xs k ≡ Some y) ⊎ ((k ≡ length xs) × (y ≡ x))
@@ -34,45 +34,50 @@ after_cases : (vs : List Vertex) (v : Vertex) (k : ℕ) (w : Vertex) → AreVert
 after_cases vs v k w are after (inl a) = are.after k w a
 after_cases vs v k w are after (inr a) = subst (λ n. IsAfterInputs n w) (sym a.0) (subst (λ u. IsAfterInputs (length vs) u) (sym a.1) after)
 
-formed_cases : (vs : List Vertex) (v : Vertex) (k : ℕ) (w : Vertex) → AreVertices vs → IsTrue (is_operation v) → (slice_get vs k ≡ Some w) ⊎ ((k ≡ length vs) × (w ≡ v)) → IsTrue (is_operation w)
-formed_cases vs v k w are formed (inl a) = are.formed k w a
-formed_cases vs v k w are formed (inr a) = subst (λ u. IsTrue (is_operation u)) (sym a.1) formed
+formed_cases : (vs : List Vertex) (v : Vertex) (k : ℕ) (w : Vertex) → AreVertices vs → IsTrue (is_well_formed v) → (slice_get vs k ≡ Some w) ⊎ ((k ≡ length vs) × (w ≡ v)) → IsTrue (is_well_formed w)
+formed_cases vs v k w are formed (inl a) = are.well_formed k w a
+formed_cases vs v k w are formed (inr a) = subst (λ u. IsTrue (is_well_formed u)) (sym a.1) formed
 
-AreVertices-append : (vs : List Vertex) (v : Vertex) → AreVertices vs → IsAfterInputs (length vs) v → IsTrue (is_operation v) → IsNew vs v → length vs < most_vertices → AreVertices (vs ++ v ∷ [])
+AreVertices-append : (vs : List Vertex) (v : Vertex) → AreVertices vs → IsAfterInputs (length vs) v → IsTrue (is_well_formed v) → IsNew vs v → length vs < most_vertices → AreVertices (vs ++ v ∷ [])
 AreVertices-append vs v are after formed fresh room = record {
   few = let e = length-append vs (v ∷ []) in omega arith;
   once = λ j k w a b. once_cases vs v j k w are fresh (last_cases vs v j w a) (last_cases vs v k w b);
   after = λ k w a. after_cases vs v k w are after (last_cases vs v k w a);
-  formed = λ k w a. formed_cases vs v k w are formed (last_cases vs v k w a);
+  well_formed = λ k w a. formed_cases vs v k w are formed (last_cases vs v k w a);
 }
-
-AreLines-lines_of : (place : Option ℕ) → ForSome place IsLine → AreLines (lines_of place)
-AreLines-lines_of None is = tt
-AreLines-lines_of (Some line) is = ((is line refl).0, ((is line refl).1, tt))
 
 lines_cases : (ps : List (List ℕ)) (ls : List ℕ) (k : ℕ) (ms : List ℕ) → ((j : ℕ) (ns : List ℕ) → slice_get ps j ≡ Some ns → AreLines ns) → AreLines ls → (P : Type 0) → (slice_get ps k ≡ Some ms) ⊎ (P × (ms ≡ ls)) → AreLines ms
 lines_cases ps ls k ms old are P (inl a) = old k ms a
 lines_cases ps ls k ms old are P (inr a) = subst AreLines (sym a.1) are
 
 -- a new vertex at the end
-pub append_keeps : (vs us : List Vertex) (ps qs : List (List ℕ)) (v : Vertex) (place : Option ℕ) → IsGraph (record { vertices = vs; places = ps }) → IsAfterInputs (length vs) v → IsTrue (is_operation v) → ForSome place IsLine → IsNew vs v → length vs < most_vertices → us ≡ vs ++ v ∷ [] → qs ≡ ps ++ lines_of place ∷ [] → IsGraph (record { vertices = us; places = qs })
-append_keeps vs us ps qs v place is after formed line fresh room eu eq = rw (eu, eq) (record {
+pub append_keeps : (vs us : List Vertex) (ps qs : List (List ℕ)) (v : Vertex) (lines : List ℕ)
+    → IsGraph (record { vertices = vs; places = ps }) → IsAfterInputs (length vs) v → IsTrue (is_well_formed v) → AreLines lines
+    → IsNew vs v → length vs < most_vertices → us ≡ vs ++ v ∷ [] → qs ≡ ps ++ lines ∷ []
+    → IsGraph (record { vertices = us; places = qs })
+append_keeps vs us ps qs v lines is after formed are fresh room eu eq = rw (eu, eq) (record {
   vertices = AreVertices-append vs v is.vertices after formed fresh room;
-  beside = let e = length-append vs (v ∷ []) in let f = length-append ps (lines_of place ∷ []) in let g : length ps ≡ length vs = is.beside in omega arith;
-  places = λ k ms a. lines_cases ps (lines_of place) k ms is.places (AreLines-lines_of place line) _ (last_cases ps (lines_of place) k ms a);
+  beside =
+      let e = length-append vs (v ∷ []) in
+      let f = length-append ps (lines ∷ []) in
+      let g : length ps ≡ length vs = is.beside in
+      omega arith;
+  places = λ k ms a. lines_cases ps lines k ms is.places are _ (last_cases ps lines k ms a);
 })
 
--- one more line for a vertex that is there
-pub found_keeps : (vs : List Vertex) (ps qs : List (List ℕ)) (v : Vertex) (place : Option ℕ) (id : ℕ) → IsGraph (record { vertices = vs; places = ps }) → slice_get vs id ≡ Some v → ForSome place IsLine → qs ≡ places_with place id ps → IsGraph (record { vertices = vs; places = qs })
-found_keeps vs ps qs v None id is at line eq = rw eq is
-found_keeps vs ps qs v (Some line) id is at ok eq =
+-- more lines for a vertex that is there
+pub found_keeps : (vs : List Vertex) (ps qs : List (List ℕ)) (v : Vertex) (lines : List ℕ) (id : ℕ)
+    → IsGraph (record { vertices = vs; places = ps }) → slice_get vs id ≡ Some v → AreLines lines → qs ≡ places_with lines id ps
+    → IsGraph (record { vertices = vs; places = qs })
+found_keeps vs ps qs v [] id is at are eq = rw eq is
+found_keeps vs ps qs v (line ∷ lines) id is at are eq =
     let within : id < length vs = slice_get_within vs id v at in
     let beside : length ps ≡ length vs = is.beside in
     let in_ps : id < length ps = omega arith in
     let old : AreLines (slice_index_or ps id []) = is.places id _ (slice_get-get_or ps id [] in_ps) in
-    let new : AreLines (with_line line (slice_index_or ps id [])) = AscendFrom-with_line line 0 _ old (ok line refl).0 (ok line refl).1 in
+    let new : AreLines (with_lines (line ∷ lines) (slice_index_or ps id [])) = AreLines-with_lines (line ∷ lines) _ are old in
     rw eq (record {
       vertices = is.vertices;
       beside = length-set ps id _ ∙ beside;
-      places = λ k ms a. lines_cases ps (with_line line (slice_index_or ps id [])) k ms is.places new _ (set_cases ps id _ k ms a);
+      places = λ k ms a. lines_cases ps (with_lines (line ∷ lines) (slice_index_or ps id [])) k ms is.places new _ (set_cases ps id _ k ms a);
     })

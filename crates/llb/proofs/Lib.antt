@@ -1,5 +1,6 @@
-pub mod FormedSteps
 pub mod GraphKept
 pub mod GraphLaws
 pub mod IndexKept
+pub mod LineFacts
 pub mod PlacesLaws
+pub mod WellFormedSteps

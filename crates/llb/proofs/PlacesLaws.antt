@@ -3,7 +3,8 @@ use Rattle.std.specs.Prelude.{◌≡◌, ◌<◌, ◌≤◌, ℕ, Bool, true, fa
 use Rattle.std.specs.List.{filter}
 use Rattle.std.proofs.Common.{arith, ap, sym, subst}
 use Rattle.std.proofs.lemmas.Bool.{lt-ltb, le-ltb, ltb-true, ltb-false}
-use Rattle.llb.specs.Places.{most_line, AscendFrom, AreLines, with_line, least_line}
+use Rattle.plain.specs.Limits.{most_line_number}
+use Rattle.llb.specs.Places.{AscendFrom, AreLines, with_line, with_lines, least_line}
 
 before_none : (line low : ℕ) (lines : List ℕ) → AscendFrom low lines → line ≤ low → filter (λ other. nat_lt other line) lines ≡ []
 before_none line low [] ascend le = refl
@@ -19,7 +20,7 @@ after_all line low (x ∷ xs) ascend le =
     let le_x : line ≤ x = omega (arith, ascend.0) in
     rw at (ap (λ ys. x ∷ ys) (after_all line x xs ascend.1.1 le_x))
 
-by_order : (line low x : ℕ) (xs : List ℕ) → AscendFrom low (x ∷ xs) → low < line → line ≤ most_line → (x < line → AscendFrom x (with_line line xs)) → (b c : Bool) → nat_lt x line ≡ b → nat_lt line x ≡ c → AscendFrom low (with_line line (x ∷ xs))
+by_order : (line low x : ℕ) (xs : List ℕ) → AscendFrom low (x ∷ xs) → low < line → line ≤ most_line_number → (x < line → AscendFrom x (with_line line xs)) → (b c : Bool) → nat_lt x line ≡ b → nat_lt line x ≡ c → AscendFrom low (with_line line (x ∷ xs))
 by_order line low x xs ascend lt le deeper true c is_less is_more =
     let not_more : nat_lt line x ≡ false = le-ltb line x (omega (arith, ltb-true x line is_less)) in
     rw (is_less, not_more) (ascend.0, (ascend.1.0, deeper (ltb-true x line is_less)))
@@ -32,10 +33,19 @@ by_order line low x xs ascend lt le deeper false false is_less is_more =
     rw (is_less, is_more, before_none line x xs ascend.1.1 line_x, after_all line x xs ascend.1.1 line_x) (lt, (le, subst (λ n. AscendFrom n xs) (sym same) ascend.1.1))
 
 -- the lines stay in ascending order, each once
-pub AscendFrom-with_line : (line low : ℕ) (lines : List ℕ) → AscendFrom low lines → low < line → line ≤ most_line → AscendFrom low (with_line line lines)
+pub AscendFrom-with_line : (line low : ℕ) (lines : List ℕ) → AscendFrom low lines → low < line → line ≤ most_line_number → AscendFrom low (with_line line lines)
 AscendFrom-with_line line low [] ascend lt le = (lt, (le, tt))
 AscendFrom-with_line line low (x ∷ xs) ascend lt le =
     by_order line low x xs ascend lt le (λ h. AscendFrom-with_line line x xs ascend.1.1 h le) _ _ refl refl
+
+with_lines-from : (low : ℕ) (more lines : List ℕ) → AscendFrom low more → AreLines lines → AreLines (with_lines more lines)
+with_lines-from low [] lines ascend are = are
+with_lines-from low (line ∷ more) lines ascend are =
+    with_lines-from line more (with_line line lines) ascend.1.1 (AscendFrom-with_line line 0 lines are (omega (arith, ascend.0)) ascend.1.0)
+
+-- lines with more among them are ascending, each once
+pub AreLines-with_lines : (more lines : List ℕ) → AreLines more → AreLines lines → AreLines (with_lines more lines)
+AreLines-with_lines more lines ascend are = with_lines-from 0 more lines ascend are
 
 least_line-first : (low line : ℕ) (lines : List ℕ) → AscendFrom low (line ∷ lines) → least_line (line ∷ lines) ≡ line
 least_line-first low line [] ascend = refl

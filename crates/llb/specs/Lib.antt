@@ -1,6 +1,6 @@
 pub mod Graph
 pub mod Hash
 pub mod Index
-pub mod Messages
-pub mod Operation
 pub mod Places
+pub mod Reach
+pub mod WellFormed

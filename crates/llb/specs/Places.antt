@@ -2,19 +2,16 @@
 -- several lines are one vertex, and it has the lines of all.
 use Rattle.std.specs.Prelude.{◌<◌, ◌≤◌, ℕ, Option, Some, None, List, [], ◌∷◌, ◌++◌, min, nat_lt, slice_set, slice_index_or}
 use Rattle.std.specs.List.{filter}
-
--- the greatest number of a line: a Dockerfile has no more bytes (own)
-abbrev pub most_line : ℕ
-most_line = 1048576
+use Rattle.plain.specs.Limits.{most_line_number}
 
 -- the number of a line
 abbrev pub IsLine : ℕ → Type 0
-IsLine line = (0 < line) × (line ≤ most_line)
+IsLine line = (0 < line) × (line ≤ most_line_number)
 
 -- lines in ascending order, all after low
 abbrev pub AscendFrom : ℕ → List ℕ → Type 0
 AscendFrom low [] = Unit {0}
-AscendFrom low (line ∷ lines) = (low < line) × ((line ≤ most_line) × AscendFrom line lines)
+AscendFrom low (line ∷ lines) = (low < line) × ((line ≤ most_line_number) × AscendFrom line lines)
 
 -- numbers of lines in ascending order, each once
 abbrev pub AreLines : List ℕ → Type 0
@@ -24,15 +21,20 @@ AreLines lines = AscendFrom 0 lines
 abbrev pub with_line : ℕ → List ℕ → List ℕ
 with_line line lines = filter (λ other. nat_lt other line) lines ++ line ∷ filter (λ other. nat_lt line other) lines
 
--- the lines of a vertex that is new: that of its instruction, if it has one
+-- the lines with all of these among them
+abbrev pub with_lines : List ℕ → List ℕ → List ℕ
+with_lines [] lines = lines
+with_lines (line ∷ more) lines = with_lines more (with_line line lines)
+
+-- the line of an instruction, if it is that of one, as a list of lines
 abbrev pub lines_of : Option ℕ → List ℕ
 lines_of None = []
 lines_of (Some line) = line ∷ []
 
--- the lines of all vertices, with one more for the vertex at this number
-abbrev pub places_with : Option ℕ → ℕ → List (List ℕ) → List (List ℕ)
-places_with None at places = places
-places_with (Some line) at places = slice_set places at (with_line line (slice_index_or places at []))
+-- the lines of all vertices, with these more for the vertex at this number
+abbrev pub places_with : List ℕ → ℕ → List (List ℕ) → List (List ℕ)
+places_with [] at places = places
+places_with (line ∷ more) at places = slice_set places at (with_lines (line ∷ more) (slice_index_or places at []))
 
 -- the least of some lines, 0 where there is none
 abbrev pub least_line : List ℕ → ℕ

@@ -1,20 +1,18 @@
-ghost use Rattle.std.specs.Prelude.{◌≡◌, ◌↔◌, ◌<◌, ◌≤◌, ◌++◌, ◌∷◌, ℕ, [], Some, length, slice_get, slice_index_or, IsTrue, IfSome, IfNone, MatchOption, OnOk, OnErr, option_copied, vec_len};
+ghost use Rattle.std.specs.Prelude.{◌≡◌, ◌↔◌, ◌<◌, ◌≤◌, ◌++◌, ◌∷◌, ℕ, [], Some, length, slice_get, slice_index_or, IsTrue, IfOk, IfSome, IfNone, MatchOption, OnOk, OnErr, option_copied, vec_len};
 ghost use Rattle.std.specs.Option.{ForSome};
 ghost use Rattle.std.specs.List.{All};
 ghost use Rattle.llb.specs.Graph.{IsAfterInputs, IsNew, IsGraph, Adds};
 ghost use Rattle.llb.specs.Hash.{hash_of};
-ghost use Rattle.llb.specs.Operation.{is_operation};
-ghost use Rattle.llb.specs.Places.{IsLine, least_line};
+ghost use Rattle.llb.specs.WellFormed.{is_well_formed};
+ghost use Rattle.llb.specs.Places.{IsLine, AreLines, lines_of, least_line};
 
 use crate::hash::hash_of;
 use crate::index::Index;
-use crate::{GraphFault, Vertex, VertexId, places};
-use plain::{Exact, Items, Memory};
+use crate::{Full, GraphFault, Vertex, VertexId, places};
+use plain::limits::MOST_VERTICES;
+use plain::{Exact, Fault, Items, Memory};
 use std::alloc::Global;
 use std::marker::Model;
-
-/// How many vertices a graph has at most (own). A Dockerfile within its limits gives fewer.
-pub const MOST_VERTICES: usize = 16_384;
 
 /// The operations of a build, each after its inputs and each once, and beside each the lines of the instructions that it
 /// stands for.
@@ -50,33 +48,52 @@ impl Graph {
         }
     }
 
-    /// Adds a vertex, and the line of the instruction that it stands for, if it has one. Where an equal vertex is there, it
-    /// gives that one's id and adds the line to its lines; else the new vertex's id, the number of vertices before.
-    ///
-    /// It is `Full` exactly where the vertex is new and there are 16,384. After an error the graph is as it was. Whether a
-    /// vertex may be added, `accepts` tells; a line is from 1 to `MOST_LINE`.
+    /// Adds a vertex, and the line of the instruction that it stands for, if it has one: [`Graph::add_all`] of at most one line.
     pub fn add(
         &mut self,
         alloc: Global,
         vertex: Vertex,
-        place: Option<u32>,
+        line: Option<u32>,
     ) -> Result<VertexId, GraphFault>
         requires inputs { IsAfterInputs (length self.old.vertices) vertex }
-        requires formed { IsTrue (is_operation vertex) }
-        requires place { ForSome place IsLine }
-        ensures adds { Adds self.old self.new vertex place result }
+        requires well_formed { IsTrue (is_well_formed vertex) }
+        requires line { ForSome line IsLine }
+        ensures adds { Adds self.old self.new vertex (lines_of line) result }
+        ensures err { OnErr result (self.new ≡ self.old) }
+    {
+        match line {
+            None => self.add_all(alloc, vertex, &[]),
+            Some(line) => self.add_all(alloc, vertex, &[line]),
+        }
+    }
+
+    /// Adds a vertex, and the lines of the instructions that it stands for, in ascending order. Where an equal vertex is there, it
+    /// gives that one's id and adds the lines to its lines; else the new vertex's id, the number of vertices before.
+    ///
+    /// It is `Full` exactly where the vertex is new and there are 16,384. After an error the graph is as it was. `can_add` tells
+    /// whether a vertex may be added; a line is from 1 to `plain::limits::MOST_LINE_NUMBER`.
+    pub fn add_all(
+        &mut self,
+        alloc: Global,
+        vertex: Vertex,
+        lines: &[u32],
+    ) -> Result<VertexId, GraphFault>
+        requires inputs { IsAfterInputs (length self.old.vertices) vertex }
+        requires well_formed { IsTrue (is_well_formed vertex) }
+        requires lines { AreLines lines.now }
+        ensures adds { Adds self.old self.new vertex lines.now result }
         ensures err { OnErr result (self.new ≡ self.old) }
     {
         let hash = hash_of(&vertex);
         if let Some(at) = self.find(hash, &vertex) {
-            places::add_line(alloc, &mut self.places, at, place)?;
+            places::add_lines(alloc, &mut self.places, at, lines)?;
             return Ok(VertexId::new(at as u32));
         }
         let at = self.vertices.len();
         if at == MOST_VERTICES {
-            return Err(GraphFault::Full);
+            return Err(Fault::Because(Full));
         }
-        let lines = places::first_line(alloc, place)?;
+        let lines = Items::from_vec(Vec::from_slice(alloc, lines)?);
         self.vertices.reserve(1)?;
         self.places.reserve(1)?;
         self.index.enter(alloc, hash, at as u32)?;
@@ -103,11 +120,12 @@ impl Graph {
     }
 
     /// Whether a vertex may be added: it is well formed, and its inputs are in the graph.
-    pub fn accepts(&self, vertex: &Vertex) -> bool
-        ensures { IsTrue result
-            ↔ (IsAfterInputs (length self.now.vertices) vertex.now × IsTrue (is_operation vertex.now)) }
+    pub fn can_add(&self, alloc: Global, vertex: &Vertex) -> Result<bool, Memory>
+        ensures { IfOk result (λ answer. IsTrue answer
+            ↔ (IsAfterInputs (length self.now.vertices) vertex.now × IsTrue (is_well_formed vertex.now))) }
     {
-        are_below(vertex.inputs.as_slice(), self.vertices.len()) && vertex.is_well_formed()
+        let is_well_formed = vertex.is_well_formed(alloc)?;
+        Ok(are_below(vertex.inputs.as_slice(), self.vertices.len()) && is_well_formed)
     }
 
     /// How many vertices there are.
@@ -123,6 +141,19 @@ impl Graph {
         ensures graph { IsGraph self.now }
     {
         self.vertices.as_slice()
+    }
+
+    /// The vertices by their ids, and the lines behind each, of a graph that is taken apart. It takes no memory.
+    pub fn into_parts(self) -> (Items<Vertex>, Items<Items<u32>>)
+        ensures value { self ≡ record { vertices = result.0; places = result.1 } }
+        ensures graph { IsGraph self }
+    {
+        let Graph {
+            vertices,
+            places,
+            index: _,
+        } = self;
+        (Items::from_vec(vertices), Items::from_vec(places))
     }
 
     /// The vertex of an id; `None` where the graph has none.

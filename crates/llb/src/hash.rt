@@ -1,13 +1,14 @@
 ghost use Rattle.std.specs.Prelude.{◌≡◌, ℕ, List, fold};
-ghost use Rattle.std.specs.Hash.{u32 as u32_writes, slice, str as str_writes};
+ghost use Rattle.std.specs.Hash.{bool as bool_writes, u16 as u16_writes, u32 as u32_writes, slice, str as str_writes};
 ghost use Rattle.std.specs.Hash.DefaultHasher as sip;
-ghost use Rattle.llb.specs.Hash.{path_writes, variable_writes, sharing_writes, cache_writes, bind_writes, exec_writes, source_writes, op_writes, vertex_writes, hash_of};
+ghost use Rattle.llb.specs.Hash.{path_writes, variable_writes, sharing_writes, cache_writes, bind_writes, exec_writes, content_writes, option_writes, owner_writes, copy_options_writes, file_source_writes, copy_writes, source_writes, op_writes, vertex_writes, hash_of};
 
-use crate::{Bind, Exec, Op, Source, Vertex, VertexId};
-use paths::Path;
-use plain::{Items, Sharing, Text};
+use crate::{Bind, CopyFiles, Exec, FileSource, Op, Source, Vertex, VertexId};
+use paths::{Name, Path};
+use plain::{Items, Mode, Owner, Sharing, Text, Variable};
+use runs::CacheUse;
 use std::hash::{DefaultHasher, Hash, Hasher};
-use trees::{CacheUse, Variable};
+use trees::{Content, CopyOptions};
 
 /// The hash of a vertex: SipHash of what the vertex is made of.
 ///
@@ -130,6 +131,92 @@ impl Written for Exec {
     }
 }
 
+impl Written for Name {
+    ghost writes = { str_writes };
+
+    fn write_to(&self, state: &mut DefaultHasher) {
+        self.as_text().write_to(state);
+    }
+}
+
+impl Written for Content {
+    ghost writes = { content_writes };
+
+    fn write_to(&self, state: &mut DefaultHasher) {
+        self.as_slice().len().hash(state);
+        state.write(self.as_slice());
+    }
+}
+
+impl<T: Written> Written for Option<T> {
+    ghost writes = { option_writes T.writes };
+
+    fn write_to(&self, state: &mut DefaultHasher) {
+        match self {
+            None => state.write_u8(0),
+            Some(value) => {
+                state.write_u8(1);
+                value.write_to(state);
+            }
+        }
+    }
+}
+
+impl Written for Mode {
+    ghost writes = { u16_writes };
+
+    fn write_to(&self, state: &mut DefaultHasher) {
+        self.bits().hash(state);
+    }
+}
+
+impl Written for Owner {
+    ghost writes = { owner_writes };
+
+    fn write_to(&self, state: &mut DefaultHasher) {
+        self.user.hash(state);
+        self.group.hash(state);
+    }
+}
+
+impl Written for CopyOptions {
+    ghost writes = { copy_options_writes };
+
+    fn write_to(&self, state: &mut DefaultHasher) {
+        self.into.hash(state);
+        self.owner.write_to(state);
+        self.mode.write_to(state);
+    }
+}
+
+impl Written for FileSource {
+    ghost writes = { file_source_writes };
+
+    fn write_to(&self, state: &mut DefaultHasher) {
+        match self {
+            FileSource::Pattern(text) => {
+                state.write_u8(0);
+                text.write_to(state);
+            }
+            FileSource::Data(name, content) => {
+                state.write_u8(1);
+                name.write_to(state);
+                content.write_to(state);
+            }
+        }
+    }
+}
+
+impl Written for CopyFiles {
+    ghost writes = { copy_writes };
+
+    fn write_to(&self, state: &mut DefaultHasher) {
+        self.sources.write_to(state);
+        self.dest.write_to(state);
+        self.options.write_to(state);
+    }
+}
+
 impl Written for Source {
     ghost writes = { source_writes };
 
@@ -158,6 +245,15 @@ impl Written for Op {
                 state.write_u8(1);
                 exec.write_to(state);
             }
+            Op::Copy(files) => {
+                state.write_u8(2);
+                files.write_to(state);
+            }
+            Op::MakeDirs(path) => {
+                state.write_u8(3);
+                path.write_to(state);
+            }
+            Op::Merge => state.write_u8(4),
         }
     }
 }

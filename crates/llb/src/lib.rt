@@ -14,7 +14,6 @@
 #![tactic(auto)]
 
 mod fault;
-mod formed;
 mod graph;
 mod hash;
 mod index;
@@ -22,9 +21,9 @@ pub mod laws;
 mod op;
 mod places;
 mod vertex;
+mod well_formed;
 
-pub use fault::GraphFault;
-pub use graph::{Graph, MOST_VERTICES};
-pub use op::{Bind, Exec, Op, Source};
-pub use places::MOST_LINE;
+pub use fault::{Full, GraphFault};
+pub use graph::Graph;
+pub use op::{Bind, CopyFiles, Exec, FileSource, Op, Source};
 pub use vertex::{Vertex, VertexId};

@@ -1,11 +1,8 @@
-ghost use Rattle.std.specs.Prelude.{◌↔◌, IsTrue};
-ghost use Rattle.llb.specs.Operation.{IsFormed};
-
-use crate::formed;
-use paths::Path;
-use plain::{Exact, Items, Memory, Text};
+use paths::{Name, Path};
+use plain::{Exact, Items, Memory, Text, Variable};
+use runs::CacheUse;
 use std::alloc::Global;
-use trees::{CacheUse, Variable};
+use trees::{Content, CopyOptions};
 
 /// A tree that no operation makes (the source operation of BuildKit's LLB).
 #[derive(Drop)]
@@ -109,6 +106,69 @@ impl Exact for Exec {
     }
 }
 
+/// What a COPY takes: the files that a pattern matches, or a file that the instruction brings along.
+#[derive(Drop)]
+pub enum FileSource {
+    /// What a pattern matches in the tree that is copied from. It is the pattern's text as it was written, with its variables
+    /// replaced: two spellings of one pattern are two sources.
+    Pattern(Text),
+    /// A file of this name with these bytes (a heredoc of COPY).
+    Data(Name, Content),
+}
+
+impl Exact for FileSource {
+    fn same(&self, other: &FileSource) -> bool {
+        match (self, other) {
+            (FileSource::Pattern(text), FileSource::Pattern(other_text)) => text.same(other_text),
+            (FileSource::Data(name, content), FileSource::Data(other_name, other_content)) => {
+                name.same(other_name) && content.same(other_content)
+            }
+            _ => false,
+        }
+    }
+
+    fn copy(&self, alloc: Global) -> Result<FileSource, Memory> {
+        match self {
+            FileSource::Pattern(text) => Ok(FileSource::Pattern(text.copy(alloc)?)),
+            FileSource::Data(name, content) => {
+                let name = name.copy(alloc)?;
+                let content = content.copy(alloc)?;
+                Ok(FileSource::Data(name, content))
+            }
+        }
+    }
+}
+
+/// A copy of files (the file operation of BuildKit's LLB, with the action copy). Its first input is the tree that they are
+/// copied into. Where a source is a pattern it has a second one, the tree that they are copied from.
+#[derive(Drop)]
+pub struct CopyFiles {
+    /// What is copied, in the order of the line: at least one source.
+    pub sources: Items<FileSource>,
+    /// Where to.
+    pub dest: Path,
+    /// What the destination's text and the flags of the COPY say.
+    pub options: CopyOptions,
+}
+
+impl Exact for CopyFiles {
+    fn same(&self, other: &CopyFiles) -> bool {
+        self.sources.same(&other.sources)
+            && self.dest.same(&other.dest)
+            && self.options.same(&other.options)
+    }
+
+    fn copy(&self, alloc: Global) -> Result<CopyFiles, Memory> {
+        let sources = self.sources.copy(alloc)?;
+        let dest = self.dest.copy(alloc)?;
+        Ok(CopyFiles {
+            sources,
+            dest,
+            options: self.options,
+        })
+    }
+}
+
 /// What a vertex of a graph does.
 #[derive(Drop)]
 pub enum Op {
@@ -116,18 +176,13 @@ pub enum Op {
     Source(Source),
     /// It runs a command.
     Exec(Exec),
-}
-
-impl Op {
-    /// Whether it is a well-formed command, whatever its inputs are; a source is. The operation of each vertex of a graph is so.
-    pub fn is_formed(&self) -> bool
-        ensures { IsTrue result ↔ IsFormed self.now }
-    {
-        match self {
-            Op::Source(_) => true,
-            Op::Exec(exec) => formed::is_exec(exec),
-        }
-    }
+    /// It copies files.
+    Copy(CopyFiles),
+    /// It makes the directory of this path, with its parents, in its one input (the file operation of BuildKit's LLB, with the
+    /// action mkdir).
+    MakeDirs(Path),
+    /// It lays its inputs over each other, the first at the bottom: two at least (the merge operation of BuildKit's LLB).
+    Merge,
 }
 
 impl Exact for Op {
@@ -135,6 +190,9 @@ impl Exact for Op {
         match (self, other) {
             (Op::Source(source), Op::Source(other_source)) => source.same(other_source),
             (Op::Exec(exec), Op::Exec(other_exec)) => exec.same(other_exec),
+            (Op::Copy(files), Op::Copy(other_files)) => files.same(other_files),
+            (Op::MakeDirs(path), Op::MakeDirs(other_path)) => path.same(other_path),
+            (Op::Merge, Op::Merge) => true,
             _ => false,
         }
     }
@@ -143,6 +201,9 @@ impl Exact for Op {
         match self {
             Op::Source(source) => Ok(Op::Source(source.copy(alloc)?)),
             Op::Exec(exec) => Ok(Op::Exec(exec.copy(alloc)?)),
+            Op::Copy(files) => Ok(Op::Copy(files.copy(alloc)?)),
+            Op::MakeDirs(path) => Ok(Op::MakeDirs(path.copy(alloc)?)),
+            Op::Merge => Ok(Op::Merge),
         }
     }
 }

@@ -1,11 +1,8 @@
 ghost use Rattle.std.specs.Prelude.{◌≡◌, ◌<◌, IfOk, OnOk, OnErr, vec_len, filter, nat_lt};
-ghost use Rattle.llb.specs.Places.{AreLines, with_line, places_with, lines_of, least_line};
+ghost use Rattle.llb.specs.Places.{AreLines, with_line, with_lines, places_with, least_line};
 
-use plain::{Items, Memory};
+use plain::{Exact, Items, Memory};
 use std::alloc::{AllocError, Global};
-
-/// The greatest number of a line: a Dockerfile has at most as many bytes (own).
-pub const MOST_LINE: u32 = 1_048_576;
 
 /// The lines with one more among them, which may be there already.
 fn with_line(alloc: Global, lines: &[u32], line: u32) -> Result<Items<u32>, Memory>
@@ -40,34 +37,34 @@ fn lines_after(alloc: Global, lines: &[u32], line: u32) -> Result<Vec<u32>, Allo
         .collect(alloc)
 }
 
-/// Adds a line, if any, to those of the vertex at `at`. After `Memory` nothing has changed.
-pub(crate) fn add_line(
+/// The lines with all of these among them, which may be there already.
+fn with_lines(alloc: Global, lines: &Items<u32>, more: &[u32]) -> Result<Items<u32>, Memory>
+    ensures { IfOk result (λ lines_with. lines_with ≡ with_lines more.now lines.now) }
+{
+    let mut lines = lines.copy(alloc)?;
+    for line in more {
+        lines = with_line(alloc, lines.as_slice(), *line)?;
+    }
+    Ok(lines)
+}
+
+/// Adds lines to those of the vertex at `at`. After `Memory` nothing has changed.
+pub(crate) fn add_lines(
     alloc: Global,
     places: &mut Vec<Items<u32>>,
     at: usize,
-    line: Option<u32>,
+    lines: &[u32],
 ) -> Result<(), Memory>
     requires { at < vec_len places.old }
-    ensures ok { OnOk result (places.new.items ≡ places_with line at places.old.items) }
+    ensures ok { OnOk result (places.new.items ≡ places_with lines.now at places.old.items) }
     ensures err { OnErr result (places.new.items ≡ places.old.items) }
 {
-    let Some(line) = line else {
+    if lines.is_empty() {
         return Ok(());
-    };
-    let lines = with_line(alloc, places[at].as_slice(), line)?;
+    }
+    let lines = with_lines(alloc, &places[at], lines)?;
     places[at] = lines;
     Ok(())
-}
-
-/// The lines of a vertex that is new.
-pub(crate) fn first_line(alloc: Global, line: Option<u32>) -> Result<Items<u32>, Memory>
-    ensures { IfOk result (λ lines. lines ≡ lines_of line) }
-{
-    let mut lines = Items::new(alloc);
-    if let Some(line) = line {
-        lines.push(line)?;
-    }
-    Ok(lines)
 }
 
 /// The least of some ascending lines; 0 where there is none.

@@ -1,7 +1,7 @@
-ghost use Rattle.std.specs.Prelude.{◌≡◌};
-ghost use Rattle.llb.specs.Operation.{is_operation};
+ghost use Rattle.std.specs.Prelude.{◌≡◌, IfOk};
+ghost use Rattle.llb.specs.WellFormed.{is_well_formed};
 
-use crate::{Op, formed};
+use crate::Op;
 use plain::{Exact, Items, Memory};
 use std::alloc::Global;
 use std::marker::Model;
@@ -85,11 +85,11 @@ pub struct Vertex {
 }
 
 impl Vertex {
-    /// Whether the operation is well formed and has as many inputs as it counts: what a graph takes.
-    pub fn is_well_formed(&self) -> bool
-        ensures { result ≡ is_operation self.now }
+    /// Whether the operation is well formed on these inputs, however many the graph has (`Op::is_well_formed`).
+    pub fn is_well_formed(&self, alloc: Global) -> Result<bool, Memory>
+        ensures { IfOk result (λ answer. answer ≡ is_well_formed self.now) }
     {
-        formed::is_operation_on(&self.op, self.inputs.len())
+        self.op.is_well_formed(alloc, self.inputs.len())
     }
 }
 

@@ -1,3 +1,4 @@
 pub mod MapViews
+pub mod NeedsLaws
 pub mod RequestLaws
 pub mod ValueLaws

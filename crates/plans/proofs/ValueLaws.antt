@@ -1,13 +1,15 @@
 -- What follows about the values of vertices: a vertex's value is its operation's result on its inputs' values, and vertices
 -- that are added later change none.
-use Rattle.std.specs.Prelude.{◌≡◌, ◌<◌, ◌+◌, ℕ, zero, suc, Some, None, List, [], ◌∷◌, ◌++◌, length, slice_get, slice_index_or, refl}
+use Rattle.std.specs.Prelude.{◌≡◌, ◌<◌, ◌+◌, ℕ, zero, suc, Some, None, List, [], ◌∷◌, ◌++◌, map, length, slice_get, slice_index_or, refl}
 use Rattle.std.specs.Option.{option_and_then}
-use Rattle.std.proofs.Common.{arith, ap, sym, ◌∙◌, subst, length-append}
-use Rattle.std.proofs.lemmas.List.{get_or_append_left, get_or-append-add}
+use Rattle.std.proofs.Common.{arith, ap, sym, ◌∙◌, subst, inl, inr, length-append}
+use Rattle.std.proofs.lemmas.Bool.{cases_lt}
+use Rattle.std.proofs.lemmas.List.{get_or_append_left, get_or-append-add, get_or_past}
 use Rattle.llb.specs.declared.vertex.Vertex.{Vertex}
 use Rattle.llb.specs.Graph.{IsAfterInputs, AreVertices}
 use Rattle.plans.specs.Sources.{SourcesValue}
-use Rattle.plans.specs.Value.{Out, Value, result_of, trees_at, value_in, values_from, values_of, value_of}
+use Rattle.trees.specs.Cause.{TreeOrCause}
+use Rattle.plans.specs.Value.{Out, Value, World, all_trees, tree_at, with_tree, value_on, result_of, trees_at, value_in, values_from, values_of, value_of}
 
 -- two lists of values agree below n
 abbrev pub Agree : List Value → List Value → ℕ → Type 0
@@ -77,3 +79,41 @@ value_of-grown out sources vertices more id lt =
     let inside : id < length (values_of out sources vertices) = omega arith in
     let cut : values_of out sources (vertices ++ more) ≡ values_from out sources (values_of out sources vertices) more = values_from-append out sources [] vertices more in
     rw cut (values_from-kept out sources (values_of out sources vertices) more id inside)
+
+-- ---- by ids
+
+-- the trees of inputs, by their ids
+pub inputs_trees : (world : World) (vertices : List Vertex) (inputs : List ℕ)
+    → trees_at (values_of world.out world.sources vertices) inputs ≡ all_trees (map (tree_at world vertices) inputs)
+inputs_trees world vertices [] = refl
+inputs_trees world vertices (input ∷ inputs) = ap (with_tree (tree_at world vertices input)) (inputs_trees world vertices inputs)
+
+-- the value of a vertex is that of its operation on the vertices that are its inputs
+pub value_is : (world : World) (vertices : List Vertex) (vertex : Vertex)
+    → value_in world.out world.sources (values_of world.out world.sources vertices) vertex ≡ value_on world vertices vertex.op vertex.inputs
+value_is world vertices vertex = rw (inputs_trees world vertices vertex.inputs) refl
+
+-- only a vertex of the graph has a value
+pub value_within : (out : Out) (sources : SourcesValue) (vertices : List Vertex) (id : ℕ) (value : TreeOrCause) → value_of out sources vertices id ≡ Some value → id < length vertices
+value_within out sources vertices id value is = elim (cases_lt id (length vertices)) [
+  | inl l ↦ l
+  | inr past ↦
+      let values : List Value = values_of out sources vertices in
+      let long : length values ≡ 0 + length vertices = length-values_from out sources [] vertices in
+      let none : slice_index_or values id None ≡ None = get_or_past values id None (omega (arith, long, past)) in
+      let f : None ≡ Some value = sym none ∙ is in
+      cc
+]
+
+-- a vertex at the end
+pub value_last : (world : World) (vertices : List Vertex) (vertex : Vertex)
+    → value_of world.out world.sources (vertices ++ vertex ∷ []) (length vertices) ≡ value_on world vertices vertex.op vertex.inputs
+value_last world vertices vertex =
+    let values : List Value = values_of world.out world.sources vertices in
+    let last : List Value = value_in world.out world.sources values vertex ∷ [] in
+    let cut : values_of world.out world.sources (vertices ++ vertex ∷ []) ≡ values ++ last = values_from-append world.out world.sources [] vertices (vertex ∷ []) in
+    let long : length values ≡ 0 + length vertices = length-values_from world.out world.sources [] vertices in
+    let at : length values + 0 ≡ length vertices = omega arith in
+    ap (λ vs. slice_index_or vs (length vertices) None) cut
+    ∙ subst (λ n. slice_index_or (values ++ last) n None ≡ value_in world.out world.sources values vertex) at (get_or-append-add values last 0 None)
+    ∙ value_is world vertices vertex

@@ -1,3 +1,4 @@
+pub mod Files
 pub mod Images
 pub mod Plan
 pub mod Request

@@ -1,12 +1,18 @@
 -- What a build has to solve: a graph, the vertex whose tree is wanted, the configuration that goes with that tree, and the trees
 -- of the graph's sources.
-use Rattle.std.specs.Prelude.{◌≡◌, ◌<◌, ℕ, Some, List, length, refl}
+use Rattle.std.specs.Prelude.{◌≡◌, ◌<◌, ℕ, Some, List, [], length, slice_get, refl}
+use Rattle.std.specs.Option.{option_map_or}
 use Rattle.std.specs.Coded.{Coded, code_by, coded×, coded_ℕ}
+use Rattle.trees.specs.Cause.{TreeOrCause}
+use Rattle.runs.specs.declared.run.CacheUse.{CacheUse}
+use Rattle.llb.specs.declared.op.Op.{Op}
+use Rattle.llb.specs.declared.op.Op.TheVariants.{Source as SourceOp, Exec as ExecOp, Copy as CopyOp, MakeDirs as MakeDirsOp, Merge as MergeOp}
 use Rattle.llb.specs.declared.vertex.Vertex.{Vertex}
 use Rattle.llb.specs.contracts.graph.Graph as graph
 use Rattle.llb.specs.Graph.{GraphValue, IsGraph}
+use Rattle.llb.specs.Reach.{Reaches}
 use Rattle.plans.specs.Sources.{SourcesValue, sources_code, HasSources}
-use Rattle.plans.specs.Value.{Out, Worth, Value, value_of}
+use Rattle.plans.specs.Value.{Out, Value, value_of}
 
 -- a plan, for whatever a configuration is
 pub record PlanValue (C : Type 0) : Type 0 where
@@ -25,21 +31,44 @@ pub record IsPlan {C : Type 0} (plan : PlanValue C) : Type 0 where
   pub target : plan.target < length plan.graph.vertices
   pub sources : HasSources plan.sources plan.graph.vertices
 
--- what is to be solved, without the configuration: an executor's answers, the sources, the vertices and the target's id
+-- what is to be solved, without the configuration: an executor's answers, the sources, the vertices, the lines behind each, and
+-- the target's id
 pub record Problem : Type 0 where
   pub out : Out
   pub sources : SourcesValue
   pub vertices : List Vertex
+  pub places : List (List ℕ)
   pub target : ℕ
 
 -- the problem of a plan under an executor
 abbrev pub problem_of : {C : Type 0} → Out → PlanValue C → Problem
-problem_of out plan = record { out = out; sources = plan.sources; vertices = plan.graph.vertices; target = plan.target }
+problem_of out plan =
+    record { out = out; sources = plan.sources; vertices = plan.graph.vertices; places = plan.graph.places; target = plan.target }
 
--- what a vertex of the problem is worth
+-- the value of a vertex of the problem
 unfoldable pub vertex_value : Problem → ℕ → Value
 vertex_value problem id = value_of problem.out problem.sources problem.vertices id
 
--- a vertex of the problem is worth this
-abbrev pub IsValue : Problem → ℕ → Worth → Type 0
+-- a vertex of the problem has this value
+abbrev pub IsValue : Problem → ℕ → TreeOrCause → Type 0
 IsValue problem id value = vertex_value problem id ≡ Some value
+
+-- the target needs every vertex: each one is the target or is reached from it by inputs (own)
+abbrev pub NeedsAll : Problem → Type 0
+NeedsAll problem = (vertex : ℕ) → vertex < length problem.vertices → Reaches problem.vertices problem.target vertex
+
+-- the caches that an operation uses, in their order
+abbrev pub caches_of : Op → List CacheUse
+caches_of (SourceOp source) = []
+caches_of (ExecOp exec) = exec.caches
+caches_of (CopyOp files) = []
+caches_of (MakeDirsOp path) = []
+caches_of MergeOp = []
+
+-- the caches that a vertex of a graph uses
+abbrev pub uses_in : List Vertex → ℕ → List CacheUse
+uses_in vertices vertex = option_map_or (λ (v : Vertex). caches_of v.op) (slice_get vertices vertex) []
+
+-- the caches that a vertex of the problem uses
+abbrev pub uses_at : Problem → ℕ → List CacheUse
+uses_at problem vertex = uses_in problem.vertices vertex

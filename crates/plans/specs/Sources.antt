@@ -4,12 +4,12 @@ use Rattle.std.specs.Prelude.{◌≡◌, ℕ, Option, Some, List, IsTrue, is_som
 use Rattle.std.specs.Coded.{Coded, code_by, coded×, coded_list, coded_ℕ}
 use Rattle.std.specs.FinMap.{FinMap, get, code}
 use Rattle.trees.specs.TreeMap.{TreeMap, empty_tree}
-pub use Rattle.trees.specs.TreeMap.{name_cmp}
+pub use Rattle.paths.specs.Order.{name_cmp}
 use Rattle.trees.specs.contracts.tree.Tree as tree
 use Rattle.llb.specs.declared.op.Source.{Source}
 use Rattle.llb.specs.declared.op.Source.TheVariants.{Scratch, Context, Image}
 use Rattle.llb.specs.declared.op.Op.{Op}
-use Rattle.llb.specs.declared.op.Op.TheVariants.{Source as SourceOp, Exec as ExecOp}
+use Rattle.llb.specs.declared.op.Op.TheVariants.{Source as SourceOp, Exec as ExecOp, Copy as CopyOp, MakeDirs as MakeDirsOp, Merge as MergeOp}
 use Rattle.llb.specs.declared.vertex.Vertex.{Vertex}
 
 -- the context's tree, and the trees of the images by their names
@@ -31,6 +31,9 @@ source_tree sources (Image name) = get sources.images name
 abbrev pub HasSource : SourcesValue → Op → Type 0
 HasSource sources (SourceOp source) = IsTrue (is_some (source_tree sources source))
 HasSource sources (ExecOp exec) = Unit {0}
+HasSource sources (CopyOp files) = Unit {0}
+HasSource sources (MakeDirsOp path) = Unit {0}
+HasSource sources MergeOp = Unit {0}
 
 -- each source among the vertices has its tree
 abbrev pub HasSources : SourcesValue → List Vertex → Type 0

@@ -73,6 +73,9 @@ impl Sources {
         match op {
             Op::Source(source) => self.tree(source).is_some(),
             Op::Exec(_) => true,
+            Op::Copy(_) => true,
+            Op::MakeDirs(_) => true,
+            Op::Merge => true,
         }
     }
 

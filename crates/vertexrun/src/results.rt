@@ -1,6 +1,6 @@
 ghost use Rattle.std.specs.Prelude.{◌≡◌, IsTrue, Some, Ok, IfOk, is_some, vec_len};
 ghost use Rattle.std.specs.Option.{option_map};
-ghost use Rattle.trees.specs.Run.{fits_request};
+ghost use Rattle.runs.specs.Run.{fits_request};
 ghost use Rattle.llb.specs.Operation.{is_exec, IsFormed};
 ghost use Rattle.plans.specs.Request.{request_of};
 ghost use Rattle.plans.specs.Sources.{source_tree, HasSource};

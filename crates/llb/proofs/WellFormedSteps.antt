@@ -1,12 +1,16 @@
 -- Tests of a list that go over it from the front: one step on.
-use Rattle.std.specs.Prelude.{◌≡◌, ◌≤◌, ◌-◌, ℕ, Bool, true, false, ◌&&◌, ◌||◌, not, List, [], ◌∷◌, ◌++◌, map, length, take, drop, slice_index_or, nat_eq, refl}
+use Rattle.std.specs.Prelude.{◌≡◌, ◌<◌, ◌≤◌, ◌+◌, ◌-◌, ℕ, suc, Bool, true, false, cond, ◌&&◌, ◌||◌, not, List, [], ◌∷◌, ◌++◌, map, length, take, drop, slice_index_or, nat_eq, refl}
 use Rattle.std.specs.List.{list_any}
-use Rattle.std.specs.Cmp.Lexicographic.{pointwise}
-use Rattle.std.proofs.Common.{arith, ap, sym, ◌∙◌, subst}
+use Rattle.std.specs.Cmp.Lexicographic.{pointwise, slice_cmp}
+use Rattle.std.specs.Ordering.{is_eq, nat_cmp}
+use Rattle.std.proofs.Common.{arith, ap, sym, ◌∙◌, subst, add-one, length-drop}
 use Rattle.std.proofs.Math.Bool.{or-false}
+use Rattle.std.proofs.Math.Seq.{drop-cons}
+use Rattle.std.proofs.lemmas.List.{nil_from_length}
 use Rattle.std.proofs.lemmas.Grind.{common_steps}
+use Rattle.std.proofs.lemmas.Map.Text.{is_eq-slice_cmp}
 use Rattle.std.proofs.lemmas.List.Folds.{list_any-append}
-use Rattle.trees.specs.Run.{targets_clash, is_root, mounts_fit, ids_differ}
+use Rattle.runs.specs.Run.{targets_clash, is_root, mounts_fit, ids_differ}
 
 -- what follows the first element, as a slice pattern gives it
 abbrev pub tail_of : {X : Type 0} → List X → List X
@@ -19,20 +23,81 @@ list_any-map : {X Y : Type 0} (p : Y → Bool) (f : X → Y) (xs : List X) → l
 list_any-map p f [] = refl
 list_any-map p f (x ∷ xs) = ap (λ b. p (f x) || b) (list_any-map p f xs)
 
-ids_cons : {X : Type 0} (f : X → List ℕ) (x : X) (xs ys : List X) → ys ≡ xs → ids_differ (map f (x ∷ xs)) ≡ (not (list_any (λ y. pointwise nat_eq (f x) (f y)) ys) && ids_differ (map f ys))
-ids_cons f x xs ys e = rw e (ap (λ b. not b && ids_differ (map f xs)) (list_any-map (pointwise nat_eq (f x)) f xs))
+-- names that differ from one another and from those that were seen
+abbrev pub are_new : (List ℕ → Bool) → List (List ℕ) → Bool
+are_new seen [] = true
+are_new seen (name ∷ names) = not (seen name) && are_new (λ q. pointwise nat_eq name q || seen q) names
 
-ids_step : {X : Type 0} (f : X → List ℕ) (rest : List X) (item : X) → 1 ≤ length rest → item ≡ slice_index_or rest 0 item → ids_differ (map f rest) ≡ (not (list_any (λ x. pointwise nat_eq (f item) (f x)) (tail_of rest)) && ids_differ (map f (tail_of rest)))
-ids_step f [] item long is = absurd (omega arith)
-ids_step f (x ∷ xs) item long is = subst (λ y. ids_differ (map f (x ∷ xs)) ≡ (not (list_any (λ z. pointwise nat_eq (f y) (f z)) (tail_of (x ∷ xs))) && ids_differ (map f (tail_of (x ∷ xs))))) (sym is) (ids_cons f x xs (tail_of (x ∷ xs)) (tail-is x xs))
+new_by : (a s b d : Bool) → (not s && (not (a || b) && d)) ≡ (not (s || b) && (not a && d))
+new_by true true b d = refl
+new_by true false true d = refl
+new_by true false false d = refl
+new_by false true b d = refl
+new_by false false true d = refl
+new_by false false false d = refl
 
--- the first name is one of the others
-pub names_hit : {X : Type 0} (f : X → List ℕ) (items rest : List X) (item : X) → ids_differ (map f items) ≡ ids_differ (map f rest) → 1 ≤ length rest → item ≡ slice_index_or rest 0 item → list_any (λ x. pointwise nat_eq (f item) (f x)) (tail_of rest) ≡ true → false ≡ ids_differ (map f items)
-names_hit f items rest item so_far long is hit = sym (so_far ∙ ids_step f rest item long is ∙ ap (λ b. not b && ids_differ (map f (tail_of rest))) hit)
+list_any-or : (p s : List ℕ → Bool) (names : List (List ℕ)) → list_any (λ q. p q || s q) names ≡ (list_any p names || list_any s names)
+list_any-or p s [] = refl
+list_any-or p s (name ∷ names) = or_apart (p name) (s name) _ _ _ (list_any-or p s names)
+  where
+    or_apart : (p s a b c : Bool) → c ≡ (a || b) → ((p || s) || c) ≡ ((p || a) || (s || b))
+    or_apart true s a b c e = refl
+    or_apart false true true b c e = refl
+    or_apart false true false b c e = refl
+    or_apart false false a b c e = e
 
--- the first name is none of the others
-pub names_miss : {X : Type 0} (f : X → List ℕ) (items rest : List X) (item : X) → ids_differ (map f items) ≡ ids_differ (map f rest) → 1 ≤ length rest → item ≡ slice_index_or rest 0 item → list_any (λ x. pointwise nat_eq (f item) (f x)) (tail_of rest) ≡ false → ids_differ (map f items) ≡ ids_differ (map f (tail_of rest))
-names_miss f items rest item so_far long is miss = so_far ∙ ids_step f rest item long is ∙ ap (λ b. not b && ids_differ (map f (tail_of rest))) miss
+-- names are new where none was seen and they differ from one another
+are_new-is : (seen : List ℕ → Bool) (names : List (List ℕ)) → are_new seen names ≡ (not (list_any seen names) && ids_differ names)
+are_new-is seen [] = refl
+are_new-is seen (name ∷ names) =
+    ap (λ b. not (seen name) && b) (are_new-is (λ q. pointwise nat_eq name q || seen q) names)
+    ∙ ap (λ b. not (seen name) && (not b && ids_differ names)) (list_any-or (pointwise nat_eq name) seen names)
+    ∙ new_by (list_any (pointwise nat_eq name) names) (seen name) (list_any seen names) (ids_differ names)
+
+none_seen : (seen : List ℕ → Bool) (names : List (List ℕ)) → ((q : List ℕ) → seen q ≡ false) → list_any seen names ≡ false
+none_seen seen [] none = refl
+none_seen seen (name ∷ names) none = rw (none name) (none_seen seen names none)
+
+-- where none was seen, names are new that differ
+pub all_new : (seen : List ℕ → Bool) (names : List (List ℕ)) → ((q : List ℕ) → seen q ≡ false) → ids_differ names ≡ are_new seen names
+all_new seen names none = sym (are_new-is seen names ∙ ap (λ b. not b && ids_differ names) (none_seen seen names none))
+
+are_new-same : (names : List (List ℕ)) (seen other : List ℕ → Bool) → ((q : List ℕ) → seen q ≡ other q) → are_new seen names ≡ are_new other names
+are_new-same [] seen other same = refl
+are_new-same (name ∷ names) seen other same =
+    rw (same name) (ap (λ b. not (other name) && b)
+    (are_new-same names (λ q. pointwise nat_eq name q || seen q) (λ q. pointwise nat_eq name q || other q) (λ q. ap (λ b. pointwise nat_eq name q || b) (same q))))
+
+or_from : (b s : Bool) → cond b true s ≡ (b || s)
+or_from true s = refl
+or_from false s = refl
+
+left_from : {X : Type 0} (items : List X) (i : ℕ) (item : X) → i < length items → item ≡ slice_index_or items i item → drop i items ≡ item ∷ drop (i + 1) items
+left_from items i item lt is = rw (add-one, drop-cons items i item lt) (ap (λ x. x ∷ drop (suc i) items) (sym is))
+
+-- the next name was seen before
+pub name_hit : {X : Type 0} (f : X → List ℕ) (items : List X) (i : ℕ) (item : X) (seen : List ℕ → Bool) → ids_differ (map f items) ≡ are_new seen (map f (drop i items))
+    → i < length items → item ≡ slice_index_or items i item → seen (f item) ≡ true → false ≡ ids_differ (map f items)
+name_hit f items i item seen so_far lt is hit =
+    sym (so_far ∙ ap (λ rest. are_new seen (map f rest)) (left_from items i item lt is) ∙ ap (λ b. not b && are_new (λ q. pointwise nat_eq (f item) q || seen q) (map f (drop (i + 1) items))) hit)
+
+-- the next name is new, and is seen from now on
+pub name_miss : {X : Type 0} (f : X → List ℕ) (items : List X) (i : ℕ) (item : X) (seen now : List ℕ → Bool) → ids_differ (map f items) ≡ are_new seen (map f (drop i items))
+    → i < length items → item ≡ slice_index_or items i item → seen (f item) ≡ false → ((q : List ℕ) → now q ≡ cond (is_eq (slice_cmp nat_cmp (f item) q)) true (seen q))
+    → ids_differ (map f items) ≡ are_new now (map f (drop (i + 1) items))
+name_miss f items i item seen now so_far lt is miss then_seen =
+    so_far ∙ ap (λ rest. are_new seen (map f rest)) (left_from items i item lt is)
+    ∙ ap (λ b. not b && are_new (λ q. pointwise nat_eq (f item) q || seen q) (map f (drop (i + 1) items))) miss
+    ∙ are_new-same (map f (drop (i + 1) items)) (λ q. pointwise nat_eq (f item) q || seen q) now
+    (λ q. sym (then_seen q ∙ ap (λ b. cond b true (seen q)) (is_eq-slice_cmp (f item) q) ∙ or_from (pointwise nat_eq (f item) q) (seen q)))
+
+drop_past : {X : Type 0} (xs : List X) (n : ℕ) → length xs ≤ n → drop n xs ≡ []
+drop_past xs n past = nil_from_length (drop n xs) (simp length-drop (omega arith))
+
+-- no name is left
+pub names_end : {X : Type 0} (f : X → List ℕ) (items : List X) (i : ℕ) (seen : List ℕ → Bool) → ids_differ (map f items) ≡ are_new seen (map f (drop i items))
+    → length items ≤ i → true ≡ ids_differ (map f items)
+names_end f items i seen so_far past = sym (so_far ∙ ap (λ rest. are_new seen (map f rest)) (drop_past items i past))
 
 fit_hit : (r a o m b : Bool) → b ≡ (not r && not a) → b ≡ false → (not r && (not (a || o) && m)) ≡ false
 fit_hit true a o m b e off = refl

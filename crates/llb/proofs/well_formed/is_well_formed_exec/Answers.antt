@@ -1,16 +1,16 @@
 use Rattle.std.proofs.Common.{not, ap, ◌∙◌}
-use Rattle.trees.specs.Run.{ids_differ, ids_of}
-use Rattle.trees.specs.declared.run.CacheUse.{CacheUse}
+use Rattle.runs.specs.Run.{ids_differ, ids_of}
+use Rattle.runs.specs.declared.run.CacheUse.{CacheUse}
 use Rattle.llb.specs.declared.op.Bind.{Bind}
-use Rattle.llb.specs.Operation.{is_environment}
-use Rattle.llb.proofs.FormedSteps.{both_fit, four}
-use Rattle.llb.proofs.formed.is_exec.Goals as goal
+use Rattle.llb.specs.WellFormed.{is_environment}
+use Rattle.llb.proofs.WellFormedSteps.{both_fit, four}
+use Rattle.llb.proofs.well_formed.is_well_formed_exec.Goals as goal
 
 pub returns : goal.returns
 returns c =
-    let env = c.is_environment-env_fits.ensures ∙ ap is_environment c.as_slice.ensures in
+    let env = c.in_ok-env_fits.ensures ∙ ap is_environment c.as_slice.ensures in
     let mounts = c.binds_fit-mounts_fit.ensures
     ∙ ap (λ binds. both_fit (λ (bind : Bind). bind.target) (λ (cache : CacheUse). cache.target) binds c.as_slice-3.result.now) c.as_slice-2.ensures
     ∙ ap (both_fit (λ (bind : Bind). bind.target) (λ (cache : CacheUse). cache.target) c.args.exec.now.binds) c.as_slice-3.ensures in
-    let ids = c.names_differ-caches_differ.ensures ∙ ap (λ caches. ids_differ (ids_of caches)) c.as_slice-4.ensures in
+    let ids = c.in_ok-caches_differ.ensures ∙ ap (λ caches. ids_differ (ids_of caches)) c.as_slice-4.ensures in
     c.all_hold.ensures ∙ four _ _ _ _ _ _ _ _ (ap not c.is_empty-is_empty.ensures) env mounts ids

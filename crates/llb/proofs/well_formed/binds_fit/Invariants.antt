@@ -1,8 +1,8 @@
 use Rattle.std.proofs.Common.{◌≡◌, ◌++◌, map, length}
-use Rattle.trees.specs.Run.{mounts_fit}
-use Rattle.trees.specs.declared.run.CacheUse.{CacheUse}
+use Rattle.runs.specs.Run.{mounts_fit}
+use Rattle.runs.specs.declared.run.CacheUse.{CacheUse}
 use Rattle.llb.specs.declared.op.Bind.{Bind}
-use Rattle.llb.proofs.formed.binds_fit.Given as goal
+use Rattle.llb.proofs.well_formed.binds_fit.Given as goal
 
 abbrev pub invariant-loop-rest : goal.invariant-loop-rest
 invariant-loop-rest l =
