@@ -1,7 +1,7 @@
 -- The parts of a component's pattern, and what each holds of (Go's filepath.Match). Characters are Unicode scalar values, and case counts.
 use Rattle.std.specs.Prelude.{◌≡◌, ℕ, Bool, true, false, ◌&&◌, List, map, not, nat_le, nat_eq, if◌then◌else◌}
 use Rattle.std.specs.List.{list_any}
-use Rattle.std.specs.Str.{chars}
+use Rattle.std.specs.Str.{chars, IsUtf8}
 use Rattle.globs.specs.declared.part.Range.{Range}
 use Rattle.globs.specs.declared.part.Part.{Part}
 use Rattle.globs.specs.declared.part.Part.TheVariants.{AnyRun, AnyOne, Exactly, Class}
@@ -36,3 +36,7 @@ relates_to_name parts name = can_be_cut takes_any holds parts (chars name)
 -- the parts of a pattern that is a plain name: each of its characters
 abbrev pub plain_parts : List ℕ → List Part
 plain_parts name = map (λ c. Exactly c) (chars name)
+
+-- a name is the only one that a pattern relates to
+abbrev pub IsOnlyName : List Part → List ℕ → Type 0
+IsOnlyName parts name = (other : List ℕ) → IsUtf8 other → RelatesToName parts other → other ≡ name

@@ -1,6 +1,6 @@
 ghost use Rattle.std.specs.Prelude.{◌≡◌, ◌↔◌, IsTrue, IfOk, IfSome};
 ghost use Rattle.std.specs.Str.{chars};
-ghost use Rattle.globs.specs.Component.{RelatesToName, relates_to_name, plain_parts};
+ghost use Rattle.globs.specs.Component.{RelatesToName, relates_to_name, plain_parts, IsOnlyName};
 ghost use Rattle.globs.specs.PrivateShape.{are_plain};
 ghost use Rattle.globs.specs.Reading.{parts_of};
 
@@ -88,11 +88,11 @@ impl Component {
     }
 
     /// The one name that the pattern relates to, where it has no sign of patterns; none for others, also where they relate to one name.
-    pub fn plain_name(&self) -> Option<&Text>
-        ensures { IfSome result (λ name. self.now ≡ plain_parts name.now) }
+    pub fn plain_name(&self) -> Option<&str>
+        ensures { IfSome result (λ name. IsOnlyName self.now name.now) }
     {
         match &self.shape {
-            Shape::Plain(text) => Some(text),
+            Shape::Plain(own) => Some(own.as_str()),
             Shape::Parts(_) => None,
         }
     }

@@ -1,0 +1,156 @@
+-- From the ranks of single paths to what decides.
+use Rattle.std.specs.Prelude.{◌≡◌, ℕ, ◌+◌, ◌-◌, ◌<◌, ◌≤◌, Bool, true, false, List, [], ◌∷◌, ◌++◌, ◌⊎◌, Some, take, length, get_or, slice_get, ◌↔◌, nat_lt, IsUtf8}
+use Rattle.std.proofs.Common.{sym, ap, refl, ◌∙◌, subst, inl, inr, append_assoc, arith, zero, suc}
+use Rattle.std.proofs.lemmas.Bool.{ltb-true, ltb-false}
+use Rattle.std.proofs.lemmas.Option.{same_Some, none-some}
+use Rattle.std.proofs.lemmas.List.{append-nil, take_more, take_all}
+use Rattle.globs.proofs.Cuts.{last-parts, same-ends, nil-parts}
+use Rattle.ignorefile.specs.declared.line.Line.{Line}
+use Rattle.ignorefile.specs.Line.{Relates, is_deep}
+use Rattle.ignorefile.specs.Kept.{Touches, TouchesAt, Kept}
+use Rattle.ignorefile.specs.PrivateRanks.{RelatesAt, Member, AreWithin, IsBest, IsVerdict, IsDecided, Lets}
+use Rattle.ignorefile.specs.PrivateIndex.{IsIndex, named}
+use Rattle.ignorefile.proofs.Lines.{Holds}
+
+-- a list is empty or has a last element
+ends : {A : Type 0} (xs : List A) → (xs ≡ []) ⊎ ((front : List A) × ((last : A) × (xs ≡ front ++ last ∷ [])))
+ends [] = inl refl
+ends (c ∷ cs) = inr (elim (ends cs) [ inl e ↦ ([], (c, ap (λ x. c ∷ x) e)) | inr w ↦ (c ∷ w.0, (w.1.0, ap (λ x. c ∷ x) w.1.1)) ])
+
+-- the index has each line that relates to a path
+pub indexed : (lines : List Line) (entries : List (List ℕ × List ℕ)) (others : List ℕ) → IsIndex lines entries others → (path : List (List ℕ)) (n : ℕ) → RelatesAt lines path n
+    → Member n others ⊎ ((front : List (List ℕ)) × ((last : List ℕ) × ((path ≡ front ++ last ∷ []) × (IsUtf8 last → Member n (named entries last)))))
+indexed lines entries others index path n (line, (at, r)) =
+    elim (index.there n line at) [
+      | inl m ↦ inl m
+      | inr w ↦ (let v = w.1.0 path r in inr (v.0, (v.1.0, (v.1.1.0, λ utf8. subst (λ (l : List ℕ). Member n (named entries l)) (sym (v.1.1.1 utf8)) w.1.1))))
+    ]
+
+snoc-nil : {A : Type 0} (xs : List A) (x : A) → [] ≡ xs ++ x ∷ [] → ⊥
+snoc-nil xs x e = let n : 0 ≡ length (x ∷ []) = ap length (sym (nil-parts xs (x ∷ []) e).1) in omega arith
+
+module _ (lines : List Line) (entries : List (List ℕ × List ℕ)) (others : List ℕ) (index : IsIndex lines entries others) (path : List (List ℕ)) (above middle : ℕ) (first : IsBest lines others path above middle) where
+  pub verdict-root : length path < 1 → IsVerdict lines path above middle
+  verdict-root none = record {
+    least = first.least;
+    hit = first.hit;
+    miss = λ n b r. elim (indexed lines entries others index path n r) [ inl m ↦ first.miss n m b r | inr w ↦ snoc-nil w.0 w.1.0 (sym (empty path none) ∙ w.1.1.0) ];
+  }
+    where
+      empty : (p : List (List ℕ)) → length p < 1 → p ≡ []
+      empty [] h = refl
+      empty (x ∷ xs) h = absurd (omega arith)
+
+  same-last : (last : List ℕ) → 1 ≤ length path → last ≡ get_or path (length path - 1) last → (front : List (List ℕ)) (name : List ℕ) → path ≡ front ++ name ∷ [] → name ≡ last
+  same-last last more is front name e = (same-ends is_deep Holds front (take (length path - 1) path) name last (sym e ∙ last-parts is_deep Holds path last more is)).1
+
+  pub verdict-some : (last : List ℕ) (ns : List ℕ) (rank : ℕ) → 1 ≤ length path → last ≡ get_or path (length path - 1) last → IsUtf8 last → named entries last ≡ ns → IsBest lines ns path middle rank → IsVerdict lines path above rank
+  verdict-some last ns rank more is utf8 some second = record {
+    least = let a = first.least in let b = second.least in omega arith;
+    hit = λ h. hits (nat_lt middle rank) refl h;
+    miss = λ n b r. elim (indexed lines entries others index path n r) [
+      | inl m ↦ let l = second.least in first.miss n m (omega arith) r
+      | inr w ↦ (
+          let same = same-last last more is w.0 w.1.0 w.1.1.0 in
+          second.miss n (subst (Member n) (ap (named entries) same ∙ some) (w.1.1.1 (subst IsUtf8 (sym same) utf8))) b r)
+    ];
+  }
+    where
+      hits : (x : Bool) → nat_lt middle rank ≡ x → above < rank → RelatesAt lines path (rank - 1)
+      hits true e h = second.hit (ltb-true middle rank e)
+      hits false e h = let b = ltb-false middle rank e in let a = second.least in let same : middle ≡ rank = omega arith in subst (λ (x : ℕ). RelatesAt lines path (x - 1)) same (first.hit (omega arith))
+
+-- ---- handed down
+
+touches-here : (line : Line) (path : List (List ℕ)) → Relates line path → Touches line path
+touches-here line path r = (path, ([], (sym (append-nil path), r)))
+
+touches-more : (line : Line) (path : List (List ℕ)) (name : List ℕ) → Touches line path → Touches line (path ++ name ∷ [])
+touches-more line path name (front, (rest, (e, r))) = (front, (rest ++ name ∷ [], (ap (λ l. l ++ name ∷ []) e ∙ append_assoc front rest (name ∷ []), r)))
+
+touches-step : (line : Line) (path : List (List ℕ)) (name : List ℕ) → Touches line (path ++ name ∷ []) → Touches line path ⊎ Relates line (path ++ name ∷ [])
+touches-step line path name (front, (rest, (e, r))) = by (ends rest)
+  where
+    by : (rest ≡ []) ⊎ ((others : List (List ℕ)) × ((last : List ℕ) × (rest ≡ others ++ last ∷ []))) → Touches line path ⊎ Relates line (path ++ name ∷ [])
+    by (inl none) = inr (subst (Relates line) (sym (e ∙ ap (λ l. front ++ l) none ∙ append-nil front)) r)
+    by (inr w) =
+        let same = same-ends is_deep Holds path (front ++ w.0) name w.1.0 (e ∙ ap (λ l. front ++ l) w.1.1 ∙ sym (append_assoc front w.0 (w.1.0 ∷ []))) in
+        inl (front, (w.0, (same.0, r)))
+
+pub decided-start : (lines : List Line) (rank : ℕ) → IsVerdict lines [] 0 rank → IsDecided lines [] rank
+decided-start lines rank v = record {
+  hit = λ h. let w = v.hit h in (w.0, (w.1.0, touches-here w.0 [] w.1.1));
+  miss = λ n b t. v.miss n b (t.0, (t.1.0, subst (Relates t.0) (nil-parts t.1.1.0 t.1.1.1.0 t.1.1.1.1.0).0 t.1.1.1.1.1));
+}
+
+-- what is decided of a folder is handed down to what lies in it
+pub decided-step : (lines : List Line) (path : List (List ℕ)) (name : List ℕ) (before rank : ℕ) → IsDecided lines path before → IsVerdict lines (path ++ name ∷ []) before rank → IsDecided lines (path ++ name ∷ []) rank
+decided-step lines path name before rank d v = record {
+  hit = λ h. hits (nat_lt before rank) refl h;
+  miss = λ n b t. elim (touches-step t.0 path name t.1.1) [
+    | inl q ↦ let l = v.least in d.miss n (omega arith) (t.0, (t.1.0, q))
+    | inr r ↦ v.miss n b (t.0, (t.1.0, r))
+  ];
+}
+  where
+    hits : (x : Bool) → nat_lt before rank ≡ x → 0 < rank → TouchesAt lines (path ++ name ∷ []) (rank - 1)
+    hits true e h = let w = v.hit (ltb-true before rank e) in (w.0, (w.1.0, touches-here w.0 (path ++ name ∷ []) w.1.1))
+    hits false e h =
+        let b = ltb-false before rank e in let a = v.least in
+        let same : before ≡ rank = omega arith in
+        let w = d.hit (omega arith) in
+        subst (λ (x : ℕ). TouchesAt lines (path ++ name ∷ []) (x - 1)) same (w.0, (w.1.0, touches-more w.0 path name w.1.1))
+
+get-within : (lines : List Line) (n : ℕ) (line : Line) → slice_get lines n ≡ Some line → n < length lines
+get-within [] n line e = absurd (none-some line e)
+get-within (x ∷ xs) zero line e = omega arith
+get-within (x ∷ xs) (suc n) line e = let l = get-within xs n line e in omega arith
+
+pub decided-within : (lines : List Line) (path : List (List ℕ)) (rank : ℕ) → IsDecided lines path rank → rank ≤ length lines
+decided-within lines path zero d = omega arith
+decided-within lines path (suc r) d = let w = d.hit (omega arith) in let l = get-within lines (suc r - 1) w.0 w.1.0 in omega arith
+
+-- the last line that touches a path decides
+pub decided-kept : (lines : List Line) (path : List (List ℕ)) (rank : ℕ) → IsDecided lines path rank → Lets lines rank ↔ Kept lines path
+decided-kept lines path rank d = (λ l. there (nat_lt 0 rank) refl l, λ k. back (nat_lt 0 rank) refl k)
+  where
+    there : (x : Bool) → nat_lt 0 rank ≡ x → Lets lines rank → Kept lines path
+    there false e l = inl (λ n t. d.miss n (let b = ltb-false 0 rank e in omega arith) t)
+    there true e (inl z) = absurd (let b = ltb-true 0 rank e in omega arith)
+    there true e (inr (line, (at, ex))) =
+        let b = ltb-true 0 rank e in
+        let w = d.hit b in
+        inr (rank - 1, (line, (at, (subst (λ (x : Line). Touches x path) (same_Some w.0 line (sym w.1.0 ∙ at)) w.1.1, (ex, λ m l t. d.miss m (omega arith) t)))))
+
+    back : (x : Bool) → nat_lt 0 rank ≡ x → Kept lines path → Lets lines rank
+    back false e k = inl (let b = ltb-false 0 rank e in omega arith)
+    back true e (inl none) = absurd (none (rank - 1) (d.hit (ltb-true 0 rank e)))
+    back true e (inr (n, (line, (at, (t, (ex, last)))))) =
+        by (nat_lt n (rank - 1)) refl (nat_lt n rank) refl
+      where
+        by : (y : Bool) → nat_lt n (rank - 1) ≡ y → (z : Bool) → nat_lt n rank ≡ z → Lets lines rank
+        by true f z g = absurd (last (rank - 1) (ltb-true n (rank - 1) f) (d.hit (ltb-true 0 rank e)))
+        by false f false g = absurd (d.miss n (ltb-false n rank g) (line, (at, t)))
+        by false f true g =
+            let a = ltb-false n (rank - 1) f in let b = ltb-true n rank g in
+            let same : n ≡ rank - 1 = omega arith in
+            inr (line, (subst (λ (x : ℕ). slice_get lines x ≡ Some line) same at, ex))
+
+-- ---- the same values under other names
+
+pub moved-within : (ls lines : List Line) (ms ns : List ℕ) → ls ≡ lines → ms ≡ ns → AreWithin (length lines) ns → AreWithin (length ls) ms
+moved-within ls lines ms ns l m w = subst (λ (x : List Line). AreWithin (length x) ms) (sym l) (subst (AreWithin (length lines)) (sym m) w)
+
+pub moved-best : (ls lines : List Line) (ms ns : List ℕ) (path : List (List ℕ)) (above rank : ℕ) → ls ≡ lines → ms ≡ ns → IsBest ls ms path above rank → IsBest lines ns path above rank
+moved-best ls lines ms ns path above rank l m b = subst (λ (x : List Line). IsBest x ns path above rank) l (subst (λ (x : List ℕ). IsBest ls x path above rank) m b)
+
+pub moved-verdict : (lines value : List Line) (path : List (List ℕ)) (above rank : ℕ) → lines ≡ value → IsVerdict lines path above rank → IsVerdict value path above rank
+moved-verdict lines value path above rank l v = subst (λ (x : List Line). IsVerdict x path above rank) l v
+
+pub decided-more : (lines : List Line) (names front : List (List ℕ)) (d before rank : ℕ) → d < length names → front ≡ take (d + 1) names → IsDecided lines (take d names) before → IsVerdict lines front before rank → IsDecided lines (take (d + 1) names) rank
+decided-more lines names front d before rank l is dec v =
+    let e = take_more names d [] l in
+    subst (λ (x : List (List ℕ)). IsDecided lines x rank) (sym e) (decided-step lines (take d names) (get_or names d []) before rank dec (subst (λ (x : List (List ℕ)). IsVerdict lines x before rank) (is ∙ e) v))
+
+pub decided-all : (lines : List Line) (names path : List (List ℕ)) (d rank : ℕ) → length names ≤ d → names ≡ path → IsDecided lines (take d names) rank → Lets lines rank ↔ Kept lines path
+decided-all lines names path d rank l is dec = decided-kept lines path rank (subst (λ (x : List (List ℕ)). IsDecided lines x rank) (take_all d names l ∙ is) dec)

@@ -1,0 +1,6 @@
+mod Lines
+mod Deciding
+mod Handing
+mod Cutting
+mod Saying
+mod Bodies

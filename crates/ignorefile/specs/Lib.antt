@@ -1,0 +1,6 @@
+pub mod Line
+pub mod Kept
+pub mod File
+pub mod PrivateRanks
+pub mod PrivateIndex
+pub mod PrivateFile

@@ -1,0 +1,23 @@
+// Ignore files: which of a context's paths the lines of a `.dockerignore` keep.
+//
+// The last line that relates to a path, or to a folder that it lies in, decides. It knows patterns of single names from `globs` and adds
+// `**`; it knows no tree. Lines that end in a plain name, as most do, are found by that name and not tried one after another, and what
+// the lines decide of a folder is handed down to the paths in it.
+//
+// Its central definitions are `ignore_of` (specs/File.antt), what the bytes of a file say, and `Kept` (specs/Kept.antt).
+//
+// ```
+// let ignore = Ignore::read(alloc, b"*.md\n!README.md\n")?;
+// ignore.keeps(&path)                          // true for /README.md, false for /a.md
+// ```
+#![tactic(auto)]
+
+mod fault;
+mod file;
+mod ignore;
+mod index;
+mod line;
+
+pub use fault::{BadLine, IgnoreFault};
+pub use ignore::Ignore;
+pub use line::{Line, Segment};

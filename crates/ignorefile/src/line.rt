@@ -1,0 +1,74 @@
+ghost use Rattle.std.specs.Prelude.{◌≡◌, ◌↔◌, IsTrue, IfSome};
+ghost use Rattle.ignorefile.specs.Line.{Relates};
+ghost use Rattle.ignorefile.specs.PrivateRanks.{EndsIn, TakesOnly};
+
+use globs::{Component, Fits, can_be_cut};
+use plain::{Items, Text};
+
+/// A segment of a line's pattern.
+#[derive(Debug, Drop)]
+pub enum Segment {
+    /// `**`: any names, also none.
+    Deep,
+    /// One name that this pattern relates to.
+    Named(Component),
+}
+
+impl Fits<Text> for Segment {
+    ghost use Rattle.ignorefile.specs.Line.{is_deep, holds};
+
+    ghost takes_any = { is_deep };
+
+    ghost holds = { holds };
+
+    fn takes_any(&self) -> bool {
+        matches!(self, Segment::Deep)
+    }
+
+    fn holds(&self, item: &Text) -> bool {
+        match self {
+            Segment::Deep => false,
+            Segment::Named(component) => component.matches(item),
+        }
+    }
+}
+
+impl Segment {
+    /// The name that the segment takes alone, where it is a plain one.
+    fn only_name(&self) -> Option<&str>
+        ensures { IfSome result (λ name. TakesOnly self.now name.now) }
+    {
+        match self {
+            Segment::Deep => None,
+            Segment::Named(component) => component.plain_name(),
+        }
+    }
+}
+
+/// A line of an ignore file that has a pattern.
+#[derive(Debug, Drop)]
+pub struct Line {
+    /// Whether it keeps what it relates to, as it begins with `!`.
+    pub exception: bool,
+    /// Its pattern.
+    pub segments: Items<Segment>,
+}
+
+impl Line {
+    /// Whether the line's pattern relates to just this path, given by its names.
+    pub(crate) fn relates(&self, names: &[Text]) -> bool
+        ensures { IsTrue result ↔ Relates self.now names.now }
+    {
+        can_be_cut(self.segments.as_slice(), names)
+    }
+
+    /// The name that each path which the line relates to ends in, where its pattern ends in a plain name.
+    pub(crate) fn last_name(&self) -> Option<&str>
+        ensures { IfSome result (λ name. EndsIn self.now name.now) }
+    {
+        match self.segments.as_slice() {
+            [] => None,
+            [.., last] => last.only_name(),
+        }
+    }
+}
