@@ -1,5 +1,5 @@
 use plain::{Code, Fault};
 
-/// Why a text of an instruction isn't read, or has no value: it is refused, as one with an open quote is by R09, and one whose value is
-/// too long by R18. The crates above know its line.
+/// Why a text of an instruction isn't read: it is refused with a code, as one with an open quote is with R09, or there was no memory, and
+/// nothing is said of the text. Its line is known to the caller.
 pub type TextFault = Fault<Code>;
