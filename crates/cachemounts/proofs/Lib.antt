@@ -1,0 +1,3 @@
+pub mod HoldLemmas
+pub mod ContentLemmas
+pub mod StoreLemmas
