@@ -1,170 +1,196 @@
--- The machine of a board: which events can happen, and what they leave.
+-- The machine of a board: what each step leaves of what a board holds.
 --
--- It is plain data and functions. What may happen by the rules is said in words in `Legal`. That the two agree is proved in
--- `ReadyLaws` (which vertices are ready), `StepLaws` (one step) and `PlayLaws` (all of them).
-use Rattle.std.specs.Prelude.{◌≡◌, ℕ, zero, suc, ◌==◌, Bool, true, false, not, ◌&&◌, ◌||◌, if◌then◌else◌, List, [], ◌∷◌, ◌++◌, length, map, Option, Some, None, is_some, Ok, Err, slice_get, slice_set, replicate, filter, find}
+-- It is plain data and functions. What may happen by the rules is said over histories alone in `Legal`; that the machine does just that is the contract of
+-- the laws (`src/laws.rt`).
+use Rattle.std.specs.Prelude.{◌≡◌, ℕ, zero, suc, ◌==◌, Bool, false, not, ◌&&◌, if◌then◌else◌, List, [], ◌∷◌, ◌++◌, length, map, Option, Some, None, is_some, slice_get, slice_set, replicate, filter, find}
 use Rattle.std.specs.List.{count_by, list_any, list_all, slice_index_or}
 use Rattle.std.specs.Option.{option_map, option_map_or}
-use Rattle.board.specs.Words.{TreeMap, Worth, Vertex, Problem, vertex_value}
+use Rattle.cachemounts.specs.Holds.{can_take, new_holds, without_holder}
+use Rattle.trees.specs.TreeMap.{TreeMap}
+use Rattle.trees.specs.Cause.{TreeOrCause}
+use Rattle.llb.specs.declared.vertex.Vertex.{Vertex}
+use Rattle.plans.specs.Plan.{Problem, vertex_value, uses_in, uses_at}
+use Rattle.cachemounts.specs.declared.holds.Hold.{Hold}
+use Rattle.board.specs.Readiness.{has_tree, stops_in}
 use Rattle.board.specs.declared.event.Event.{Event}
 use Rattle.board.specs.declared.event.Event.TheVariants as event
 use Rattle.board.specs.declared.event.Happened.{Happened}
 use Rattle.board.specs.declared.event.Happened.TheVariants.{Claimed, Settled, Abandoned}
-use Rattle.board.specs.declared.event.Holding.{Holding}
+use Rattle.board.specs.declared.claim.ClaimOut.{ClaimOut}
 
--- What a board has at a moment: for each vertex the value with which it is settled, if it is, and the claims that are out, the oldest first.
+-- what a board holds at a moment: for each vertex its value, once it is settled; the claims that are out, the oldest first; and their holds of caches (own)
 pub record State : Type 0 where
-  pub settled : List (Option Worth)
-  pub claims : List Holding
+  pub settled : List (Option TreeOrCause)
+  pub claims : List ClaimOut
+  pub holds : List Hold
 
--- What a board has been through, and what it has now.
+-- what has happened on a board, and what it holds now (own)
 pub record Run : Type 0 where
   pub history : List Happened
   pub state : State
 
--- What a caller asks, with the trees that a settle gives back.
+-- what a caller asks of a board, with the trees that a settle gives back (own)
 pub data Step : Type 0 where
   Claim : ℕ → Step
   Settle : ℕ → List TreeMap → Step
   Abandon : ℕ → Step
 
--- A step without the trees that it gives back.
-abbrev pub plain : Step → Event
-plain (Claim worker) = event.Claim worker
-plain (Settle worker given) = event.Settle worker
-plain (Abandon worker) = event.Abandon worker
+-- the event that a step is, the trees that it gives back left out (own)
+abbrev pub event_of_step : Step → Event
+event_of_step (Claim worker) = event.Claim worker
+event_of_step (Settle worker given) = event.Settle worker
+event_of_step (Abandon worker) = event.Abandon worker
 
--- The worker that asks for a step.
+-- the worker whose step it is (own)
 abbrev pub worker_of : Step → ℕ
 worker_of (Claim worker) = worker
 worker_of (Settle worker given) = worker
 worker_of (Abandon worker) = worker
 
--- The step that something which happened was.
+-- the step that something which happened was (own)
 abbrev pub step_of : Happened → Step
 step_of (Claimed worker vertex) = Claim worker
 step_of (Settled worker vertex given) = Settle worker given
 step_of (Abandoned worker vertex) = Abandon worker
 
--- The value with which a vertex is settled.
-abbrev pub value_at : List (Option Worth) → ℕ → Option Worth
+-- the value with which a vertex is settled, if it is (own)
+abbrev pub value_at : List (Option TreeOrCause) → ℕ → Option TreeOrCause
 value_at settled vertex = slice_index_or settled vertex None
 
--- Whether that is a tree.
-abbrev pub has_tree : Option Worth → Bool
-has_tree (Some (Ok tree)) = true
-has_tree (Some (Err cause)) = false
-has_tree None = false
+-- how many vertices are not settled (own)
+abbrev pub unsettled_count : List (Option TreeOrCause) → ℕ
+unsettled_count settled = count_by (λ value. not (is_some value)) settled
 
--- Whether that is a cause.
-abbrev pub has_cause : Option Worth → Bool
-has_cause (Some (Ok tree)) = false
-has_cause (Some (Err cause)) = true
-has_cause None = false
-
--- How many vertices are not settled.
-abbrev pub waiting : List (Option Worth) → ℕ
-waiting settled = count_by (λ value. not (is_some value)) settled
-
--- The claim that a worker has out.
-abbrev pub claim_of : ℕ → List Holding → Option Holding
+-- the claim that a worker has out (own)
+abbrev pub claim_of : ℕ → List ClaimOut → Option ClaimOut
 claim_of worker claims = find (λ claim. claim.worker == worker) claims
 
--- The claims of the other workers.
-abbrev pub without : ℕ → List Holding → List Holding
+-- the vertex of a claim (own)
+abbrev pub vertex_of : Option ClaimOut → Option ℕ
+vertex_of (Some claim) = Some claim.vertex
+vertex_of None = None
+
+-- the claims of the other workers (own)
+abbrev pub without : ℕ → List ClaimOut → List ClaimOut
 without worker claims = filter (λ claim. not (claim.worker == worker)) claims
 
--- Whether a claim of a vertex is out.
-abbrev pub is_claimed : ℕ → List Holding → Bool
+-- whether a claim of a vertex is out (own)
+abbrev pub is_claimed : ℕ → List ClaimOut → Bool
 is_claimed vertex claims = list_any (λ claim. claim.vertex == vertex) claims
 
--- Whether nothing more is to be claimed: the target is settled, or some vertex is settled with a cause.
-abbrev pub is_over : ℕ → List (Option Worth) → Bool
-is_over target settled = is_some (value_at settled target) || list_any has_cause settled
-
--- Whether each input is settled with a tree.
-abbrev pub have_trees : List (Option Worth) → List ℕ → Bool
+-- whether each input is settled with a tree (own)
+abbrev pub have_trees : List (Option TreeOrCause) → List ℕ → Bool
 have_trees settled inputs = list_all (λ input. has_tree (value_at settled input)) inputs
 
--- Whether a vertex waits for a worker and for nothing else.
-abbrev pub is_open : List Vertex → State → ℕ → Bool
-is_open vertices state vertex =
-    option_map_or (λ v. have_trees state.settled v.inputs) (slice_get vertices vertex) false && (not (is_some (value_at state.settled vertex)) && not (is_claimed vertex state.claims))
+-- whether a vertex is ready: each input is settled with a tree, it is neither settled nor claimed, its caches can be taken, and nothing stops it (own)
+abbrev pub ready_in : List Vertex → ℕ → State → ℕ → Bool
+ready_in vertices target state vertex =
+    option_map_or (λ (v : Vertex). have_trees state.settled v.inputs) (slice_get vertices vertex) false
+    && ((not (is_some (value_at state.settled vertex)) && not (is_claimed vertex state.claims))
+    && (can_take state.holds (uses_in vertices vertex) && not (stops_in (length vertices) target (value_at state.settled) vertex)))
 
--- The first number that was found, else n where it passes the test.
+-- the same, of a problem (own)
+abbrev pub is_ready : Problem → State → ℕ → Bool
+is_ready problem state vertex = ready_in problem.vertices problem.target state vertex
+
+-- the number that was found, else n where that passes the test (own)
 abbrev pub or_last : (ℕ → Bool) → ℕ → Option ℕ → Option ℕ
 or_last test n (Some k) = Some k
 or_last test n None = if test n then Some n else None
 
--- The least number below a bound that passes a test.
+-- the least number below a bound that passes a test (own)
 abbrev pub least : (ℕ → Bool) → ℕ → Option ℕ
 least test zero = None
 least test (suc n) = or_last test n (least test n)
 
--- The least vertex that is ready, of a graph.
-abbrev pub least_ready : List Vertex → ℕ → State → Option ℕ
-least_ready vertices target state =
-    if is_over target state.settled then None else least (is_open vertices state) (length vertices)
+-- the least vertex that is ready (own)
+abbrev pub least_ready : Problem → State → Option ℕ
+least_ready problem state = least (is_ready problem state) (length problem.vertices)
 
--- The vertex that a worker's claim is given: the least that is ready, and none where the worker has a claim out.
-abbrev pub to_claim : List Vertex → ℕ → State → ℕ → Option ℕ
-to_claim vertices target state worker =
-    if is_some (claim_of worker state.claims) then None else least_ready vertices target state
+-- the vertex that a worker may claim: the least that is ready, and none where the worker has a claim out (own)
+abbrev pub claimable_in : List Vertex → ℕ → State → ℕ → Option ℕ
+claimable_in vertices target state worker = if is_some (claim_of worker state.claims) then None else least (ready_in vertices target state) (length vertices)
 
--- The vertex that a problem's board gives a worker.
-abbrev pub can_claim : Problem → State → ℕ → Option ℕ
-can_claim problem state worker = to_claim problem.vertices problem.target state worker
+-- the same, of a problem (own)
+abbrev pub claimable : Problem → State → ℕ → Option ℕ
+claimable problem state worker = claimable_in problem.vertices problem.target state worker
 
--- What a step leaves, and what is written of it.
+-- a claim that gives back as many trees as its vertex uses caches (own)
+abbrev pub claim_giving : Problem → List TreeMap → Option ClaimOut → Option ClaimOut
+claim_giving problem given None = None
+claim_giving problem given (Some claim) = if length given == length (uses_at problem claim.vertex) then Some claim else None
+
+-- what a step leaves, and the event that is added to the history (own)
 pub record Move : Type 0 where
   pub state : State
   pub happened : Happened
 
--- A claim: the vertex is the worker's from now on.
-abbrev pub claim_move : State → ℕ → ℕ → Move
-claim_move state worker vertex =
-    record { state = record { settled = state.settled; claims = state.claims ++ record { worker = worker; vertex = vertex } ∷ [] }; happened = Claimed worker vertex }
+-- a claim: it is out from now on, and its caches are held. The number of events before it tells it from others. (own)
+abbrev pub claim_move : Problem → Run → ℕ → ℕ → Move
+claim_move problem run worker vertex =
+    record {
+      state = record {
+        settled = run.state.settled;
+        claims = run.state.claims ++ record { worker = worker; vertex = vertex; at = length run.history } ∷ [];
+        holds = run.state.holds ++ new_holds worker run.state.holds (uses_at problem vertex);
+      };
+      happened = Claimed worker vertex;
+    }
 
--- A settle: the vertex is settled with its value, and the claim is out no more. The machine takes the value from the problem, so
--- it says nothing of what a worker brings: that this is the vertex's value is proved where `Board::settle` stores it.
-abbrev pub settle_move : Problem → State → List TreeMap → Holding → Move
+-- a settle: the vertex is settled with its value, and the claim is out no more. The machine takes the value from the problem; that a worker brings just
+-- that value is the condition of `Board::settle`. (own)
+abbrev pub settle_move : Problem → State → List TreeMap → ClaimOut → Move
 settle_move problem state given claim =
-    record { state = record { settled = slice_set state.settled claim.vertex (vertex_value problem claim.vertex); claims = without claim.worker state.claims }; happened = Settled claim.worker claim.vertex given }
+    record {
+      state = record {
+        settled = slice_set state.settled claim.vertex (vertex_value problem claim.vertex);
+        claims = without claim.worker state.claims;
+        holds = without_holder claim.worker state.holds;
+      };
+      happened = Settled claim.worker claim.vertex given;
+    }
 
--- An abandon: the claim is out no more.
-abbrev pub abandon_move : State → Holding → Move
+-- an abandon: the claim is out no more (own)
+abbrev pub abandon_move : State → ClaimOut → Move
 abandon_move state claim =
-    record { state = record { settled = state.settled; claims = without claim.worker state.claims }; happened = Abandoned claim.worker claim.vertex }
+    record {
+      state = record {
+        settled = state.settled;
+        claims = without claim.worker state.claims;
+        holds = without_holder claim.worker state.holds;
+      };
+      happened = Abandoned claim.worker claim.vertex;
+    }
 
--- What a step does, where it is possible.
-abbrev pub next : Problem → State → Step → Option Move
-next problem state (Claim worker) = option_map (claim_move state worker) (can_claim problem state worker)
-next problem state (Settle worker given) = option_map (settle_move problem state given) (claim_of worker state.claims)
-next problem state (Abandon worker) = option_map (abandon_move state) (claim_of worker state.claims)
+-- what a step does, where it is possible (own)
+abbrev pub next : Problem → Run → Step → Option Move
+next problem run (Claim worker) = option_map (claim_move problem run worker) (claimable problem run.state worker)
+next problem run (Settle worker given) = option_map (settle_move problem run.state given) (claim_giving problem given (claim_of worker run.state.claims))
+next problem run (Abandon worker) = option_map (abandon_move run.state) (claim_of worker run.state.claims)
 
--- The run after a move, or as it was where there is none.
+-- what has happened after a move, or as it was where there is none (own)
 abbrev pub moved : Run → Option Move → Run
 moved run (Some move) = record { history = run.history ++ move.happened ∷ []; state = move.state }
 moved run None = run
 
--- One step more: one that isn't possible changes nothing.
+-- one step more: one that isn't possible changes nothing (own)
 abbrev pub go : Problem → Run → Step → Run
-go problem run step = moved run (next problem run.state step)
+go problem run step = moved run (next problem run step)
 
--- Step after step.
+-- step after step (own)
 abbrev pub go_all : Problem → Run → List Step → Run
 go_all problem run [] = run
 go_all problem run (step ∷ steps) = go_all problem (go problem run step) steps
 
--- The beginning: nothing has happened, nothing is settled, no claim is out.
+-- the beginning: nothing has happened, nothing is settled, no claim is out (own)
 abbrev pub begun : Problem → Run
 begun problem =
-    record { history = []; state = record { settled = replicate (length problem.vertices) None; claims = [] } }
+    record { history = []; state = record { settled = replicate (length problem.vertices) None; claims = []; holds = [] } }
 
--- What a list of steps leaves, each of them skipped where it isn't possible in its place.
+-- what a list of steps leaves, each of them skipped where it isn't possible when its turn comes (own)
 abbrev pub play : Problem → List Step → Run
 play problem steps = go_all problem (begun problem) steps
 
--- What a board holds is the replay of its history.
+-- what a board holds is the replay of its history (own)
 abbrev pub IsReplay : Problem → Run → Type 0
 IsReplay problem run = play problem (map step_of run.history) ≡ run

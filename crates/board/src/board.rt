@@ -1,107 +1,119 @@
-ghost use Rattle.std.specs.Prelude.{◌≡◌, ◌↔◌, ◌<◌, [], Some, IsTrue, IfOk, IfSome, IfErr, OnOk, OnErr, slice_get};
+ghost use Rattle.std.specs.Prelude.{◌≡◌, ◌↔◌, ◌<◌, [], Some, map, IsTrue, IfOk, IfSome, IfNone, IfErr, OnOk, OnErr, slice_get};
 ghost use Rattle.std.specs.Option.{option_map};
-ghost use Rattle.board.specs.BoardValue.{board_problem, IsStep};
-ghost use Rattle.board.specs.Play.{begun, IsReplay, can_claim, waiting};
+ghost use Rattle.cachemounts.specs.Holds.{new_holds};
+ghost use Rattle.cachemounts.specs.Content.{tree_held};
+ghost use Rattle.plans.specs.Plan.{uses_at};
+ghost use Rattle.board.specs.Board.{board_problem, IsStep, AreContents};
+ghost use Rattle.board.specs.Job.{job_problem};
+ghost use Rattle.board.specs.Problem.{IsProblem};
+ghost use Rattle.board.specs.Play.{begun, claim_of, value_at, unsettled_count, IsReplay};
 ghost use Rattle.board.specs.Play.{Claim as Claiming, Settle as Settling, Abandon as Abandoning};
-ghost use Rattle.board.specs.Claims.{IsClaim, IsOut, IsResult};
-ghost use Rattle.board.specs.Legal.{IsGiven};
-ghost use Rattle.llb.specs.Plan.{problem_of};
-ghost use Rattle.board.specs.Words.{IsProblem};
+ghost use Rattle.board.specs.Claim.{IsClaim, IsOut, IsResult, IsGivenBack};
+ghost use Rattle.board.specs.Clearing.{IsCleared};
+ghost use Rattle.board.specs.Legal.{IsNextClaim};
 
 use crate::state::{self, NextClaim};
-use crate::{Claim, Happened, Holding, Refused, Settled, growth};
+use crate::{Claim, ClaimOut, Happened, Job, Refused};
+use cachemounts::{CacheStore, Content};
 use executor::Executor;
-use llb::Plan;
-use plain::{Items, Memory};
+use llb::VertexId;
+use plain::{Items, Memory, copied_items, growth};
 use std::alloc::Global;
 use std::marker::Model;
-use trees::Tree;
+use trees::{Tree, TreeOrCause};
 
-/// What has become of a plan's vertices so far, for one executor.
-///
-/// What it owes, the most important first: a vertex is settled with its value and with nothing else; a vertex is held by one
-/// worker at a time and settled once; a worker that asks is given the least vertex that is ready; and an abandon never wants memory,
-/// so a worker can always give up what it holds.
-///
-/// Contracts see the plan, the executor, and a run: the history with the state that it leaves. What stands in the fields is the
-/// replay of the history (`IsReplay`).
+/// Which vertices of a job are settled and with what, which claims are out, and what the job's caches hold. The type keeps that all of it is
+/// the replay of the history: so whatever calls were made, the history is legal, and each vertex that is settled has its value.
 #[derive(Drop)]
-pub struct Board<'a, C, E: Executor> {
-    /// What is solved. Its graph has the inputs of each vertex before it.
-    plan: &'a Plan<C>,
-    /// For whom: the values of vertices are those that this executor gives.
-    executor: &'a E,
-    /// For each vertex with what it is settled, if it is.
-    settled: Vec<Option<Settled>>,
+pub struct Board<'a, E: Executor> {
+    job: Job<'a, E>,
+    /// For each vertex its value, once it is settled.
+    settled: Vec<Option<TreeOrCause>>,
     /// The claims that are out, the oldest first: no worker twice, no vertex twice.
-    claims: Vec<Holding>,
-    /// All that happened, in order. There is room in it for the end of each claim that is out. It is kept at run time since a
-    /// contract sees fields alone, and since `follow` is compared with it.
+    claims: Vec<ClaimOut>,
+    /// All that happened, in order. It has room for the end of each claim that is out, so that an abandon takes no memory.
     history: Vec<Happened>,
+    /// The contents of the caches when the board was made.
+    first: Vec<Content>,
+    /// The contents of the caches now, and who holds which of them.
+    caches: CacheStore,
 }
 
-impl<'a, C, E: Executor> Model for Board<'a, C, E> {
+impl<'a, E: Executor> Model for Board<'a, E> {
     ghost use Rattle.std.specs.Prelude.{◌+◌, ◌≤◌, vec_len, vec_capacity};
-    ghost use Rattle.board.specs.BoardValue.{BoardValue, board_code};
-    ghost use Rattle.board.specs.Play.{IsReplay};
-    ghost use Rattle.llb.specs.Plan.{problem_of};
-    ghost use Rattle.board.specs.Words.{IsProblem};
+    ghost use Rattle.board.specs.Board.{BoardValue, board_code, IsBoard};
 
-    ghost Value = { BoardValue E C };
+    ghost Value = { BoardValue E };
 
-    ghost coded = { board_code E.code C.code };
+    ghost coded = { board_code E.code };
 
     ghost view = { λ b. record {
-      executor = b.executor.now;
-      plan = b.plan.now;
-      run = record { history = b.history.items; state = record { settled = b.settled.items; claims = b.claims.items } };
+      job = b.job;
+      first = b.first.items;
+      contents = b.caches.contents;
+      run = record { history = b.history.items; state = record { settled = b.settled.items; claims = b.claims.items; holds = b.caches.holds } };
     } };
 
     ghost invariant = { λ b.
-        IsReplay (problem_of (E.out b.executor.now) b.plan.now) (record { history = b.history.items; state = record { settled = b.settled.items; claims = b.claims.items } })
-        × IsProblem (problem_of (E.out b.executor.now) b.plan.now)
+        IsBoard E.out (record {
+          job = b.job;
+          first = b.first.items;
+          contents = b.caches.contents;
+          run = record { history = b.history.items; state = record { settled = b.settled.items; claims = b.claims.items; holds = b.caches.holds } };
+        })
         × (vec_len b.history + vec_len b.claims ≤ vec_capacity b.history) };
 }
 
-impl<'a, C, E: Executor> Board<'a, C, E> {
-    /// A board on which nothing has happened. It makes the room for every vertex's value.
-    pub fn new(alloc: Global, plan: &'a Plan<C>, executor: &'a E) -> Result<Board<'a, C, E>, Memory>
-        ensures { IfOk result (λ board. board ≡ record { executor = executor.now; plan = plan.now; run = begun (problem_of (E.out executor.now) plan.now) }) }
+/// The store, given back where there was no memory for its board.
+pub struct NoBoard {
+    pub caches: CacheStore,
+}
+
+impl<'a, E: Executor> Board<'a, E> {
+    /// A board on which nothing has happened, with a store of which no lease is out. `CacheStore::is_idle` tests that.
+    pub fn new(alloc: Global, job: Job<'a, E>, caches: CacheStore) -> Result<Board<'a, E>, NoBoard>
+        requires idle { caches.holds ≡ [] }
+        ensures ok { IfOk result (λ board. board ≡ record { job = job.entry; first = caches.contents; contents = caches.contents; run = begun (job_problem E.out job.entry) }) }
+        ensures back { IfErr result (λ refused. refused.caches ≡ caches) }
     {
-        let settled = state::unsettled(alloc, plan.graph().len())?;
+        let Ok(settled) = state::none_settled(alloc, job.graph().len()) else {
+            return Err(NoBoard { caches });
+        };
+        let Ok(first) = caches.contents(alloc) else {
+            return Err(NoBoard { caches });
+        };
         Ok(Board {
-            plan,
-            executor,
+            job,
             settled,
             claims: Vec::new(alloc),
             history: Vec::new(alloc),
+            first,
+            caches,
         })
     }
 
-    /// Claims the ready vertex of least id for a worker, with the trees of its inputs. It gives none exactly where no vertex is
-    /// ready or the worker has a claim out. Ready is a vertex that is neither claimed nor settled, with every input settled with
-    /// a tree, while the target isn't settled and no vertex is settled with a cause. (own) The target may not need it: a board knows
-    /// no order but that of inputs. After `Memory` the board is as it was.
-    ///
-    /// It makes the room in the history for the event that ends the claim.
+    /// Claims the ready vertex of least id for a worker, with copies of its inputs' trees and the lease of its caches. It claims nothing where
+    /// no vertex is ready, or where the worker has a claim out. After `Memory` the board is as it was.
     pub fn claim(&mut self, alloc: Global, worker: u32) -> Result<Option<Claim>, Memory>
-        ensures next { IfOk result (λ claim. IsGiven (board_problem E.out self.old) self.old.run.history worker
+        ensures next { IfOk result (λ claim. IsNextClaim (board_problem E.out self.old) self.old.run.history worker
             (option_map (λ c. c.vertex) claim)) }
         ensures worker { IfOk result (λ claim. IfSome claim (λ c. c.worker ≡ worker)) }
         ensures of { IfOk result (λ claim. IfSome claim (IsClaim (board_problem E.out self.new))) }
         ensures out { IfOk result (λ claim. IfSome claim (IsOut self.new.run.state)) }
+        ensures caches { IfOk result (λ claim. IfSome claim (λ c. c.caches
+            ≡ map (tree_held self.old.contents) (new_holds worker self.old.run.state.holds (uses_at (board_problem E.out self.old) c.vertex)))) }
         ensures run { OnOk result (IsStep E.out (Claiming worker) self.old self.new) }
-        // The same vertex as the machine gives it, from which the next step follows.
-        ensures which { IfOk result (λ claim. option_map (λ c. c.vertex) claim
-            ≡ can_claim (board_problem E.out self.old) self.old.run.state worker) }
+        ensures none { IfOk result (λ claim. IfNone claim (self.new ≡ self.old)) }
         ensures err { OnErr result (self.new ≡ self.old) }
     {
+        let vertices = self.job.graph().vertices();
         let next = state::next_claim(
             alloc,
-            self.plan.graph().vertices(),
-            self.plan.target(),
+            vertices,
+            self.job.target(),
             self.settled.as_slice(),
             self.claims.as_slice(),
+            &self.caches,
             worker,
         )?;
         let Some(next) = next else {
@@ -111,104 +123,113 @@ impl<'a, C, E: Executor> Board<'a, C, E> {
         growth::room(&mut self.claims, 1)?;
         // One event for this claim, one for its end, and one for the end of each that is out already.
         growth::room(&mut self.history, self.claims.len() + 2)?;
-        growth::add(&mut self.claims, Holding { worker, vertex });
+        let lease = self
+            .caches
+            .take(alloc, worker, state::uses_of(vertices, vertex))?;
+        let at = self.history.len();
+        growth::add(&mut self.claims, ClaimOut { worker, vertex, at });
         growth::add(&mut self.history, Happened::Claimed { worker, vertex });
-        Ok(Some(Claim::new(worker, vertex, inputs)))
+        Ok(Some(Claim::new(worker, vertex, at, inputs, lease)))
     }
 
-    /// Settles a claim that is out, with the result of its vertex and the trees of caches that are given back, of which there are
-    /// none as long as no run takes one. Where memory is refused all of it comes back, and the board is as it was; today none is
-    /// wanted.
-    pub fn settle(&mut self, claim: Claim, value: Settled, given: Vec<Tree>) -> Result<(), Refused>
+    /// Settles the vertex of a claim with its value, and gives trees back to the caches that the vertex uses, in the order of its uses. The claim
+    /// has to be out (`is_out` tests that), the value has to be the result of its vertex's operation on its inputs, and the trees have to be as
+    /// many as the vertex has uses: a run answers such (`solver::run`). After want of memory all three come back, and the board is as it was.
+    pub fn settle(
+        &mut self,
+        alloc: Global,
+        claim: Claim,
+        value: TreeOrCause,
+        given: Vec<Tree>,
+    ) -> Result<(), Refused>
         requires out { IsOut self.old.run.state claim }
         requires of { IsClaim (board_problem E.out self.old) claim }
         requires value { IsResult (board_problem E.out self.old) claim value }
+        requires given { IsGivenBack (board_problem E.out self.old) claim given.items }
         ensures run { OnOk result (IsStep E.out (Settling claim.worker given.items) self.old self.new) }
         ensures value { OnOk result (slice_get self.new.run.state.settled claim.vertex ≡ Some (Some value)) }
-        // What a caller's loop gets nearer to its end by.
-        ensures nearer { OnOk result (waiting self.new.run.state.settled < waiting self.old.run.state.settled) }
+        ensures nearer { OnOk result (unsettled_count self.new.run.state.settled < unsettled_count self.old.run.state.settled) }
         ensures err { OnErr result (self.new ≡ self.old) }
         ensures back { IfErr result (λ refused. (refused.claim ≡ claim) × (refused.value ≡ value) × (refused.given.items ≡ given.items)) }
     {
+        let Ok(noted) = copied_items(alloc, given.as_slice()) else {
+            return Err(Refused {
+                claim,
+                value,
+                given,
+            });
+        };
         let worker = claim.worker();
         let vertex = claim.vertex();
-        claim.spend();
+        let lease = claim.into_lease();
         state::drop_claim(&mut self.claims, worker);
         self.settled[vertex.index()] = Some(value);
-        let given = Items::from_vec(given);
+        self.caches.give(lease, given);
         growth::add(
             &mut self.history,
             Happened::Settled {
                 worker,
                 vertex,
-                given,
+                given: Items::from_vec(noted),
             },
         );
         Ok(())
     }
 
-    /// Gives a claim up: its vertex may be claimed again. A claim that isn't out any more is spent and changes nothing. It takes
-    /// no memory.
+    /// Gives a claim up: its vertex may be claimed again, and the contents of its caches stay as they are. A claim that isn't out any more is
+    /// spent, and nothing else changes. It takes no memory.
     pub fn abandon(&mut self, claim: Claim)
         ensures out { IsOut self.old.run.state claim → IsStep E.out (Abandoning claim.worker) self.old self.new }
         ensures ended { ¬ IsOut self.old.run.state claim → self.new ≡ self.old }
     {
         let worker = claim.worker();
         let vertex = claim.vertex();
-        claim.spend();
-        if !state::is_out(self.claims.as_slice(), worker, vertex) {
+        let at = claim.at();
+        claim.into_lease().discard();
+        if !state::is_out(self.claims.as_slice(), worker, vertex, at) {
             return;
         }
-        state::drop_claim(&mut self.claims, worker);
-        growth::add(&mut self.history, Happened::Abandoned { worker, vertex });
+        self.give_up(ClaimOut { worker, vertex, at });
+    }
+
+    /// Abandons every claim that is out, in the order of their workers. It takes no memory.
+    pub fn abandon_all(&mut self)
+        ensures claims { self.new.run.state.claims ≡ [] }
+        ensures run { IsCleared (board_problem E.out self.old) self.old.run self.new.run }
+        ensures job { self.new.job ≡ self.old.job }
+        ensures first { self.new.first ≡ self.old.first }
+    {
+        while let Some(claim) = state::least_worker(self.claims.as_slice()) {
+            self.give_up(claim);
+        }
+    }
+
+    /// The value of a vertex, once it is settled.
+    pub fn value(&self, vertex: VertexId) -> Option<&TreeOrCause>
+        ensures { option_map (λ value. value.now) result ≡ value_at self.now.run.state.settled vertex }
+    {
+        self.settled.get(vertex.index())?.as_ref()
     }
 
     /// What has happened, in order.
     pub fn history(&self) -> &[Happened]
         ensures value { result.now ≡ self.now.run.history }
         ensures replay { IsReplay (board_problem E.out self.now) self.now.run }
+        ensures problem { IsProblem (board_problem E.out self.now) }
     {
         self.history.as_slice()
     }
 
-    /// The history, of a board that is given up.
-    pub(crate) fn into_history(self) -> Vec<Happened>
-        ensures value { result.items ≡ self.entry.run.history }
-        ensures plan { IsProblem (board_problem E.out self.entry) }
+    /// Whether a claim is out.
+    pub fn is_out(&self, claim: &Claim) -> bool
+        ensures { IsTrue result ↔ IsOut self.now.run.state claim.now }
     {
-        let Board {
-            plan: _,
-            executor: _,
-            settled: _,
-            claims: _,
-            history,
-        } = self;
-        history
-    }
-
-    /// For each vertex with what it is settled, if it is.
-    pub fn settled(&self) -> &[Option<Settled>]
-        ensures value { result.now ≡ self.now.run.state.settled }
-        ensures replay { IsReplay (board_problem E.out self.now) self.now.run }
-        ensures plan { IsProblem (board_problem E.out self.now) }
-    {
-        self.settled.as_slice()
-    }
-
-    /// For each vertex with what it is settled, if it is, of a board that is given up: nothing is copied.
-    pub fn into_settled(self) -> Vec<Option<Settled>>
-        ensures value { result.items ≡ self.entry.run.state.settled }
-        ensures replay { IsReplay (board_problem E.out self.entry) self.entry.run }
-        ensures plan { IsProblem (board_problem E.out self.entry) }
-    {
-        let Board {
-            plan: _,
-            executor: _,
-            settled,
-            claims: _,
-            history: _,
-        } = self;
-        settled
+        state::is_out(
+            self.claims.as_slice(),
+            claim.worker(),
+            claim.vertex(),
+            claim.at(),
+        )
     }
 
     /// Whether no claim is out.
@@ -218,24 +239,57 @@ impl<'a, C, E: Executor> Board<'a, C, E> {
         self.claims.is_empty()
     }
 
-    /// Whether a claim is out.
-    pub fn holds(&self, claim: &Claim) -> bool
-        ensures { IsTrue result ↔ IsOut self.now.run.state claim.now }
+    /// The job that it solves.
+    pub fn job(&self) -> &Job<'a, E>
+        ensures { result.now ≡ self.now.job }
     {
-        state::is_out(self.claims.as_slice(), claim.worker(), claim.vertex())
+        &self.job
     }
 
-    /// The plan that the board solves.
-    pub fn plan(&self) -> &'a Plan<C>
-        ensures { result.now ≡ self.now.plan }
+    /// Ends the board, and gives its history.
+    pub fn into_history(self) -> Vec<Happened>
+        ensures { result.items ≡ self.entry.run.history }
     {
-        self.plan
+        let Board {
+            job: _,
+            settled: _,
+            claims: _,
+            history,
+            first: _,
+            caches: _,
+        } = self;
+        history
     }
 
-    /// The executor that it solves the plan for.
-    pub fn executor(&self) -> &'a E
-        ensures { result.now ≡ self.now.executor }
+    /// Ends the board, and gives its store: the contents are those that the history left. Where no claim is out, no lease is.
+    pub fn into_caches(self) -> CacheStore
+        ensures value { result ≡ record { contents = self.entry.contents; holds = self.entry.run.state.holds } }
+        ensures idle { self.entry.run.state.claims ≡ [] → result.holds ≡ [] }
+        ensures contents { AreContents (board_problem E.out self.entry) self.entry.run.history self.entry.first self.entry.contents }
     {
-        self.executor
+        let Board {
+            job: _,
+            settled: _,
+            claims: _,
+            history: _,
+            first: _,
+            caches,
+        } = self;
+        caches
+    }
+
+    /// Gives up a claim that is out.
+    fn give_up(&mut self, claim: ClaimOut)
+        requires { claim_of claim.worker self.old.run.state.claims ≡ Some claim }
+        ensures { IsStep E.out (Abandoning claim.worker) self.old self.new }
+    {
+        let ClaimOut {
+            worker,
+            vertex,
+            at: _,
+        } = claim;
+        state::drop_claim(&mut self.claims, worker);
+        self.caches.leave(worker);
+        growth::add(&mut self.history, Happened::Abandoned { worker, vertex });
     }
 }

@@ -1,42 +1,52 @@
-ghost use Rattle.std.specs.Prelude.{◌≡◌};
+ghost use Rattle.std.specs.Prelude.{◌≡◌, ◌<◌, Some, length, slice_get};
 
+use cachemounts::Lease;
 use llb::VertexId;
 use plain::Items;
 use std::marker::Model;
-use trees::{Cause, Tree};
+use trees::{Tree, TreeOrCause};
 
-/// With what a vertex is settled: its tree, or the cause that it fails with.
-pub type Settled = Result<Tree, Cause>;
-
-/// A vertex that a worker has claimed, with the trees of its inputs.
-///
-/// It isn't `Drop`, and only `Board::settle` and `Board::abandon` take one, so a caller can't forget a vertex that it holds. Which
-/// board gave it isn't in its type: `Board::holds` tells whether it is out on this one.
+/// The claim of a vertex by a worker, with the trees of the vertex's inputs and the lease of its caches. It ends by `Board::settle` or
+/// `Board::abandon`.
 pub struct Claim {
     worker: u32,
     vertex: VertexId,
+    at: usize,
     inputs: Items<Tree>,
+    lease: Lease,
 }
 
 impl Model for Claim {
-    ghost use Rattle.board.specs.Claims.{ClaimValue, claim_code};
+    ghost use Rattle.std.specs.Prelude.{◌≡◌};
+    ghost use Rattle.board.specs.Claim.{ClaimValue, claim_code};
 
     ghost Value = { ClaimValue };
 
     ghost coded = { claim_code };
 
-    ghost view = { λ c. record { worker = c.worker; vertex = c.vertex; inputs = c.inputs } };
+    ghost view = { λ c. record { worker = c.worker; vertex = c.vertex; at = c.at; inputs = c.inputs; caches = c.lease.trees } };
+
+    ghost invariant = { λ c. c.lease.holder ≡ c.worker };
 }
 
 impl Claim {
-    /// A claim of a vertex for a worker, made by the board alone.
-    pub(crate) fn new(worker: u32, vertex: VertexId, inputs: Vec<Tree>) -> Claim
-        ensures { result ≡ record { worker = worker; vertex = vertex; inputs = inputs.items } }
+    /// A claim of a worker, made by the board alone.
+    pub(crate) fn new(
+        worker: u32,
+        vertex: VertexId,
+        at: usize,
+        inputs: Vec<Tree>,
+        lease: Lease,
+    ) -> Claim
+        requires { lease.holder ≡ worker }
+        ensures { result ≡ record { worker = worker; vertex = vertex; at = at; inputs = inputs.items; caches = lease.trees } }
     {
         Claim {
             worker,
             vertex,
+            at,
             inputs: Items::from_vec(inputs),
+            lease,
         }
     }
 
@@ -54,27 +64,67 @@ impl Claim {
         self.vertex
     }
 
-    /// The trees with which the vertex's inputs were settled, in their order.
-    pub fn inputs(&self) -> &[Tree]
-        ensures { result.now ≡ self.now.inputs }
+    /// The number of events before it on its board.
+    pub fn at(&self) -> usize
+        ensures { result ≡ self.now.at }
     {
-        self.inputs.as_slice()
+        self.at
     }
 
-    /// Spends the claim, for the board alone.
-    pub(crate) fn spend(self) {
+    /// How many inputs its vertex has.
+    pub fn input_count(&self) -> usize
+        ensures { result ≡ length self.now.inputs }
+    {
+        self.inputs.len()
+    }
+
+    /// The tree of an input of its vertex, by the input's position.
+    pub fn input(&self, at: usize) -> &Tree
+        requires { at < length self.now.inputs }
+        ensures { slice_get self.now.inputs at ≡ Some result.now }
+    {
+        &self.inputs.as_slice()[at]
+    }
+
+    /// Copies of the trees that were in the caches of its vertex, in the order of the vertex's uses.
+    pub fn caches(&self) -> &[Tree]
+        ensures { result.now ≡ self.now.caches }
+    {
+        self.lease.trees()
+    }
+
+    /// Drops a claim of a board that has ended. On a board that goes on the claim stays out until `Board::abandon_all`.
+    pub fn discard(self) {
+        self.into_lease().discard();
+    }
+
+    /// The lease, for the board alone.
+    pub(crate) fn into_lease(self) -> Lease
+        ensures { result ≡ record { holder = self.worker; trees = self.caches } }
+    {
         let Claim {
             worker: _,
             vertex: _,
+            at: _,
             inputs: _,
+            lease,
         } = self;
+        lease
     }
 }
 
-/// All that was handed to a settle for which there was no memory, given back. Today's settle wants none, so nothing is refused yet;
-/// one that also takes back the trees of caches will want some.
+/// All that a settle took for which there was no memory, given back.
 pub struct Refused {
     pub claim: Claim,
-    pub value: Settled,
+    pub value: TreeOrCause,
     pub given: Vec<Tree>,
+}
+
+/// A claim that is out, as the board keeps it. The number of events before it tells it from every other claim, also of the same worker and
+/// vertex.
+#[derive(Clone, Copy, Debug, PartialEq, Eq)]
+pub struct ClaimOut {
+    pub worker: u32,
+    pub vertex: VertexId,
+    pub at: usize,
 }

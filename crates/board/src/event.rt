@@ -7,22 +7,21 @@ use trees::Tree;
 pub enum Event {
     /// The worker claims the ready vertex of least id.
     Claim(u32),
-    /// The worker settles the vertex that it holds, with its result.
+    /// The worker settles the vertex that it has claimed, with its value.
     Settle(u32),
-    /// The worker gives up the vertex that it holds.
+    /// The worker gives up the vertex that it has claimed.
     Abandon(u32),
 }
 
 /// What happened on a board.
 #[derive(Drop)]
 pub enum Happened {
-    /// The worker was given the vertex.
+    /// The worker claimed the vertex.
     Claimed {
         worker: u32,
         vertex: VertexId,
     },
-    /// The worker brought the vertex's result, and gave back these trees of caches that it had taken; none as long as no run takes
-    /// one.
+    /// The worker settled the vertex with its value, and gave these trees back to the caches that the vertex uses, in the order of its uses.
     Settled {
         worker: u32,
         vertex: VertexId,
@@ -33,11 +32,4 @@ pub enum Happened {
         worker: u32,
         vertex: VertexId,
     },
-}
-
-/// A claim that is out: what the board notes of it.
-#[derive(Clone, Copy, Debug, PartialEq, Eq)]
-pub struct Holding {
-    pub worker: u32,
-    pub vertex: VertexId,
 }

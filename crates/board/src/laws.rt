@@ -1,12 +1,15 @@
-// What holds of every board, for all lists of events: laws about the definitions alone. A board is a plan's problem and what the
-// board has been through, and `IsReplay` is what `Board`'s type keeps of the two.
-ghost use Rattle.std.specs.Prelude.{◌≡◌, ◌≢◌, ℕ, List, Some, None, map};
-ghost use Rattle.board.specs.Words.{Problem, IsProblem, IsValue, Worth};
-ghost use Rattle.board.specs.Play.{Run, Step, plain, worker_of, go, play, value_at, can_claim, IsReplay};
-ghost use Rattle.board.specs.Claims.{ClaimValue, IsOut, IsStateOf};
+// What holds of every board, for all lists of events: laws about the definitions alone, each the contract of one function with an empty body. A board is
+// a problem and what has happened on it, and `IsReplay` is what `Board`'s type keeps of the two.
+ghost use Rattle.std.specs.Prelude.{◌≡◌, ◌≢◌, ◌<◌, ℕ, true, List, [], length, Some, None, map};
+ghost use Rattle.cachemounts.specs.Holds.{is_lawful};
+ghost use Rattle.plans.specs.Plan.{Problem, IsValue};
+ghost use Rattle.board.specs.Problem.{IsProblem};
+ghost use Rattle.trees.specs.Cause.{TreeOrCause};
+ghost use Rattle.board.specs.Play.{Run, Step, worker_of, go, play, value_at, claimable, IsReplay};
+ghost use Rattle.board.specs.Claim.{ClaimValue, IsOut, IsStateOf};
 ghost use Rattle.board.specs.declared.event.Event.{Event};
 ghost use Rattle.board.specs.declared.event.Happened.{Happened};
-ghost use Rattle.board.specs.Legal.{aside, held, IsSettled, HasCause, IsReady, IsGiven, IsOver, IsLegal, Plays, IsSettledOnce};
+ghost use Rattle.board.specs.Legal.{without_trees, vertex_out, IsSettled, HasCause, IsReady, IsNextClaim, IsOver, IsLegal, Plays, StepsOn, IsSettledOnce};
 
 /// In every board the history is legal: each event was possible after those before it.
 pub fn history_is_legal()
@@ -14,16 +17,28 @@ pub fn history_is_legal()
         → IsLegal problem run.history }
 {}
 
-/// A board holds what its history says: the claims that are out are those that workers hold, and settled are the vertices that
-/// it settles.
+/// A board holds what its history says: each worker has the vertex out that the history says, a vertex is settled where the history settles it,
+/// and the holds of caches are the history's.
 pub fn state_is_the_history()
     ensures { (problem : Problem) (run : Run) → IsProblem problem → IsReplay problem run
-        → IsStateOf run.history run.state }
+        → IsStateOf problem run.history run.state }
+{}
+
+/// No two holds of caches clash: a locked use is alone on the common content of its cache, and nobody has another one's slot.
+pub fn no_two_caches_clash()
+    ensures { (problem : Problem) (run : Run) → IsProblem problem → IsReplay problem run
+        → is_lawful run.state.holds ≡ true }
+{}
+
+/// A claim that has ended is out no more, whatever happens: also where its worker claims its vertex again.
+pub fn an_ended_claim_stays_ended()
+    ensures { (problem : Problem) (run : Run) (step : Step) (claim : ClaimValue)
+        → claim.at < length run.history → ¬ IsOut run.state claim → ¬ IsOut (go problem run step).state claim }
 {}
 
 /// Each settled value is the value of its vertex, whoever settled it and when.
 pub fn settled_values_are_the_vertices_values()
-    ensures { (problem : Problem) (run : Run) (vertex : ℕ) (value : Worth)
+    ensures { (problem : Problem) (run : Run) (vertex : ℕ) (value : TreeOrCause)
         → IsProblem problem → IsReplay problem run
         → value_at run.state.settled vertex ≡ Some value → IsValue problem vertex value }
 {}
@@ -34,11 +49,10 @@ pub fn no_vertex_is_settled_twice()
         → IsSettledOnce run.history }
 {}
 
-/// What a worker's claim is given is the least vertex that is ready; nothing is given exactly where the worker has a claim out
-/// or no vertex is ready.
+/// A worker's claim gives the least vertex that is ready; it gives none exactly where the worker has a claim out or no vertex is ready.
 pub fn claim_gives_the_least_ready_vertex()
     ensures { (problem : Problem) (run : Run) (worker : ℕ) → IsProblem problem → IsReplay problem run
-        → IsGiven problem run.history worker (can_claim problem run.state worker) }
+        → IsNextClaim problem run.history worker (claimable problem run.state worker) }
 {}
 
 /// An event of another worker leaves a claim out.
@@ -47,32 +61,32 @@ pub fn others_leave_a_claim_out()
         → IsOut run.state claim → worker_of step ≢ claim.worker → IsOut (go problem run step).state claim }
 {}
 
-/// A board is never stuck: where no worker holds a claim, the target isn't settled and no vertex is settled with a cause, some
+/// A board is never stuck: where no worker has a claim out, the target isn't settled and no vertex is settled with a cause, some
 /// vertex is ready.
 pub fn some_vertex_is_ready()
     ensures { (problem : Problem) (run : Run) → IsProblem problem → IsReplay problem run
-        → ((worker : ℕ) → held run.history worker ≡ None)
+        → ((worker : ℕ) → vertex_out run.history worker ≡ None)
         → ¬ IsSettled run.history problem.target
         → ((vertex : ℕ) → IsSettled run.history vertex → ¬ HasCause problem vertex)
         → (vertex : ℕ) × IsReady problem run.history vertex }
 {}
 
-/// So where no worker holds a claim and no vertex is ready, the target is settled or some vertex is settled with a cause.
+/// So where no worker has a claim out and no vertex is ready, the target is settled or some vertex is settled with a cause.
 pub fn an_idle_board_is_over()
     ensures { (problem : Problem) (run : Run) → IsProblem problem → IsReplay problem run
-        → ((worker : ℕ) → held run.history worker ≡ None)
+        → ((worker : ℕ) → vertex_out run.history worker ≡ None)
         → ((vertex : ℕ) → ¬ IsReady problem run.history vertex)
         → IsOver problem run.history }
 {}
 
-/// What a list of steps leaves is what the rules leave of its events: those that are possible in their place, and no others.
+/// What a list of steps leaves is what the rules leave of it: those that are possible when their turn comes, and no others.
 pub fn play_leaves_what_is_possible()
     ensures { (problem : Problem) (steps : List Step) → IsProblem problem
-        → Plays problem (map plain steps) (play problem steps).history }
+        → StepsOn problem [] steps (play problem steps).history }
 {}
 
-/// A list of events leaves one history, the trees that settles give back aside.
+/// A list of events leaves one history, the trees that settles give back left out.
 pub fn events_leave_one_history()
     ensures { (problem : Problem) (events : List Event) (history other : List Happened)
-        → Plays problem events history → Plays problem events other → map aside history ≡ map aside other }
+        → Plays problem events history → Plays problem events other → map without_trees history ≡ map without_trees other }
 {}

@@ -1,23 +1,18 @@
-// The board: which vertex of a plan a worker may take, what has become of each vertex, and the list of all that happened.
+// The board of a job: which vertices are settled, and which workers have which claims out.
 //
-// It is no scheduler with threads: there is no thread, lock or atomic in it, and it decides nothing but whose turn a vertex is.
-// A caller asks for one of three events, a claim, a settle or an abandon, and each call is one event, made as a whole.
+// Workers take turns on it, each under its number. `claim` gives the ready vertex of least id, with copies of its inputs' trees and the lease of its caches;
+// `settle` brings the vertex's value and the trees that go back to its caches; `abandon` gives the vertex up. It runs nothing itself, starts no
+// thread and waits for nobody: who has a claim runs its vertex (`solver::run`), and locks the board as it likes.
 //
-// The central definition is `Possible` in `specs/Legal.antt`: what may happen after a history. What a board keeps in its type is
-// one equation, that what it holds is the replay of its history (`IsReplay` in `specs/Play.antt`); the laws in `laws` say
-// what follows from it, for every list of events.
-//
-// What a claimed vertex comes to is none of the board's knowledge: `vertexrun` has it. `run` stands here and not there since it is
-// the step between `claim` and `settle`: it takes what the one gives and gives what the other asks for, in contracts that speak of
-// claims, which no crate below knows.
+// What may happen is said over histories alone (`specs/Legal.antt`, `Possible`), and the type of `Board` keeps that what it holds is the replay of its
+// history (`IsReplay`, `specs/Play.antt`). From these two the laws follow (`src/laws.rt`), for every list of events of any number of
+// workers: each settled value is the vertex's value, no vertex is settled twice, no two holds of caches clash, and a board is never stuck.
 //
 // ```
-// let mut board = Board::new(alloc, &plan, &executor)?;
-// if let Some(claim) = board.claim(alloc, worker)? {
-//     match run(alloc, &plan, &executor, &claim) {
-//         Ok(value) => board.settle(claim, value, Vec::new(alloc))?,    // or the claim comes back in `Refused`
-//         Err(_) => board.abandon(claim),
-//     }
+// let mut board = Board::new(alloc, Job::new(&plan, &executor), CacheStore::new(alloc))?;
+// while let Some(claim) = board.claim(alloc, worker)? {
+//     let Ran { value, given } = run(alloc, board.job(), &claim)?;
+//     board.settle(alloc, claim, value, given)?;
 // }
 // ```
 #![tactic(auto)]
@@ -25,17 +20,11 @@
 mod board;
 mod claim;
 mod event;
-mod following;
-mod growth;
+mod job;
 pub mod laws;
-mod running;
 mod state;
 
-pub use board::Board;
-pub use claim::{Claim, Refused, Settled};
-pub use event::{Event, Happened, Holding};
-pub use following::follow;
-pub use running::run;
-
-#[cfg(test)]
-mod tests;
+pub use board::{Board, NoBoard};
+pub use claim::{Claim, ClaimOut, Refused};
+pub use event::{Event, Happened};
+pub use job::Job;

@@ -1,20 +1,25 @@
 // What a board knows at a moment, as functions over slices: the methods of `Board` only call them.
-ghost use Rattle.std.specs.Prelude.{◌≡◌, ◌↔◌, IsTrue, ◌<◌, ◌^◌, true, false, is_some, length, map, replicate, IfOk, IfSome, vec_len};
+ghost use Rattle.std.specs.Prelude.{◌≡◌, ◌↔◌, ℕ, IsTrue, ◌<◌, ◌^◌, true, false, is_some, length, map, replicate, IfOk, IfSome, IfNone, [], vec_len};
 ghost use Rattle.std.specs.List.{list_any};
-ghost use Rattle.board.specs.Play.{value_at, has_tree, has_cause, have_trees, is_over, is_claimed, is_open, claim_of, without, least, least_ready, to_claim};
-ghost use Rattle.board.specs.Claims.{AreInputs};
-ghost use Rattle.board.specs.declared.event.Holding.{Holding};
+ghost use Rattle.board.specs.Readiness.{has_tree, has_cause, stops_in};
+ghost use Rattle.board.specs.Play.{value_at, have_trees, is_claimed, ready_in, claim_of, without, least, claimable_in};
+ghost use Rattle.board.specs.Claim.{AreInputs};
+ghost use Rattle.board.specs.Clearing.{IsLeastWorker};
+ghost use Rattle.board.specs.declared.claim.ClaimOut.{ClaimOut};
 ghost use Rattle.std.specs.Option.{option_map};
-ghost use Rattle.board.specs.Words.{tree_value};
+ghost use Rattle.board.specs.Problem.{tree_value};
+ghost use Rattle.plans.specs.Plan.{caches_of, uses_in};
 
-use crate::{Holding, Settled};
-use llb::{Vertex, VertexId};
+use crate::ClaimOut;
+use cachemounts::CacheStore;
+use llb::{Op, Vertex, VertexId};
 use plain::{Exact, Memory};
+use runs::CacheUse;
 use std::alloc::Global;
-use trees::Tree;
+use trees::{Tree, TreeOrCause};
 
 /// The claim that a worker has out.
-pub fn claim_of(claims: &[Holding], worker: u32) -> Option<Holding>
+pub(crate) fn claim_of(claims: &[ClaimOut], worker: u32) -> Option<ClaimOut>
     ensures { result ≡ claim_of worker claims.now }
 {
     for claim in claims {
@@ -26,116 +31,130 @@ pub fn claim_of(claims: &[Holding], worker: u32) -> Option<Holding>
 }
 
 /// Whether a claim of the vertex is out.
-pub fn is_claimed(claims: &[Holding], vertex: VertexId) -> bool
+pub(crate) fn is_claimed(claims: &[ClaimOut], vertex: VertexId) -> bool
     ensures { result ≡ is_claimed vertex claims.now }
 {
     claims.iter().any(|claim| claim.vertex == vertex)
 }
 
 /// Leaves the claims of the other workers.
-pub fn drop_claim(claims: &mut Vec<Holding>, worker: u32)
+pub(crate) fn drop_claim(claims: &mut Vec<ClaimOut>, worker: u32)
     ensures kept { claims.new.items ≡ without worker claims.old.items }
-    ensures fewer { (claim : Holding) → claim_of worker claims.old.items ≡ Some claim → vec_len claims.new < vec_len claims.old }
+    ensures fewer { (claim : ClaimOut) → claim_of worker claims.old.items ≡ Some claim → vec_len claims.new < vec_len claims.old }
 {
     claims.retain(|claim| claim.worker != worker);
 }
 
 /// Whether a vertex is settled.
-fn is_settled(settled: &[Option<Settled>], vertex: VertexId) -> bool
+fn is_settled(settled: &[Option<TreeOrCause>], vertex: VertexId) -> bool
     ensures { result ≡ is_some (value_at settled.now vertex) }
 {
     matches!(settled.get(vertex.index()), Some(Some(_)))
 }
 
 /// Whether a vertex is settled with a tree.
-fn has_tree(settled: &[Option<Settled>], vertex: VertexId) -> bool
+fn has_tree(settled: &[Option<TreeOrCause>], vertex: VertexId) -> bool
     ensures { result ≡ has_tree (value_at settled.now vertex) }
 {
     matches!(settled.get(vertex.index()), Some(Some(Ok(_))))
 }
 
 /// Whether a vertex is settled with a cause.
-fn has_cause(value: &Option<Settled>) -> bool
+fn has_cause(value: &Option<TreeOrCause>) -> bool
     ensures { result ≡ has_cause value.now }
 {
     matches!(value, Some(Err(_)))
 }
 
 /// Whether any vertex is settled with a cause.
-fn any_cause(settled: &[Option<Settled>]) -> bool
+fn any_cause(settled: &[Option<TreeOrCause>]) -> bool
     ensures { result ≡ list_any has_cause settled.now }
 {
     settled.iter().any(|value| has_cause(value))
 }
 
 /// Whether every input is settled with a tree.
-pub fn have_trees(settled: &[Option<Settled>], inputs: &[VertexId]) -> bool
+pub(crate) fn have_trees(settled: &[Option<TreeOrCause>], inputs: &[VertexId]) -> bool
     ensures { result ≡ have_trees settled.now inputs.now }
 {
     inputs.iter().all(|input| has_tree(settled, *input))
 }
 
-/// Whether nothing more is to be claimed: the target is settled, or some vertex is settled with a cause.
-pub fn is_over(target: VertexId, settled: &[Option<Settled>]) -> bool
-    ensures { result ≡ is_over target settled.now }
+/// Whether a vertex is stopped: the target is settled, or some vertex is settled with a cause. It is one answer for all vertices.
+fn is_over(target: VertexId, settled: &[Option<TreeOrCause>]) -> bool
+    ensures { (vertex : ℕ) → result ≡ stops_in (length settled.now) target (value_at settled.now) vertex }
 {
     is_settled(settled, target) || any_cause(settled)
 }
 
-/// Whether a vertex waits for a worker and for nothing else.
-fn is_open(
+/// The caches that an operation uses.
+fn caches_of(op: &Op) -> &[CacheUse]
+    ensures { result.now ≡ caches_of op.now }
+{
+    match op {
+        Op::Exec(exec) => exec.caches.as_slice(),
+        Op::Source(_) | Op::Copy(_) | Op::MakeDirs(_) | Op::Merge => &[],
+    }
+}
+
+/// The caches that a vertex uses; none where there is no such vertex.
+pub(crate) fn uses_of(vertices: &[Vertex], vertex: VertexId) -> &[CacheUse]
+    ensures { result.now ≡ uses_in vertices.now vertex }
+{
+    match vertices.get(vertex.index()) {
+        Some(vertex) => caches_of(&vertex.op),
+        None => &[],
+    }
+}
+
+/// Whether a vertex is ready, where it is known whether it is stopped.
+fn is_ready(
     vertices: &[Vertex],
-    settled: &[Option<Settled>],
-    claims: &[Holding],
+    target: VertexId,
+    settled: &[Option<TreeOrCause>],
+    claims: &[ClaimOut],
+    caches: &CacheStore,
+    over: bool,
     vertex: VertexId,
 ) -> bool
-    ensures { result ≡ is_open vertices.now (record { settled = settled.now; claims = claims.now }) vertex }
+    requires { over ≡ stops_in (length vertices.now) target (value_at settled.now) vertex }
+    ensures { result ≡ ready_in vertices.now target (record { settled = settled.now; claims = claims.now; holds = caches.now.holds }) vertex }
 {
-    let Some(Vertex { op: _, inputs }) = vertices.get(vertex.index()) else {
+    let Some(Vertex { op, inputs }) = vertices.get(vertex.index()) else {
         return false;
     };
     have_trees(settled, inputs.as_slice())
         && !is_settled(settled, vertex)
         && !is_claimed(claims, vertex)
+        && caches.can_take(caches_of(op))
+        && !over
 }
 
-/// The least vertex that waits for a worker and for nothing else.
-fn first_open(
+/// The least vertex that is ready.
+fn least_ready(
     vertices: &[Vertex],
-    settled: &[Option<Settled>],
-    claims: &[Holding],
+    target: VertexId,
+    settled: &[Option<TreeOrCause>],
+    claims: &[ClaimOut],
+    caches: &CacheStore,
 ) -> Option<VertexId>
-    requires { length vertices.now < 2 ^ 32 }
-    ensures { result ≡ least (is_open vertices.now (record { settled = settled.now; claims = claims.now })) (length vertices.now) }
+    requires few { length vertices.now < 2 ^ 32 }
+    requires long { length settled.now ≡ length vertices.now }
+    ensures which { result ≡ least (ready_in vertices.now target (record { settled = settled.now; claims = claims.now; holds = caches.now.holds })) (length vertices.now) }
+    ensures ready { IfSome result (λ vertex. ready_in vertices.now target (record { settled = settled.now; claims = claims.now; holds = caches.now.holds }) vertex ≡ true) }
 {
+    let over = is_over(target, settled);
     for number in 0..vertices.len() as u32 {
         let vertex = VertexId::new(number);
-        if is_open(vertices, settled, claims, vertex) {
+        if is_ready(vertices, target, settled, claims, caches, over, vertex) {
             return Some(vertex);
         }
     }
     None
 }
 
-/// The least vertex that is ready.
-pub fn least_ready(
-    vertices: &[Vertex],
-    target: VertexId,
-    settled: &[Option<Settled>],
-    claims: &[Holding],
-) -> Option<VertexId>
-    requires { length vertices.now < 2 ^ 32 }
-    ensures which { result ≡ least_ready vertices.now target (record { settled = settled.now; claims = claims.now }) }
-    ensures waits { IfSome result (λ vertex. is_open vertices.now (record { settled = settled.now; claims = claims.now }) vertex ≡ true) }
-{
-    if is_over(target, settled) {
-        return None;
-    }
-    first_open(vertices, settled, claims)
-}
-
 /// The tree with which an input is settled.
-fn tree_at(settled: &[Option<Settled>], input: VertexId) -> &Tree
+fn tree_at(settled: &[Option<TreeOrCause>], input: VertexId) -> &Tree
     requires { has_tree (value_at settled.now input) ≡ true }
     ensures { tree_value result.now ≡ value_at settled.now input }
 {
@@ -146,9 +165,9 @@ fn tree_at(settled: &[Option<Settled>], input: VertexId) -> &Tree
 }
 
 /// Copies of the trees with which the inputs are settled, in their order.
-pub fn copies(
+pub(crate) fn copies(
     alloc: Global,
-    settled: &[Option<Settled>],
+    settled: &[Option<TreeOrCause>],
     inputs: &[VertexId],
 ) -> Result<Vec<Tree>, Memory>
     requires { have_trees settled.now inputs.now ≡ true }
@@ -164,46 +183,48 @@ pub fn copies(
 
 /// A vertex that a worker may claim, with copies of the trees of its inputs.
 #[derive(Drop)]
-pub struct NextClaim {
+pub(crate) struct NextClaim {
     pub vertex: VertexId,
     pub inputs: Vec<Tree>,
 }
 
 /// What a worker's claim is given: the least vertex that is ready, and nothing where the worker has a claim out.
-pub fn next_claim(
+pub(crate) fn next_claim(
     alloc: Global,
     vertices: &[Vertex],
     target: VertexId,
-    settled: &[Option<Settled>],
-    claims: &[Holding],
+    settled: &[Option<TreeOrCause>],
+    claims: &[ClaimOut],
+    caches: &CacheStore,
     worker: u32,
 ) -> Result<Option<NextClaim>, Memory>
-    requires { length vertices.now < 2 ^ 32 }
-    ensures which { IfOk result (λ next. option_map (λ n. n.vertex) next ≡ to_claim vertices.now target (record { settled = settled.now; claims = claims.now }) worker) }
+    requires few { length vertices.now < 2 ^ 32 }
+    requires long { length settled.now ≡ length vertices.now }
+    ensures which { IfOk result (λ next. option_map (λ n. n.vertex) next ≡ claimable_in vertices.now target (record { settled = settled.now; claims = claims.now; holds = caches.now.holds }) worker) }
     ensures inputs { IfOk result (λ next. IfSome next (λ n. AreInputs vertices.now settled.now n.vertex n.inputs.items)) }
 {
     if claim_of(claims, worker).is_some() {
         return Ok(None);
     }
-    let Some(vertex) = least_ready(vertices, target, settled, claims) else {
+    let Some(vertex) = least_ready(vertices, target, settled, claims, caches) else {
         return Ok(None);
     };
     let inputs = copies(alloc, settled, vertices[vertex.index()].inputs.as_slice())?;
     Ok(Some(NextClaim { vertex, inputs }))
 }
 
-/// Whether a worker's claim of a vertex is out.
-pub fn is_out(claims: &[Holding], worker: u32, vertex: VertexId) -> bool
-    ensures { IsTrue result ↔ (claim_of worker claims.now ≡ Some (record { worker = worker; vertex = vertex })) }
+/// Whether a worker's claim of a vertex is out, made after so many events.
+pub(crate) fn is_out(claims: &[ClaimOut], worker: u32, vertex: VertexId, at: usize) -> bool
+    ensures { IsTrue result ↔ (claim_of worker claims.now ≡ Some (record { worker = worker; vertex = vertex; at = at })) }
 {
     match claim_of(claims, worker) {
-        Some(claim) => claim.worker == worker && claim.vertex == vertex,
+        Some(claim) => claim.worker == worker && claim.vertex == vertex && claim.at == at,
         None => false,
     }
 }
 
 /// Nothing is settled yet: a list of so many vertices without a value.
-pub fn unsettled(alloc: Global, count: usize) -> Result<Vec<Option<Settled>>, Memory>
+pub(crate) fn none_settled(alloc: Global, count: usize) -> Result<Vec<Option<TreeOrCause>>, Memory>
     ensures { IfOk result (λ settled. settled.items ≡ replicate count None) }
 {
     let mut settled = Vec::with_capacity(alloc, count)?;
@@ -211,4 +232,18 @@ pub fn unsettled(alloc: Global, count: usize) -> Result<Vec<Option<Settled>>, Me
         settled.push(None)?;
     }
     Ok(settled)
+}
+
+/// The claim of the least worker, if any is out.
+pub(crate) fn least_worker(claims: &[ClaimOut]) -> Option<ClaimOut>
+    ensures found { IfSome result (IsLeastWorker claims.now) }
+    ensures none { IfNone result (claims.now ≡ []) }
+{
+    let mut least = *claims.first()?;
+    for claim in claims {
+        if claim.worker < least.worker {
+            least = *claim;
+        }
+    }
+    Some(least)
 }

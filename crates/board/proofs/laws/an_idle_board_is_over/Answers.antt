@@ -1,5 +1,5 @@
-use Rattle.board.specs.SoundLaws.{sound}
-use Rattle.board.specs.PlayLaws.{replay-right, idle-over}
+use Rattle.board.proofs.SoundLemmas.{sound}
+use Rattle.board.proofs.PlayLemmas.{replay-right, idle-over}
 use Rattle.board.proofs.laws.an_idle_board_is_over.Goals as goal
 
 pub returns : goal.returns

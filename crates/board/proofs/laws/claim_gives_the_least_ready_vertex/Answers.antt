@@ -1,5 +1,5 @@
-use Rattle.board.specs.SoundLaws.{sound}
-use Rattle.board.specs.PlayLaws.{replay-claims}
+use Rattle.board.proofs.SoundLemmas.{sound}
+use Rattle.board.proofs.PlayLemmas.{replay-claims}
 use Rattle.board.proofs.laws.claim_gives_the_least_ready_vertex.Goals as goal
 
 pub returns : goal.returns

@@ -1,4 +1,4 @@
-use Rattle.board.specs.HistoryLaws.{one_history}
+use Rattle.board.proofs.HistoryLemmas.{one_history}
 use Rattle.board.proofs.laws.events_leave_one_history.Goals as goal
 
 pub returns : goal.returns

@@ -1,5 +1,5 @@
-use Rattle.board.specs.SoundLaws.{sound}
-use Rattle.board.specs.PlayLaws.{replay-right}
+use Rattle.board.proofs.SoundLemmas.{sound}
+use Rattle.board.proofs.PlayLemmas.{replay-right}
 use Rattle.board.proofs.laws.no_vertex_is_settled_twice.Goals as goal
 
 pub returns : goal.returns

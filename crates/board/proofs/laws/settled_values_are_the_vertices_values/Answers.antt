@@ -1,5 +1,5 @@
-use Rattle.board.specs.SoundLaws.{sound}
-use Rattle.board.specs.PlayLaws.{replay-value}
+use Rattle.board.proofs.SoundLemmas.{sound}
+use Rattle.board.proofs.PlayLemmas.{replay-value}
 use Rattle.board.proofs.laws.settled_values_are_the_vertices_values.Goals as goal
 
 pub returns : goal.returns

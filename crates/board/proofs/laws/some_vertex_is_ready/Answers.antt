@@ -1,5 +1,5 @@
-use Rattle.board.specs.SoundLaws.{sound}
-use Rattle.board.specs.PlayLaws.{replay-right, never-stuck}
+use Rattle.board.proofs.SoundLemmas.{sound}
+use Rattle.board.proofs.PlayLemmas.{replay-right, never-stuck}
 use Rattle.board.proofs.laws.some_vertex_is_ready.Goals as goal
 
 pub returns : goal.returns

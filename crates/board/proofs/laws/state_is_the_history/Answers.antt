@@ -1,4 +1,4 @@
-use Rattle.board.specs.SoundLaws.{replay-state}
+use Rattle.board.proofs.SoundLemmas.{replay-state}
 use Rattle.board.proofs.laws.state_is_the_history.Goals as goal
 
 pub returns : goal.returns

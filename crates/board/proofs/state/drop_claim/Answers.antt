@@ -1,7 +1,7 @@
 use Rattle.std.proofs.Common.{◌≡◌, rules, arith, ◌==◌, not, ap, length}
 use Rattle.std.proofs.lemmas.Fn.{filter_same}
 use Rattle.board.specs.Play.{without}
-use Rattle.board.specs.ListLaws.{without-shorter}
+use Rattle.board.proofs.ListLemmas.{without-shorter}
 use Rattle.board.proofs.state.drop_claim.Goals as goal
 
 pub returns-clause-kept : goal.returns-clause-kept

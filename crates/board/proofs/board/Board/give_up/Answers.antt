@@ -1,0 +1,22 @@
+use Rattle.std.proofs.Common.{◌≡◌, Some, arith, rules, sym, subst}
+use Rattle.board.specs.Play.{claim_of, Abandon}
+use Rattle.board.specs.Board.{IsStep}
+use Rattle.board.proofs.BoardLemmas.{board_of, abandon-gone}
+use Rattle.board.proofs.board.Board.give_up.Goals as goal
+
+pub invariant_of-self : goal.invariant_of-self
+invariant_of-self g c =
+    let b = c.self.inside in
+    let claim = c.args.claim in
+    let vertex_out : claim_of claim.worker b.claims.items ≡ Some claim = subst (λ v. claim_of claim.worker v.run.state.claims ≡ Some claim) (sym c.self.view_is) c.requires in
+    let gone = abandon-gone g.E.Executor.out b.job b.first.items b.caches c.leave.new.self b.history.items c.add.new.list.items b.settled.items b.claims.items c.drop_claim.new.claims.items claim c.self.invariant.0 vertex_out (search rules) (search rules) c.leave.ensures.after in
+    let fewer = c.drop_claim.ensures.fewer claim vertex_out in
+    (gone.board, omega (arith, fewer, c.self.invariant.1, c.add.ensures.len, c.add.ensures.capacity))
+
+pub returns : goal.returns
+returns g c =
+    let b = c.self.inside in
+    let claim = c.args.claim in
+    let vertex_out : claim_of claim.worker b.claims.items ≡ Some claim = subst (λ v. claim_of claim.worker v.run.state.claims ≡ Some claim) (sym c.self.view_is) c.requires in
+    let gone = abandon-gone g.E.Executor.out b.job b.first.items b.caches c.leave.new.self b.history.items c.add.new.list.items b.settled.items b.claims.items c.drop_claim.new.claims.items claim c.self.invariant.0 vertex_out (search rules) (search rules) c.leave.ensures.after in
+    subst (λ v. IsStep g.E.Executor.out (Abandon claim.worker) v (board_of b.job b.first.items c.leave.new.self c.add.new.list.items b.settled.items c.drop_claim.new.claims.items)) c.self.view_is gone.goes

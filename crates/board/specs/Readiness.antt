@@ -1,0 +1,29 @@
+-- What stops a vertex. The machine and the rules over histories both take it from here, so that another rule is one change for both.
+use Rattle.std.specs.Prelude.{ℕ, zero, suc, Bool, true, false, ◌||◌, Option, Some, None, is_some, Ok, Err, length}
+use Rattle.trees.specs.Cause.{TreeOrCause}
+use Rattle.plans.specs.Plan.{Problem}
+
+-- whether a vertex is settled with a tree (own)
+abbrev pub has_tree : Option TreeOrCause → Bool
+has_tree (Some (Ok tree)) = true
+has_tree (Some (Err cause)) = false
+has_tree None = false
+
+-- whether a vertex is settled with a cause (own)
+abbrev pub has_cause : Option TreeOrCause → Bool
+has_cause (Some (Ok tree)) = false
+has_cause (Some (Err cause)) = true
+has_cause None = false
+
+-- whether a number below a bound passes a test (own)
+abbrev pub any_below : (ℕ → Bool) → ℕ → Bool
+any_below test zero = false
+any_below test (suc n) = any_below test n || test n
+
+-- whether a vertex is stopped, where each vertex is settled so: the target is settled, or some vertex is settled with a cause (own)
+abbrev pub stops_in : ℕ → ℕ → (ℕ → Option TreeOrCause) → ℕ → Bool
+stops_in count target settled vertex = is_some (settled target) || any_below (λ other. has_cause (settled other)) count
+
+-- the same, of a problem (own)
+abbrev pub stops : Problem → (ℕ → Option TreeOrCause) → ℕ → Bool
+stops problem settled vertex = stops_in (length problem.vertices) problem.target settled vertex
