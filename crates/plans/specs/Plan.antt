@@ -1,9 +1,12 @@
 -- What a build has to solve: a graph, the vertex whose tree is wanted, the configuration that goes with that tree, and the trees
 -- of the graph's sources.
-use Rattle.std.specs.Prelude.{◌≡◌, ◌<◌, ℕ, Some, List, [], length, slice_get, refl}
+use Rattle.std.specs.Prelude.{◌≡◌, ◌<◌, ℕ, Some, Result, Ok, Err, List, [], ◌∷◌, length, slice_get, refl}
 use Rattle.std.specs.Option.{option_map_or}
 use Rattle.std.specs.Coded.{Coded, code_by, coded×, coded_ℕ}
+use Rattle.trees.specs.TreeMap.{TreeMap}
 use Rattle.trees.specs.Cause.{TreeOrCause}
+use Rattle.trees.specs.declared.cause.Cause.{Cause}
+use Rattle.runs.specs.declared.run.RunRequest.{RunRequest}
 use Rattle.runs.specs.declared.run.CacheUse.{CacheUse}
 use Rattle.llb.specs.declared.op.Op.{Op}
 use Rattle.llb.specs.declared.op.Op.TheVariants.{Source as SourceOp, Exec as ExecOp, Copy as CopyOp, MakeDirs as MakeDirsOp, Merge as MergeOp}
@@ -12,6 +15,7 @@ use Rattle.llb.specs.contracts.graph.Graph as graph
 use Rattle.llb.specs.Graph.{GraphValue, IsGraph}
 use Rattle.llb.specs.Reach.{Reaches}
 use Rattle.plans.specs.Sources.{SourcesValue, sources_code, HasSources}
+use Rattle.plans.specs.Request.{request_of}
 use Rattle.plans.specs.Value.{Out, Value, value_of}
 
 -- a plan, for whatever a configuration is
@@ -23,7 +27,11 @@ pub record PlanValue (C : Type 0) : Type 0 where
 
 -- a plan in plain data, for generic code (own)
 abbrev pub plan_code : {C : Type 0} → Coded C → Coded (PlanValue C)
-plan_code c = code_by (GraphValue × (ℕ × (_ × SourcesValue))) (coded× graph.the_row.coded (coded× coded_ℕ (coded× c sources_code))) (λ p. (p.graph, (p.target, (p.config, p.sources)))) (λ t. record { graph = t.0; target = t.1.0; config = t.1.1.0; sources = t.1.1.1 }) (λ _. refl)
+plan_code c =
+    code_by (GraphValue × (ℕ × (_ × SourcesValue))) (coded× graph.the_row.coded (coded× coded_ℕ (coded× c sources_code)))
+    (λ p. (p.graph, (p.target, (p.config, p.sources))))
+    (λ t. record { graph = t.0; target = t.1.0; config = t.1.1.0; sources = t.1.1.1 })
+    (λ _. refl)
 
 -- a plan's target is in its graph, and each source of the graph has its tree
 pub record IsPlan {C : Type 0} (plan : PlanValue C) : Type 0 where
@@ -72,3 +80,17 @@ uses_in vertices vertex = option_map_or (λ (v : Vertex). caches_of v.op) (slice
 -- the caches that a vertex of the problem uses
 abbrev pub uses_at : Problem → ℕ → List CacheUse
 uses_at problem vertex = uses_in problem.vertices vertex
+
+-- what a run leaves in its caches, by what they held before: what the executor may leave there, and nothing new where there is no run
+abbrev pub IsLeftByRun : (RunRequest → List TreeMap → List TreeMap → Type 0) → Result RunRequest Cause → List TreeMap → List TreeMap → Type 0
+IsLeftByRun leaves (Err cause) before after = after ≡ before
+IsLeftByRun leaves (Ok request) before after = leaves request before after
+
+-- what an operation on these trees leaves in its caches, by what they held before
+abbrev pub IsLeftBy : (RunRequest → List TreeMap → List TreeMap → Type 0) → Op → List TreeMap → List TreeMap → List TreeMap → Type 0
+IsLeftBy leaves (SourceOp source) trees before after = after ≡ before
+IsLeftBy leaves (ExecOp exec) [] before after = after ≡ before
+IsLeftBy leaves (ExecOp exec) (root ∷ trees) before after = IsLeftByRun leaves (request_of exec root trees) before after
+IsLeftBy leaves (CopyOp files) trees before after = after ≡ before
+IsLeftBy leaves (MakeDirsOp path) trees before after = after ≡ before
+IsLeftBy leaves MergeOp trees before after = after ≡ before

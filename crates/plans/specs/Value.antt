@@ -64,6 +64,14 @@ dirs_value path [] = None
 dirs_value path (tree ∷ []) = Some (made tree path)
 dirs_value path (tree ∷ (more ∷ trees)) = None
 
+-- what an operation on files gives; nothing where it is another one
+abbrev pub file_value : Op → List TreeMap → Value
+file_value (SourceOp source) trees = None
+file_value (ExecOp exec) trees = None
+file_value (CopyOp files) trees = copy_value files trees
+file_value (MakeDirsOp path) trees = dirs_value path trees
+file_value MergeOp trees = None
+
 -- what an operation gives on the trees of its inputs: a source its tree, if there is one. On another number of trees than it has
 -- inputs, which no vertex of a graph gives it, a command, a copy and a directory give nothing
 abbrev pub result_of : Out → SourcesValue → Op → List TreeMap → Value

@@ -1,1 +1,2 @@
 pub mod BindSteps
+pub mod FileSteps

@@ -1,31 +1,31 @@
-ghost use Rattle.std.specs.Prelude.{◌≡◌, IfOk};
+ghost use Rattle.std.specs.Prelude.{◌≡◌, IfOk, map, length};
+ghost use Rattle.std.specs.List.{zip};
 ghost use Rattle.trees.specs.Subtree.{subtree};
 ghost use Rattle.plans.specs.Request.{binds_of, request_with, request_of};
 
+use crate::files::tree_or_cause;
 use executor::Request;
 use llb::{Bind, Exec};
-use paths::Path;
 use plain::{Exact, Items, Memory};
+use runs::RunBind;
 use std::alloc::Global;
-use trees::{Cause, RunBind, Tree, TreeFault};
+use trees::{Cause, Tree, TreeOrCause};
 
-/// The request of a command on the trees of its inputs: the first tree is the one that it runs in, and each bind shows what
-/// lies under its source in the tree of its own input, in their order (Dockerfile reference, `RUN --mount=type=bind`).
+/// The request of a command on the tree that it runs in and those of its binds: each bind has what is under its source in its own
+/// tree, in their order (Dockerfile reference, `RUN --mount=type=bind`).
 ///
-/// There is no request where a bind has nothing to show, and the first such bind tells why: `F1` where nothing stands at its
-/// source, `F2` where a file does. A command of a graph has an input for its root and one for each bind. On fewer trees, which no
-/// vertex of a graph gives, the binds that are left over aren't shown, and without any tree it is `F1`.
+/// There is no request where a bind's source isn't a directory, and the first such bind decides: `F1` where nothing is at its
+/// source, `F2` where a file is.
 pub fn request_of(
     alloc: Global,
     exec: &Exec,
-    inputs: &[Tree],
+    root: &Tree,
+    trees: &[&Tree],
 ) -> Result<Result<Request, Cause>, Memory>
-    ensures { IfOk result (λ request. request ≡ request_of exec.now inputs.now) }
+    requires { length trees.now ≡ length exec.now.binds }
+    ensures { IfOk result (λ request. request ≡ request_of exec.now root.now (map (λ tree. tree.now) trees.now)) }
 {
-    let [root, trees @ ..] = inputs else {
-        return Ok(Err(Cause::F1));
-    };
-    match bound(alloc, exec.binds.as_slice(), trees)? {
+    match run_binds(alloc, exec.binds.as_slice(), trees)? {
         Ok(binds) => Ok(Ok(request_with(alloc, exec, root, binds)?)),
         Err(cause) => Ok(Err(cause)),
     }
@@ -57,20 +57,18 @@ fn request_with(
     })
 }
 
-/// The binds with the trees that they show, or the cause of the first that shows none.
-fn bound(
+/// The binds as the run has them, each with its own tree's part; or the cause of the first that has none.
+fn run_binds(
     alloc: Global,
     binds: &[Bind],
-    trees: &[Tree],
+    trees: &[&Tree],
 ) -> Result<Result<Items<RunBind>, Cause>, Memory>
-    ensures { IfOk result (λ bound. bound ≡ binds_of binds.now trees.now) }
+    requires { length trees.now ≡ length binds.now }
+    ensures { IfOk result (λ bound. bound ≡ binds_of (zip binds.now (map (λ tree. tree.now) trees.now))) }
 {
     let mut bound = Items::new(alloc);
     for (index, bind) in binds.iter().enumerate() {
-        let Some(tree) = trees.get(index) else {
-            break;
-        };
-        let tree = match shown(alloc, tree, &bind.source)? {
+        let tree = match subtree(alloc, trees[index], bind)? {
             Ok(tree) => tree,
             Err(cause) => return Ok(Err(cause)),
         };
@@ -84,13 +82,9 @@ fn bound(
     Ok(Ok(bound))
 }
 
-/// What lies under a path of a tree, or the cause why nothing is shown.
-fn shown(alloc: Global, tree: &Tree, source: &Path) -> Result<Result<Tree, Cause>, Memory>
-    ensures { IfOk result (λ shown. shown ≡ subtree tree.now source.now) }
+/// What is under a bind's source in its tree, or the cause why there is nothing to mount.
+fn subtree(alloc: Global, tree: &Tree, bind: &Bind) -> Result<TreeOrCause, Memory>
+    ensures { IfOk result (λ value. value ≡ subtree tree.now bind.now.source) }
 {
-    match tree.subtree(alloc, source) {
-        Ok(shown) => Ok(Ok(shown)),
-        Err(TreeFault::Fails(cause)) => Ok(Err(cause)),
-        Err(TreeFault::Memory) => Err(Memory),
-    }
+    tree_or_cause(tree.subtree(alloc, &bind.source))
 }
