@@ -1,0 +1,13 @@
+pub mod Counting
+pub mod Fronts
+pub mod Growing
+pub mod InputFacts
+pub mod MeaningLaws
+pub mod OutcomeFacts
+pub mod PlanFacts
+pub mod PositionLaws
+pub mod PutFacts
+pub mod Rooms
+pub mod RowFacts
+pub mod StepFacts
+pub mod ValueFacts

@@ -1,0 +1,8 @@
+pub mod Meaning
+pub mod Means
+pub mod Outcome
+pub mod Positions
+pub mod PrivateGrowth
+pub mod PrivateRoom
+pub mod Vertices
+pub mod WellFormed

@@ -1,0 +1,26 @@
+// The laws of what a file means, claimed: each function's contract is one law, and its body is empty.
+ghost use Rattle.std.specs.Prelude.{◌≡◌, ◌++◌, ◌∷◌, ℕ, List, Option, None, Result, length, slice_index_or, ◌↔◌};
+ghost use Rattle.trees.specs.TreeMap.{TreeMap};
+ghost use Rattle.trees.specs.declared.cause.Cause.{Cause};
+ghost use Rattle.plans.specs.Value.{World};
+ghost use Rattle.lowering.specs.declared.stage.Stage.{Stage};
+ghost use Rattle.lowering.specs.Meaning.{Rows, stage_tree, trees_of, Fails};
+ghost use Rattle.lowering.specs.Outcome.{IsOutcome, AreAlike};
+ghost use Rattle.lowering.specs.Positions.{StageFails};
+
+/// The tree of a stage is what its instructions give beside the trees of the stages before it.
+pub fn a_stage_stands_on_those_before()
+    ensures { (w : World) (before after : Rows) (row : Option Stage)
+        → slice_index_or (trees_of w (before ++ row ∷ after)) (length before) None ≡ stage_tree w (trees_of w before) row }
+{}
+
+/// The failures of a file are those of the instructions that fail where they stand.
+pub fn failures_stand_somewhere()
+    ensures { (w : World) (rows : Rows) (line : ℕ) (cause : Cause) → Fails w rows line cause ↔ StageFails w rows line cause }
+{}
+
+/// Two outcomes of a file's target are both built, with one tree, or both failed.
+pub fn outcomes_agree()
+    ensures { (w : World) (rows : Rows) (target : ℕ) (this that : Result TreeMap (ℕ × Cause))
+        → IsOutcome w rows target this → IsOutcome w rows target that → AreAlike this that }
+{}

@@ -1,0 +1,15 @@
+// What a Dockerfile's stages mean, and the plan that means the same.
+//
+// A file comes as rows of plain data, one for each stage: what the stage begins with, and its instructions that give a tree, with all
+// their texts evaluated and all their names resolved. `lower_program` makes one graph of all rows. Equal operations on equal inputs are
+// one vertex, whichever lines they stand on, and the vertex has the lines of all of them.
+#![tactic(auto)]
+
+mod adding;
+pub mod laws;
+mod program;
+mod stage;
+mod steps;
+
+pub use program::lower_program;
+pub use stage::{Action, Origin, Stage, Step};

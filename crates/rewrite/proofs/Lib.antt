@@ -1,0 +1,4 @@
+pub mod KeptFacts
+pub mod LawFacts
+pub mod MarkFacts
+pub mod PrunedFacts

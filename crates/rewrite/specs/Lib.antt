@@ -1,0 +1,3 @@
+pub mod PrivateKept
+pub mod PrivateMarks
+pub mod Pruned

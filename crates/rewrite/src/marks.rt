@@ -1,0 +1,53 @@
+// Marks the vertices that a target reaches.
+ghost use Rattle.std.specs.Prelude.{◌≡◌, ◌<◌, ℕ, false, length, vec_len, IfOk};
+ghost use Rattle.std.specs.List.{All};
+ghost use Rattle.llb.specs.Graph.{AreVertices};
+ghost use Rattle.rewrite.specs.PrivateMarks.{is_marked, MarksSoFar, AreReached};
+
+use llb::{Vertex, VertexId};
+use plain::{Items, Memory};
+use std::alloc::Global;
+
+/// Marks these vertices.
+fn mark(marks: &mut Vec<bool>, ids: &[VertexId])
+    requires { All (λ id. id < vec_len marks.old) ids.now }
+    ensures { MarksSoFar marks.old.items marks.new.items ids.now }
+{
+    for id in ids {
+        marks[id.index()] = true;
+    }
+}
+
+/// Marks for so many vertices, of which none is marked.
+fn clear_marks(alloc: Global, len: usize) -> Result<Vec<bool>, Memory>
+    ensures long { IfOk result (λ marks. length marks.items ≡ len) }
+    ensures none { IfOk result (λ marks. (k : ℕ) → is_marked marks.items k ≡ false) }
+{
+    let mut marks = Vec::new(alloc);
+    for _at in 0..len {
+        marks.push(false)?;
+    }
+    Ok(marks)
+}
+
+/// Marks the vertices that the target reaches. Inputs stand before their vertices, so one pass from the last one on is enough.
+pub(crate) fn mark_reached(
+    alloc: Global,
+    vertices: &[Vertex],
+    target: VertexId,
+) -> Result<Items<bool>, Memory>
+    requires vertices { AreVertices vertices.now }
+    requires target { target < length vertices.now }
+    ensures { IfOk result (AreReached vertices.now target) }
+{
+    let mut marks = clear_marks(alloc, vertices.len())?;
+    marks[target.index()] = true;
+    let mut at = vertices.len();
+    while at > 0 {
+        at -= 1;
+        if marks[at] {
+            mark(&mut marks, vertices[at].inputs.as_slice());
+        }
+    }
+    Ok(Items::from_vec(marks))
+}
