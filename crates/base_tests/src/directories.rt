@@ -8,6 +8,17 @@ fn at(alloc: Global, text: &str) -> Result<Path, PathFault> {
     Path::read(alloc, text, &Path::root(alloc))
 }
 
+/// The text of the path that a text leads to from another one's path.
+fn cleaned(alloc: Global, base: &str, text: &str) -> Result<Text, PathFault> {
+    let path = at(alloc, base)?.join(alloc, text)?;
+    Ok(path.text(alloc)?)
+}
+
+/// How deep the path is that a text leads to from the root.
+fn depth_of(alloc: Global, text: &str) -> Result<usize, PathFault> {
+    Ok(at(alloc, text)?.depth())
+}
+
 /// `times` copies of a piece, and then an end.
 fn repeated(alloc: Global, piece: &str, times: usize, end: &str) -> Result<Text, Fail> {
     let mut text = piece.repeat(alloc, times)?;
@@ -33,8 +44,8 @@ fn texts_are_read_and_cleaned(rt: HostRuntime) -> Result<(), Fail> {
         ("/w/x", "../../../y", "/y"),
         ("/w/x", "//y/", "/y"),
     ] {
-        let path = at(rt.alloc(), base)?.join(rt.alloc(), text)?;
-        assert_eq!(rt; path.text(rt.alloc())?.as_str(), want);
+        let text = cleaned(rt.alloc(), base, text)?;
+        assert_eq!(rt; text.as_str(), want);
     }
     Ok(())
 }
@@ -57,7 +68,7 @@ fn limits_count_for_the_cleaned_path(rt: HostRuntime) -> Result<(), Fail> {
     ] {
         let name = repeated(rt.alloc(), "b", long, end)?;
         let text = repeated(rt.alloc(), "a/", deep, name.as_str())?;
-        let depth = at(rt.alloc(), text.as_str()).map(|path| path.depth());
+        let depth = depth_of(rt.alloc(), text.as_str());
         assert_eq!(rt; depth, want, "{deep} {long} {end}");
     }
     Ok(())
@@ -75,7 +86,7 @@ fn long_texts_are_read_at_once(rt: HostRuntime) -> Result<(), Fail> {
         ("a/", 500_000, "", Err(Fault::Because(PathLimit::TooDeep))),
     ] {
         let text = repeated(rt.alloc(), piece, times, end)?;
-        let depth = at(rt.alloc(), text.as_str()).map(|path| path.depth());
+        let depth = depth_of(rt.alloc(), text.as_str());
         assert_eq!(rt; depth, want, "{piece}");
     }
     Ok(())
