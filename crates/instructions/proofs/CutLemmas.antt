@@ -4,7 +4,7 @@ use Rattle.std.specs.Prelude.{◌≡◌, ◌<◌, ◌+◌, ℕ, List, [], ◌∷
 use Rattle.std.proofs.Common.{sym, ◌∙◌, ap, add-one, drop-cons}
 use Rattle.std.proofs.lemmas.List.{map-append}
 use Rattle.options.specs.Lists.{all_some}
-use Rattle.options.specs.ListLaws.{behind, behind_some}
+use Rattle.options.proofs.ListLaws.{behind, behind_some}
 use Rattle.instructions.specs.PrivateLent.{lent_texts, lent_pair, lent_pairs}
 
 pub cut_more : (f : List ℕ → Option (List ℕ × List ℕ)) (cuts new : List (Bor (List ℕ) × Bor (List ℕ))) (cut : Bor (List ℕ) × Bor (List ℕ)) (ws : List (Bor (List ℕ))) (i : ℕ) (d : Bor (List ℕ))

@@ -1,4 +1,5 @@
 mod CutLemmas
+pub mod InstructionLaws
 mod LeastLaws
 mod SpellsLaws
 mod TextLemmas

@@ -8,9 +8,9 @@ use Rattle.lines.specs.declared.line.Line.{Line}
 use Rattle.words.specs.Flag.{flags, behind_flags}
 use Rattle.ascii.specs.Pieces.{behind_piece}
 use Rattle.words.specs.Cutting.{words}
-use Rattle.options.specs.CopyFlags.{copy_flags}
-use Rattle.options.specs.Mounts.{mounts}
-use Rattle.options.specs.declared.copying.CopyFlags.{CopyFlags}
+use Rattle.options.specs.Copy.{copy_flags}
+use Rattle.options.specs.Mount.{mounts}
+use Rattle.options.specs.declared.copy.CopyFlags.{CopyFlags}
 use Rattle.expand.specs.Word.{word}
 use Rattle.expand.specs.Value.{Parts}
 use Rattle.expand.specs.declared.kind.Kind.TheVariants.{Quoted}

@@ -9,14 +9,14 @@ use Rattle.lines.specs.declared.line.Heredoc.{Heredoc}
 use Rattle.words.specs.Flag.{flags, behind_flags}
 use Rattle.words.specs.Cutting.{ends_open}
 use Rattle.words.specs.declared.flag.Flag.{Flag}
-use Rattle.options.specs.CopyFlags.{are_copy_flags, copy_flags, has_from}
+use Rattle.options.specs.Copy.{are_copy_flags, copy_flags, has_from}
 use Rattle.options.specs.Lists.{all_some}
-use Rattle.options.specs.declared.copying.CopyFlags.{CopyFlags}
+use Rattle.options.specs.declared.copy.CopyFlags.{CopyFlags}
 use Rattle.expand.specs.Value.{Parts}
 use Rattle.expand.specs.Word.{word}
 use Rattle.expand.specs.declared.kind.Kind.TheVariants.{Unquoted}
 use Rattle.instructions.specs.Expanded.{has_no_word, is_list, texts, kind_of}
-use Rattle.instructions.specs.Names.{is_mark}
+use Rattle.lines.specs.Marks.{is_mark}
 use Rattle.instructions.specs.declared.instruction.Body.{Body}
 use Rattle.instructions.specs.declared.instruction.Body.TheVariants.{Expanded, Literal}
 use Rattle.instructions.specs.declared.instruction.InstructionKind.{InstructionKind}

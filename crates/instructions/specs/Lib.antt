@@ -5,6 +5,7 @@ pub mod Env
 pub mod Expanded
 pub mod Expose
 pub mod From
+pub mod Instruction
 pub mod Keyword
 pub mod Label
 pub mod Least

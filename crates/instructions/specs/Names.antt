@@ -1,9 +1,8 @@
--- Names of stages, and marks of heredocs.
-use Rattle.std.specs.Prelude.{◌==◌, ◌||◌, ◌&&◌, ℕ, Bool, false, not, List, [], ◌∷◌, is_some, codes}
+-- Names of stages.
+use Rattle.std.specs.Prelude.{◌==◌, ◌||◌, ◌&&◌, ℕ, Bool, false, not, List, [], ◌∷◌, codes}
 use Rattle.std.specs.List.{list_all}
 use Rattle.std.specs.Str.{str_eq_ignore_ascii_case}
 use Rattle.ascii.specs.Names.{is_letter, is_digit}
-use Rattle.lines.specs.Marks.{mark_of}
 
 -- the characters that a stage's name may have beside letters and digits
 
@@ -29,7 +28,3 @@ has_stage_form (c ∷ cs) = is_letter c && list_all is_in_stage_name cs
 -- not `scratch` in any case of letters (own)
 abbrev pub is_stage_name : List ℕ → Bool
 is_stage_name name = has_stage_form name && not (str_eq_ignore_ascii_case name (codes "scratch"))
-
--- whether a word is the mark of a heredoc
-unfoldable pub is_mark : List ℕ → Bool
-is_mark word = is_some (mark_of word)

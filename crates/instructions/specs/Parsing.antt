@@ -1,6 +1,7 @@
 -- What a logical line spells.
 use Rattle.std.specs.Prelude.{◌≡◌, ℕ, Bool, true, false, List, Option, Some, None, Result, Ok, Err, option_map}
 use Rattle.plain.specs.declared.refusal.Code.{Code}
+use Rattle.plain.specs.declared.refusal.Refusal.{Refusal}
 use Rattle.plain.specs.declared.refusal.Code.TheVariants.{R04}
 use Rattle.lines.specs.declared.line.Line.{Line}
 use Rattle.ascii.specs.Pieces.{first_piece, behind_piece}
@@ -80,7 +81,7 @@ Spells line i = (named_read (keyword_in line) line (behind_piece line.text) ≡ 
 
 -- what reading a line answers: the instruction that it spells, or the least code that is due with the line's number; want of
 -- memory says nothing of the line
-abbrev pub IsParsed : Line → Result Instruction (Fault Code) → Type 0
+abbrev pub IsParsed : Line → Result Instruction (Fault Refusal) → Type 0
 IsParsed line (Ok i) = Spells line i
 IsParsed line (Err (Because f)) = (f.line ≡ line.number) × (least (is_due line) ≡ Some f.code)
 IsParsed line (Err Memory) = Unit {0}

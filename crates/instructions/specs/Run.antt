@@ -9,7 +9,7 @@ use Rattle.lines.specs.declared.line.Heredoc.{Heredoc}
 use Rattle.words.specs.Flag.{flags, behind_flags}
 use Rattle.words.specs.Form.{json_form}
 use Rattle.ascii.specs.Pieces.{behind_piece}
-use Rattle.options.specs.Mounts.{are_mount_flags, mounts}
+use Rattle.options.specs.Mount.{are_mount_flags, mounts}
 use Rattle.instructions.specs.Command.{command_of}
 use Rattle.instructions.specs.declared.instruction.InstructionKind.{InstructionKind}
 use Rattle.instructions.specs.declared.instruction.InstructionKind.TheVariants.{Run}

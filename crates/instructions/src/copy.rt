@@ -7,10 +7,9 @@ ghost use Rattle.instructions.specs.Least.{Meets};
 ghost use Rattle.instructions.specs.PrivateLent.{lent_texts};
 
 use crate::expanded::{kind_of, texts};
-use crate::names::is_mark;
 use crate::{Body, InstructionKind, Source};
 use expand::{Kind, Word};
-use lines::{Escape, Heredoc};
+use lines::{Escape, Heredoc, is_mark};
 use options::{are_copy_flags, copy_flags, has_from};
 use plain::{Code, Exact, Fault, Items};
 use std::alloc::Global;

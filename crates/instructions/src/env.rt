@@ -14,7 +14,7 @@ use std::alloc::Global;
 use words::{TextFault, closed, pair, split};
 
 /// The names and values of words `name=value`, where there are any and each has an `=`.
-#[tactic(auto, using(options::specs::ListLaws::behind_none, options::specs::ListLaws::behind_some))]
+#[tactic(auto, using(options::proofs::ListLaws::behind_none, options::proofs::ListLaws::behind_some))]
 fn pairs_among<'a>(
     alloc: Global,
     words: &[&'a str],

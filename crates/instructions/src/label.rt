@@ -14,7 +14,7 @@ use std::alloc::Global;
 use words::{TextFault, closed, label_pair, split};
 
 /// The keys and values of words `key=value`, where there are any and each has an `=` outside quotes and escapes.
-#[tactic(auto, using(options::specs::ListLaws::behind_none, options::specs::ListLaws::behind_some))]
+#[tactic(auto, using(options::proofs::ListLaws::behind_none, options::proofs::ListLaws::behind_some))]
 fn label_pairs_among<'a>(
     alloc: Global,
     escape: Escape,

@@ -3,6 +3,7 @@
 ghost use Rattle.std.specs.Prelude.{◌≡◌, ◌⊎◌, Bool, false, Some, None};
 ghost use Rattle.plain.specs.declared.refusal.Code.{Code};
 ghost use Rattle.lines.specs.declared.line.Line.{Line};
+ghost use Rattle.instructions.specs.Instruction.{IsInstruction};
 ghost use Rattle.instructions.specs.Least.{least, IsLeast};
 ghost use Rattle.instructions.specs.Parsing.{is_due, Spells};
 ghost use Rattle.instructions.specs.declared.instruction.Instruction.{Instruction};
@@ -22,4 +23,10 @@ pub fn lines_are_spelled_or_refused()
 pub fn the_least_code_is_told()
     ensures least { (due : Code → Bool) (c : Code) → least due ≡ Some c → IsLeast due c }
     ensures none { (due : Code → Bool) → least due ≡ None → (c : Code) → due c ≡ false }
+{}
+
+/// What each instruction keeps that a line spells: names are names, there are as many arguments as there have to be, and no more
+/// mounts than are allowed.
+pub fn spelled_instructions_are_whole()
+    ensures { (line : Line) (i : Instruction) → Spells line i → IsInstruction i.kind }
 {}

@@ -37,5 +37,5 @@ mod volume;
 pub use instruction::{
     Argument, Assignment, Body, Command, Instruction, InstructionKind, Label, Source,
 };
-pub use options::{CopyFlags, Mount, MountKind, Owner};
+pub use options::{CopyFlags, Mount, MountKind};
 pub use parsing::parse;

@@ -19,6 +19,7 @@ use ascii::first_piece;
 use lines::{Line, LineFault};
 use plain::{Code, Fault, Refusal};
 use std::alloc::Global;
+use words::TextFault;
 
 /// The instruction that a logical line spells (Dockerfile reference), with its flags, mounts and heredocs, and the line's
 /// number.
@@ -39,11 +40,11 @@ pub fn parse(alloc: Global, line: &Line) -> Result<Instruction, LineFault>
     let number = line.number;
     match read(alloc, keyword_of(name), line, rest) {
         Ok(kind) => Ok(Instruction { line: number, kind }),
-        Err(words::Fault::Because(code)) => {
+        Err(Fault::Because(code)) => {
             let refusal = Refusal { code, line: number };
-            Err(LineFault::Because(refusal))
+            Err(Fault::Because(refusal))
         }
-        Err(words::Fault::Memory) => Err(LineFault::Memory),
+        Err(Fault::Memory) => Err(Fault::Memory),
     }
 }
 
@@ -53,11 +54,11 @@ fn read(
     keyword: Option<Keyword>,
     line: &Line,
     rest: &str,
-) -> Result<InstructionKind, words::Fault>
+) -> Result<InstructionKind, TextFault>
     ensures { Meets (named_read keyword line.now rest.now) (named_due keyword line.now rest.now) result }
 {
     let Some(keyword) = keyword else {
-        return Err(words::Fault::Because(Code::R04));
+        return Err(Fault::Because(Code::R04));
     };
     let escape = line.escape;
     let heredocs = line.heredocs.as_slice();

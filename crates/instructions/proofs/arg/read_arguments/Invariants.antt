@@ -1,5 +1,5 @@
 use Rattle.std.proofs.Common.{◌≡◌, drop}
-use Rattle.options.specs.ListLaws.{behind}
+use Rattle.options.proofs.ListLaws.{behind}
 use Rattle.instructions.specs.Arg.{arguments_of}
 use Rattle.instructions.specs.PrivateLent.{lent_arguments}
 use Rattle.instructions.proofs.arg.read_arguments.Given as goal

@@ -1,7 +1,7 @@
 use Rattle.std.proofs.Common.{◌≡◌, drop}
 use Rattle.instructions.specs.Copy.{sources}
 use Rattle.options.specs.Lists.{all_some}
-use Rattle.options.specs.ListLaws.{behind}
+use Rattle.options.proofs.ListLaws.{behind}
 use Rattle.instructions.specs.PrivateLent.{lent_texts}
 use Rattle.instructions.proofs.copy.read_sources.Given as goal
 

@@ -1,7 +1,7 @@
 use Rattle.std.proofs.Common.{◌≡◌, drop, map}
 use Rattle.words.specs.Pairs.{pair}
 use Rattle.options.specs.Lists.{all_some}
-use Rattle.options.specs.ListLaws.{behind}
+use Rattle.options.proofs.ListLaws.{behind}
 use Rattle.instructions.specs.PrivateLent.{lent_pairs, lent_texts}
 use Rattle.instructions.proofs.env.pairs_among.Given as goal
 

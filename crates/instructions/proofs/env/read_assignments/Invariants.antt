@@ -1,5 +1,5 @@
 use Rattle.std.proofs.Common.{◌≡◌, drop}
-use Rattle.options.specs.ListLaws.{behind}
+use Rattle.options.proofs.ListLaws.{behind}
 use Rattle.instructions.specs.Env.{assignments_of}
 use Rattle.instructions.specs.PrivateLent.{lent_pairs}
 use Rattle.instructions.proofs.env.read_assignments.Given as goal

@@ -1,7 +1,7 @@
 use Rattle.std.proofs.Common.{◌≡◌, drop, map}
 use Rattle.expand.specs.Word.{word}
 use Rattle.options.specs.Lists.{all_some}
-use Rattle.options.specs.ListLaws.{behind}
+use Rattle.options.proofs.ListLaws.{behind}
 use Rattle.instructions.specs.PrivateLent.{lent_texts}
 use Rattle.instructions.proofs.expanded.all_words.Given as goal
 

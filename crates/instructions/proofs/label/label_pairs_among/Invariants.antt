@@ -1,7 +1,7 @@
 use Rattle.std.proofs.Common.{◌≡◌, drop, map}
 use Rattle.words.specs.Pairs.{label_pair}
 use Rattle.options.specs.Lists.{all_some}
-use Rattle.options.specs.ListLaws.{behind}
+use Rattle.options.proofs.ListLaws.{behind}
 use Rattle.instructions.specs.PrivateLent.{lent_pairs, lent_texts}
 use Rattle.instructions.proofs.label.label_pairs_among.Given as goal
 
