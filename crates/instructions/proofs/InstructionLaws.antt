@@ -1,12 +1,12 @@
 -- What each instruction keeps that a line spells: each rule follows from a code that isn't due.
-use Rattle.std.specs.Prelude.{◌≡◌, ◌≢◌, ◌<◌, ◌≤◌, ℕ, suc, ◌+◌, ◌-◌, ◌==◌, ◌||◌, ◌&&◌, nat_lt, Bool, true, false, not, List, [], ◌∷◌, length, map, take, Option, Some, None, is_some, option_map, option_and_then, if◌then◌else◌, refl}
+use Rattle.std.specs.Prelude.{◌≡◌, ◌<◌, ◌≤◌, ℕ, suc, ◌-◌, ◌==◌, ◌||◌, nat_lt, Bool, true, false, not, List, [], ◌∷◌, length, map, Option, Some, None, option_map, option_and_then, if◌then◌else◌, refl}
 use Rattle.std.specs.List.{list_all, list_any}
-use Rattle.std.proofs.Common.{sym, ◌∙◌, ap, ap₂, subst, arith}
+use Rattle.std.proofs.Common.{sym, ◌∙◌, ap, subst, arith}
 use Rattle.std.proofs.lemmas.Bool.{true≢false}
 use Rattle.std.proofs.lemmas.Bool.Decides.{nat_tests}
 use Rattle.std.proofs.lemmas.List.{length-map, length-take}
 use Rattle.plain.specs.Limits.{most_mounts}
-use Rattle.plain.specs.declared.refusal.Code.TheVariants.{R04, R06, R07, R10, R18}
+use Rattle.plain.specs.declared.refusal.Code.TheVariants.{R06, R07, R10, R18}
 use Rattle.ascii.specs.Names.{is_name}
 use Rattle.lines.specs.declared.escape.Escape.{Escape}
 use Rattle.lines.specs.declared.line.Heredoc.{Heredoc}
@@ -25,7 +25,6 @@ use Rattle.options.specs.declared.mount.Mount.{Mount}
 use Rattle.options.proofs.FlagLaws.{mounts-length, from_is_filled}
 use Rattle.expand.specs.Value.{Parts}
 use Rattle.expand.specs.Word.{word}
-use Rattle.expand.specs.declared.kind.Kind.{Kind}
 use Rattle.expand.specs.declared.kind.Kind.TheVariants.{Quoted}
 use Rattle.instructions.specs.Arg.{argument_cut, argument_cuts, argument_from, argument_of, arguments_of}
 use Rattle.instructions.specs.Arg as arg
@@ -45,11 +44,9 @@ use Rattle.instructions.specs.Run.{run_command, is_wordless}
 use Rattle.instructions.specs.Shell.{shell_words}
 use Rattle.instructions.specs.declared.instruction.Argument.{Argument}
 use Rattle.instructions.specs.declared.instruction.Assignment.{Assignment}
-use Rattle.instructions.specs.declared.instruction.Command.{Command}
 use Rattle.instructions.specs.declared.instruction.Instruction.{Instruction}
 use Rattle.instructions.specs.declared.instruction.InstructionKind.{InstructionKind}
 use Rattle.instructions.specs.declared.instruction.InstructionKind.TheVariants as instruction
-use Rattle.instructions.specs.declared.instruction.Label as label
 use Rattle.instructions.specs.declared.instruction.Source.{Source}
 use Rattle.instructions.specs.declared.keyword.Keyword.{Keyword}
 use Rattle.instructions.specs.declared.keyword.Keyword.TheVariants.{From, Arg, Env, Label, Expose, User, Workdir, StopSignal, Volume, Shell, Cmd, Entrypoint, Run, Copy}
@@ -152,8 +149,8 @@ arguments_whole : (e : Escape) (text : List ℕ) (arguments : List Argument) →
     → arguments_of e (argument_cuts e text) ≡ Some arguments → (0 < length arguments) × (list_all is_name (argument_names arguments) ≡ true)
 arguments_whole e text arguments some good h = (
   read_filled (argument_of e) (argument_cuts e text) arguments h
-  (let same : length (argument_cuts e text) ≡ length (words e text) = length-map (words e text) argument_cut in
-  let k : 0 < length (words e text) = filled (length (words e text)) some in omega (arith, same, k)),
+      (let same : length (argument_cuts e text) ≡ length (words e text) = length-map (words e text) argument_cut in
+      let k : 0 < length (words e text) = filled (length (words e text)) some in omega (arith, same, k)),
   all_keep (argument_of e) (λ cut. is_name cut.0) (λ (a : Argument). a.name) is_name (λ cut a k. ap is_name (argument_name e cut.0 cut.1 a k)) (argument_cuts e text) arguments h good,
 )
 
@@ -272,8 +269,8 @@ whole (Some Run) line rest i h e =
     (λ ms j. (
       few_mounts (flags rest) ms (due R18) j,
       run_whole line.heredocs behind (or_first (length behind == 0) (is_wordless (json_form behind) || list_any (λ h. length h.body == 0) line.heredocs) (due R06))
-      (or_first (is_wordless (json_form behind)) (list_any (λ h. length h.body == 0) line.heredocs) others)
-      (or_second (is_wordless (json_form behind)) (list_any (λ h. length h.body == 0) line.heredocs) others),
+          (or_first (is_wordless (json_form behind)) (list_any (λ h. length h.body == 0) line.heredocs) others)
+          (or_second (is_wordless (json_form behind)) (list_any (λ h. length h.body == 0) line.heredocs) others),
     )) e
 whole (Some Copy) line rest i h e =
     let due = none_due (named_due (Some Copy) line rest) h in

@@ -1,5 +1,5 @@
 -- ARG: words `name` or `name=default`, cut at the first `=` (Dockerfile reference).
-use Rattle.std.specs.Prelude.{ℕ, ◌==◌, ◌||◌, Bool, false, not, List, Option, Some, None, is_some, option_map, length, map}
+use Rattle.std.specs.Prelude.{ℕ, ◌==◌, ◌||◌, Bool, false, not, List, Option, Some, None, option_map, length, map}
 use Rattle.std.specs.List.{list_any}
 use Rattle.ascii.specs.Names.{is_name}
 use Rattle.plain.specs.declared.refusal.Code.{Code}

@@ -1,5 +1,5 @@
 -- What each instruction keeps that a line spells.
-use Rattle.std.specs.Prelude.{◌≡◌, ◌≢◌, ◌<◌, ◌≤◌, ℕ, true, false, List, [], Option, Some, length, map}
+use Rattle.std.specs.Prelude.{◌≡◌, ◌≢◌, ◌<◌, ◌≤◌, ℕ, true, false, List, [], Some, length, map}
 use Rattle.std.specs.List.{list_all}
 use Rattle.plain.specs.Limits.{most_mounts}
 use Rattle.ascii.specs.Names.{is_name}

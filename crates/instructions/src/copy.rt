@@ -13,10 +13,15 @@ use lines::{Escape, Heredoc, is_mark};
 use options::{are_copy_flags, copy_flags, has_from};
 use plain::{Code, Exact, Fault, Items};
 use std::alloc::Global;
-use words::{TextFault, Flag, closed, flags, json_form};
+use words::{Flag, TextFault, closed, flags, json_form};
 
 /// The source of a text that is no mark; R09 where it is no word.
-fn read_pattern(alloc: Global, is_list: bool, escape: Escape, text: &str) -> Result<Source, TextFault>
+fn read_pattern(
+    alloc: Global,
+    is_list: bool,
+    escape: Escape,
+    text: &str,
+) -> Result<Source, TextFault>
     ensures { Finds (pattern_of is_list escape text.now) result }
 {
     let pattern = Word::read(alloc, kind_of(is_list), escape, text)?;

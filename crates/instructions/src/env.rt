@@ -51,7 +51,11 @@ fn pair_alone<'a>(
 }
 
 /// The assignment of a name and a value; R09 where the value is no word.
-fn read_assignment(alloc: Global, escape: Escape, pair: &(&str, &str)) -> Result<Assignment, TextFault>
+fn read_assignment(
+    alloc: Global,
+    escape: Escape,
+    pair: &(&str, &str),
+) -> Result<Assignment, TextFault>
     ensures { Finds (assignment_of escape (lent_pair pair.now)) result }
 {
     let (name, value) = *pair;

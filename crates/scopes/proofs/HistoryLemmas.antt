@@ -2,7 +2,7 @@
 use Rattle.std.proofs.Common.{◌≡◌, ℕ, List, [], ◌∷◌, ◌++◌, map, Option, Some, None, refl, ap, ap₂, ◌∙◌}
 use Rattle.expand.specs.Value.{Parts, no_part, byte, variable, with_default, with_alternative, value}
 use Rattle.instructions.specs.declared.instruction.Argument.{Argument}
-use Rattle.instructions.specs.declared.instruction.Variable.{Variable}
+use Rattle.instructions.specs.declared.instruction.Assignment.{Assignment}
 use Rattle.scopes.specs.Scope.{or_else, value_in, kept}
 use Rattle.scopes.specs.Evaluate.{Values, fallback, expanded_default}
 use Rattle.scopes.proofs.ScopeLemmas.{value_in-kept, kept-append, filter_map-same}
@@ -35,12 +35,12 @@ expanded-agree s t h None None = refl
 expanded-agree s t h None (Some word) = ap (λ text. Some text) (value-agree s t h word)
 
 pub said-agree : (s t args outer other : Values) → Agree s t → Agree outer other → (line : ScopeLine) → said s args outer line ≡ said t args other line
-said-agree s t args outer other h k (sets variables) = map-agree _ _ (λ (v : Variable). ap (λ text. Env v.name text) (value-agree s t h v.value)) variables
+said-agree s t args outer other h k (sets variables) = map-agree _ _ (λ (v : Assignment). ap (λ text. Env v.name text) (value-agree s t h v.value)) variables
 said-agree s t args outer other h k (declares arguments) =
     map-agree _ _ (λ (a : Argument). ap (λ o. Arg a.name (or_else (args a.name) o)) (fallback-agree s t h (outer a.name) (other a.name) (k a.name) a.default)) arguments
 
 pub texts-agree : (s t args : Values) → Agree s t → (line : ScopeLine) → texts s args line ≡ texts t args line
-texts-agree s t args h (sets variables) = map-agree _ _ (λ (v : Variable). value-agree s t h v.value) variables
+texts-agree s t args h (sets variables) = map-agree _ _ (λ (v : Assignment). value-agree s t h v.value) variables
 texts-agree s t args h (declares arguments) =
     filter_map-same _ _ arguments (λ (a : Argument). expanded-agree s t h (args a.name) a.default)
 

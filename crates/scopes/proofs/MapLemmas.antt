@@ -14,7 +14,7 @@ use Rattle.scopes.proofs.ScopeLemmas.{env_said-append, arg_said-append, env_said
 use Rattle.scopes.specs.PrivateMaps.{declared, variable_rows, argument_row, argument_rows}
 use Rattle.scopes.specs.declared.declaration.Declaration.{Declaration}
 use Rattle.scopes.specs.declared.declaration.Declaration.TheVariants.{Env, Arg}
-use Rattle.scopes.specs.declared.env_row.EnvRow.{EnvRow}
+use Rattle.plain.specs.declared.variable.Variable.{Variable}
 
 module _ {Z : Type 0} where
   -- what the entries of ENVs say, and those of ARGs
@@ -162,9 +162,9 @@ module _ {Z : Type 0} where
 
   variable_rows-are : (es : List (String Z × List ℕ)) → variable_rows es ≡ filter_map row_of (variable_said es)
   variable_rows-are [] = refl
-  variable_rows-are (e ∷ es) = ap (λ (rows : List EnvRow). record { name = string_bytes e.0; value = e.1 } ∷ rows) (variable_rows-are es)
+  variable_rows-are (e ∷ es) = ap (λ (rows : List Variable). record { name = string_bytes e.0; value = e.1 } ∷ rows) (variable_rows-are es)
 
-  over_arguments : (h : List ℕ × Option (List ℕ) → Option EnvRow) (us : List (String Z × Option (List ℕ))) → filter_map (λ e. h (string_bytes e.0, e.1)) us ≡ filter_map h (argument_said us)
+  over_arguments : (h : List ℕ × Option (List ℕ) → Option Variable) (us : List (String Z × Option (List ℕ))) → filter_map (λ e. h (string_bytes e.0, e.1)) us ≡ filter_map h (argument_said us)
   over_arguments h [] = refl
   over_arguments h (e ∷ us) = rw (over_arguments h us) refl
 
@@ -173,7 +173,7 @@ module _ {Z : Type 0} where
       run_env-is (declared es us)
       ∙ ap₂ (λ (ps qs : Said). filter_map row_of (settled ps) ++ filter_map (other_row_of ps) (settled qs)) (env_said-declared es us) (arg_said-declared es us)
       ∙ ap₂ (λ (ps qs : Said). filter_map row_of ps ++ filter_map (other_row_of (variable_said es)) qs) (variables-settled es us h) (arguments-settled es us h)
-      ∙ ap₂ (λ (xs ys : List EnvRow). xs ++ ys)
+      ∙ ap₂ (λ (xs ys : List Variable). xs ++ ys)
       (sym (variable_rows-are es))
       (filter_map-same (other_row_of (variable_said es)) (λ p. argument_row (is_some (lookup (λ l. bytes_eq p.0 (string_bytes l)) es)) p.0 p.1) (argument_said us)
       (λ p. ap (λ o. argument_row (is_some o) p.0 p.1) (last-variables es us p.0 h))

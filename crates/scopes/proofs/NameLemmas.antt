@@ -9,7 +9,7 @@ use Rattle.std.proofs.lemmas.Bool.Decides.{nat_tests}
 use Rattle.std.proofs.lemmas.List.{map-append}
 use Rattle.ascii.specs.Names.{begins_name, is_in_name, are_in_name, is_name}
 use Rattle.instructions.specs.declared.instruction.Argument.{Argument}
-use Rattle.instructions.specs.declared.instruction.Variable.{Variable}
+use Rattle.instructions.specs.declared.instruction.Assignment.{Assignment}
 use Rattle.scopes.specs.Evaluate.{Values, env_line, arg_line}
 use Rattle.scopes.specs.Scope.{or_else, where_same, run_env, kept, name_of, names_in, names_of, names_differ, equals_byte, is_environment_name}
 use Rattle.scopes.proofs.Said.{Said, env_said, arg_said, last, apart, settled}
@@ -17,7 +17,7 @@ use Rattle.scopes.proofs.SaidLemmas.{either, apart-twice, apart-turned, last-set
 use Rattle.scopes.proofs.ScopeLemmas.{env_of, arg_of, kept-is, row_of, other_row_of, run_env-is}
 use Rattle.scopes.specs.declared.declaration.Declaration.{Declaration}
 use Rattle.scopes.specs.declared.declaration.Declaration.TheVariants.{Env, Arg}
-use Rattle.scopes.specs.declared.env_row.EnvRow.{EnvRow}
+use Rattle.plain.specs.declared.variable.Variable.{Variable}
 
 -- tests of two lists
 
@@ -115,8 +115,8 @@ fits-other_rows f es (p ∷ ps) h = let s = and-split (f p.0) (fits f ps) h in b
 
 pub run_env-fits : (f : List ℕ → Bool) (ds : List Declaration) → list_all f (names_in ds) ≡ true → list_all f (names_of (run_env ds)) ≡ true
 run_env-fits f ds h =
-    ap (λ (rows : List EnvRow). list_all f (names_of rows)) (run_env-is ds)
-    ∙ ap (list_all f) (map-append (λ (v : EnvRow). v.name) (filter_map row_of (settled (env_said ds))) (filter_map (other_row_of (env_said ds)) (settled (arg_said ds))))
+    ap (λ (rows : List Variable). list_all f (names_of rows)) (run_env-is ds)
+    ∙ ap (list_all f) (map-append (λ (v : Variable). v.name) (filter_map row_of (settled (env_said ds))) (filter_map (other_row_of (env_said ds)) (settled (arg_said ds))))
     ∙ all-append f (names_of (filter_map row_of (settled (env_said ds)))) (names_of (filter_map (other_row_of (env_said ds)) (settled (arg_said ds))))
     ∙ ap₂ (λ (a b : Bool). a && b)
     (fits-rows f (settled (env_said ds)) (fits-settled f (env_said ds) (fits-env_said f ds h)))
@@ -142,7 +142,7 @@ settled-distinct (p ∷ ps) = (apart-twice p.0 (settled ps), apart-distinct p.0 
 
 -- a row that other pairs make has another name
 
-abbrev has : List ℕ → List EnvRow → Bool
+abbrev has : List ℕ → List Variable → Bool
 has n rows = list_any (bytes_eq n) (names_of rows)
 
 apart-no_row : (n : List ℕ) (ps : Said) → has n (filter_map row_of (apart n ps)) ≡ false
@@ -227,8 +227,8 @@ pub run_env-differs : (ds : List Declaration) → names_differ (names_of (run_en
 run_env-differs ds =
     let rows = filter_map row_of (settled (env_said ds)) in
     let others = filter_map (other_row_of (env_said ds)) (settled (arg_said ds)) in
-    ap (λ (env : List EnvRow). names_differ (names_of env)) (run_env-is ds)
-    ∙ ap names_differ (map-append (λ (v : EnvRow). v.name) rows others)
+    ap (λ (env : List Variable). names_differ (names_of env)) (run_env-is ds)
+    ∙ ap names_differ (map-append (λ (v : Variable). v.name) rows others)
     ∙ names_differ-append (names_of rows) (names_of others)
     (rows-differ (settled (env_said ds)) (settled-distinct (env_said ds)))
     (other_rows-differ (env_said ds) (settled (arg_said ds)) (settled-distinct (arg_said ds)))
@@ -268,7 +268,7 @@ name-fits (c ∷ cs) h = by (begins_name c) refl h
 
 -- what a line says has the names that stand in it
 
-pub env_line-names : (before : Values) (variables : List Variable) → names_in (env_line before variables) ≡ map (λ v. v.name) variables
+pub env_line-names : (before : Values) (assignments : List Assignment) → names_in (env_line before assignments) ≡ map (λ a. a.name) assignments
 env_line-names before [] = refl
 env_line-names before (v ∷ vs) = ap (λ (ns : List (List ℕ)). v.name ∷ ns) (env_line-names before vs)
 

@@ -9,7 +9,7 @@ use Rattle.scopes.proofs.Said.{Said, env_said, arg_said, last, apart, settled}
 use Rattle.scopes.proofs.SaidLemmas.{or_else-none, either, last-append, last-settled, settled-settled, settled-append}
 use Rattle.scopes.specs.declared.declaration.Declaration.{Declaration}
 use Rattle.scopes.specs.declared.declaration.Declaration.TheVariants.{Env, Arg}
-use Rattle.scopes.specs.declared.env_row.EnvRow.{EnvRow}
+use Rattle.plain.specs.declared.variable.Variable.{Variable}
 
 pub env_said-append : (ds es : List Declaration) → env_said (ds ++ es) ≡ env_said ds ++ env_said es
 env_said-append [] es = refl
@@ -169,10 +169,10 @@ pub kept-kept : (ds : List Declaration) → kept (kept ds) ≡ kept ds
 kept-kept ds = ap kept (sym (append-nil (kept ds))) ∙ kept-append ds [] ∙ ap kept (append-nil ds)
 
 -- the row of a name that an ENV sets, and of one that an ARG gives a value, where some ENVs are
-abbrev pub row_of : List ℕ × Option (List ℕ) → Option EnvRow
+abbrev pub row_of : List ℕ × Option (List ℕ) → Option Variable
 row_of p = env_row p.0 p.1
 
-abbrev pub other_row_of : Said → List ℕ × Option (List ℕ) → Option EnvRow
+abbrev pub other_row_of : Said → List ℕ × Option (List ℕ) → Option Variable
 other_row_of es p = if is_some (last p.0 es) then None else env_row p.0 p.1
 
 pub filter_map-same : {X Y : Type 0} (f g : X → Option Y) (xs : List X) → ((x : X) → f x ≡ g x) → filter_map f xs ≡ filter_map g xs
@@ -182,7 +182,7 @@ filter_map-same f g (x ∷ xs) h = rw (h x, filter_map-same f g xs h) refl
 pub run_env-is : (ds : List Declaration) → run_env ds ≡ filter_map row_of (settled (env_said ds)) ++ filter_map (other_row_of (env_said ds)) (settled (arg_said ds))
 unfolding run_env
 run_env-is ds =
-    ap₂ (λ (xs ys : List EnvRow). xs ++ ys)
+    ap₂ (λ (xs ys : List Variable). xs ++ ys)
     (over_lasts row_of (λ n. last_env n ds) (env_said ds) (firsts (env_names ds)) (λ n. last_env-is n ds)
     ∙ ap (λ ns. filter_map row_of (lasts (env_said ds) (firsts ns))) (env_names-are ds) ∙ ap (filter_map row_of) (lasts-firsts (env_said ds)))
     (over_lasts (λ p. if is_some (last_env p.0 ds) then None else env_row p.0 p.1) (λ n. last_arg n ds) (arg_said ds) (firsts (arg_names ds)) (λ n. last_arg-is n ds)
@@ -195,7 +195,7 @@ run_env-kept ds =
     run_env-is (kept ds)
     ∙ ap₂ (λ (ps qs : Said). filter_map row_of (settled ps) ++ filter_map (other_row_of ps) (settled qs)) (env_said-kept ds) (arg_said-kept ds)
     ∙ ap₂ (λ (ps qs : Said). filter_map row_of ps ++ filter_map (other_row_of (settled (env_said ds))) qs) (settled-settled (env_said ds)) (settled-settled (arg_said ds))
-    ∙ ap (λ (rows : List EnvRow). filter_map row_of (settled (env_said ds)) ++ rows)
+    ∙ ap (λ (rows : List Variable). filter_map row_of (settled (env_said ds)) ++ rows)
     (filter_map-same (other_row_of (settled (env_said ds))) (other_row_of (env_said ds)) (settled (arg_said ds)) (λ p. ap (λ o. if is_some o then None else env_row p.0 p.1) (last-settled p.0 (env_said ds))))
     ∙ sym (run_env-is ds)
 

@@ -8,7 +8,7 @@ use Rattle.plain.specs.declared.fault.Fault.TheVariants.{Because, Memory}
 use Rattle.expand.specs.Value.{Parts, value}
 use Rattle.plain.specs.Limits.{most_text_bytes}
 use Rattle.instructions.specs.declared.instruction.Argument.{Argument}
-use Rattle.instructions.specs.declared.instruction.Variable.{Variable}
+use Rattle.instructions.specs.declared.instruction.Assignment.{Assignment}
 use Rattle.scopes.specs.declared.declaration.Declaration.{Declaration}
 use Rattle.scopes.specs.declared.declaration.Declaration.TheVariants.{Env, Arg}
 use Rattle.scopes.specs.Scope.{or_else, kept}
@@ -19,8 +19,8 @@ Values = List ℕ → Option (List ℕ)
 
 -- what an ENV line says: each variable has the value of its word under the scope before the line, which the line itself
 -- doesn't change (Dockerfile reference, environment replacement)
-abbrev pub env_line : Values → List Variable → List Declaration
-env_line before variables = map (λ v. Env v.name (value before v.value)) variables
+abbrev pub env_line : Values → List Assignment → List Declaration
+env_line before assignments = map (λ a. Env a.name (value before a.value)) assignments
 
 -- what an argument has without a build argument: the value of its default under the scope before the line; where it is bare,
 -- the value that its name had before the first FROM, which is none for a line that stands there itself (Dockerfile reference,
@@ -35,8 +35,8 @@ abbrev pub arg_line : Values → Values → Values → List Argument → List De
 arg_line before args outer arguments = map (λ a. Arg a.name (or_else (args a.name) (fallback before (outer a.name) a.default))) arguments
 
 -- the texts that an ENV line expands
-abbrev pub env_texts : Values → List Variable → List (List ℕ)
-env_texts before variables = map (λ v. value before v.value) variables
+abbrev pub env_texts : Values → List Assignment → List (List ℕ)
+env_texts before assignments = map (λ a. value before a.value) assignments
 
 -- the text that an argument expands, which is the one that is judged: its default, where it has one and no build argument,
 -- also where an ENV of its name beats it (own)

@@ -1,24 +1,24 @@
 -- What the ENV and ARG lines of a stage say, line after line.
 use Rattle.std.specs.Prelude.{ℕ, List, [], ◌∷◌, ◌++◌}
 use Rattle.instructions.specs.declared.instruction.Argument.{Argument}
-use Rattle.instructions.specs.declared.instruction.Variable.{Variable}
+use Rattle.instructions.specs.declared.instruction.Assignment.{Assignment}
 use Rattle.scopes.specs.Scope.{value_in, kept}
 use Rattle.scopes.specs.Evaluate.{Values, env_line, env_texts, arg_line, arg_texts}
 use Rattle.scopes.specs.declared.declaration.Declaration.{Declaration}
 
--- a line that says something of names: an ENV with its variables, or an ARG with its arguments
+-- a line that says something of names: an ENV with its assignments, or an ARG with its arguments
 pub data ScopeLine : Type 0 where
-  sets : List Variable → ScopeLine
+  sets : List Assignment → ScopeLine
   declares : List Argument → ScopeLine
 
 -- what a line says under the scope before it, with these build arguments and this scope before the first FROM
 abbrev pub said : Values → Values → Values → ScopeLine → List Declaration
-said before args outer (sets variables) = env_line before variables
+said before args outer (sets assignments) = env_line before assignments
 said before args outer (declares arguments) = arg_line before args outer arguments
 
 -- the texts that a line expands under the scope before it, with these build arguments
 abbrev pub texts : Values → Values → ScopeLine → List (List ℕ)
-texts before args (sets variables) = env_texts before variables
+texts before args (sets assignments) = env_texts before assignments
 texts before args (declares arguments) = arg_texts before args arguments
 
 -- all that lines say, one after another and below what was said before them: each line under what was said above it

@@ -1,11 +1,11 @@
 -- What names have values, and RUN's environment, by the declarations so far in their order: an image's ENV first; a stage from a
 -- stage goes on with that stage's. Nothing here knows how a scope is stored.
 use Rattle.std.specs.Prelude.{ℕ, Bool, true, not, ◌==◌, ◌&&◌, List, [], ◌∷◌, ◌++◌, length, map, filter, Option, Some, None, option_map, is_some, if◌then◌else◌}
-use Rattle.std.specs.List.{filter_map, list_all, list_any}
+use Rattle.std.specs.List.{filter_map, list_any}
 use Rattle.std.specs.Str.{bytes_eq}
 use Rattle.scopes.specs.declared.declaration.Declaration.{Declaration}
 use Rattle.scopes.specs.declared.declaration.Declaration.TheVariants.{Env, Arg}
-use Rattle.scopes.specs.declared.env_row.EnvRow.{EnvRow}
+use Rattle.plain.specs.declared.variable.Variable.{Variable}
 
 -- the first value if there is one, else the second
 abbrev pub or_else : Option (List ℕ) → Option (List ℕ) → Option (List ℕ)
@@ -56,14 +56,14 @@ firsts [] = []
 firsts (n ∷ ns) = n ∷ without n (firsts ns)
 
 -- a row of the environment, where the name has a value
-abbrev pub env_row : List ℕ → Option (List ℕ) → Option EnvRow
+abbrev pub env_row : List ℕ → Option (List ℕ) → Option Variable
 env_row n value = option_map (λ text. record { name = n; value = text }) value
 
 -- the environment of RUN: the names that ENVs set, in the order in which they came first, with their last values; then the
 -- names that have a value by an ARG and are set by no ENV, in the order in which they were first declared, an ARG without a
 -- value counting as a declaration. ARGs before the first FROM aren't among them, and no PATH is added (Dockerfile reference,
 -- ENV and ARG; the order and the PATH: own)
-unfoldable pub run_env : List Declaration → List EnvRow
+unfoldable pub run_env : List Declaration → List Variable
 run_env ds =
     filter_map (λ n. env_row n (last_env n ds)) (firsts (env_names ds))
     ++ filter_map (λ n. if is_some (last_env n ds) then None else env_row n (last_arg n ds)) (firsts (arg_names ds))
@@ -86,7 +86,7 @@ abbrev pub names_in : List Declaration → List (List ℕ)
 names_in ds = map name_of ds
 
 -- the names of an environment, one for each variable
-abbrev pub names_of : List EnvRow → List (List ℕ)
+abbrev pub names_of : List Variable → List (List ℕ)
 names_of env = map (λ v. v.name) env
 
 -- no two of the names are the same

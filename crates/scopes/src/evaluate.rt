@@ -7,30 +7,30 @@ use crate::args::Args;
 use crate::declaration::Declaration;
 use crate::scope::Scope;
 use expand::expand;
-use instructions::{Argument, Variable};
+use instructions::{Argument, Assignment};
 use plain::{Exact, Items, Text};
 use std::alloc::Global;
 use words::TextFault;
 
 /// What an ENV line says under the scope before it; R18 where a value is too long, and there alone.
-pub fn variable_declarations(
+pub(crate) fn assignment_declarations(
     alloc: Global,
-    variables: &[Variable],
+    assignments: &[Assignment],
     before: &Scope,
 ) -> Result<Items<Declaration>, TextFault>
-    ensures { Says (env_line (value_in before.now) variables.now) (env_texts (value_in before.now) variables.now) result }
+    ensures { Says (env_line (value_in before.now) assignments.now) (env_texts (value_in before.now) assignments.now) result }
 {
     let mut line = Items::new(alloc);
-    for variable in variables {
-        let name = variable.name.copy(alloc)?;
-        let value = expand(alloc, &variable.value, before)?;
+    for assignment in assignments {
+        let name = assignment.name.copy(alloc)?;
+        let value = expand(alloc, &assignment.value, before)?;
         line.push(Declaration::Env { name, value })?;
     }
     Ok(line)
 }
 
 /// What an ARG line says under the scope before it; R18 where a default that counts is too long, and there alone.
-pub fn argument_declarations(
+pub(crate) fn argument_declarations(
     alloc: Global,
     arguments: &[Argument],
     before: &Scope,

@@ -4,7 +4,7 @@ ghost use Rattle.std.specs.Prelude.{◌≡◌, ◌≢◌, ℕ, Bool, true, List,
 ghost use Rattle.std.specs.List.{list_all};
 ghost use Rattle.ascii.specs.Names.{is_name};
 ghost use Rattle.instructions.specs.declared.instruction.Argument.{Argument};
-ghost use Rattle.instructions.specs.declared.instruction.Variable.{Variable};
+ghost use Rattle.instructions.specs.declared.instruction.Assignment.{Assignment};
 ghost use Rattle.scopes.specs.History.{ScopeLine, texts, history, scope_after};
 ghost use Rattle.scopes.specs.Evaluate.{Values, env_line, arg_line};
 ghost use Rattle.scopes.specs.Scope.{last_env, last_arg, value_in, run_env, kept, names_in, names_of, names_differ, is_environment_name};
@@ -52,7 +52,7 @@ pub fn environments_have_the_names_of_declarations()
 
 /// A line declares just the names that stand in it.
 pub fn lines_declare_their_names()
-    ensures variables { (before : Values) (variables : List Variable) → names_in (env_line before variables) ≡ map (λ v. v.name) variables }
+    ensures variables { (before : Values) (assignments : List Assignment) → names_in (env_line before assignments) ≡ map (λ a. a.name) assignments }
     ensures arguments { (before args outer : Values) (arguments : List Argument) → names_in (arg_line before args outer arguments) ≡ map (λ a. a.name) arguments }
 {}
 

@@ -16,7 +16,6 @@
 
 mod args;
 mod declaration;
-mod env_row;
 mod evaluate;
 pub mod laws;
 mod maps;
@@ -24,5 +23,4 @@ mod scope;
 
 pub use args::Args;
 pub use declaration::Declaration;
-pub use env_row::EnvRow;
 pub use scope::Scope;

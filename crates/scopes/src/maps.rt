@@ -7,13 +7,12 @@ ghost use Rattle.scopes.specs.Scope.{kept, env_names, arg_names};
 ghost use Rattle.scopes.specs.PrivateMaps.{declared, variable_rows, argument_rows};
 
 use crate::declaration::Declaration;
-use crate::env_row::EnvRow;
 use indexmap::IndexMap;
-use plain::{Exact, Items, Memory, Text};
+use plain::{Exact, Items, Memory, Text, Variable};
 use std::alloc::Global;
 
 /// How many of the declarations are ENVs. The others are ARGs.
-pub fn env_count(line: &[Declaration]) -> usize
+pub(crate) fn env_count(line: &[Declaration]) -> usize
     ensures variables { result ≡ length (env_names line.now) }
     ensures arguments { result + length (arg_names line.now) ≡ length line.now }
 {
@@ -27,7 +26,7 @@ pub fn env_count(line: &[Declaration]) -> usize
 }
 
 /// Adds declarations, one after another.
-pub fn put_all(
+pub(crate) fn put_all(
     variables: &mut IndexMap<String, Text>,
     arguments: &mut IndexMap<String, Option<Text>>,
     line: Vec<Declaration>,
@@ -69,7 +68,7 @@ fn put(
 }
 
 /// The declarations of the two maps: the ENVs, and then the ARGs.
-pub fn listed(
+pub(crate) fn listed(
     alloc: Global,
     variables: &IndexMap<String, Text>,
     arguments: &IndexMap<String, Option<Text>>,
@@ -84,29 +83,16 @@ pub fn listed(
     }
     for (name, value) in arguments.iter() {
         let name = Text::from_str(alloc, name.as_str())?;
-        let value = copied_value(alloc, value)?;
+        let value = value.copy(alloc)?;
         line.push(Declaration::Arg { name, value })?;
     }
     Ok(line)
 }
 
-/// A copy of a value, if there is one.
-fn copied_value(alloc: Global, value: &Option<Text>) -> Result<Option<Text>, Memory>
-    ensures { IfOk result (λ copied. copied ≡ value.now) }
-{
-    match value {
-        Some(text) => {
-            let text = text.copy(alloc)?;
-            Ok(Some(text))
-        }
-        None => Ok(None),
-    }
-}
-
 /// Adds a row for each ENV.
-pub fn push_variables(
+pub(crate) fn push_variables(
     alloc: Global,
-    rows: &mut Items<EnvRow>,
+    rows: &mut Items<Variable>,
     variables: &IndexMap<String, Text>,
 ) -> Result<(), Memory>
     ensures { OnOk result (rows.new ≡ rows.old ++ variable_rows variables.now.entries) }
@@ -118,9 +104,9 @@ pub fn push_variables(
 }
 
 /// Adds a row for each ARG that has a value and no ENV.
-pub fn push_arguments(
+pub(crate) fn push_arguments(
     alloc: Global,
-    rows: &mut Items<EnvRow>,
+    rows: &mut Items<Variable>,
     arguments: &IndexMap<String, Option<Text>>,
     variables: &IndexMap<String, Text>,
 ) -> Result<(), Memory>
@@ -135,7 +121,7 @@ pub fn push_arguments(
 /// Adds a row for an ARG, unless it has no value or its name has an ENV.
 fn push_argument(
     alloc: Global,
-    rows: &mut Items<EnvRow>,
+    rows: &mut Items<Variable>,
     name: &String,
     value: &Option<Text>,
     variables: &IndexMap<String, Text>,
@@ -153,7 +139,7 @@ fn push_argument(
 /// Adds a row.
 fn push_row(
     alloc: Global,
-    rows: &mut Items<EnvRow>,
+    rows: &mut Items<Variable>,
     name: &String,
     value: &Text,
 ) -> Result<(), Memory>
@@ -161,5 +147,5 @@ fn push_row(
 {
     let name = Text::from_str(alloc, name.as_str())?;
     let value = value.copy(alloc)?;
-    rows.push(EnvRow { name, value })
+    rows.push(Variable { name, value })
 }

@@ -6,13 +6,12 @@ ghost use Rattle.scopes.specs.declared.declaration.Declaration.TheVariants.{Env}
 
 use crate::args::Args;
 use crate::declaration::Declaration;
-use crate::env_row::EnvRow;
-use crate::evaluate::{argument_declarations, variable_declarations};
+use crate::evaluate::{argument_declarations, assignment_declarations};
 use crate::maps::{env_count, listed, push_arguments, push_variables, put_all};
 use expand::Lookup;
 use indexmap::IndexMap;
-use instructions::{Argument, Variable};
-use plain::{Items, Memory, Text};
+use instructions::{Argument, Assignment};
+use plain::{Items, Memory, Text, Variable};
 use std::alloc::Global;
 use std::marker::Model;
 use words::TextFault;
@@ -76,10 +75,10 @@ impl Scope {
     /// environment replacement).
     ///
     /// R18 where a value has more than 1,048,576 bytes, and there alone. After a fault the scope is as it was.
-    pub fn set_env(&mut self, alloc: Global, variables: &[Variable]) -> Result<(), TextFault>
-        ensures { Declares self.old (env_line (value_in self.old) variables.now) (env_texts (value_in self.old) variables.now) self.new result }
+    pub fn set_env(&mut self, alloc: Global, assignments: &[Assignment]) -> Result<(), TextFault>
+        ensures { Declares self.old (env_line (value_in self.old) assignments.now) (env_texts (value_in self.old) assignments.now) self.new result }
     {
-        let line = variable_declarations(alloc, variables, self)?;
+        let line = assignment_declarations(alloc, assignments, self)?;
         self.add(line)?;
         Ok(())
     }
@@ -122,7 +121,7 @@ impl Scope {
     /// The environment of RUN: the names that ENVs set, in the order in which they came first, with their last values; then
     /// the names that have a value by an ARG and no ENV, in the order in which they were first declared (own). There is no
     /// `PATH` among them unless one was set (own).
-    pub fn run_env(&self, alloc: Global) -> Result<Items<EnvRow>, Memory>
+    pub fn run_env(&self, alloc: Global) -> Result<Items<Variable>, Memory>
         ensures { IfOk result (λ rows. rows ≡ run_env self.now) }
     {
         let mut rows = Items::new(alloc);
@@ -143,7 +142,6 @@ impl Scope {
 }
 
 impl Lookup for Scope {
-
     ghost value_of = { λ scope name. value_in scope name };
 
     fn find(&self, name: &str) -> Option<&Text> {

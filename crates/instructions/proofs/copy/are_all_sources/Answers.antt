@@ -1,4 +1,3 @@
-use Rattle.std.specs.Prelude.{◌==◌, List, [], length}
 use Rattle.std.proofs.Common.{sym, ◌∙◌}
 use Rattle.std.proofs.lemmas.List.{at_drop_all}
 use Rattle.instructions.specs.Copy.{are_all_sources}

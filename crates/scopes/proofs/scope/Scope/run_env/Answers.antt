@@ -1,13 +1,13 @@
 use Rattle.std.proofs.Common.{List, ◌++◌, ap, sym, ◌∙◌}
 use Rattle.scopes.specs.Scope.{run_env}
 use Rattle.scopes.specs.PrivateMaps.{variable_rows, argument_rows}
-use Rattle.scopes.specs.declared.env_row.EnvRow.{EnvRow}
+use Rattle.plain.specs.declared.variable.Variable.{Variable}
 use Rattle.scopes.proofs.MapLemmas.{run_env-declared}
 use Rattle.scopes.proofs.scope.Scope.run_env.Goals as goal
 
 pub returns : goal.returns
 returns c =
     c.in_ok-push_arguments.ensures
-    ∙ ap (λ (rows : List EnvRow). rows ++ argument_rows c.self.inside.variables.entries c.self.inside.arguments.entries)
-    (c.in_ok-push_variables.ensures ∙ ap (λ (rows : List EnvRow). rows ++ variable_rows c.self.inside.variables.entries) c.new-rows.ensures)
+    ∙ ap (λ (rows : List Variable). rows ++ argument_rows c.self.inside.variables.entries c.self.inside.arguments.entries)
+    (c.in_ok-push_variables.ensures ∙ ap (λ (rows : List Variable). rows ++ variable_rows c.self.inside.variables.entries) c.new-rows.ensures)
     ∙ sym (run_env-declared _ _ c.self.invariant) ∙ ap run_env c.self.view_is
