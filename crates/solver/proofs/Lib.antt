@@ -1,2 +1,3 @@
-pub mod NeedsLemmas
-pub mod Told
+pub mod AlikeLemmas
+pub mod RunLemmas
+pub mod SolutionLemmas

@@ -1,2 +1,2 @@
+pub mod Solution
 pub mod Answer
-pub mod Needs

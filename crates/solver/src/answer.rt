@@ -1,10 +1,10 @@
 use trees::{Cause, Tree};
 
-/// What a plan comes to.
+/// The answer to a plan.
 #[derive(Drop)]
 pub enum Answer<C> {
-    /// The tree that the plan's target is worth, and the plan's configuration.
+    /// The tree that is the value of the plan's target, and the plan's configuration.
     Built(Tree, C),
-    /// A vertex fails with this cause, and this is the least of the lines of its instructions; 0 where it has none.
+    /// The cause with which a vertex of the plan fails, and the least of the lines behind that vertex; 0 where it has none.
     Failed { place: u32, cause: Cause },
 }

@@ -1,17 +1,16 @@
-// The solver of a plan: it runs the plan's vertices, each on the trees of its inputs, until the target has a tree or a vertex fails,
-// and tells the target's tree or a failure.
+// The solver of a plan: it runs the vertices that are ready, each on the trees of its inputs, until the target has a tree or a vertex fails.
 //
-// There is no thread, lock or atomic in it, and it always returns. Whose turn a vertex is, the board decides; what a vertex comes
-// to, `vertexrun` does. Here stands only the sweep: claim, run, settle, until nothing is left to be claimed. It runs vertices that
-// the target doesn't need too: who makes a plan leaves them out.
+// Whose turn a vertex is, the board decides; what its value is, `vertexrun` does. Here are the run of a claim (`run`) and the sweep of one worker: claim, run,
+// settle, until no vertex is ready. It starts no thread, takes no lock and always returns. It also runs vertices that the target
+// doesn't need, so who makes a plan leaves those out.
 //
-// The central definition is `IsAnswer` (`specs/Answer.antt`): built is the tree that the target is worth, with the plan's
-// configuration; failed is a cause that some vertex of the plan is worth, with the least of that vertex's lines. A plan with a vertex
-// that fails and that the target doesn't need may have answers of both kinds; one whose target needs every vertex has not
-// (`laws::answers_agree`).
+// The central definitions are `IsSolution` (`specs/Solution.antt`), over a problem: the tree that is the target's value, or a vertex whose value is
+// a cause, with its least line; and `IsAnswer` (`specs/Answer.antt`), a solution with the plan's configuration. A plan with a vertex that fails
+// and that the target doesn't need may have answers of both kinds; one whose target needs every vertex has not (`laws::answers_agree`).
 //
 // ```
-// match solve_here(alloc, &plan, &executor)? {
+// let mut caches = CacheStore::new(alloc);
+// match solve_here(alloc, &plan, &executor, &mut caches)? {
 //     Answer::Built(tree, config) => ..,
 //     Answer::Failed { place, cause } => ..,
 // }
@@ -20,11 +19,11 @@
 
 mod answer;
 pub mod laws;
+mod running;
+mod solution;
 mod sweep;
-mod tell;
 
 pub use answer::Answer;
+pub use running::run;
+pub use solution::Solution;
 pub use sweep::{finish, solve_here};
-
-#[cfg(test)]
-mod tests;

@@ -1,71 +1,112 @@
-ghost use Rattle.std.specs.Prelude.{◌≡◌, ◌<◌, [], false, None, Some, Ok, IfOk, OnOk};
+ghost use Rattle.std.specs.Prelude.{◌≡◌, ◌<◌, ℕ, [], false, None, Some, Ok, IfOk};
 ghost use Rattle.std.specs.Bool.{OnTrue, OnFalse};
 ghost use Rattle.trees.specs.TreeMap.{TreeMap};
-ghost use Rattle.board.specs.Play.{least_ready, value_at, has_tree, waiting};
-ghost use Rattle.solver.specs.Answer.{IsAnswer, IsBuilt};
+ghost use Rattle.board.specs.Board.{board_problem};
+ghost use Rattle.board.specs.Legal.{IsReady};
+ghost use Rattle.board.specs.Play.{value_at, unsettled_count};
+ghost use Rattle.board.specs.Readiness.{has_tree};
+ghost use Rattle.plans.specs.Plan.{problem_of};
+ghost use Rattle.plans.specs.Value.{Out};
+ghost use Rattle.solver.specs.Answer.{IsAnswer};
+ghost use Rattle.solver.specs.Solution.{IsSolution, IsBuilt};
 
-use crate::{Answer, tell};
-use board::{Board, Refused, run};
+use crate::running::run;
+use crate::solution::solution_of;
+use crate::{Answer, Solution};
+use board::{Board, Job, NoBoard, Refused};
+use cachemounts::CacheStore;
 use executor::Executor;
-use llb::Plan;
 use plain::{Exact, Memory};
+use plans::Plan;
 use std::alloc::Global;
+use std::mem;
+use vertexrun::Ran;
 
-/// The number under which the sweep claims.
-const SWEEPER: u32 = 0;
+/// The worker that the sweep claims as: past those that threads have, which are numbered from 0 to 63.
+const SWEEPER: u32 = 64;
 
-/// What a plan comes to under an executor: the target's tree with the plan's configuration, or a vertex of the plan that fails, with
-/// its cause and the least of its lines. It always returns.
+/// The answer to a plan under an executor, with a store of caches of which no lease is out (`CacheStore::is_idle` tests that). It always returns,
+/// and whatever the result, no lease is out then.
 pub fn solve_here<C: Exact, E: Executor>(
     alloc: Global,
     plan: &Plan<C>,
     executor: &E,
+    caches: &mut CacheStore,
 ) -> Result<Answer<C>, Memory>
-    ensures { IfOk result (IsAnswer (E.out executor.now) plan.now) }
+    requires { caches.old.holds ≡ [] }
+    ensures answer { IfOk result (IsAnswer (E.out executor.now) plan.now) }
+    ensures idle { caches.new.holds ≡ [] }
 {
-    let board = Board::new(alloc, plan, executor)?;
-    finish(alloc, board)
+    let lent = mem::replace(caches, CacheStore::new(alloc));
+    let mut board = match Board::new(alloc, Job::new(plan, executor), lent) {
+        Ok(board) => board,
+        Err(refused) => {
+            let NoBoard { caches: back } = refused;
+            *caches = back;
+            return Err(Memory);
+        }
+    };
+    let solution = finish(alloc, &mut board);
+    *caches = board.into_caches();
+    answer_of(alloc, plan, solution?)
 }
 
-/// What the plan of a board comes to: what is left of it is claimed, run and settled, one vertex at a time, until nothing is given
-/// to a claim. What the board has settled isn't run again: where that is the target with a tree, the answer is built with this tree,
-/// whatever else has failed. No claim may be out, which `Board::is_idle` tells. It always returns.
-pub fn finish<C: Exact, E: Executor>(
+/// A solution of a plan's problem, with the plan's configuration.
+fn answer_of<C: Exact>(
     alloc: Global,
-    mut board: Board<C, E>,
+    plan: &Plan<C>,
+    solution: Solution,
 ) -> Result<Answer<C>, Memory>
-    requires { board.run.state.claims ≡ [] }
-    ensures answer { IfOk result (IsAnswer (E.out board.entry.executor) board.entry.plan) }
-    ensures settled { (tree : TreeMap) → value_at board.entry.run.state.settled board.entry.plan.target ≡ Some (Ok tree)
-        → IfOk result (IsBuilt tree) }
+    ensures { (out : Out) → IsSolution (problem_of out plan.now) solution → IfOk result (IsAnswer out plan.now) }
 {
-    while turn(alloc, &mut board)? {}
-    tell::answer(alloc, board)
+    match solution {
+        Solution::Built(tree) => Ok(Answer::Built(tree, plan.config().copy(alloc)?)),
+        Solution::Failed {
+            vertex: _,
+            place,
+            cause,
+        } => Ok(Answer::Failed { place, cause }),
+    }
 }
 
-/// One turn: the least ready vertex is claimed, run and settled. It tells whether there was one.
-fn turn<C, E: Executor>(alloc: Global, board: &mut Board<C, E>) -> Result<bool, Memory>
+/// The solution of a board: what is left of its job is claimed, run and settled, one vertex at a time, until no vertex is ready. What is settled
+/// isn't run again: where that is the target with a tree, the solution is built with this tree, whatever else has failed. No claim
+/// may be out (`Board::is_idle` tests that), and whatever the result, none is afterwards. It always returns.
+pub fn finish<E: Executor>(alloc: Global, board: &mut Board<E>) -> Result<Solution, Memory>
     requires { board.old.run.state.claims ≡ [] }
-    ensures executor { OnOk result (board.new.executor ≡ board.old.executor) }
-    ensures plan { OnOk result (board.new.plan ≡ board.old.plan) }
-    ensures idle { OnOk result (board.new.run.state.claims ≡ []) }
-    ensures nearer { IfOk result (λ more. OnTrue more (waiting board.new.run.state.settled < waiting board.old.run.state.settled)) }
-    ensures same { IfOk result (λ more. OnFalse more (board.new ≡ board.old)) }
-    ensures unbuilt { IfOk result (λ more. OnTrue more (has_tree (value_at board.old.run.state.settled board.old.plan.target) ≡ false)) }
-    ensures over { IfOk result (λ more. OnFalse more (least_ready board.new.plan.graph.vertices board.new.plan.target board.new.run.state ≡ None)) }
+    ensures solution { IfOk result (IsSolution (board_problem E.out board.old)) }
+    ensures settled { (tree : TreeMap) → value_at board.old.run.state.settled board.old.job.target ≡ Some (Ok tree)
+        → IfOk result (IsBuilt tree) }
+    ensures idle { board.new.run.state.claims ≡ [] }
+    ensures job { board.new.job ≡ board.old.job }
 {
+    while turn(alloc, board)? {}
+    solution_of(alloc, board)
+}
+
+/// Claims, runs and settles the least ready vertex. It answers whether there was one.
+fn turn<E: Executor>(alloc: Global, board: &mut Board<E>) -> Result<bool, Memory>
+    requires { board.old.run.state.claims ≡ [] }
+    ensures job { board.new.job ≡ board.old.job }
+    ensures idle { board.new.run.state.claims ≡ [] }
+    ensures nearer { IfOk result (λ more. OnTrue more (unsettled_count board.new.run.state.settled < unsettled_count board.old.run.state.settled)) }
+    ensures same { IfOk result (λ more. OnFalse more (board.new ≡ board.old)) }
+    ensures unbuilt { IfOk result (λ more. OnTrue more (has_tree (value_at board.old.run.state.settled board.old.job.target) ≡ false)) }
+    ensures over { IfOk result (λ more. OnFalse more ((vertex : ℕ) → ¬ IsReady (board_problem E.out board.new) board.new.run.history vertex)) }
+{
+    let _known = board.history();
     let claimed = board.claim(alloc, SWEEPER)?;
     let Some(claim) = claimed else {
         return Ok(false);
     };
-    let value = match run(alloc, board.plan(), board.executor(), &claim) {
-        Ok(value) => value,
+    let Ran { value, given } = match run(alloc, board.job(), &claim) {
+        Ok(ran) => ran,
         Err(memory) => {
             board.abandon(claim);
             return Err(memory);
         }
     };
-    match board.settle(claim, value, Vec::new(alloc)) {
+    match board.settle(alloc, claim, value, given) {
         Ok(()) => Ok(true),
         Err(refused) => {
             let Refused {

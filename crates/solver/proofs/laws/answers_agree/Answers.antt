@@ -1,4 +1,4 @@
-use Rattle.solver.proofs.NeedsLemmas.{alike}
+use Rattle.solver.proofs.AlikeLemmas.{alike}
 use Rattle.solver.proofs.laws.answers_agree.Goals as goal
 
 pub returns : goal.returns

@@ -1,0 +1,40 @@
+-- The claims that `follow` keeps: those that are out, in their order.
+use Rattle.std.specs.Prelude.{◌≡◌, ℕ, List, [], ◌∷◌, ◌++◌, map, Some, ◌⊎◌, slice_get}
+use Rattle.std.specs.List.{remove}
+use Rattle.plans.specs.Plan.{Problem}
+use Rattle.board.specs.Claim.{ClaimValue, IsClaim, claim_out}
+use Rattle.board.specs.Claim.{AreApart}
+use Rattle.board.specs.Legal.{Possible, event_of}
+use Rattle.board.specs.declared.event.Event.{Event}
+use Rattle.board.specs.declared.event.Happened.{Happened}
+use Rattle.board.specs.declared.claim.ClaimOut.{ClaimOut}
+
+-- claims that are all of the problem (own)
+abbrev pub AreClaims : Problem → List ClaimValue → Type 0
+AreClaims problem [] = Unit {0}
+AreClaims problem (claim ∷ claims) = IsClaim problem claim × AreClaims problem claims
+
+-- claims are those that are out, in their order, each of the problem, and no worker has two (own)
+pub record AreOut (problem : Problem) (claims : List ClaimOut) (out : List ClaimValue) : Type 0 where
+  pub all : claims ≡ map claim_out out
+  pub each : AreClaims problem out
+  pub apart : AreApart claims
+
+-- a worker's claim is at a position of a list (own)
+pub record IsAt (claims : List ClaimValue) (worker at : ℕ) : Type 0 where
+  pub claim : ClaimValue
+  pub there : slice_get claims at ≡ Some claim
+  pub by : claim.worker ≡ worker
+
+-- a worker's claim was taken from a list (own)
+pub record IsTaken (worker : ℕ) (before after : List ClaimValue) (claim : ClaimValue) : Type 0 where
+  pub at : ℕ
+  pub there : slice_get before at ≡ Some claim
+  pub by : claim.worker ≡ worker
+  pub left : after ≡ remove before at
+
+-- one event, after a history: it happens where it is possible, and is left out where it isn't (own)
+abbrev pub Applies : Problem → Event → List Happened → List Happened → Type 0
+Applies problem event before after =
+    ((happened : Happened) × (event_of happened ≡ event) × Possible problem before happened × (after ≡ before ++ happened ∷ []))
+    ⊎ (((happened : Happened) → event_of happened ≡ event → ¬ Possible problem before happened) × (after ≡ before))

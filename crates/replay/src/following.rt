@@ -1,0 +1,172 @@
+ghost use Rattle.std.specs.Prelude.{◌≡◌, [], None, map, IfOk, IfSome, IfNone, OnOk};
+ghost use Rattle.plans.specs.Plan.{problem_of};
+ghost use Rattle.board.specs.Board.{board_problem};
+ghost use Rattle.board.specs.Claim.{claim_out};
+ghost use Rattle.board.specs.Legal.{Plays};
+ghost use Rattle.board.specs.Play.{claim_of};
+ghost use Rattle.board.specs.declared.event.Event.TheVariants.{Claim as Claiming, Settle as Settling, Abandon as Abandoning};
+ghost use Rattle.replay.specs.PrivateFollowing.{AreOut, IsAt, IsTaken, Applies};
+
+use board::{Board, Claim, Event, Happened, Job, NoBoard, Refused};
+use cachemounts::CacheStore;
+use executor::Executor;
+use plain::{Items, Memory, growth};
+use plans::Plan;
+use solver::run;
+use std::alloc::Global;
+use vertexrun::Ran;
+
+/// The history that a list of events leaves on a new board with an empty store: an event that isn't possible when its turn comes is skipped. A
+/// settle brings what the run of its claim gives.
+pub fn follow<C, E: Executor>(
+    alloc: Global,
+    plan: &Plan<C>,
+    executor: &E,
+    events: &[Event],
+) -> Result<Items<Happened>, Memory>
+    ensures { IfOk result (Plays (problem_of (E.out executor.now) plan.now) events.now) }
+{
+    let job = Job::new(plan, executor);
+    let mut board = match Board::new(alloc, job, CacheStore::new(alloc)) {
+        Ok(board) => board,
+        Err(refused) => {
+            let NoBoard { caches: _ } = refused;
+            return Err(Memory);
+        }
+    };
+    let mut out = Vec::new(alloc);
+    for event in events {
+        if let Err(memory) = apply(alloc, &mut board, &mut out, *event) {
+            discard_all(out);
+            return Err(memory);
+        }
+    }
+    discard_all(out);
+    Ok(Items::from_vec(board.into_history()))
+}
+
+/// One event, where it is possible. `out` has the claims that are out.
+fn apply<E: Executor>(
+    alloc: Global,
+    board: &mut Board<E>,
+    out: &mut Vec<Claim>,
+    event: Event,
+) -> Result<(), Memory>
+    requires { AreOut (board_problem E.out board.old) board.old.run.state.claims out.old.items }
+    ensures job { OnOk result (board.new.job ≡ board.old.job) }
+    ensures applies { OnOk result (Applies (board_problem E.out board.old) event board.old.run.history board.new.run.history) }
+    ensures out { OnOk result (AreOut (board_problem E.out board.old) board.new.run.state.claims out.new.items) }
+{
+    match event {
+        Event::Claim(worker) => claim_next(alloc, board, out, worker),
+        Event::Settle(worker) => settle_claim(alloc, board, out, worker),
+        Event::Abandon(worker) => {
+            abandon_claim(board, out, worker);
+            Ok(())
+        }
+    }
+}
+
+/// A claim by a worker, where it is possible.
+fn claim_next<E: Executor>(
+    alloc: Global,
+    board: &mut Board<E>,
+    out: &mut Vec<Claim>,
+    worker: u32,
+) -> Result<(), Memory>
+    requires { AreOut (board_problem E.out board.old) board.old.run.state.claims out.old.items }
+    ensures job { OnOk result (board.new.job ≡ board.old.job) }
+    ensures applies { OnOk result (Applies (board_problem E.out board.old) (Claiming worker) board.old.run.history board.new.run.history) }
+    ensures out { OnOk result (AreOut (board_problem E.out board.old) board.new.run.state.claims out.new.items) }
+{
+    growth::room(out, 1)?;
+    let _known = board.history();
+    let claimed = board.claim(alloc, worker)?;
+    let Some(claim) = claimed else {
+        return Ok(());
+    };
+    growth::add(out, claim);
+    Ok(())
+}
+
+/// A settle by a worker, where it is possible, with what the run of its claim gives.
+fn settle_claim<E: Executor>(
+    alloc: Global,
+    board: &mut Board<E>,
+    out: &mut Vec<Claim>,
+    worker: u32,
+) -> Result<(), Memory>
+    requires { AreOut (board_problem E.out board.old) board.old.run.state.claims out.old.items }
+    ensures job { OnOk result (board.new.job ≡ board.old.job) }
+    ensures applies { OnOk result (Applies (board_problem E.out board.old) (Settling worker) board.old.run.history board.new.run.history) }
+    ensures out { OnOk result (AreOut (board_problem E.out board.old) board.new.run.state.claims out.new.items) }
+{
+    let _known = board.history();
+    let Some(claim) = take_claim(out, worker) else {
+        return Ok(());
+    };
+    let Ran { value, given } = match run(alloc, board.job(), &claim) {
+        Ok(ran) => ran,
+        Err(memory) => {
+            claim.discard();
+            return Err(memory);
+        }
+    };
+    match board.settle(alloc, claim, value, given) {
+        Ok(()) => Ok(()),
+        Err(refused) => {
+            let Refused {
+                claim,
+                value: _,
+                given: _,
+            } = refused;
+            claim.discard();
+            Err(Memory)
+        }
+    }
+}
+
+/// An abandon by a worker, where it is possible.
+fn abandon_claim<E: Executor>(board: &mut Board<E>, out: &mut Vec<Claim>, worker: u32)
+    requires { AreOut (board_problem E.out board.old) board.old.run.state.claims out.old.items }
+    ensures job { board.new.job ≡ board.old.job }
+    ensures applies { Applies (board_problem E.out board.old) (Abandoning worker) board.old.run.history board.new.run.history }
+    ensures out { AreOut (board_problem E.out board.old) board.new.run.state.claims out.new.items }
+{
+    let _known = board.history();
+    let Some(claim) = take_claim(out, worker) else {
+        return;
+    };
+    board.abandon(claim);
+}
+
+/// Takes a worker's claim from those that are out.
+fn take_claim(out: &mut Vec<Claim>, worker: u32) -> Option<Claim>
+    ensures found { IfSome result (IsTaken worker out.old.items out.new.items) }
+    ensures none { IfNone result (claim_of worker (map claim_out out.old.items) ≡ None) }
+    ensures same { IfNone result (out.new.items ≡ out.old.items) }
+{
+    let at = position_of(out.as_slice(), worker)?;
+    Some(out.remove(at))
+}
+
+/// Where a worker's claim is among those that are out.
+fn position_of(out: &[Claim], worker: u32) -> Option<usize>
+    ensures found { IfSome result (IsAt out.now worker) }
+    ensures none { IfNone result (claim_of worker (map claim_out out.now) ≡ None) }
+{
+    for (at, claim) in out.iter().enumerate() {
+        if claim.worker() == worker {
+            return Some(at);
+        }
+    }
+    None
+}
+
+/// Drops claims of a board that has ended.
+fn discard_all(mut claims: Vec<Claim>) {
+    while let Some(claim) = claims.pop() {
+        claim.discard();
+    }
+    claims.destroy_empty();
+}

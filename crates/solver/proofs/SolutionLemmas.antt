@@ -1,0 +1,70 @@
+-- What a board has settled on which no claim is out and no vertex is ready.
+use Rattle.std.proofs.Common.{◌≡◌, inl, inr, ℕ, ◌<◌, [], length, Option, Some, None, Ok, Err, true, false, cond, is_some, refl, ap, sym, ◌∙◌, arith}
+use Rattle.std.proofs.lemmas.Bool.{cases_lt, or_parts, both_ways}
+use Rattle.std.proofs.lemmas.List.{get_or_past}
+use Rattle.plans.specs.Plan.{Problem, IsValue, vertex_value}
+use Rattle.trees.specs.Cause.{TreeOrCause}
+use Rattle.board.specs.Legal.{IsReady, IsNextClaim, IsSettled, HasCause}
+use Rattle.board.specs.Play.{Run, value_at, IsReplay}
+use Rattle.board.specs.Problem.{IsProblem}
+use Rattle.board.specs.Readiness.{has_tree, has_cause}
+use Rattle.board.proofs.PlayLemmas.{IsRight, replay-right, replay-value, idle-over, idle_all}
+use Rattle.board.proofs.SoundLemmas.{sound}
+
+right-is : (problem : Problem) (run : Run) → IsProblem problem → IsReplay problem run → IsRight problem run
+right-is problem run is replay = replay-right problem run (sound problem is) replay
+
+-- what a board has settled is the vertex's value
+pub settled-value : (problem : Problem) (run : Run) (vertex : ℕ) (value : TreeOrCause) → IsProblem problem → IsReplay problem run → value_at run.state.settled vertex ≡ Some value → IsValue problem vertex value
+settled-value problem run vertex value is replay e = replay-value problem run (sound problem is) replay vertex value e
+
+no_value : (o : Option TreeOrCause) → has_tree o ≡ false → has_cause o ≡ false → is_some o ≡ false
+no_value None tree cause = refl
+no_value (Some (Ok found)) tree cause = cc
+no_value (Some (Err why)) tree cause = cc
+
+no_tree : (o : Option TreeOrCause) → is_some o ≡ false → has_tree o ≡ false
+no_tree None e = refl
+no_tree (Some value) e = cc
+
+-- a vertex that the history settles is settled with its value
+settled-is : (problem : Problem) (run : Run) (vertex : ℕ) → IsRight problem run → IsSettled run.history vertex → value_at run.state.settled vertex ≡ vertex_value problem vertex
+settled-is problem run vertex right settled = right.agrees.settled vertex ∙ ap (λ b. cond b (vertex_value problem vertex) None) settled
+
+-- where it is over and the target has no tree, some vertex is settled with a cause
+pub cause-found : (problem : Problem) (run : Run) → IsProblem problem → IsReplay problem run → run.state.claims ≡ [] → ((vertex : ℕ) → ¬ IsReady problem run.history vertex) → has_tree (value_at run.state.settled problem.target) ≡ false → ((vertex : ℕ) → vertex < length problem.vertices → has_cause (value_at run.state.settled vertex) ≡ false) → ⊥
+cause-found problem run is replay idle ready tree none =
+    elim (idle-over problem run (sound problem is) is.target right (idle_all problem run right idle) ready) [
+      | inl settled ↦
+          let known : is_some (value_at run.state.settled problem.target) ≡ true = ap is_some (settled-is problem run problem.target right settled) ∙ right.agrees.valued problem.target settled in
+          both_ways _ (no_value (value_at run.state.settled problem.target) tree (none problem.target is.target)) known
+      | inr found ↦ failed found.0 found.1 found.2
+    ]
+  where
+    right : IsRight problem run
+    right = right-is problem run is replay
+
+    failed : (vertex : ℕ) → IsSettled run.history vertex → HasCause problem vertex → ⊥
+    failed vertex settled cause =
+        let e : value_at run.state.settled vertex ≡ Some (Err cause.0) = settled-is problem run vertex right settled ∙ cause.1 in
+        elim (cases_lt vertex (length problem.vertices)) [
+          | inl within ↦
+              let no : has_cause (value_at run.state.settled vertex) ≡ false = none vertex within in
+              let f : true ≡ false = ap has_cause (sym e) ∙ no in
+              cc
+          | inr past ↦
+              let nothing : value_at run.state.settled vertex ≡ None = get_or_past run.state.settled vertex None (omega (arith, right.agrees.long, past)) in
+              let f : None ≡ Some (Err cause.0) = sym nothing ∙ e in
+              cc
+        ]
+
+-- where a vertex may be claimed, the target isn't settled with a tree
+pub next-unbuilt : (problem : Problem) (run : Run) (worker vertex : ℕ) → IsProblem problem → IsReplay problem run → IsNextClaim problem run.history worker (Some vertex) → has_tree (value_at run.state.settled problem.target) ≡ false
+next-unbuilt problem run worker vertex is replay next =
+    let right = right-is problem run is replay in
+    no_tree (value_at run.state.settled problem.target) (ap is_some (right.agrees.settled problem.target) ∙ (or_parts _ _ next.ready.goes_on).0)
+
+-- where no claim is out and a worker may claim nothing, no vertex is ready
+pub none-ready : (problem : Problem) (run : Run) (worker : ℕ) → IsProblem problem → IsReplay problem run → run.state.claims ≡ [] → IsNextClaim problem run.history worker None → (vertex : ℕ) → ¬ IsReady problem run.history vertex
+none-ready problem run worker is replay idle (inl busy) = absurd (busy (idle_all problem run (right-is problem run is replay) idle worker))
+none-ready problem run worker is replay idle (inr none) = none

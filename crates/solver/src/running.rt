@@ -1,0 +1,55 @@
+ghost use Rattle.std.specs.Prelude.{◌≡◌, ◌<◌, Some, IfOk, length, map, slice_get};
+ghost use Rattle.llb.specs.declared.vertex.Vertex.{Vertex as VertexValue};
+ghost use Rattle.plans.specs.Plan.{IsLeftBy};
+ghost use Rattle.board.specs.Claim.{IsClaim, IsResult, IsGivenBack};
+ghost use Rattle.board.specs.Job.{job_problem};
+ghost use Rattle.board.specs.Problem.{IsProblem};
+
+use board::{Claim, Job};
+use executor::Executor;
+use llb::{Vertex, VertexId};
+use plain::Memory;
+use std::alloc::Global;
+use trees::Tree;
+use vertexrun::{Ran, vertex_result};
+
+/// The result of a claim of a job: the value of its vertex, and the trees that go back to the vertex's caches, which the executor leaves of the
+/// copies in the claim. `Board::settle` takes just these. It needs no board, so any number of claims may be run at once.
+pub fn run<E: Executor>(alloc: Global, job: &Job<E>, claim: &Claim) -> Result<Ran, Memory>
+    requires { IsClaim (job_problem E.out job.now) claim.now }
+    ensures value { IfOk result (λ ran. IsResult (job_problem E.out job.now) claim.now ran.value) }
+    ensures given { IfOk result (λ ran. IsGivenBack (job_problem E.out job.now) claim.now ran.given.items) }
+    ensures left { IfOk result (λ ran. (vertex : VertexValue) → slice_get job.now.graph.vertices claim.now.vertex ≡ Some vertex
+        → IsLeftBy (E.leaves job.now.executor) vertex.op claim.now.inputs claim.now.caches ran.given.items) }
+{
+    let vertex = vertex_at(job, claim.vertex());
+    let inputs = inputs_of(alloc, claim)?;
+    vertex_result(
+        alloc,
+        job.sources(),
+        job.executor(),
+        &vertex.op,
+        inputs.as_slice(),
+        claim.caches(),
+    )
+}
+
+/// A vertex of a job.
+fn vertex_at<'a, E: Executor>(job: &Job<'a, E>, id: VertexId) -> &'a Vertex
+    requires { id < length job.now.graph.vertices }
+    ensures value { slice_get job.now.graph.vertices id ≡ Some result.now }
+    ensures problem { IsProblem (job_problem E.out job.now) }
+{
+    &job.graph().vertices()[id.index()]
+}
+
+/// The trees of the inputs of a claim's vertex, in their order.
+fn inputs_of(alloc: Global, claim: &Claim) -> Result<Vec<&Tree>, Memory>
+    ensures { IfOk result (λ inputs. map (λ tree. tree.now) inputs.items ≡ claim.now.inputs) }
+{
+    let mut inputs = Vec::with_capacity(alloc, claim.input_count())?;
+    for at in 0..claim.input_count() {
+        inputs.push(claim.input(at))?;
+    }
+    Ok(inputs)
+}

@@ -1,0 +1,88 @@
+ghost use Rattle.std.specs.Prelude.{◌≡◌, ◌<◌, ℕ, [], None, Some, Ok, Err, false, length, IfOk, IfSome, IfNone};
+ghost use Rattle.trees.specs.TreeMap.{TreeMap};
+ghost use Rattle.board.specs.Board.{board_problem};
+ghost use Rattle.board.specs.Legal.{IsReady};
+ghost use Rattle.board.specs.Play.{value_at};
+ghost use Rattle.board.specs.Readiness.{has_tree, has_cause};
+ghost use Rattle.solver.specs.Solution.{IsSolution, IsBuilt};
+
+use board::Board;
+use executor::Executor;
+use llb::VertexId;
+use plain::{Exact, Memory};
+use std::alloc::Global;
+use trees::{Cause, Tree};
+
+/// The solution of a job: it knows no configuration.
+#[derive(Drop)]
+pub enum Solution {
+    /// The tree that is the value of the target.
+    Built(Tree),
+    /// A vertex that fails with this cause, and the least of the lines behind it; 0 where it has none.
+    Failed {
+        vertex: VertexId,
+        place: u32,
+        cause: Cause,
+    },
+}
+
+/// The solution of a board on which no claim is out and no vertex is ready: a copy of the target's tree where it is settled with one, else the
+/// first vertex that is settled with a cause.
+pub(crate) fn solution_of<E: Executor>(alloc: Global, board: &Board<E>) -> Result<Solution, Memory>
+    requires idle { board.now.run.state.claims ≡ [] }
+    requires over { (vertex : ℕ) → ¬ IsReady (board_problem E.out board.now) board.now.run.history vertex }
+    ensures solution { IfOk result (IsSolution (board_problem E.out board.now)) }
+    ensures settled { (tree : TreeMap) → value_at board.now.run.state.settled board.now.job.target ≡ Some (Ok tree)
+        → IfOk result (IsBuilt tree) }
+{
+    let _known = board.history();
+    if let Some(tree) = tree_of(board, board.job().target()) {
+        return Ok(Solution::Built(tree.copy(alloc)?));
+    }
+    let Some(failure) = first_failure(board) else {
+        unreachable!();
+    };
+    let Failure { vertex, cause } = failure;
+    let place = board.job().graph().least_place(vertex);
+    Ok(Solution::Failed {
+        vertex,
+        place,
+        cause,
+    })
+}
+
+/// A vertex that is settled with a cause.
+#[derive(Clone, Copy)]
+struct Failure {
+    vertex: VertexId,
+    cause: Cause,
+}
+
+/// The first vertex that is settled with a cause, if there is one.
+fn first_failure<E: Executor>(board: &Board<E>) -> Option<Failure>
+    ensures found { IfSome result (λ failure. value_at board.now.run.state.settled failure.vertex ≡ Some (Err failure.cause)) }
+    ensures none { IfNone result ((vertex : ℕ) → vertex < length board.now.job.graph.vertices
+        → has_cause (value_at board.now.run.state.settled vertex) ≡ false) }
+{
+    for number in 0..board.job().graph().vertices().len() as u32 {
+        let vertex = VertexId::new(number);
+        if let Some(Err(cause)) = board.value(vertex) {
+            return Some(Failure {
+                vertex,
+                cause: *cause,
+            });
+        }
+    }
+    None
+}
+
+/// The tree with which a vertex is settled.
+fn tree_of<'a, E: Executor>(board: &'a Board<E>, vertex: VertexId) -> Option<&'a Tree>
+    ensures found { IfSome result (λ tree. value_at board.now.run.state.settled vertex ≡ Some (Ok tree.now)) }
+    ensures none { IfNone result (has_tree (value_at board.now.run.state.settled vertex) ≡ false) }
+{
+    match board.value(vertex) {
+        Some(Ok(tree)) => Some(tree),
+        _ => None,
+    }
+}
