@@ -36,7 +36,7 @@ fn directive_named(key: &str, value: &str) -> Option<Directive>
     None
 }
 
-/// What stands behind the `#` with which a line begins.
+/// What follows the `#` with which a line begins.
 fn after_sharp(line: &str) -> Option<&str>
     ensures { option_map (λ rest. rest.now) result ≡ after_sharp line.now }
 {
@@ -46,7 +46,7 @@ fn after_sharp(line: &str) -> Option<&str>
     Some(&line[1..])
 }
 
-/// The directive of what stands behind a line's `#`.
+/// The directive of what follows a line's `#`.
 fn directive_in(rest: &str) -> Option<Directive>
     ensures { result ≡ directive_in rest.now }
 {

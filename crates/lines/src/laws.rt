@@ -44,14 +44,14 @@ pub fn numbers_ascend()
         → j < k → line.number < other.number }
 {}
 
-/// The text of a logical line isn't empty, and has no blanks before and behind it.
+/// The text of a logical line isn't empty, and has no blanks at its ends.
 pub fn texts_are_trimmed()
     ensures { (text : List ℕ) (found : List Line) → AreLines text found
         → (k : ℕ) (line : Line) → slice_get found k ≡ Some line → (line.text ≢ []) × (trimmed line.text ≡ line.text) }
 {}
 
-/// A file of directives and of lines of which each but the last one continues has one logical line: what stands before the escape
-/// character of each, and then the last line, without the blanks around it all. It stands at the first line below the directives.
+/// A file of directives and of lines of which each but the last one continues has one logical line: what is before the escape
+/// character of each, and then the last line, without the blanks around it all. Its number is that of the first line below the directives.
 /// That is so under the escape character that the directives set, where no line is blank or a comment, and where the text isn't
 /// empty and has no mark of a heredoc.
 pub fn continued_lines_join()

@@ -7,7 +7,7 @@ use std::alloc::Global;
 pub struct Mark {
     /// The line that closes the heredoc: a letter or `_` followed by letters, digits or `_`.
     pub name: Text,
-    /// Whether the name stands in quotes, so that the body is taken as it is.
+    /// Whether the name is in quotes, so that the body is taken as it is.
     pub quoted: bool,
     /// Whether leading tabs are dropped, as `<<-` says.
     pub strips: bool,

@@ -10,7 +10,7 @@ use ascii::{is_name, split_at_blanks};
 use plain::{Items, Memory, Text};
 use std::alloc::Global;
 
-/// Whether a text stands in a pair of these quotes.
+/// Whether a text is in a pair of these quotes.
 fn is_quoted_by(quote: u8, text: &[u8]) -> bool
     ensures { result ≡ is_quoted_by quote text.now }
 {
@@ -31,7 +31,7 @@ fn named(strips: bool, quoted: bool, name: &[u8]) -> Option<WrittenMark<'_>>
     })
 }
 
-/// The mark of what stands behind `<<` or `<<-`.
+/// The mark of what follows `<<` or `<<-`.
 fn mark_from(strips: bool, text: &[u8]) -> Option<WrittenMark<'_>>
     ensures { option_map mark_written result ≡ mark_from strips text.entry.now }
 {
@@ -42,7 +42,7 @@ fn mark_from(strips: bool, text: &[u8]) -> Option<WrittenMark<'_>>
     named(strips, false, text)
 }
 
-/// What stands behind the `<<` with which a piece begins.
+/// What follows the `<<` with which a piece begins.
 fn after_two(piece: &[u8]) -> Option<&[u8]>
     ensures { option_map (λ rest. rest.now) result ≡ after_two piece.now }
 {
@@ -65,7 +65,7 @@ fn written_mark(piece: &str) -> Option<WrittenMark<'_>>
     mark_from(false, rest)
 }
 
-/// Whether a word is the mark of a heredoc: the whole word is `<<NAME` or `<<-NAME`, where the name may stand in a pair of single or
+/// Whether a word is the mark of a heredoc: the whole word is `<<NAME` or `<<-NAME`, where the name may be in a pair of single or
 /// double quotes (Dockerfile reference, here-documents; the form of the name: own).
 #[tactic(auto, unfolding(crate::specs::Marks::is_mark))]
 pub fn is_mark(word: &str) -> bool
@@ -98,7 +98,7 @@ pub fn is_flag(text: &str) -> bool
     matches!(text.as_bytes(), [b'-', b'-', ..])
 }
 
-/// The pieces behind the leading flags.
+/// The pieces after the leading flags.
 fn after_flags<'a>(pieces: &'a [&'a str]) -> &'a [&'a str]
     ensures { map (λ piece. piece.now) result.now ≡ after_flags (map (λ piece. piece.now) pieces.now) }
 {
@@ -110,7 +110,7 @@ fn after_flags<'a>(pieces: &'a [&'a str]) -> &'a [&'a str]
     &[]
 }
 
-/// The marks among the pieces behind the flags.
+/// The marks among the pieces after the flags.
 fn marks_among(alloc: Global, pieces: &[&str]) -> Result<Items<Mark>, Memory>
     ensures { IfOk result (λ marks. marks ≡ marks_among (map (λ piece. piece.now) pieces.now)) }
 {

@@ -57,7 +57,7 @@ fn has_twice(flags: &[Flag]) -> bool
     false
 }
 
-/// Whether `--link` may stand with this value.
+/// Whether `--link` takes this value.
 fn takes_link(value: &Option<Text>) -> bool
     ensures { result ≡ takes_link value.now }
 {

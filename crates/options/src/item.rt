@@ -45,7 +45,7 @@ impl Key {
 #[derive(Clone, Copy)]
 pub struct Item<'a> {
     pub key: Key,
-    /// The value as it is written; `true` where the key stands alone.
+    /// The value as it is written; `true` where there is the key alone.
     pub value: &'a str,
 }
 

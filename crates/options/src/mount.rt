@@ -15,7 +15,7 @@ use words::{Flag, pair};
 /// A mount of a RUN (Dockerfile reference, `RUN --mount`).
 #[derive(Debug, Drop)]
 pub struct Mount {
-    /// Where it stands, as it is written. A relative target is read against the working directory.
+    /// The path where it is mounted, as it is written. A relative target is read against the working directory.
     pub target: Text,
     pub kind: MountKind,
 }
@@ -313,7 +313,7 @@ fn mount_in(alloc: Global, flag: &Flag) -> Result<Option<Mount>, Memory>
 /// The mounts that the values of a RUN's flags are, in the order of the flags; none where one of them is no mount, and such
 /// a RUN is refused with R17 (Dockerfile reference, `RUN --mount`).
 ///
-/// A mount is a list of items cut at `,`, each `key=value`, where `rw` stands alone too. No `type` means `bind`, which knows
+/// A mount is a list of items cut at `,`, each `key=value`, or `rw` alone. No `type` means `bind`, which knows
 /// `source`, `from` and `rw` or `readwrite`; a `cache` knows `id` and `sharing`; both need a `target`, `dst` or
 /// `destination`. Another type, key or value, an empty value, a key twice and a missing target are no mount (own: Docker
 /// knows more types and keys). The flags' names aren't looked at here.

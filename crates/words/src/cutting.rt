@@ -9,11 +9,11 @@ use lines::Escape;
 use plain::{Code, Fault, Memory};
 use std::alloc::Global;
 
-/// The words of a text: what stands between its blanks, where quotes and the escape character hold blanks together
+/// The words of a text: what is between its blanks, where quotes and the escape character hold blanks together
 /// (Dockerfile reference, escaping and quoting; what acts where: own).
 ///
 /// In single quotes each character is kept, in double quotes the escape character acts before `"`, `$` and itself,
-/// outside quotes before any character, and at the end of the text it stands for itself. Words are as they are written.
+/// outside quotes before any character, and at the end of the text it is a character as any other. Words are as they are written.
 /// The word of an open quote reaches to the end of the text: it counts as a word, and `closed` refuses it.
 pub fn split<'a>(alloc: Global, escape: Escape, text: &'a str) -> Result<Vec<&'a str>, Memory>
     ensures words { IfOk result (λ found. AreWords escape text.now (map (λ word. word.now) found.items)) }
@@ -46,7 +46,7 @@ fn push_word<'a>(found: &mut Vec<&'a str>, word: &'a str) -> Result<(), Memory>
 
 /// Whether each quote of a text is closed: R09 exactly where one is open.
 ///
-/// It is a call of its own because other faults of a line are told before that one.
+/// It is a call of its own because other faults of a line come before that one.
 pub fn closed(escape: Escape, text: &str) -> Result<(), TextFault>
     ensures open { MatchResult result (λ _. ¬ (IsOpen escape text.now)) (λ fault. (fault ≡ Fault.Because Code.R09) × IsOpen escape text.now) }
     ensures value { MatchResult result (λ _. ends_open escape text.now ≡ false) (λ fault. (fault ≡ Fault.Because Code.R09) × (ends_open escape text.now ≡ true)) }

@@ -10,7 +10,7 @@ use std::alloc::Global;
 /// white space around it.
 ///
 /// Anything else has no JSON form and is no fault of its own: other text, a list with a number or a list in it, text
-/// behind the list.
+/// after the list.
 #[tactic(auto, unfolding(crate::specs::Form::json_form))]
 pub fn json_form(alloc: Global, text: &str) -> Result<Option<Items<Text>>, Memory>
     ensures { IfOk result (λ form. form ≡ json_form text.now) }

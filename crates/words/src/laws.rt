@@ -28,7 +28,7 @@ pub fn unquoted_words_are_pieces()
     ensures { (escape : Escape) (text : List ℕ) → AreUnquoted escape text → words escape text ≡ pieces text }
 {}
 
-/// What is left behind the flags has the pieces from the first on that is no flag.
+/// What follows the flags has the pieces from the first one on that is no flag.
 pub fn flags_are_the_first_pieces()
     ensures { (text : List ℕ) → pieces (behind_flags text) ≡ after_flags (pieces text) }
 {}

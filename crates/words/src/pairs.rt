@@ -5,7 +5,7 @@ use crate::class::class_of;
 use crate::quote::QuoteState;
 use lines::Escape;
 
-/// A word cut at its first `=`, wherever that stands: none where there is no `=`.
+/// A word cut at its first `=`, wherever that is: none where there is no `=`.
 ///
 /// So the words of ENV and ARG are cut, and the items of a mount. The name of `"a=b"=c` is `"a`.
 pub fn pair(word: &str) -> Option<(&str, &str)>

@@ -3,10 +3,10 @@ ghost use Rattle.words.specs.Quote.{state_after, cuts, splits, is_in_quotes};
 
 use crate::class::Class;
 
-/// Where the next character of a text that is cut stands: in quotes or not, and behind an escape character or not.
+/// Whether the next character of a text that is cut is in quotes, and whether an escape character comes before it.
 #[derive(Clone, Copy, Debug, PartialEq, Eq)]
 pub enum QuoteState {
-    /// Outside quotes, and behind no escape character that acts.
+    /// Outside quotes, and after no escape character that acts.
     Outside,
     /// Behind an escape character outside quotes.
     Escaped,
@@ -20,7 +20,7 @@ pub enum QuoteState {
 }
 
 impl QuoteState {
-    /// The state behind a character of this class.
+    /// The state after a character of this class.
     pub fn after(self, class: Class) -> QuoteState
         ensures { result ≡ state_after self class }
     {
@@ -53,7 +53,7 @@ impl QuoteState {
         matches!((self, class), (QuoteState::Outside, Class::Equals))
     }
 
-    /// Whether the next character stands in quotes.
+    /// Whether the next character is in quotes.
     pub fn is_in_quotes(self) -> bool
         ensures { result ≡ is_in_quotes self }
     {
