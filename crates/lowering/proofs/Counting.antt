@@ -5,7 +5,7 @@ use Rattle.std.specs.List.{list_any, AllByRecursion, IsDistinct}
 use Rattle.std.specs.Set.{is_member}
 use Rattle.std.specs.Ordering.{eq_by_cmp}
 use Rattle.std.specs.Cmp.{Equal-is}
-use Rattle.std.specs.FinMap.{entries, get-entries, nat_cmp-IsAntisymmetric, slice_cmp-IsAntisymmetric}
+use Rattle.std.specs.FinMap.{len, len-entries, entries, get-entries, nat_cmp-IsAntisymmetric, slice_cmp-IsAntisymmetric}
 use Rattle.std.specs.FinMap.Entries.{is_some-find}
 use Rattle.std.proofs.lemmas.Cmp.{nat_list_cmp_total, eq_by_cmp_equiv}
 use Rattle.std.proofs.lemmas.Map.Keys.{IsDistinct-cons}
@@ -124,11 +124,15 @@ source_member sources (Image name) has =
     let there : list_any (eq_by_cmp name_cmp name) (map (λ e. e.0) (entries sources.images)) ≡ true = sym (is_some-find name_cmp name (entries sources.images)) ∙ (ap is_some (sym (get-entries sources.images name)) ∙ has) in
     or_right (eq_by_cmp name_cmp name []) _ (or_right (eq_by_cmp name_cmp name scratch_name) _ there)
 
+names_long : {X Y : Type 0} (f : X → Y) (xs : List X) → length (map f xs) ≡ length xs
+names_long f [] = refl
+names_long f (x ∷ xs) = ap suc (names_long f xs)
+
 -- the sources among vertices are at most as many as there are
-pub sources_few : (sources : SourcesValue) (vertices : List Vertex) → AreVertices vertices → HasSources sources vertices → length (keys vertices) ≤ length (map (λ e. e.0) (entries sources.images)) + 2
+pub sources_few : (sources : SourcesValue) (vertices : List Vertex) → AreVertices vertices → HasSources sources vertices → length (keys vertices) ≤ len sources.images + 2
 sources_few sources vertices are has =
     let le = length-le_from_is_member (eq_by_cmp_equiv nat_list_cmp_total) (keys vertices) ([] ∷ (scratch_name ∷ map (λ e. e.0) (entries sources.images))) (distinct vertices are.once are.well_formed) members in
-    omega (arith, le)
+    omega (arith, le, names_long (λ e. e.0) (entries sources.images), len-entries sources.images)
   where
     members : (q : List ℕ) → is_member (eq_by_cmp name_cmp) (keys vertices) q ≡ true → is_member (eq_by_cmp name_cmp) ([] ∷ (scratch_name ∷ map (λ e. e.0) (entries sources.images))) q ≡ true
     members q e =

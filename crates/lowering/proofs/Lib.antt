@@ -11,3 +11,4 @@ pub mod Rooms
 pub mod RowFacts
 pub mod StepFacts
 pub mod ValueFacts
+pub mod WellFormedLaws

@@ -1,7 +1,7 @@
 -- A plan whose graph stands for a file means the file.
-use Rattle.std.proofs.Common.{◌≡◌, ◌↔◌, inl, inr, ◌<◌, ◌≤◌, ◌+◌, ◌*◌, ℕ, [], map, length, Some, None, sym, ap, ◌∙◌, arith}
+use Rattle.std.proofs.Common.{◌≡◌, ◌↔◌, inl, inr, ◌<◌, ◌≤◌, ◌+◌, ◌*◌, ℕ, [], Some, None, sym, ap, ◌∙◌, arith}
 use Rattle.std.specs.Prelude.{slice_get, slice_index_or, Contains}
-use Rattle.std.specs.FinMap.{entries}
+use Rattle.std.specs.FinMap.{len}
 use Rattle.std.specs.List.{All}
 use Rattle.std.proofs.lemmas.List.{get_or-map}
 use Rattle.std.proofs.lemmas.Option.{slice_get_within, get_or_from_slice_get}
@@ -63,8 +63,8 @@ put_stands plan rows target tip graph tips config sources are is made = rw made 
 })
 
 -- a graph without a vertex has room for a file
-pub no_room : (rows : Rows) (sources : SourcesValue) → length (map (λ e. e.0) (entries sources.images)) ≤ most_images → count_of_steps rows < most_lines → HasRoom sources no_graph (2 * count_of_steps rows)
+pub no_room : (rows : Rows) (sources : SourcesValue) → len sources.images ≤ most_images → count_of_steps rows < most_lines → HasRoom sources no_graph (2 * count_of_steps rows)
 no_room rows sources few short = record { few = few; known = λ k vertex e. absurd cc; others = omega (arith, short) }
 
-pub rows_known : (rows : Rows) (graph : GraphValue) (tips : Tips) (sources : SourcesValue) → AreRowsPut rows graph tips → All (RowNames (HasTree sources)) rows → length (map (λ e. e.0) (entries sources.images)) ≤ most_images → count_of_steps rows < most_lines → HasSources sources graph.vertices
+pub rows_known : (rows : Rows) (graph : GraphValue) (tips : Tips) (sources : SourcesValue) → AreRowsPut rows graph tips → All (RowNames (HasTree sources)) rows → len sources.images ≤ most_images → count_of_steps rows < most_lines → HasSources sources graph.vertices
 rows_known rows graph tips sources are has few short = (are.uses sources 0 has (room_less sources no_graph (2 * count_of_steps rows) (0 + 2 * count_of_steps rows) (no_room rows sources few short) (omega arith))).known

@@ -1,7 +1,7 @@
 -- Room in a graph.
-use Rattle.std.proofs.Common.{◌≡◌, ◌⊎◌, inl, inr, ◌<◌, ◌≤◌, ◌+◌, ℕ, zero, suc, List, [], ◌∷◌, ◌++◌, map, length, Some, refl, sym, ap, subst, arith, length-append}
+use Rattle.std.proofs.Common.{◌≡◌, ◌⊎◌, inl, inr, ◌<◌, ◌≤◌, ◌+◌, ℕ, zero, suc, List, [], ◌∷◌, ◌++◌, length, Some, refl, sym, ap, subst, arith, length-append}
 use Rattle.std.specs.Prelude.{slice_get}
-use Rattle.std.specs.FinMap.{entries}
+use Rattle.std.specs.FinMap.{len}
 use Rattle.llb.specs.declared.op.Op.{Op}
 use Rattle.llb.specs.declared.op.Op.TheVariants.{Source as SourceOp, Exec as ExecOp, Copy as CopyOp, MakeDirs as MakeDirsOp, Merge as MergeOp}
 use Rattle.llb.specs.declared.vertex.Vertex.{Vertex}
@@ -28,7 +28,7 @@ all_counted (v ∷ vs) =
 
 pub room_there : (sources : SourcesValue) (graph : GraphValue) (left : ℕ) → IsGraph graph → HasRoom sources graph left → length graph.vertices < most_vertices
 room_there sources graph left is room =
-    let few : length (keys graph.vertices) ≤ length (map (λ e. e.0) (entries sources.images)) + 2 = sources_few sources graph.vertices is.vertices room.known in
+    let few : length (keys graph.vertices) ≤ len sources.images + 2 = sources_few sources graph.vertices is.vertices room.known in
     omega (arith, few, all_counted graph.vertices, room.few, room.others)
 
 pub room_less : (sources : SourcesValue) (graph : GraphValue) (more less : ℕ) → HasRoom sources graph more → less ≤ more → HasRoom sources graph less

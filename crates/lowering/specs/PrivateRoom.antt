@@ -1,6 +1,6 @@
 -- How many vertices the graph of a file has at most.
-use Rattle.std.specs.Prelude.{◌<◌, ◌≤◌, ◌+◌, ◌*◌, ℕ, List, [], ◌∷◌, ◌++◌, map, length}
-use Rattle.std.specs.FinMap.{entries}
+use Rattle.std.specs.Prelude.{◌<◌, ◌≤◌, ◌+◌, ◌*◌, ℕ, List, [], ◌∷◌, ◌++◌}
+use Rattle.std.specs.FinMap.{len}
 use Rattle.llb.specs.declared.op.Source.{Source}
 use Rattle.llb.specs.declared.op.Source.TheVariants.{Scratch, Context, Image}
 use Rattle.llb.specs.declared.op.Op.{Op}
@@ -45,7 +45,7 @@ others (v ∷ vs) = op_others v.op + others vs
 
 -- each source of the graph has its tree, there are few images, and the graph has room for so many vertices more that are no sources
 pub record HasRoom (sources : SourcesValue) (graph : GraphValue) (left : ℕ) : Type 0 where
-  pub few : length (map (λ e. e.0) (entries sources.images)) ≤ most_images
+  pub few : len sources.images ≤ most_images
   pub known : HasSources sources graph.vertices
   pub others : others graph.vertices + left < 2 * most_lines
 

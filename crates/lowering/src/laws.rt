@@ -1,5 +1,6 @@
 // The laws of what a file means, claimed: each function's contract is one law, and its body is empty.
-ghost use Rattle.std.specs.Prelude.{◌≡◌, ◌++◌, ◌∷◌, ℕ, List, Option, None, Result, length, slice_index_or, ◌↔◌};
+ghost use Rattle.std.specs.Prelude.{◌≡◌, ◌++◌, ◌∷◌, ℕ, List, Option, None, Some, Result, length, slice_get, slice_index_or, ◌↔◌};
+ghost use Rattle.std.specs.List.{All};
 ghost use Rattle.trees.specs.TreeMap.{TreeMap};
 ghost use Rattle.trees.specs.declared.cause.Cause.{Cause};
 ghost use Rattle.plans.specs.Value.{World};
@@ -7,6 +8,7 @@ ghost use Rattle.lowering.specs.declared.stage.Stage.{Stage};
 ghost use Rattle.lowering.specs.Meaning.{Rows, stage_tree, trees_of, Fails};
 ghost use Rattle.lowering.specs.Outcome.{IsOutcome, AreAlike};
 ghost use Rattle.lowering.specs.Positions.{StageFails};
+ghost use Rattle.lowering.specs.WellFormed.{HasTree, RowNames, IsWellFormed};
 
 /// The tree of a stage is what its instructions give beside the trees of the stages before it.
 pub fn a_stage_stands_on_those_before()
@@ -23,4 +25,11 @@ pub fn failures_stand_somewhere()
 pub fn outcomes_agree()
     ensures { (w : World) (rows : Rows) (target : ℕ) (this that : Result TreeMap (ℕ × Cause))
         → IsOutcome w rows target this → IsOutcome w rows target that → AreAlike this that }
+{}
+
+/// Where a well-formed file's sources have their trees, its target has a tree, or one of its instructions fails.
+pub fn every_file_has_an_outcome()
+    ensures { (w : World) (rows : Rows) (target : ℕ) (stage : Stage)
+        → IsWellFormed rows → All (RowNames (HasTree w.sources)) rows → slice_get rows target ≡ Some (Some stage)
+        → (outcome : Result TreeMap (ℕ × Cause)) × IsOutcome w rows target outcome }
 {}

@@ -1,7 +1,7 @@
 // Lowers a file to the plan of its target.
 ghost use Rattle.std.specs.Prelude.{◌≡◌, ◌<◌, ◌≤◌, ◌*◌, length, map, IfOk, Some, slice_get};
 ghost use Rattle.std.specs.List.{All};
-ghost use Rattle.std.specs.FinMap.{entries};
+ghost use Rattle.std.specs.FinMap.{len};
 ghost use Rattle.lowering.specs.declared.stage.Stage.{Stage as StageValue};
 ghost use Rattle.lowering.specs.Means.{Means, StandsFor};
 ghost use Rattle.lowering.specs.PrivateGrowth.{AreInside, HasTip, no_graph, IsStagePut, IsRowPut, AreRowsPut};
@@ -94,7 +94,7 @@ pub fn lower_program<C: Drop>(
     requires rows { IsWellFormed rows }
     requires target { (stage : StageValue) × (slice_get rows target ≡ Some (Some stage)) }
     requires named { All (RowNames (HasTree sources)) rows }
-    requires images { length (map (λ e. e.0) (entries sources.images)) ≤ most_images }
+    requires images { len sources.images ≤ most_images }
     requires steps { count_of_steps rows < most_lines }
     ensures means { IfOk result (λ plan. Means plan rows target) }
     ensures stands { IfOk result (λ plan. StandsFor plan rows target) }
