@@ -1,0 +1,38 @@
+use expand::Lookup;
+use plain::{Memory, Text};
+use std::alloc::Global;
+
+/// A scope in which `w` has the value `$v}`, `v` perhaps one, and nothing else is set.
+#[derive(Drop)]
+pub struct Names {
+    v: Option<Text>,
+    w: Text,
+}
+
+impl Names {
+    /// The scope in which `v` has this value.
+    pub fn new(alloc: Global, v: Option<&str>) -> Result<Names, Memory> {
+        let v = match v {
+            Some(text) => Some(Text::from_str(alloc, text)?),
+            None => None,
+        };
+        let w = Text::from_str(alloc, "$v}")?;
+        Ok(Names { v, w })
+    }
+}
+
+impl Lookup for Names {
+    ghost use Rattle.std.specs.Prelude.{◌∷◌, [], Some, None, bytes_eq, if◌then◌else◌};
+
+    ghost value_of = { λ names name. if bytes_eq name (118 ∷ []) then names.v else (if bytes_eq name (119 ∷ []) then Some names.w else None) };
+
+    fn find(&self, name: &str) -> Option<&Text> {
+        if name == "v" {
+            self.v.as_ref()
+        } else if name == "w" {
+            Some(&self.w)
+        } else {
+            None
+        }
+    }
+}

@@ -1,0 +1,12 @@
+// Tests of `expand`, `instructions` and `scopes`, in a crate of their own, since a library with tests in it is proved twice.
+//
+// They show what no clause says: rows of the rules by name, that calls succeed where there is memory, and limits. The long tables
+// are data: `language_rows` is a program that is run on them.
+#![tactic(auto)]
+
+#[cfg(test)]
+mod limits;
+#[cfg(test)]
+mod reading;
+#[cfg(test)]
+mod rows;
