@@ -1,5 +1,7 @@
 pub mod Cuts
 pub mod Tests
-pub mod Characters
-pub mod PlainNames
-pub mod Texts
+mod Characters
+mod PlainNames
+mod Texts
+mod Spelling
+mod Relating

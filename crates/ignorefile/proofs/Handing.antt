@@ -53,19 +53,19 @@ push-zip R [] (b ∷ bs) x y a r = absurd a
 push-zip R (c ∷ cs) [] x y a r = absurd a
 push-zip R (c ∷ cs) (b ∷ bs) x y a r = (a.0, push-zip R cs bs x y a.1 r)
 
-abbrev pub Flags : List Line → List (List (List ℕ)) → List Bool → Type 0
-Flags lines paths flags = AllZip (λ path flag. IsTrue flag ↔ Kept lines path) paths flags
+abbrev pub Flags : {T : Type 0} → List Line → List (List (List ℕ) × T) → List Bool → Type 0
+Flags lines rows flags = AllZip (λ row flag. IsTrue flag ↔ Kept lines row.0) rows flags
 
-pub flags-none : (lines : List Line) (flags : List Bool) → flags ≡ [] → Flags lines [] flags
-flags-none lines flags is = subst (Flags lines []) (sym is) tt
+pub flags-none : (T : Type 0) (lines : List Line) (flags : List Bool) → flags ≡ [] → Flags {T = T} lines [] flags
+flags-none T lines flags is = subst (λ (l : List Bool). Flags {T = T} lines [] l) (sym is) tt
 
-pub flags-more : (lines : List Line) (paths : List (List (List ℕ))) (flags flags' : List Bool) (i : ℕ) (path names : List (List ℕ)) (ranks : List ℕ) (flag : Bool) → i < length paths → path ≡ get_or paths i path → names ≡ path
-    → Flags lines (take i paths) flags → Handed lines names ranks (length names) → (IsTrue flag ↔ Lets lines (get_or ranks (length names) 0)) → flags' ≡ flags ++ flag ∷ [] → Flags lines (take (i + 1) paths) flags'
-flags-more lines paths flags flags' i path names ranks flag less is same old h lets done =
-    let both = decided-all lines names path (length names) (get_or ranks (length names) 0) (omega arith) same (h (length names) (omega arith)) in
-    subst (Flags lines (take (i + 1) paths)) (sym done)
-    (subst (λ (x : List (List (List ℕ))). Flags lines x (flags ++ flag ∷ [])) (sym (take_more paths i path less ∙ ap (λ (p : List (List ℕ)). take i paths ++ p ∷ []) (sym is)))
-    (push-zip (λ path flag. IsTrue flag ↔ Kept lines path) (take i paths) flags path flag old ((λ t. both.0 (lets.0 t)), (λ k. lets.1 (both.1 k)))))
+pub flags-more : {T : Type 0} (lines : List Line) (rows : List (List (List ℕ) × T)) (flags flags' : List Bool) (i : ℕ) (row : List (List ℕ) × T) (names : List (List ℕ)) (ranks : List ℕ) (flag : Bool) → i < length rows → row ≡ get_or rows i row → names ≡ row.0
+    → Flags lines (take i rows) flags → Handed lines names ranks (length names) → (IsTrue flag ↔ Lets lines (get_or ranks (length names) 0)) → flags' ≡ flags ++ flag ∷ [] → Flags lines (take (i + 1) rows) flags'
+flags-more {T} lines rows flags flags' i row names ranks flag less is same old h lets done =
+    let both = decided-all lines names row.0 (length names) (get_or ranks (length names) 0) (omega arith) same (h (length names) (omega arith)) in
+    subst (λ (l : List Bool). Flags lines (take (i + 1) rows) l) (sym done)
+    (subst (λ (x : List (List (List ℕ) × T)). Flags lines x (flags ++ flag ∷ [])) (sym (take_more rows i row less ∙ ap (λ (p : List (List ℕ) × T). take i rows ++ p ∷ []) (sym is)))
+    (push-zip (λ row flag. IsTrue flag ↔ Kept lines row.0) (take i rows) flags row flag old ((λ t. both.0 (lets.0 t)), (λ k. lets.1 (both.1 k)))))
 
 -- ---- the index
 

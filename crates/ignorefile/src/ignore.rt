@@ -133,16 +133,16 @@ impl Ignore {
         }
     }
 
-    /// Which of these paths are kept, in their order. It is `keeps` of each; paths in path order are fastest, since what is decided
-    /// of a folder is handed down to those after it that lie in it.
-    pub fn kept(&self, alloc: Global, paths: &[Path]) -> Result<Vec<bool>, Memory>
-        ensures { IfOk result (λ flags. AllZip (λ path flag. IsTrue flag ↔ Kept self.now path) paths.now flags.items) }
+    /// Which of these rows have a path that is kept, in their order: `keeps` of each. Rows in path order are fastest, since what is
+    /// decided of a folder is handed down to those after it that lie in it.
+    pub fn kept<T>(&self, alloc: Global, rows: &[(Path, T)]) -> Result<Vec<bool>, Memory>
+        ensures { IfOk result (λ flags. AllZip (λ row flag. IsTrue flag ↔ Kept self.now row.0) rows.now flags.items) }
     {
-        let mut flags = Vec::with_capacity(alloc, paths.len())?;
+        let mut flags = Vec::with_capacity(alloc, rows.len())?;
         let mut decided = [self.verdict(&[], 0); 65];
         let mut last: &[Text] = &[];
-        for path in paths {
-            let names = path.components();
+        for row in rows {
+            let names = row.0.components();
             self.hand_down(names, count_shared(last, names), &mut decided);
             flags.push(self.lets(decided[names.len()]))?;
             last = names;
