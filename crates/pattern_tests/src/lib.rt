@@ -1,0 +1,6 @@
+// Tests of `globs` and `ignorefile`: examples from the rules, what a table of rows can't write down, and large inputs. The tables stand
+// in `pattern_rows`.
+#![tactic(auto)]
+
+#[cfg(test)]
+mod tests;
