@@ -1,5 +1,6 @@
 -- A graph has no more sources than there are.
-use Rattle.std.proofs.Common.{◌≡◌, ◌≤◌, ◌+◌, ◌==◌, ◌||◌, ℕ, suc, Bool, true, false, List, [], ◌∷◌, ◌++◌, map, length, Some, is_some, refl, sym, ap, ap₂, ◌∙◌, subst, arith, true≢false}
+use Rattle.std.proofs.Common.{◌≡◌, ◌≤◌, ◌+◌, ◌==◌, ◌||◌, ℕ, suc, Bool, true, false, List, [], ◌∷◌, ◌++◌, map, length, Some, is_some, refl, sym, ap}
+use Rattle.std.proofs.Common.{ap₂, ◌∙◌, subst, arith, true≢false}
 use Rattle.std.specs.Prelude.{slice_get}
 use Rattle.std.specs.List.{list_any, AllByRecursion, IsDistinct}
 use Rattle.std.specs.Set.{is_member}
@@ -49,7 +50,9 @@ record Stands (vs : List Vertex) (key : List ℕ) : Type 0 where
 later : (v : Vertex) (vs : List Vertex) (key : List ℕ) → Stands vs key → Stands (v ∷ vs) key
 later v vs key s = record { k = suc s.k; source = s.source; v = s.v; there = s.there; op = s.op; is = s.is }
 
-stands_by : (v : Vertex) (vs : List Vertex) (key : List ℕ) (op : Op) → v.op ≡ op → (list_any (eq_by_cmp name_cmp key) (keys vs) ≡ true → Stands vs key) → list_any (eq_by_cmp name_cmp key) (op_keys op ++ keys vs) ≡ true → Stands (v ∷ vs) key
+stands_by : (v : Vertex) (vs : List Vertex) (key : List ℕ) (op : Op) → v.op ≡ op
+    → (list_any (eq_by_cmp name_cmp key) (keys vs) ≡ true → Stands vs key) → list_any (eq_by_cmp name_cmp key) (op_keys op ++ keys vs) ≡ true
+    → Stands (v ∷ vs) key
 stands_by v vs key (SourceOp source) is deeper e = by (eq_by_cmp name_cmp key (source_key source)) refl e
   where
     by : (b : Bool) → eq_by_cmp name_cmp key (source_key source) ≡ b → (b || list_any (eq_by_cmp name_cmp key) (keys vs)) ≡ true → Stands (v ∷ vs) key
@@ -68,7 +71,8 @@ none_all : (p : List ℕ → Bool) (xs : List (List ℕ)) → list_any p xs ≡ 
 none_all p [] e = tt
 none_all p (x ∷ xs) e = by (p x) refl e (none_all p xs)
   where
-    by : (b : Bool) → p x ≡ b → (b || list_any p xs) ≡ false → (list_any p xs ≡ false → AllByRecursion (λ y. p y ≡ false) xs) → (p x ≡ false) × AllByRecursion (λ y. p y ≡ false) xs
+    by : (b : Bool) → p x ≡ b → (b || list_any p xs) ≡ false → (list_any p xs ≡ false → AllByRecursion (λ y. p y ≡ false) xs)
+        → (p x ≡ false) × AllByRecursion (λ y. p y ≡ false) xs
     by true is e more = absurd (true≢false e)
     by false is e more = (is, more e)
 
@@ -83,7 +87,8 @@ made : (p q : Op) (xs ys : List ℕ) → p ≡ q → xs ≡ ys → vertex_of p x
 made p q xs ys e f = ap₂ vertex_of e f
 
 -- two sources' vertices of one key are one
-one_vertex : (a b : Vertex) (s t : Source) → is_well_formed a ≡ true → is_well_formed b ≡ true → a.op ≡ SourceOp s → b.op ≡ SourceOp t → source_key s ≡ source_key t → a ≡ b
+one_vertex : (a b : Vertex) (s t : Source) → is_well_formed a ≡ true → is_well_formed b ≡ true → a.op ≡ SourceOp s → b.op ≡ SourceOp t
+    → source_key s ≡ source_key t → a ≡ b
 one_vertex a b s t fa fb oa ob e =
     let pa = and_parts (length a.inputs == 0) (is_well_formed_source s) (sym (ap (λ (op : Op). is_well_formed_on op (length a.inputs)) oa) ∙ fa) in
     let pb = and_parts (length b.inputs == 0) (is_well_formed_source t) (sym (ap (λ (op : Op). is_well_formed_on op (length b.inputs)) ob) ∙ fb) in
@@ -92,7 +97,9 @@ one_vertex a b s t fa fb oa ob e =
     let inputs : a.inputs ≡ b.inputs = no_inputs a.inputs pa.0 ∙ sym (no_inputs b.inputs pb.0) in
     made a.op b.op a.inputs b.inputs ops inputs
 
-distinct_by : (v : Vertex) (vs : List Vertex) (op : Op) → v.op ≡ op → ((j k : ℕ) (u : Vertex) → slice_get (v ∷ vs) j ≡ Some u → slice_get (v ∷ vs) k ≡ Some u → j ≡ k) → ((k : ℕ) (u : Vertex) → slice_get (v ∷ vs) k ≡ Some u → is_well_formed u ≡ true)
+distinct_by : (v : Vertex) (vs : List Vertex) (op : Op) → v.op ≡ op
+    → ((j k : ℕ) (u : Vertex) → slice_get (v ∷ vs) j ≡ Some u → slice_get (v ∷ vs) k ≡ Some u → j ≡ k)
+    → ((k : ℕ) (u : Vertex) → slice_get (v ∷ vs) k ≡ Some u → is_well_formed u ≡ true)
     → IsDistinct (eq_by_cmp name_cmp) (keys vs) → IsDistinct (eq_by_cmp name_cmp) (op_keys op ++ keys vs)
 distinct_by v vs (SourceOp source) is once formed rest = by (list_any (eq_by_cmp name_cmp (source_key source)) (keys vs)) refl
   where
@@ -112,16 +119,19 @@ nil_distinct : IsDistinct (eq_by_cmp name_cmp) []
 unfolding IsDistinct
 nil_distinct = tt
 
-distinct : (vs : List Vertex) → ((j k : ℕ) (u : Vertex) → slice_get vs j ≡ Some u → slice_get vs k ≡ Some u → j ≡ k) → ((k : ℕ) (u : Vertex) → slice_get vs k ≡ Some u → is_well_formed u ≡ true) → IsDistinct (eq_by_cmp name_cmp) (keys vs)
+distinct : (vs : List Vertex) → ((j k : ℕ) (u : Vertex) → slice_get vs j ≡ Some u → slice_get vs k ≡ Some u → j ≡ k)
+    → ((k : ℕ) (u : Vertex) → slice_get vs k ≡ Some u → is_well_formed u ≡ true) → IsDistinct (eq_by_cmp name_cmp) (keys vs)
 distinct [] once formed = nil_distinct
 distinct (v ∷ vs) once formed = distinct_by v vs v.op refl once formed
     (distinct vs (λ j k u a b. omega (arith, once (suc j) (suc k) u a b)) (λ k u a. formed (suc k) u a))
 
-source_member : (sources : SourcesValue) (source : Source) → is_some (source_tree sources source) ≡ true → is_member (eq_by_cmp name_cmp) ([] ∷ (scratch_name ∷ map (λ e. e.0) (entries sources.images))) (source_key source) ≡ true
+source_member : (sources : SourcesValue) (source : Source) → is_some (source_tree sources source) ≡ true
+    → is_member (eq_by_cmp name_cmp) ([] ∷ (scratch_name ∷ map (λ e. e.0) (entries sources.images))) (source_key source) ≡ true
 source_member sources Scratch has = refl
 source_member sources Context has = refl
 source_member sources (Image name) has =
-    let there : list_any (eq_by_cmp name_cmp name) (map (λ e. e.0) (entries sources.images)) ≡ true = sym (is_some-find name_cmp name (entries sources.images)) ∙ (ap is_some (sym (get-entries sources.images name)) ∙ has) in
+    let there : list_any (eq_by_cmp name_cmp name) (map (λ e. e.0) (entries sources.images)) ≡ true =
+    sym (is_some-find name_cmp name (entries sources.images)) ∙ (ap is_some (sym (get-entries sources.images name)) ∙ has) in
     or_right (eq_by_cmp name_cmp name []) _ (or_right (eq_by_cmp name_cmp name scratch_name) _ there)
 
 names_long : {X Y : Type 0} (f : X → Y) (xs : List X) → length (map f xs) ≡ length xs
@@ -129,12 +139,15 @@ names_long f [] = refl
 names_long f (x ∷ xs) = ap suc (names_long f xs)
 
 -- the sources among vertices are at most as many as there are
-pub sources_few : (sources : SourcesValue) (vertices : List Vertex) → AreVertices vertices → HasSources sources vertices → length (keys vertices) ≤ len sources.images + 2
+pub sources_few : (sources : SourcesValue) (vertices : List Vertex) → AreVertices vertices → HasSources sources vertices
+    → length (keys vertices) ≤ len sources.images + 2
 sources_few sources vertices are has =
-    let le = length-le_from_is_member (eq_by_cmp_equiv nat_list_cmp_total) (keys vertices) ([] ∷ (scratch_name ∷ map (λ e. e.0) (entries sources.images))) (distinct vertices are.once are.well_formed) members in
+    let le = length-le_from_is_member (eq_by_cmp_equiv nat_list_cmp_total) (keys vertices)
+    ([] ∷ (scratch_name ∷ map (λ e. e.0) (entries sources.images))) (distinct vertices are.once are.well_formed) members in
     omega (arith, le, names_long (λ e. e.0) (entries sources.images), len-entries sources.images)
   where
-    members : (q : List ℕ) → is_member (eq_by_cmp name_cmp) (keys vertices) q ≡ true → is_member (eq_by_cmp name_cmp) ([] ∷ (scratch_name ∷ map (λ e. e.0) (entries sources.images))) q ≡ true
+    members : (q : List ℕ) → is_member (eq_by_cmp name_cmp) (keys vertices) q ≡ true
+        → is_member (eq_by_cmp name_cmp) ([] ∷ (scratch_name ∷ map (λ e. e.0) (entries sources.images))) q ≡ true
     members q e =
         let s = stands vertices q e in
         let known : is_some (source_tree sources s.source) ≡ true = subst (HasSource sources) s.op (has s.k s.v s.there) in

@@ -42,5 +42,6 @@ grows_is a b places others grows is = subst (Grows a b) (sym is) grows
 pub grows_long : (a b : GraphValue) (places : Places) → Grows a b places → length a.vertices ≤ length b.vertices
 grows_long a b places grows = omega (arith, ap length grows.front.1, length-append a.vertices grows.front.0)
 
-pub inside_more : (tips : Tips) (a b : GraphValue) (places : Places) → Grows a b places → AreInside tips (length a.vertices) → AreInside tips (length b.vertices)
+pub inside_more : (tips : Tips) (a b : GraphValue) (places : Places) → Grows a b places → AreInside tips (length a.vertices)
+    → AreInside tips (length b.vertices)
 inside_more tips a b places grows inside number id e = omega (arith, inside number id e, grows_long a b places grows)

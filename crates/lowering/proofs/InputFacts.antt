@@ -1,5 +1,6 @@
 -- The vertices of what an instruction names, and an operation on them.
-use Rattle.std.proofs.Common.{◌≡◌, ◌<◌, ◌≤◌, ◌+◌, ℕ, suc, List, [], ◌∷◌, ◌++◌, length, Some, Result, Ok, Err, IfOk, refl, sym, ap, ◌∙◌, subst, arith, append_assoc, append-nil}
+use Rattle.std.proofs.Common.{◌≡◌, ◌<◌, ◌≤◌, ◌+◌, ℕ, suc, List, [], ◌∷◌, ◌++◌, length, Some, Result, Ok, Err, IfOk, refl, sym, ap, ◌∙◌, subst, arith}
+use Rattle.std.proofs.Common.{append_assoc, append-nil}
 use Rattle.std.specs.Prelude.{slice_get}
 use Rattle.std.specs.List.{All, AllZip}
 use Rattle.std.proofs.lemmas.List.Elements.{All-push, All-weaker, All-cons, All-nil, All-head, All-tail}
@@ -25,7 +26,8 @@ pub put_inside : (old new : GraphValue) (op : Op) (inputs : List ℕ) (line id :
 put_inside old new op inputs line id put = slice_get_within new.vertices id (record { op = op; inputs = inputs }) put.is
 
 -- a source's vertex
-source_put : (old new : GraphValue) (tips : Tips) (source : Source) (line id : ℕ) → IsPut old new (SourceOp source) [] line id → IsOriginPut old new tips line (SourceOf source) id
+source_put : (old new : GraphValue) (tips : Tips) (source : Source) (line id : ℕ) → IsPut old new (SourceOp source) [] line id
+    → IsOriginPut old new tips line (SourceOf source) id
 source_put old new tips source line id put = record {
   is = put.is;
   grows = put.grows;
@@ -33,12 +35,15 @@ source_put old new tips source line id put = record {
   uses = put.uses;
 }
 
-pub source_ok : (old new : GraphValue) (tips : Tips) (source : Source) (line : ℕ) (inputs : List ℕ) (result : Result ℕ Memory) → inputs ≡ [] → IfOk result (IsPut old new (SourceOp source) inputs line) → IfOk result (IsOriginPut old new tips line (SourceOf source))
-source_ok old new tips source line inputs (Ok id) none put = source_put old new tips source line id (subst (λ is. IsPut old new (SourceOp source) is line id) none put)
+pub source_ok : (old new : GraphValue) (tips : Tips) (source : Source) (line : ℕ) (inputs : List ℕ) (result : Result ℕ Memory) → inputs ≡ []
+    → IfOk result (IsPut old new (SourceOp source) inputs line) → IfOk result (IsOriginPut old new tips line (SourceOf source))
+source_ok old new tips source line inputs (Ok id) none put =
+    source_put old new tips source line id (subst (λ is. IsPut old new (SourceOp source) is line id) none put)
 source_ok old new tips source line inputs (Err fault) none put = tt
 
 -- a stage's last vertex
-pub tip_is : (graph : GraphValue) (tips : Tips) (line number id : ℕ) → AreInside tips (length graph.vertices) → slice_get tips number ≡ Some (Some id) → IsOriginPut graph graph tips line (StageOf number) id
+pub tip_is : (graph : GraphValue) (tips : Tips) (line number id : ℕ) → AreInside tips (length graph.vertices) → slice_get tips number ≡ Some (Some id)
+    → IsOriginPut graph graph tips line (StageOf number) id
 tip_is graph tips line number id inside there = record {
   is = there;
   grows = grows_none graph;
@@ -70,7 +75,8 @@ zip_long R [] (y ∷ ys) all = absurd all
 zip_long R (x ∷ xs) [] all = absurd all
 zip_long R (x ∷ xs) (y ∷ ys) all = ap suc (zip_long R xs ys all.1)
 
-origins_places-push : (vertices : List Vertex) (tips : Tips) (line : ℕ) (origins : List Origin) (ids : List ℕ) (origin : Origin) (id : ℕ) → AllZip (IsOrigin vertices tips) origins ids
+origins_places-push : (vertices : List Vertex) (tips : Tips) (line : ℕ) (origins : List Origin) (ids : List ℕ) (origin : Origin) (id : ℕ)
+    → AllZip (IsOrigin vertices tips) origins ids
     → origins_places line (origins ++ origin ∷ []) (ids ++ id ∷ []) ≡ origins_places line origins ids ++ origin_places line origin id
 origins_places-push vertices tips line [] [] origin id all = append-nil (origin_places line origin id)
 origins_places-push vertices tips line [] (i ∷ is) origin id all = absurd all
@@ -80,26 +86,31 @@ origins_places-push vertices tips line (o ∷ os) (i ∷ is) origin id all =
     ∙ sym (append_assoc (origin_places line o i) (origins_places line os is) (origin_places line origin id))
 
 -- the first input alone
-pub inputs_none : (graph : GraphValue) (tips : Tips) (line base : ℕ) (inputs : List ℕ) → base < length graph.vertices → inputs ≡ base ∷ [] → AreInputsPut graph graph tips line base [] inputs
+pub inputs_none : (graph : GraphValue) (tips : Tips) (line base : ℕ) (inputs : List ℕ) → base < length graph.vertices → inputs ≡ base ∷ []
+    → AreInputsPut graph graph tips line base [] inputs
 inputs_none graph tips line base inputs inside is = record {
   named = [];
   all = is;
   are = tt;
   grows = grows_none graph;
-  inside = subst (All (λ id. id < length graph.vertices)) (sym is) (All-cons (λ id. id < length graph.vertices) base [] inside (All-nil (λ id. id < length graph.vertices)));
+  inside = subst (All (λ id. id < length graph.vertices)) (sym is)
+      (All-cons (λ id. id < length graph.vertices) base [] inside (All-nil (λ id. id < length graph.vertices)));
   uses = λ s left has room. room_less s graph (left + 0) left room (omega arith);
 }
 
 -- one more
 inputs_more : (a b c : GraphValue) (tips : Tips) (line base : ℕ) (origins : List Origin) (origin : Origin) (inputs more : List ℕ) (id : ℕ)
-    → AreInputsPut a b tips line base origins inputs → IsOriginPut b c tips line origin id → more ≡ inputs ++ id ∷ [] → AreInputsPut a c tips line base (origins ++ origin ∷ []) more
+    → AreInputsPut a b tips line base origins inputs → IsOriginPut b c tips line origin id → more ≡ inputs ++ id ∷ []
+    → AreInputsPut a c tips line base (origins ++ origin ∷ []) more
 inputs_more a b c tips line base origins origin inputs more id are put added =
     let long : length b.vertices ≤ length c.vertices = grows_long b c (origin_places line origin id) put.grows in
-    let kept : All (λ i. i < length c.vertices) inputs = All-weaker (λ i. i < length b.vertices) (λ i. i < length c.vertices) (λ i lt. omega (arith, lt, long)) inputs are.inside in
+    let kept : All (λ i. i < length c.vertices) inputs =
+    All-weaker (λ i. i < length b.vertices) (λ i. i < length c.vertices) (λ i lt. omega (arith, lt, long)) inputs are.inside in
     record {
       named = are.named ++ id ∷ [];
       all = added ∙ ap (λ is. is ++ id ∷ []) are.all;
-      are = zip_push (IsOrigin c.vertices tips) origins are.named origin id (origins_kept b.vertices c.vertices tips origins are.named put.grows.front are.are) put.is;
+      are = zip_push (IsOrigin c.vertices tips) origins are.named origin id
+          (origins_kept b.vertices c.vertices tips origins are.named put.grows.front are.are) put.is;
       grows = grows_is a c _ _ (grows_both a b c (origins_places line origins are.named) (origin_places line origin id) are.grows put.grows)
           (origins_places-push b.vertices tips line origins are.named origin id are.are);
       inside = subst (All (λ i. i < length c.vertices)) (sym added) (All-push (λ i. i < length c.vertices) inputs id kept put.inside);
@@ -120,7 +131,8 @@ pub record InputsSoFar (old new : GraphValue) (tips : Tips) (line base : ℕ) (a
   pub room : HasRoom from new 0
 
 pub inputs_step : (a b c : GraphValue) (tips : Tips) (line base : ℕ) (all rest left : List Origin) (origin : Origin) (inputs more : List ℕ) (id : ℕ)
-    → InputsSoFar a b tips line base all rest inputs → rest ≡ origin ∷ left → IsOriginPut b c tips line origin id → more ≡ inputs ++ id ∷ [] → InputsSoFar a c tips line base all left more
+    → InputsSoFar a b tips line base all rest inputs → rest ≡ origin ∷ left → IsOriginPut b c tips line origin id → more ≡ inputs ++ id ∷ []
+    → InputsSoFar a c tips line base all left more
 inputs_step a b c tips line base all rest left origin inputs more id so_far is put added = record {
   done = so_far.done ++ origin ∷ [];
   split = so_far.split ∙ (ap (λ os. so_far.done ++ os) is ∙ sym (append_assoc so_far.done (origin ∷ []) left));
@@ -132,21 +144,26 @@ inputs_step a b c tips line base all rest left origin inputs more id so_far is p
   room = put.uses so_far.from 0 (All-head (HasTree so_far.from) origin left (subst (All (HasTree so_far.from)) is so_far.has)) so_far.room;
 }
 
-pub inputs_named : (a b : GraphValue) (tips : Tips) (line base : ℕ) (all rest left : List Origin) (origin : Origin) (inputs : List ℕ) → InputsSoFar a b tips line base all rest inputs → rest ≡ origin ∷ left → HasTip tips origin
+pub inputs_named : (a b : GraphValue) (tips : Tips) (line base : ℕ) (all rest left : List Origin) (origin : Origin) (inputs : List ℕ)
+    → InputsSoFar a b tips line base all rest inputs → rest ≡ origin ∷ left → HasTip tips origin
 inputs_named a b tips line base all rest left origin inputs so_far is = All-head (HasTip tips) origin left (subst (All (HasTip tips)) is so_far.named)
 
-pub inputs_room : (a b : GraphValue) (tips : Tips) (line base : ℕ) (all rest left : List Origin) (origin : Origin) (inputs : List ℕ) → InputsSoFar a b tips line base all rest inputs → rest ≡ origin ∷ left → RoomFor (λ s. HasTree s origin) b 0
+pub inputs_room : (a b : GraphValue) (tips : Tips) (line base : ℕ) (all rest left : List Origin) (origin : Origin) (inputs : List ℕ)
+    → InputsSoFar a b tips line base all rest inputs → rest ≡ origin ∷ left → RoomFor (λ s. HasTree s origin) b 0
 inputs_room a b tips line base all rest left origin inputs so_far is =
     record { sources = so_far.from; has = All-head (HasTree so_far.from) origin left (subst (All (HasTree so_far.from)) is so_far.has); room = so_far.room }
 
-pub inputs_all : (a b : GraphValue) (tips : Tips) (line base : ℕ) (all rest : List Origin) (inputs : List ℕ) → InputsSoFar a b tips line base all rest inputs → length rest ≡ 0 → AreInputsPut a b tips line base all inputs
+pub inputs_all : (a b : GraphValue) (tips : Tips) (line base : ℕ) (all rest : List Origin) (inputs : List ℕ)
+    → InputsSoFar a b tips line base all rest inputs → length rest ≡ 0 → AreInputsPut a b tips line base all inputs
 inputs_all a b tips line base all rest inputs so_far over =
     let is : rest ≡ [] = none_left rest over in
     let whole : so_far.done ≡ all = sym (so_far.split ∙ (ap (λ os. so_far.done ++ os) is ∙ append-nil so_far.done)) in
     subst (λ os. AreInputsPut a b tips line base os inputs) whole so_far.are
 
-pub inputs_long : (a b : GraphValue) (tips : Tips) (line base : ℕ) (origins : List Origin) (inputs : List ℕ) → AreInputsPut a b tips line base origins inputs → length inputs ≡ length origins + 1
-inputs_long a b tips line base origins inputs are = ap length are.all ∙ (let n = zip_long (IsOrigin b.vertices tips) origins are.named are.are in omega (arith, n))
+pub inputs_long : (a b : GraphValue) (tips : Tips) (line base : ℕ) (origins : List Origin) (inputs : List ℕ)
+    → AreInputsPut a b tips line base origins inputs → length inputs ≡ length origins + 1
+inputs_long a b tips line base origins inputs are = ap length are.all
+    ∙ (let n = zip_long (IsOrigin b.vertices tips) origins are.named are.are in omega (arith, n))
 
 -- an operation that is no source has what it needs
 pub other_has : (s : SourcesValue) (op : Op) → op_others op ≡ 1 → HasSource s op
@@ -156,7 +173,8 @@ other_has s (CopyOp files) e = tt
 other_has s (MakeDirsOp path) e = tt
 other_has s MergeOp e = tt
 
-pub operation_ok : (a b c : GraphValue) (tips : Tips) (line base : ℕ) (op : Op) (origins : List Origin) (inputs : List ℕ) (result : Result ℕ Memory) → op_others op ≡ 1 → AreInputsPut a b tips line base origins inputs
+pub operation_ok : (a b c : GraphValue) (tips : Tips) (line base : ℕ) (op : Op) (origins : List Origin) (inputs : List ℕ) (result : Result ℕ Memory)
+    → op_others op ≡ 1 → AreInputsPut a b tips line base origins inputs
     → IfOk result (IsPut b c op inputs line) → IfOk result (IsOperationPut a c tips line base op origins)
 operation_ok a b c tips line base op origins inputs (Ok id) other are put = record {
   places = origins_places line origins are.named ++ (line, id) ∷ [];
@@ -169,11 +187,14 @@ operation_ok a b c tips line base op origins inputs (Ok id) other are put = reco
   grows = grows_both a b c (origins_places line origins are.named) ((line, id) ∷ []) are.grows put.grows;
   inside = put_inside b c op inputs line id put;
   uses = λ s left has room.
-      put.uses s left (other_has s op other) (room_less s b (left + 1) (left + op_others op) (are.uses s (left + 1) has (room_less s a (left + 1) (left + 1 + 0) room (omega arith))) (omega (arith, other)));
+      put.uses s left (other_has s op other)
+      (room_less s b (left + 1) (left + op_others op) (are.uses s (left + 1) has (room_less s a (left + 1) (left + 1 + 0) room (omega arith)))
+      (omega (arith, other)));
 }
 operation_ok a b c tips line base op origins inputs (Err fault) other are put = tt
 
-pub operation_room : (a b : GraphValue) (tips : Tips) (line base : ℕ) (op : Op) (origins : List Origin) (inputs : List ℕ) → op_others op ≡ 1 → AreInputsPut a b tips line base origins inputs → RoomFor (λ s. All (HasTree s) origins) a 1
+pub operation_room : (a b : GraphValue) (tips : Tips) (line base : ℕ) (op : Op) (origins : List Origin) (inputs : List ℕ) → op_others op ≡ 1
+    → AreInputsPut a b tips line base origins inputs → RoomFor (λ s. All (HasTree s) origins) a 1
     → RoomFor (λ s. HasSource s op) b (op_others op)
 operation_room a b tips line base op origins inputs other are room = record {
   sources = room.sources;
@@ -181,5 +202,6 @@ operation_room a b tips line base op origins inputs other are room = record {
   room = room_less room.sources b 1 (op_others op) (are.uses room.sources 1 room.has room.room) (omega (arith, other));
 }
 
-pub operation_room_less : (a : GraphValue) (origins : List Origin) (more : ℕ) (less : ℕ) → less ≤ more → RoomFor (λ s. All (HasTree s) origins) a more → RoomFor (λ s. All (HasTree s) origins) a less
+pub operation_room_less : (a : GraphValue) (origins : List Origin) (more : ℕ) (less : ℕ) → less ≤ more → RoomFor (λ s. All (HasTree s) origins) a more
+    → RoomFor (λ s. All (HasTree s) origins) a less
 operation_room_less a origins more less le room = record { sources = room.sources; has = room.has; room = room_less room.sources a more less room.room le }

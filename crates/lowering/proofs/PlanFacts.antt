@@ -29,7 +29,8 @@ stands_means plan rows target is stands = record {
       let within = slice_get_within stands.tips target (Some plan.target) stands.last in
       let at : slice_index_or stands.tips target None ≡ Some plan.target = get_or_from_slice_get stands.tips target (Some plan.target) None stands.last in
       let trees = rows_are w plan.graph.vertices [] rows stands.tips stands.places is.vertices stands.lowered in
-      sym (ap (λ ts. slice_index_or ts target None) (sym trees) ∙ (get_or-map (tip_tree w plan.graph.vertices) stands.tips target None None within ∙ ap (tip_tree w plan.graph.vertices) at));
+      sym (ap (λ ts. slice_index_or ts target None) (sym trees)
+      ∙ (get_or-map (tip_tree w plan.graph.vertices) stands.tips target None None within ∙ ap (tip_tree w plan.graph.vertices) at));
   failures = λ out line cause.
       let w : World = world out plan.sources in
       let fails = rows_fail w plan.graph.vertices [] rows stands.tips stands.places is.vertices stands.lowered in (
@@ -39,7 +40,8 @@ stands_means plan rows target is stands = record {
 }
 
 -- a graph that grew out of nothing has just the lines that came to it
-grown_lines : (graph : GraphValue) (places : Places) → Grows no_graph graph places → (id line : ℕ) → Contains (lines_at graph id) line ↔ HasPlace places line id
+grown_lines : (graph : GraphValue) (places : Places) → Grows no_graph graph places → (id line : ℕ)
+    → Contains (lines_at graph id) line ↔ HasPlace places line id
 grown_lines graph places grows id line = (
   λ h. elim ((grows.lines id line).0 h) [ inl none ↦ absurd (contains_nil line none) | inr here ↦ here ],
   λ here. (grows.lines id line).1 (inr here),
@@ -51,7 +53,8 @@ grown_lined graph places grows id lt = elim (grows.more id lt) [
   | inr here ↦ (here.0, (grows.lines id here.0).1 (inr here.1))
 ]
 
-pub put_stands : {C : Type 0} (plan : PlanValue C) (rows : Rows) (target tip : ℕ) (graph : GraphValue) (tips : Tips) (config : C) (sources : SourcesValue) → AreRowsPut rows graph tips → slice_get tips target ≡ Some (Some tip)
+pub put_stands : {C : Type 0} (plan : PlanValue C) (rows : Rows) (target tip : ℕ) (graph : GraphValue) (tips : Tips) (config : C)
+    (sources : SourcesValue) → AreRowsPut rows graph tips → slice_get tips target ≡ Some (Some tip)
     → plan ≡ record { graph = graph; target = tip; config = config; sources = sources } → StandsFor plan rows target
 put_stands plan rows target tip graph tips config sources are is made = rw made (record {
   tips = tips;
@@ -63,8 +66,12 @@ put_stands plan rows target tip graph tips config sources are is made = rw made 
 })
 
 -- a graph without a vertex has room for a file
-pub no_room : (rows : Rows) (sources : SourcesValue) → len sources.images ≤ most_images → count_of_steps rows < most_lines → HasRoom sources no_graph (2 * count_of_steps rows)
+pub no_room : (rows : Rows) (sources : SourcesValue) → len sources.images ≤ most_images → count_of_steps rows < most_lines
+    → HasRoom sources no_graph (2 * count_of_steps rows)
 no_room rows sources few short = record { few = few; known = λ k vertex e. absurd cc; others = omega (arith, short) }
 
-pub rows_known : (rows : Rows) (graph : GraphValue) (tips : Tips) (sources : SourcesValue) → AreRowsPut rows graph tips → All (RowNames (HasTree sources)) rows → len sources.images ≤ most_images → count_of_steps rows < most_lines → HasSources sources graph.vertices
-rows_known rows graph tips sources are has few short = (are.uses sources 0 has (room_less sources no_graph (2 * count_of_steps rows) (0 + 2 * count_of_steps rows) (no_room rows sources few short) (omega arith))).known
+pub rows_known : (rows : Rows) (graph : GraphValue) (tips : Tips) (sources : SourcesValue) → AreRowsPut rows graph tips
+    → All (RowNames (HasTree sources)) rows → len sources.images ≤ most_images → count_of_steps rows < most_lines → HasSources sources graph.vertices
+rows_known rows graph tips sources are has few short =
+    (are.uses sources 0 has
+    (room_less sources no_graph (2 * count_of_steps rows) (0 + 2 * count_of_steps rows) (no_room rows sources few short) (omega arith))).known

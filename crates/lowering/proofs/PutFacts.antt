@@ -26,8 +26,10 @@ is_place : (line id l k : ℕ) → l ≡ line → k ≡ id → HasPlace ((line, 
 is_place line id l k e f = rw (e, f) (contains_here {X = ℕ × ℕ} (line, id) [])
 
 -- where the lines of the vertex are the old ones and this line, and those of all others are the old ones
-grows_by : (old new : GraphValue) (line id : ℕ) → (more : List Vertex) × (new.vertices ≡ old.vertices ++ more) → ((l : ℕ) → Contains (lines_at new id) l ↔ (Contains (lines_at old id) l ⊎ (l ≡ line)))
-    → ((k : ℕ) → (k ≡ id → ⊥) → lines_at new k ≡ lines_at old k) → ((k : ℕ) → k < length new.vertices → (k < length old.vertices) ⊎ (k ≡ id)) → Grows old new ((line, id) ∷ [])
+grows_by : (old new : GraphValue) (line id : ℕ) → (more : List Vertex) × (new.vertices ≡ old.vertices ++ more)
+    → ((l : ℕ) → Contains (lines_at new id) l ↔ (Contains (lines_at old id) l ⊎ (l ≡ line)))
+    → ((k : ℕ) → (k ≡ id → ⊥) → lines_at new k ≡ lines_at old k) → ((k : ℕ) → k < length new.vertices → (k < length old.vertices) ⊎ (k ≡ id))
+    → Grows old new ((line, id) ∷ [])
 grows_by old new line id front here there more = record {
   front = front;
   lines = λ k l. elim (cases_eq k id) [
@@ -44,7 +46,8 @@ grows_by old new line id front here there more = record {
 }
 
 -- an equal vertex stood there
-found_put : (old new : GraphValue) (vertex : Vertex) (line id : ℕ) → IsGraph old → IsFound old new vertex (line ∷ []) id → IsPut old new vertex.op vertex.inputs line id
+found_put : (old new : GraphValue) (vertex : Vertex) (line id : ℕ) → IsGraph old → IsFound old new vertex (line ∷ []) id
+    → IsPut old new vertex.op vertex.inputs line id
 found_put old new vertex line id is found =
     let within : id < length old.vertices = slice_get_within old.vertices id vertex found.stood in
     let beside : id < length old.places = omega (arith, is.beside, within) in
@@ -68,7 +71,8 @@ found_put old new vertex line id is found =
     }
 
 -- a vertex came
-appended_put : (old new : GraphValue) (vertex : Vertex) (line id : ℕ) → IsGraph old → IsAppended old new vertex (line ∷ []) id → IsPut old new vertex.op vertex.inputs line id
+appended_put : (old new : GraphValue) (vertex : Vertex) (line id : ℕ) → IsGraph old → IsAppended old new vertex (line ∷ []) id
+    → IsPut old new vertex.op vertex.inputs line id
 appended_put old new vertex line id is appended =
     let last : id ≡ length old.vertices = appended.last in
     let vertices : new.vertices ≡ old.vertices ++ vertex ∷ [] = ap (λ g. g.vertices) appended.added in
@@ -78,7 +82,8 @@ appended_put old new vertex line id is appended =
     let place : length old.places + 0 ≡ id = omega (arith, is.beside) in
     let none : lines_at old id ≡ [] = get_or_past old.places id [] (omega (arith, is.beside)) in
     let here : lines_at new id ≡ line ∷ [] =
-    ap (λ ps. slice_index_or ps id []) places ∙ subst (λ n. slice_index_or (old.places ++ (line ∷ []) ∷ []) n [] ≡ line ∷ []) place (get_or-append-add old.places ((line ∷ []) ∷ []) 0 []) in
+    ap (λ ps. slice_index_or ps id []) places
+    ∙ subst (λ n. slice_index_or (old.places ++ (line ∷ []) ∷ []) n [] ≡ line ∷ []) place (get_or-append-add old.places ((line ∷ []) ∷ []) 0 []) in
     record {
       is = added_stands old new vertex (line ∷ []) id (inr appended);
       grows = grows_by old new line id (added_grows old new vertex (line ∷ []) id (inr appended))
@@ -97,9 +102,11 @@ appended_put old new vertex line id is appended =
       uses = uses_appended old new vertex (line ∷ []) id appended;
     }
 
-pub added_put : (old new : GraphValue) (vertex : Vertex) (line id : ℕ) → IsGraph old → Adds old new vertex (line ∷ []) (Ok id) → IsPut old new vertex.op vertex.inputs line id
+pub added_put : (old new : GraphValue) (vertex : Vertex) (line id : ℕ) → IsGraph old → Adds old new vertex (line ∷ []) (Ok id)
+    → IsPut old new vertex.op vertex.inputs line id
 added_put old new vertex line id is (inl found) = found_put old new vertex line id is found
 added_put old new vertex line id is (inr appended) = appended_put old new vertex line id is appended
 
-pub put_ok : (old new : GraphValue) (op : Op) (inputs : List ℕ) (line id : ℕ) → IsGraph old → Adds old new (record { op = op; inputs = inputs }) (line ∷ []) (Ok id) → IsPut old new op inputs line id
+pub put_ok : (old new : GraphValue) (op : Op) (inputs : List ℕ) (line id : ℕ) → IsGraph old
+    → Adds old new (record { op = op; inputs = inputs }) (line ∷ []) (Ok id) → IsPut old new op inputs line id
 put_ok old new op inputs line id is adds = added_put old new (record { op = op; inputs = inputs }) line id is adds

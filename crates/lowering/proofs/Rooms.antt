@@ -45,16 +45,22 @@ last_cases (w ∷ ws) v u zero e = inl e
 last_cases (w ∷ ws) v u (suc k) e = last_cases ws v u k e
 
 -- room is kept where an equal vertex stood, and where a vertex came
-pub uses_found : (old new : GraphValue) (vertex : Vertex) (lines : List ℕ) (id : ℕ) → IsFound old new vertex lines id → Uses old new (λ s. HasSource s vertex.op) (op_others vertex.op)
+pub uses_found : (old new : GraphValue) (vertex : Vertex) (lines : List ℕ) (id : ℕ) → IsFound old new vertex lines id
+    → Uses old new (λ s. HasSource s vertex.op) (op_others vertex.op)
 uses_found old new vertex lines id found s left has room =
     let same : new.vertices ≡ old.vertices = ap (λ g. g.vertices) found.added in
     record { few = room.few; known = subst (HasSources s) (sym same) room.known; others = omega (arith, ap others same, room.others) }
 
-pub uses_appended : (old new : GraphValue) (vertex : Vertex) (lines : List ℕ) (id : ℕ) → IsAppended old new vertex lines id → Uses old new (λ s. HasSource s vertex.op) (op_others vertex.op)
+pub uses_appended : (old new : GraphValue) (vertex : Vertex) (lines : List ℕ) (id : ℕ) → IsAppended old new vertex lines id
+    → Uses old new (λ s. HasSource s vertex.op) (op_others vertex.op)
 uses_appended old new vertex lines id appended s left has room =
     let same : new.vertices ≡ old.vertices ++ vertex ∷ [] = ap (λ g. g.vertices) appended.added in
     let known : HasSources s (old.vertices ++ vertex ∷ []) = λ k u e. elim (last_cases old.vertices vertex u k e) [
       | inl before ↦ room.known k u before
       | inr last ↦ subst (λ (x : Vertex). HasSource s x.op) last has
     ] in
-    record { few = room.few; known = subst (HasSources s) (sym same) known; others = omega (arith, ap others same, others-append old.vertices vertex, room.others) }
+    record {
+      few = room.few;
+      known = subst (HasSources s) (sym same) known;
+      others = omega (arith, ap others same, others-append old.vertices vertex, room.others);
+    }

@@ -1,5 +1,6 @@
 -- A graph that stands for a file has the file's trees and failures. All is said of one finished graph.
-use Rattle.std.proofs.Common.{◌≡◌, inl, inr, ◌<◌, ℕ, true, false, List, [], ◌∷◌, ◌++◌, map, length, Option, Some, None, Ok, Err, refl, sym, ap, ap₂, ◌∙◌, subst, append-nil}
+use Rattle.std.proofs.Common.{◌≡◌, inl, inr, ◌<◌, ℕ, true, false, List, [], ◌∷◌, ◌++◌, map, length, Option, Some, None, Ok, Err, refl, sym, ap, ap₂}
+use Rattle.std.proofs.Common.{◌∙◌, subst, append-nil}
 use Rattle.std.specs.Prelude.{slice_index_or, Contains}
 use Rattle.std.specs.List.{AllZip}
 use Rattle.std.specs.Option.{option_map, option_and_then}
@@ -24,19 +25,24 @@ use Rattle.lowering.specs.declared.stage.Action.{Action}
 use Rattle.lowering.specs.declared.stage.Action.TheVariants.{Run, Copy, MakeDirs}
 use Rattle.lowering.specs.declared.stage.Step.{Step}
 use Rattle.lowering.specs.declared.stage.Stage.{Stage}
-use Rattle.lowering.specs.Meaning.{Rows, Trees, origin_tree, listed, value_with, laid_over, action_value, tree_after, stage_tree, trees_from, failure_of, step_failures, stage_failures, failures_from}
-use Rattle.lowering.specs.Vertices.{Tips, Places, HasPlace, IsVertex, IsOrigin, origin_places, origins_places, IsOperation, IsLinked, IsLowered, AreLowered, IsRowLowered, AreRowsLowered}
+use Rattle.lowering.specs.Meaning.{Rows, Trees, origin_tree, listed, value_with, laid_over, action_value, tree_after, stage_tree, trees_from}
+use Rattle.lowering.specs.Meaning.{failure_of, step_failures, stage_failures, failures_from}
+use Rattle.lowering.specs.Vertices.{Tips, Places, HasPlace, IsVertex, IsOrigin, origin_places, origins_places, IsOperation, IsLinked, IsLowered}
+use Rattle.lowering.specs.Vertices.{AreLowered, IsRowLowered, AreRowsLowered}
 use Rattle.llb.proofs.LineFacts.{contains_nil, contains_here, contains_cases}
 
 -- the trees of inputs
-inputs_trees : (w : World) (vertices : List Vertex) (inputs : List ℕ) → trees_at (values_of w.out w.sources vertices) inputs ≡ all_trees (map (tree_at w vertices) inputs)
+inputs_trees : (w : World) (vertices : List Vertex) (inputs : List ℕ)
+    → trees_at (values_of w.out w.sources vertices) inputs ≡ all_trees (map (tree_at w vertices) inputs)
 inputs_trees w vertices [] = refl
 inputs_trees w vertices (input ∷ inputs) = ap (with_tree (tree_at w vertices input)) (inputs_trees w vertices inputs)
 
 -- the value of a vertex
-pub vertex_is : (w : World) (vertices : List Vertex) (op : Op) (inputs : List ℕ) (id : ℕ) → AreVertices vertices → IsVertex vertices op inputs id → value_of w.out w.sources vertices id ≡ value_on w vertices op inputs
+pub vertex_is : (w : World) (vertices : List Vertex) (op : Op) (inputs : List ℕ) (id : ℕ) → AreVertices vertices → IsVertex vertices op inputs id
+    → value_of w.out w.sources vertices id ≡ value_on w vertices op inputs
 vertex_is w vertices op inputs id are is =
-    value_of-is w.out w.sources vertices id (record { op = op; inputs = inputs }) are is ∙ ap (option_and_then (result_of w.out w.sources op)) (inputs_trees w vertices inputs)
+    value_of-is w.out w.sources vertices id (record { op = op; inputs = inputs }) are is
+    ∙ ap (option_and_then (result_of w.out w.sources op)) (inputs_trees w vertices inputs)
 
 -- the tree of a stage's last vertex; none where the stage is left out
 abbrev pub tip_tree : World → List Vertex → Option ℕ → Option TreeMap
@@ -64,7 +70,8 @@ failures_none w vertices = record {
   from = λ line cause h. absurd (contains_nil {X = ℕ × Cause} (line, cause) h);
 }
 
-failures_both : (w : World) (vertices : List Vertex) (p q : Places) (f g : List (ℕ × Cause)) → AreFailures w vertices p f → AreFailures w vertices q g → AreFailures w vertices (p ++ q) (f ++ g)
+failures_both : (w : World) (vertices : List Vertex) (p q : Places) (f g : List (ℕ × Cause)) → AreFailures w vertices p f → AreFailures w vertices q g
+    → AreFailures w vertices (p ++ q) (f ++ g)
 failures_both w vertices p q f g first second = record {
   to = λ line cause at. elim (Contains-append_cases p q (line, at.id) at.place) [
     | inl here ↦ Contains-append_left f g (line, cause) (first.to line cause (record { id = at.id; place = here; value = at.value }))
@@ -76,7 +83,8 @@ failures_both w vertices p q f g first second = record {
   ];
 }
 
-failures_as : (w : World) (vertices : List Vertex) (p q : Places) (f g : List (ℕ × Cause)) → AreFailures w vertices p f → q ≡ p → f ≡ g → AreFailures w vertices q g
+failures_as : (w : World) (vertices : List Vertex) (p q : Places) (f g : List (ℕ × Cause)) → AreFailures w vertices p f → q ≡ p → f ≡ g
+    → AreFailures w vertices q g
 failures_as w vertices p q f g are same also = subst (λ ps. AreFailures w vertices ps g) (sym same) (subst (AreFailures w vertices p) also are)
 
 -- one place fails where its vertex does
@@ -97,7 +105,8 @@ place_is line id l k h = elim (contains_cases {X = ℕ × ℕ} (line, id) (l, k)
   | inr none ↦ absurd (contains_nil {X = ℕ × ℕ} (l, k) none)
 ]
 
-failures_one : (w : World) (vertices : List Vertex) (line id : ℕ) (value : Value) → value_of w.out w.sources vertices id ≡ value → AreFailures w vertices ((line, id) ∷ []) (failure_of line value)
+failures_one : (w : World) (vertices : List Vertex) (line id : ℕ) (value : Value) → value_of w.out w.sources vertices id ≡ value
+    → AreFailures w vertices ((line, id) ∷ []) (failure_of line value)
 failures_one w vertices line id value is = record {
   to = λ l cause at.
       let here = place_is line id l at.id at.place in
@@ -116,39 +125,49 @@ source_fine : (line : ℕ) (o : Option TreeMap) → failure_of line (option_map 
 source_fine line None = refl
 source_fine line (Some tree) = refl
 
-origin_is : (w : World) (vertices : List Vertex) (tips : Tips) (origin : Origin) (id : ℕ) → AreVertices vertices → IsOrigin vertices tips origin id → tree_at w vertices id ≡ origin_tree w (tip_trees w vertices tips) origin
-origin_is w vertices tips (SourceOf source) id are is = ap tree_of (vertex_is w vertices (SourceOp source) [] id are is) ∙ source_tree_is (source_tree w.sources source)
+origin_is : (w : World) (vertices : List Vertex) (tips : Tips) (origin : Origin) (id : ℕ) → AreVertices vertices → IsOrigin vertices tips origin id
+    → tree_at w vertices id ≡ origin_tree w (tip_trees w vertices tips) origin
+origin_is w vertices tips (SourceOf source) id are is = ap tree_of (vertex_is w vertices (SourceOp source) [] id are is)
+    ∙ source_tree_is (source_tree w.sources source)
 origin_is w vertices tips (StageOf number) id are is =
     let within : number < length tips = slice_get_within tips number (Some id) is in
     let at : slice_index_or tips number None ≡ Some id = get_or_from_slice_get tips number (Some id) None is in
     sym (get_or-map (tip_tree w vertices) tips number None None within ∙ ap (tip_tree w vertices) at)
 
-origins_are : (w : World) (vertices : List Vertex) (tips : Tips) (origins : List Origin) (ids : List ℕ) → AreVertices vertices → AllZip (IsOrigin vertices tips) origins ids → map (tree_at w vertices) ids ≡ map (origin_tree w (tip_trees w vertices tips)) origins
+origins_are : (w : World) (vertices : List Vertex) (tips : Tips) (origins : List Origin) (ids : List ℕ) → AreVertices vertices
+    → AllZip (IsOrigin vertices tips) origins ids → map (tree_at w vertices) ids ≡ map (origin_tree w (tip_trees w vertices tips)) origins
 origins_are w vertices tips [] [] are all = refl
 origins_are w vertices tips [] (id ∷ ids) are all = absurd all
 origins_are w vertices tips (origin ∷ origins) [] are all = absurd all
 origins_are w vertices tips (origin ∷ origins) (id ∷ ids) are all =
     ap₂ (λ (t : Option TreeMap) (ts : Trees). t ∷ ts) (origin_is w vertices tips origin id are all.0) (origins_are w vertices tips origins ids are all.1)
 
-origin_fine : (w : World) (vertices : List Vertex) (tips : Tips) (line : ℕ) (origin : Origin) (id : ℕ) → AreVertices vertices → IsOrigin vertices tips origin id → AreFailures w vertices (origin_places line origin id) []
+origin_fine : (w : World) (vertices : List Vertex) (tips : Tips) (line : ℕ) (origin : Origin) (id : ℕ) → AreVertices vertices
+    → IsOrigin vertices tips origin id → AreFailures w vertices (origin_places line origin id) []
 origin_fine w vertices tips line (SourceOf source) id are is =
-    failures_as w vertices ((line, id) ∷ []) ((line, id) ∷ []) _ [] (failures_one w vertices line id (option_map Ok (source_tree w.sources source)) (vertex_is w vertices (SourceOp source) [] id are is)) refl (source_fine line (source_tree w.sources source))
+    failures_as w vertices ((line, id) ∷ []) ((line, id) ∷ []) _ []
+    (failures_one w vertices line id (option_map Ok (source_tree w.sources source)) (vertex_is w vertices (SourceOp source) [] id are is)) refl
+    (source_fine line (source_tree w.sources source))
 origin_fine w vertices tips line (StageOf number) id are is = failures_none w vertices
 
-origins_fine : (w : World) (vertices : List Vertex) (tips : Tips) (line : ℕ) (origins : List Origin) (ids : List ℕ) → AreVertices vertices → AllZip (IsOrigin vertices tips) origins ids → AreFailures w vertices (origins_places line origins ids) []
+origins_fine : (w : World) (vertices : List Vertex) (tips : Tips) (line : ℕ) (origins : List Origin) (ids : List ℕ) → AreVertices vertices
+    → AllZip (IsOrigin vertices tips) origins ids → AreFailures w vertices (origins_places line origins ids) []
 origins_fine w vertices tips line [] ids are all = failures_none w vertices
 origins_fine w vertices tips line (origin ∷ origins) [] are all = failures_none w vertices
 origins_fine w vertices tips line (origin ∷ origins) (id ∷ ids) are all =
-    failures_both w vertices (origin_places line origin id) (origins_places line origins ids) [] [] (origin_fine w vertices tips line origin id are all.0) (origins_fine w vertices tips line origins ids are all.1)
+    failures_both w vertices (origin_places line origin id) (origins_places line origins ids) [] []
+    (origin_fine w vertices tips line origin id are all.0) (origins_fine w vertices tips line origins ids are all.1)
 
 -- an operation on a vertex and on what is named
-operation_is : (w : World) (vertices : List Vertex) (tips : Tips) (line base : ℕ) (op : Op) (origins : List Origin) (id : ℕ) (places : Places) → AreVertices vertices → IsOperation vertices tips line base op origins id places
+operation_is : (w : World) (vertices : List Vertex) (tips : Tips) (line base : ℕ) (op : Op) (origins : List Origin) (id : ℕ) (places : Places)
+    → AreVertices vertices → IsOperation vertices tips line base op origins id places
     → value_of w.out w.sources vertices id ≡ value_with w op (tree_at w vertices base ∷ map (origin_tree w (tip_trees w vertices tips)) origins)
 operation_is w vertices tips line base op origins id places are is =
     vertex_is w vertices op (base ∷ is.named) id are is.is
     ∙ ap (λ (ts : Trees). value_with w op (tree_at w vertices base ∷ ts)) (origins_are w vertices tips origins is.named are is.are)
 
-operation_fails : (w : World) (vertices : List Vertex) (tips : Tips) (line base : ℕ) (op : Op) (origins : List Origin) (id : ℕ) (places : Places) → AreVertices vertices → IsOperation vertices tips line base op origins id places
+operation_fails : (w : World) (vertices : List Vertex) (tips : Tips) (line base : ℕ) (op : Op) (origins : List Origin) (id : ℕ) (places : Places)
+    → AreVertices vertices → IsOperation vertices tips line base op origins id places
     → AreFailures w vertices places (failure_of line (value_with w op (tree_at w vertices base ∷ map (origin_tree w (tip_trees w vertices tips)) origins)))
 operation_fails w vertices tips line base op origins id places are is =
     let value : Value = value_with w op (tree_at w vertices base ∷ map (origin_tree w (tip_trees w vertices tips)) origins) in
@@ -159,7 +178,8 @@ operation_fails w vertices tips line base op origins id places are is =
     is.all refl
 
 -- a linked copy
-merged_is : (w : World) (before : Option TreeMap) (value : Value) → tree_of (value_with w MergeOp (before ∷ (tree_of value ∷ []))) ≡ tree_of (laid_over before value)
+merged_is : (w : World) (before : Option TreeMap) (value : Value)
+    → tree_of (value_with w MergeOp (before ∷ (tree_of value ∷ []))) ≡ tree_of (laid_over before value)
 merged_is w None None = refl
 merged_is w None (Some (Err cause)) = refl
 merged_is w None (Some (Ok tree)) = refl
@@ -181,60 +201,78 @@ laid_over_fails line (Some base) (Some (Ok tree)) = refl
 abbrev copied_value : World → List Vertex → Tips → CopyFiles → List Origin → Value
 copied_value w vertices tips files origins = value_with w (CopyOp files) (Some empty_tree ∷ map (origin_tree w (tip_trees w vertices tips)) origins)
 
-linked_copy_is : (w : World) (vertices : List Vertex) (tips : Tips) (line base : ℕ) (files : CopyFiles) (origins : List Origin) (id : ℕ) (places : Places) → AreVertices vertices → (is : IsLinked vertices tips line base files origins id places)
-    → value_with w (CopyOp files) (tree_at w vertices is.scratch ∷ map (origin_tree w (tip_trees w vertices tips)) origins) ≡ copied_value w vertices tips files origins
+linked_copy_is : (w : World) (vertices : List Vertex) (tips : Tips) (line base : ℕ) (files : CopyFiles) (origins : List Origin) (id : ℕ)
+    (places : Places) → AreVertices vertices → (is : IsLinked vertices tips line base files origins id places)
+    → value_with w (CopyOp files) (tree_at w vertices is.scratch ∷ map (origin_tree w (tip_trees w vertices tips)) origins) ≡ copied_value w vertices
+    tips files origins
 linked_copy_is w vertices tips line base files origins id places are is =
-    ap (λ (t : Option TreeMap). value_with w (CopyOp files) (t ∷ map (origin_tree w (tip_trees w vertices tips)) origins)) (ap tree_of (vertex_is w vertices (SourceOp Scratch) [] is.scratch are is.empty))
+    ap (λ (t : Option TreeMap). value_with w (CopyOp files) (t ∷ map (origin_tree w (tip_trees w vertices tips)) origins))
+    (ap tree_of (vertex_is w vertices (SourceOp Scratch) [] is.scratch are is.empty))
 
-linked_is : (w : World) (vertices : List Vertex) (tips : Tips) (line base : ℕ) (files : CopyFiles) (origins : List Origin) (id : ℕ) (places : Places) → AreVertices vertices → IsLinked vertices tips line base files origins id places
+linked_is : (w : World) (vertices : List Vertex) (tips : Tips) (line base : ℕ) (files : CopyFiles) (origins : List Origin) (id : ℕ) (places : Places)
+    → AreVertices vertices → IsLinked vertices tips line base files origins id places
     → tree_at w vertices id ≡ tree_of (laid_over (tree_at w vertices base) (copied_value w vertices tips files origins))
 linked_is w vertices tips line base files origins id places are is =
     let copy : tree_at w vertices is.copy ≡ tree_of (copied_value w vertices tips files origins) =
-    ap tree_of (operation_is w vertices tips line is.scratch (CopyOp files) origins is.copy is.copied are is.copies ∙ linked_copy_is w vertices tips line base files origins id places are is) in
+    ap tree_of (operation_is w vertices tips line is.scratch (CopyOp files) origins is.copy is.copied are is.copies
+    ∙ linked_copy_is w vertices tips line base files origins id places are is) in
     ap tree_of (vertex_is w vertices MergeOp (base ∷ (is.copy ∷ [])) id are is.merges)
     ∙ (ap (λ (t : Option TreeMap). tree_of (value_with w MergeOp (tree_at w vertices base ∷ (t ∷ [])))) copy
     ∙ merged_is w (tree_at w vertices base) (copied_value w vertices tips files origins))
 
-linked_fails : (w : World) (vertices : List Vertex) (tips : Tips) (line base : ℕ) (files : CopyFiles) (origins : List Origin) (id : ℕ) (places : Places) → AreVertices vertices → IsLinked vertices tips line base files origins id places
+linked_fails : (w : World) (vertices : List Vertex) (tips : Tips) (line base : ℕ) (files : CopyFiles) (origins : List Origin) (id : ℕ)
+    (places : Places) → AreVertices vertices → IsLinked vertices tips line base files origins id places
     → AreFailures w vertices places (failure_of line (laid_over (tree_at w vertices base) (copied_value w vertices tips files origins)))
 linked_fails w vertices tips line base files origins id places are is =
     let value : Value = copied_value w vertices tips files origins in
-    let scratch : AreFailures w vertices ((line, is.scratch) ∷ []) [] = failures_one w vertices line is.scratch (Some (Ok empty_tree)) (vertex_is w vertices (SourceOp Scratch) [] is.scratch are is.empty) in
+    let scratch : AreFailures w vertices ((line, is.scratch) ∷ []) [] =
+    failures_one w vertices line is.scratch (Some (Ok empty_tree)) (vertex_is w vertices (SourceOp Scratch) [] is.scratch are is.empty) in
     let copy : AreFailures w vertices is.copied (failure_of line value) =
-    failures_as w vertices is.copied is.copied _ (failure_of line value) (operation_fails w vertices tips line is.scratch (CopyOp files) origins is.copy is.copied are is.copies)
+    failures_as w vertices is.copied is.copied _ (failure_of line value)
+    (operation_fails w vertices tips line is.scratch (CopyOp files) origins is.copy is.copied are is.copies)
     refl (ap (failure_of line) (linked_copy_is w vertices tips line base files origins id places are is)) in
     let merge : AreFailures w vertices ((line, id) ∷ []) [] =
-    failures_as w vertices ((line, id) ∷ []) ((line, id) ∷ []) _ [] (failures_one w vertices line id (value_on w vertices MergeOp (base ∷ (is.copy ∷ []))) (vertex_is w vertices MergeOp (base ∷ (is.copy ∷ [])) id are is.merges))
+    failures_as w vertices ((line, id) ∷ []) ((line, id) ∷ []) _ []
+    (failures_one w vertices line id (value_on w vertices MergeOp (base ∷ (is.copy ∷ [])))
+    (vertex_is w vertices MergeOp (base ∷ (is.copy ∷ [])) id are is.merges))
     refl (merge_fine w line (all_trees (map (tree_at w vertices) (base ∷ (is.copy ∷ []))))) in
-    failures_as w vertices ((line, is.scratch) ∷ [] ++ (is.copied ++ (line, id) ∷ [])) places ([] ++ (failure_of line value ++ [])) (failure_of line (laid_over (tree_at w vertices base) value))
+    failures_as w vertices ((line, is.scratch) ∷ [] ++ (is.copied ++ (line, id) ∷ [])) places ([] ++ (failure_of line value ++ []))
+    (failure_of line (laid_over (tree_at w vertices base) value))
     (failures_both w vertices ((line, is.scratch) ∷ []) (is.copied ++ (line, id) ∷ []) [] (failure_of line value ++ []) scratch
     (failures_both w vertices is.copied ((line, id) ∷ []) (failure_of line value) [] copy merge))
     is.all (append-nil (failure_of line value) ∙ sym (laid_over_fails line (tree_at w vertices base) value))
 
 -- an instruction
-lowered_is : (w : World) (vertices : List Vertex) (tips : Tips) (line base : ℕ) (action : Action) (id : ℕ) (places : Places) → AreVertices vertices → IsLowered vertices tips line base action id places
+lowered_is : (w : World) (vertices : List Vertex) (tips : Tips) (line base : ℕ) (action : Action) (id : ℕ) (places : Places) → AreVertices vertices
+    → IsLowered vertices tips line base action id places
     → tree_at w vertices id ≡ tree_of (action_value w (tip_trees w vertices tips) (tree_at w vertices base) action)
 lowered_is w vertices tips line base (Run exec from) id places are is = ap tree_of (operation_is w vertices tips line base (ExecOp exec) from id places are is)
-lowered_is w vertices tips line base (Copy files from false) id places are is = ap tree_of (operation_is w vertices tips line base (CopyOp files) (listed from) id places are is)
+lowered_is w vertices tips line base (Copy files from false) id places are is =
+    ap tree_of (operation_is w vertices tips line base (CopyOp files) (listed from) id places are is)
 lowered_is w vertices tips line base (Copy files from true) id places are is = linked_is w vertices tips line base files (listed from) id places are is
-lowered_is w vertices tips line base (MakeDirs path) id places are is = ap tree_of (operation_is w vertices tips line base (MakeDirsOp path) [] id places are is)
+lowered_is w vertices tips line base (MakeDirs path) id places are is =
+    ap tree_of (operation_is w vertices tips line base (MakeDirsOp path) [] id places are is)
 
-lowered_fails : (w : World) (vertices : List Vertex) (tips : Tips) (line base : ℕ) (action : Action) (id : ℕ) (places : Places) → AreVertices vertices → IsLowered vertices tips line base action id places
+lowered_fails : (w : World) (vertices : List Vertex) (tips : Tips) (line base : ℕ) (action : Action) (id : ℕ) (places : Places) → AreVertices vertices
+    → IsLowered vertices tips line base action id places
     → AreFailures w vertices places (failure_of line (action_value w (tip_trees w vertices tips) (tree_at w vertices base) action))
 lowered_fails w vertices tips line base (Run exec from) id places are is = operation_fails w vertices tips line base (ExecOp exec) from id places are is
-lowered_fails w vertices tips line base (Copy files from false) id places are is = operation_fails w vertices tips line base (CopyOp files) (listed from) id places are is
+lowered_fails w vertices tips line base (Copy files from false) id places are is =
+    operation_fails w vertices tips line base (CopyOp files) (listed from) id places are is
 lowered_fails w vertices tips line base (Copy files from true) id places are is = linked_fails w vertices tips line base files (listed from) id places are is
 lowered_fails w vertices tips line base (MakeDirs path) id places are is = operation_fails w vertices tips line base (MakeDirsOp path) [] id places are is
 
 -- some instructions
-steps_are : (w : World) (vertices : List Vertex) (tips : Tips) (base : ℕ) (steps : List Step) (last : ℕ) (places : Places) → AreVertices vertices → AreLowered vertices tips base steps last places
+steps_are : (w : World) (vertices : List Vertex) (tips : Tips) (base : ℕ) (steps : List Step) (last : ℕ) (places : Places) → AreVertices vertices
+    → AreLowered vertices tips base steps last places
     → tree_at w vertices last ≡ tree_after w (tip_trees w vertices tips) (tree_at w vertices base) steps
 steps_are w vertices tips base [] last places are is = ap (tree_at w vertices) is.0
 steps_are w vertices tips base (step ∷ steps) last places are is =
     steps_are w vertices tips is.0 steps last is.2 are is.4
     ∙ ap (λ (t : Option TreeMap). tree_after w (tip_trees w vertices tips) t steps) (lowered_is w vertices tips step.line base step.action is.0 is.1 are is.3)
 
-steps_fail : (w : World) (vertices : List Vertex) (tips : Tips) (base : ℕ) (steps : List Step) (last : ℕ) (places : Places) → AreVertices vertices → AreLowered vertices tips base steps last places
+steps_fail : (w : World) (vertices : List Vertex) (tips : Tips) (base : ℕ) (steps : List Step) (last : ℕ) (places : Places) → AreVertices vertices
+    → AreLowered vertices tips base steps last places
     → AreFailures w vertices places (step_failures w (tip_trees w vertices tips) (tree_at w vertices base) steps)
 steps_fail w vertices tips base [] last places are is = failures_as w vertices [] places [] [] (failures_none w vertices) is.1 refl
 steps_fail w vertices tips base (step ∷ steps) last places are is =
@@ -242,31 +280,40 @@ steps_fail w vertices tips base (step ∷ steps) last places are is =
     failures_as w vertices (is.1 ++ is.2) places _ _
     (failures_both w vertices is.1 is.2 here (step_failures w (tip_trees w vertices tips) (tree_at w vertices is.0) steps)
     (lowered_fails w vertices tips step.line base step.action is.0 is.1 are is.3) (steps_fail w vertices tips is.0 steps last is.2 are is.4))
-    is.5 (ap (λ (t : Option TreeMap). here ++ step_failures w (tip_trees w vertices tips) t steps) (lowered_is w vertices tips step.line base step.action is.0 is.1 are is.3))
+    is.5 (ap (λ (t : Option TreeMap). here ++ step_failures w (tip_trees w vertices tips) t steps)
+    (lowered_is w vertices tips step.line base step.action is.0 is.1 are is.3))
 
 -- a row
-row_is : (w : World) (vertices : List Vertex) (tips : Tips) (row : Option Stage) (tip : Option ℕ) (places : Places) → AreVertices vertices → IsRowLowered vertices tips row tip places → tip_tree w vertices tip ≡ stage_tree w (tip_trees w vertices tips) row
+row_is : (w : World) (vertices : List Vertex) (tips : Tips) (row : Option Stage) (tip : Option ℕ) (places : Places) → AreVertices vertices
+    → IsRowLowered vertices tips row tip places → tip_tree w vertices tip ≡ stage_tree w (tip_trees w vertices tips) row
 row_is w vertices tips None tip places are is = ap (tip_tree w vertices) is.0
 row_is w vertices tips (Some stage) tip places are is =
     ap (tip_tree w vertices) is.1
     ∙ (steps_are w vertices tips is.2.base stage.steps is.0 is.2.others are is.2.steps
     ∙ ap (λ (t : Option TreeMap). tree_after w (tip_trees w vertices tips) t stage.steps) (origin_is w vertices tips stage.base is.2.base are is.2.begins))
 
-row_fails : (w : World) (vertices : List Vertex) (tips : Tips) (row : Option Stage) (tip : Option ℕ) (places : Places) → AreVertices vertices → IsRowLowered vertices tips row tip places → AreFailures w vertices places (stage_failures w (tip_trees w vertices tips) row)
+row_fails : (w : World) (vertices : List Vertex) (tips : Tips) (row : Option Stage) (tip : Option ℕ) (places : Places) → AreVertices vertices
+    → IsRowLowered vertices tips row tip places → AreFailures w vertices places (stage_failures w (tip_trees w vertices tips) row)
 row_fails w vertices tips None tip places are is = failures_as w vertices [] places [] [] (failures_none w vertices) is.1 refl
 row_fails w vertices tips (Some stage) tip places are is =
     failures_as w vertices (origin_places stage.line stage.base is.2.base ++ is.2.others) places _ _
-    (failures_both w vertices (origin_places stage.line stage.base is.2.base) is.2.others [] (step_failures w (tip_trees w vertices tips) (tree_at w vertices is.2.base) stage.steps)
-    (origin_fine w vertices tips stage.line stage.base is.2.base are is.2.begins) (steps_fail w vertices tips is.2.base stage.steps is.0 is.2.others are is.2.steps))
-    is.2.all (ap (λ (t : Option TreeMap). step_failures w (tip_trees w vertices tips) t stage.steps) (origin_is w vertices tips stage.base is.2.base are is.2.begins))
+    (failures_both w vertices (origin_places stage.line stage.base is.2.base) is.2.others []
+    (step_failures w (tip_trees w vertices tips) (tree_at w vertices is.2.base) stage.steps)
+    (origin_fine w vertices tips stage.line stage.base is.2.base are is.2.begins)
+    (steps_fail w vertices tips is.2.base stage.steps is.0 is.2.others are is.2.steps))
+    is.2.all (ap (λ (t : Option TreeMap). step_failures w (tip_trees w vertices tips) t stage.steps)
+    (origin_is w vertices tips stage.base is.2.base are is.2.begins))
 
 -- all rows
-tips_more : (w : World) (vertices : List Vertex) (tips : Tips) (row : Option Stage) (tip : Option ℕ) (places : Places) → AreVertices vertices → IsRowLowered vertices tips row tip places
+tips_more : (w : World) (vertices : List Vertex) (tips : Tips) (row : Option Stage) (tip : Option ℕ) (places : Places) → AreVertices vertices
+    → IsRowLowered vertices tips row tip places
     → tip_trees w vertices (tips ++ tip ∷ []) ≡ tip_trees w vertices tips ++ stage_tree w (tip_trees w vertices tips) row ∷ []
 tips_more w vertices tips row tip places are is =
-    map-append (tip_tree w vertices) tips (tip ∷ []) ∙ ap (λ (t : Option TreeMap). tip_trees w vertices tips ++ t ∷ []) (row_is w vertices tips row tip places are is)
+    map-append (tip_tree w vertices) tips (tip ∷ [])
+    ∙ ap (λ (t : Option TreeMap). tip_trees w vertices tips ++ t ∷ []) (row_is w vertices tips row tip places are is)
 
-pub rows_are : (w : World) (vertices : List Vertex) (tips : Tips) (rows : Rows) (lasts : Tips) (places : Places) → AreVertices vertices → AreRowsLowered vertices tips rows lasts places
+pub rows_are : (w : World) (vertices : List Vertex) (tips : Tips) (rows : Rows) (lasts : Tips) (places : Places) → AreVertices vertices
+    → AreRowsLowered vertices tips rows lasts places
     → tip_trees w vertices (tips ++ lasts) ≡ trees_from w (tip_trees w vertices tips) rows
 rows_are w vertices tips [] lasts places are is = ap (λ (ts : Tips). tip_trees w vertices (tips ++ ts)) is.0 ∙ ap (tip_trees w vertices) (append-nil tips)
 rows_are w vertices tips (row ∷ rows) lasts places are is =
@@ -279,7 +326,8 @@ rows_are w vertices tips (row ∷ rows) lasts places are is =
     append_one [] x ys = refl
     append_one (z ∷ zs) x ys = ap (λ ts. z ∷ ts) (append_one zs x ys)
 
-pub rows_fail : (w : World) (vertices : List Vertex) (tips : Tips) (rows : Rows) (lasts : Tips) (places : Places) → AreVertices vertices → AreRowsLowered vertices tips rows lasts places
+pub rows_fail : (w : World) (vertices : List Vertex) (tips : Tips) (rows : Rows) (lasts : Tips) (places : Places) → AreVertices vertices
+    → AreRowsLowered vertices tips rows lasts places
     → AreFailures w vertices places (failures_from w (tip_trees w vertices tips) rows)
 rows_fail w vertices tips [] lasts places are is = failures_as w vertices [] places [] [] (failures_none w vertices) is.1 refl
 rows_fail w vertices tips (row ∷ rows) lasts places are is =

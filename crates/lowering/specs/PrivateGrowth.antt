@@ -9,7 +9,8 @@ use Rattle.llb.specs.WellFormed.{is_well_formed_on}
 use Rattle.plans.specs.Sources.{HasSource}
 use Rattle.lowering.specs.Meaning.{Rows}
 use Rattle.lowering.specs.Means.{lines_at}
-use Rattle.lowering.specs.Vertices.{Tips, Places, HasPlace, IsVertex, IsOrigin, origin_places, origins_places, IsOperation, IsLowered, AreLowered, IsStageLowered, IsRowLowered, AreRowsLowered}
+use Rattle.lowering.specs.Vertices.{Tips, Places, HasPlace, IsVertex, IsOrigin, origin_places, origins_places, IsOperation, IsLowered, AreLowered}
+use Rattle.lowering.specs.Vertices.{IsStageLowered, IsRowLowered, AreRowsLowered}
 use Rattle.lowering.specs.WellFormed.{HasTree, NamesOnly, StageNames, RowNames, row_steps, count_of_steps}
 use Rattle.lowering.specs.PrivateRoom.{op_others, Uses}
 use Rattle.lowering.specs.declared.stage.Origin.{Origin}

@@ -56,7 +56,8 @@ pub record IsOperation (vertices : List Vertex) (tips : Tips) (line base : ℕ) 
   pub all : places ≡ origins_places line origins named ++ (line, id) ∷ []
 
 -- the vertices of a linked copy: a copy onto the empty tree, and the merge of the tree before it with what was copied
-pub record IsLinked (vertices : List Vertex) (tips : Tips) (line base : ℕ) (files : CopyFiles) (origins : List Origin) (id : ℕ) (places : Places) : Type 0 where
+pub record IsLinked (vertices : List Vertex) (tips : Tips) (line base : ℕ) (files : CopyFiles) (origins : List Origin) (id : ℕ)
+    (places : Places) : Type 0 where
   pub scratch : ℕ
   pub copy : ℕ
   pub copied : Places

@@ -30,21 +30,26 @@ row_is rows line word pos low = (
 
 pub two_are : (rows : Rows) (first second : List ℕ) → rows ≡ two_stages first second → IsWellFormed rows
 two_are rows first second is =
-    subst IsWellFormed (sym is) (rows_are (two_stages first second) (row_is [] 1 first (omega arith) (omega arith), (row_is (Some (run_stage 1 first) ∷ []) 3 second (omega arith) (omega arith), tt)))
+    subst IsWellFormed (sym is)
+    (rows_are (two_stages first second)
+    (row_is [] 1 first (omega arith) (omega arith), (row_is (Some (run_stage 1 first) ∷ []) 3 second (omega arith) (omega arith), tt)))
 
 pub two_have : (rows : Rows) (first second : List ℕ) (sources : SourcesValue) → rows ≡ two_stages first second → All (RowNames (HasTree sources)) rows
 two_have rows first second sources is =
     subst (All (RowNames (HasTree sources))) (sym is)
     (All-cons (RowNames (HasTree sources)) (Some (run_stage 1 first)) (Some (run_stage 3 second) ∷ []) (stage_names (HasTree sources) 1 first refl)
-    (All-cons (RowNames (HasTree sources)) (Some (run_stage 3 second)) [] (stage_names (HasTree sources) 3 second refl) (All-nil (RowNames (HasTree sources)))))
+    (All-cons (RowNames (HasTree sources)) (Some (run_stage 3 second)) [] (stage_names (HasTree sources) 3 second refl)
+    (All-nil (RowNames (HasTree sources)))))
 
 at_is : (first second : List ℕ) (target : ℕ) → target < 2 → (stage : Stage) × (slice_get (two_stages first second) target ≡ Some (Some stage))
 at_is first second zero lt = (_, refl)
 at_is first second (suc zero) lt = (_, refl)
 at_is first second (suc (suc n)) lt = absurd (omega (arith, lt))
 
-pub two_at : (rows : Rows) (first second : List ℕ) (target : ℕ) → rows ≡ two_stages first second → target < 2 → (stage : Stage) × (slice_get rows target ≡ Some (Some stage))
-two_at rows first second target is lt = subst (λ (rs : Rows). (stage : Stage) × (slice_get rs target ≡ Some (Some stage))) (sym is) (at_is first second target lt)
+pub two_at : (rows : Rows) (first second : List ℕ) (target : ℕ) → rows ≡ two_stages first second → target < 2
+    → (stage : Stage) × (slice_get rows target ≡ Some (Some stage))
+two_at rows first second target is lt =
+    subst (λ (rs : Rows). (stage : Stage) × (slice_get rs target ≡ Some (Some stage))) (sym is) (at_is first second target lt)
 
 pub no_images : (sources : SourcesValue) (context : TreeMap) → sources ≡ record { context = context; images = empty } → len sources.images ≤ most_images
 no_images sources context is = omega (arith, ap (λ (s : SourcesValue). len s.images) is, len-empty name_cmp TreeMap)

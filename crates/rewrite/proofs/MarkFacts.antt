@@ -34,13 +34,15 @@ marks_none marks ids none = record {
   only = λ k is. inl is;
 }
 
-pub marks_more : (old new : List Bool) (done : List ℕ) (id : ℕ) → id < length old → MarksSoFar old new done → MarksSoFar old (slice_set new id true) (done ++ id ∷ [])
+pub marks_more : (old new : List Bool) (done : List ℕ) (id : ℕ) → id < length old → MarksSoFar old new done
+    → MarksSoFar old (slice_set new id true) (done ++ id ∷ [])
 marks_more old new done id lt so_far = record {
   long = length-set new id true ∙ so_far.long;
   kept = λ k is. one_kept new id k (so_far.kept k is);
   marked = λ k h. elim (Contains-push_cases done id k h) [
     | inl before ↦ one_kept new id k (so_far.marked k before)
-    | inr now ↦ (let l : id < length new = omega (arith, so_far.long) in subst (λ n. slice_index_or (slice_set new id true) n false ≡ true) now (get_or-set_same new id true false l))
+    | inr now ↦ (let l : id < length new =
+        omega (arith, so_far.long) in subst (λ n. slice_index_or (slice_set new id true) n false ≡ true) now (get_or-set_same new id true false l))
   ];
   only = λ k is. elim (one_only new id k is) [
     | inl before ↦ elim (so_far.only k before) [ inl a ↦ inl a | inr b ↦ inr (Contains-append_left done (id ∷ []) k b) ]
@@ -56,11 +58,14 @@ pub record MarkedFrom (vertices : List Vertex) (target at : ℕ) (marks : List B
   pub closed : (vertex input : ℕ) → at ≤ vertex → is_marked marks vertex ≡ true → HasInput vertices vertex input → is_marked marks input ≡ true
   pub only : (vertex : ℕ) → is_marked marks vertex ≡ true → Reaches vertices target vertex
 
-leads_more : (vertices : List Vertex) (from : ℕ) (path : List ℕ) (vertex input : ℕ) → Leads vertices from path vertex → HasInput vertices vertex input → Leads vertices from (path ++ input ∷ []) input
+leads_more : (vertices : List Vertex) (from : ℕ) (path : List ℕ) (vertex input : ℕ) → Leads vertices from path vertex → HasInput vertices vertex input
+    → Leads vertices from (path ++ input ∷ []) input
 leads_more vertices from [] vertex input leads has = (subst (λ n. HasInput vertices n input) (sym leads) has, refl)
 leads_more vertices from (next ∷ path) vertex input leads has = (leads.0, leads_more vertices next path vertex input leads.1 has)
 
-pub marked_first : (vertices : List Vertex) (target : ℕ) (none marks : List Bool) (at : ℕ) → length none ≡ length vertices → ((k : ℕ) → is_marked none k ≡ false) → target < length vertices → marks ≡ slice_set none target true → at ≡ length vertices → MarkedFrom vertices target at marks
+pub marked_first : (vertices : List Vertex) (target : ℕ) (none marks : List Bool) (at : ℕ) → length none ≡ length vertices
+    → ((k : ℕ) → is_marked none k ≡ false) → target < length vertices → marks ≡ slice_set none target true → at ≡ length vertices
+    → MarkedFrom vertices target at marks
 marked_first vertices target none marks at long unmarked lt is from = record {
   long = ap length is ∙ length-set none target true ∙ long;
   within = omega arith;
@@ -81,7 +86,9 @@ same_vertex : (vertices : List Vertex) (vertex : ℕ) (v u : Vertex) → slice_g
 same_vertex vertices vertex v u a b = cc
 
 -- a marked vertex's inputs were marked
-pub marked_step : (vertices : List Vertex) (target at next : ℕ) (v : Vertex) (old new : List Bool) (ids : List ℕ) → AreVertices vertices → MarkedFrom vertices target at old → 0 < at → next ≡ at - 1 → slice_get vertices next ≡ Some v → is_marked old next ≡ true → ids ≡ v.inputs → MarksSoFar old new ids → MarkedFrom vertices target next new
+pub marked_step : (vertices : List Vertex) (target at next : ℕ) (v : Vertex) (old new : List Bool) (ids : List ℕ) → AreVertices vertices
+    → MarkedFrom vertices target at old → 0 < at → next ≡ at - 1 → slice_get vertices next ≡ Some v → is_marked old next ≡ true → ids ≡ v.inputs
+    → MarksSoFar old new ids → MarkedFrom vertices target next new
 marked_step vertices target at next v old new ids are from pos is there marked same so_far = record {
   long = so_far.long ∙ from.long;
   within = omega (arith, from.within);
@@ -103,13 +110,17 @@ marked_step vertices target at next v old new ids are from pos is there marked s
   only = λ vertex is_new. elim (so_far.only vertex is_new) [
     | inl before ↦ from.only vertex before
     | inr among ↦
-        let path = from.only next marked in
-        (path.0 ++ vertex ∷ [], leads_more vertices target path.0 next vertex path.1 (record { v = v; there = there; among = subst (λ is. Contains is vertex) same among }))
+        let path = from.only next marked in (
+          path.0 ++ vertex ∷ [],
+          leads_more vertices target path.0 next vertex path.1
+              (record { v = v; there = there; among = subst (λ is. Contains is vertex) same among }),
+        )
   ];
 }
 
 -- an unmarked vertex has nothing to mark
-pub unmarked_step : (vertices : List Vertex) (target at next : ℕ) (marks : List Bool) → MarkedFrom vertices target at marks → 0 < at → next ≡ at - 1 → is_marked marks next ≡ false → MarkedFrom vertices target next marks
+pub unmarked_step : (vertices : List Vertex) (target at next : ℕ) (marks : List Bool) → MarkedFrom vertices target at marks → 0 < at → next ≡ at - 1
+    → is_marked marks next ≡ false → MarkedFrom vertices target next marks
 unmarked_step vertices target at next marks from pos is unmarked = record {
   long = from.long;
   within = omega (arith, from.within);
@@ -129,5 +140,6 @@ marked_all vertices target at marks from over = record {
   only = from.only;
 }
 
-pub inputs_inside : (vertices : List Vertex) (at n : ℕ) (v : Vertex) → AreVertices vertices → slice_get vertices at ≡ Some v → at ≤ n → All (λ i. i < n) v.inputs
+pub inputs_inside : (vertices : List Vertex) (at n : ℕ) (v : Vertex) → AreVertices vertices → slice_get vertices at ≡ Some v → at ≤ n
+    → All (λ i. i < n) v.inputs
 inputs_inside vertices at n v are there le = All-weaker (λ i. i < at) (λ i. i < n) (λ i lt. omega (arith, lt, le)) v.inputs (are.after at v there)

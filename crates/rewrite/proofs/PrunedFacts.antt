@@ -1,5 +1,6 @@
 -- A plan of the vertices that its target reaches.
-use Rattle.std.proofs.Common.{◌≡◌, inl, inr, ◌<◌, ◌+◌, ℕ, zero, suc, Bool, true, false, List, [], ◌∷◌, map, length, Option, Some, Err, refl, sym, ap, ap₂, ◌∙◌, subst, arith}
+use Rattle.std.proofs.Common.{◌≡◌, inl, inr, ◌<◌, ◌+◌, ℕ, zero, suc, Bool, true, false, List, [], ◌∷◌, map, length, Option, Some, Err, refl, sym, ap}
+use Rattle.std.proofs.Common.{ap₂, ◌∙◌, subst, arith}
 use Rattle.std.specs.Prelude.{Contains, slice_get, slice_index_or}
 use Rattle.std.specs.List.{All}
 use Rattle.std.proofs.lemmas.Bool.{cases_lt, true≢false}
@@ -25,7 +26,8 @@ use Rattle.rewrite.specs.PrivateMarks.{is_marked, AreReached}
 use Rattle.rewrite.specs.Pruned.{Names, AreNames, IsRenamed, IsPruned, KeepsMeaning}
 
 -- what is reached is marked
-reached_marked : (vertices : List Vertex) (target : ℕ) (marks : List Bool) (path : List ℕ) (from to : ℕ) → AreReached vertices target marks → is_marked marks from ≡ true → Leads vertices from path to → is_marked marks to ≡ true
+reached_marked : (vertices : List Vertex) (target : ℕ) (marks : List Bool) (path : List ℕ) (from to : ℕ) → AreReached vertices target marks
+    → is_marked marks from ≡ true → Leads vertices from path to → is_marked marks to ≡ true
 reached_marked vertices target marks [] from to are marked leads = ap (is_marked marks) (sym leads) ∙ marked
 reached_marked vertices target marks (next ∷ path) from to are marked leads =
     reached_marked vertices target marks path next to are (are.closed from next marked leads.0) leads.1
@@ -34,8 +36,10 @@ marked_within : (marks : List Bool) (k : ℕ) → is_marked marks k ≡ true →
 marked_within marks k is = elim (cases_lt k (length marks)) [ inl lt ↦ lt | inr past ↦ absurd (true≢false (sym is ∙ get_or_past marks k false past)) ]
 
 -- the vertices that were kept make a pruned plan
-pub kept_pruned : {C : Type 0} (plan new : PlanValue C) (graph kept : GraphValue) (target last : ℕ) (config : C) (sources : SourcesValue) (marks : List Bool) (names : Names)
-    → plan ≡ record { graph = graph; target = target; config = config; sources = sources } → AreReached graph.vertices target marks → AreKept graph marks (length graph.vertices) kept names
+pub kept_pruned : {C : Type 0} (plan new : PlanValue C) (graph kept : GraphValue) (target last : ℕ) (config : C) (sources : SourcesValue)
+    (marks : List Bool) (names : Names)
+    → plan ≡ record { graph = graph; target = target; config = config; sources = sources } → AreReached graph.vertices target marks
+    → AreKept graph marks (length graph.vertices) kept names
     → slice_get names target ≡ Some (Some last) → new ≡ record { graph = kept; target = last; config = config; sources = sources } → IsPruned plan new
 kept_pruned plan new graph kept target last config sources marks names parts reached are name is = rw (parts, is) (record {
   names = names;
@@ -55,14 +59,17 @@ kept_pruned plan new graph kept target last config sources marks names parts rea
 })
 
 -- the target has a new number
-pub target_named : {C : Type 0} (plan : PlanValue C) (graph kept : GraphValue) (target : ℕ) (config : C) (sources : SourcesValue) (marks : List Bool) (names : Names) → IsPlan plan
-    → plan ≡ record { graph = graph; target = target; config = config; sources = sources } → AreReached graph.vertices target marks → AreKept graph marks (length graph.vertices) kept names → (last : ℕ) × (slice_get names target ≡ Some (Some last))
+pub target_named : {C : Type 0} (plan : PlanValue C) (graph kept : GraphValue) (target : ℕ) (config : C) (sources : SourcesValue) (marks : List Bool)
+    (names : Names) → IsPlan plan
+    → plan ≡ record { graph = graph; target = target; config = config; sources = sources } → AreReached graph.vertices target marks
+    → AreKept graph marks (length graph.vertices) kept names → (last : ℕ) × (slice_get names target ≡ Some (Some last))
 target_named plan graph kept target config sources marks names is parts reached are =
     let lt : target < length graph.vertices = rw parts at is.target in
     are.named target lt reached.has_target
 
 -- each vertex that was kept is one of the old
-old_of : (old : GraphValue) (marks : List Bool) (new : GraphValue) (names : Names) (id : ℕ) (u : Vertex) → AreKept old marks (length old.vertices) new names → slice_get new.vertices id ≡ Some u
+old_of : (old : GraphValue) (marks : List Bool) (new : GraphValue) (names : Names) (id : ℕ) (u : Vertex)
+    → AreKept old marks (length old.vertices) new names → slice_get new.vertices id ≡ Some u
     → (k : ℕ) × (v : Vertex) × (slice_get old.vertices k ≡ Some v) × IsRenamed names v u
 old_of old marks new names id u are there =
     let k = are.onto id (slice_get_within new.vertices id u there) in
@@ -74,14 +81,17 @@ old_of old marks new names id u are there =
     (k.0, v, v_there, subst (IsRenamed names v) one s.2)
 
 -- so its sources have their trees
-pub kept_sources : {C : Type 0} (plan : PlanValue C) (graph kept : GraphValue) (target : ℕ) (config : C) (sources : SourcesValue) (marks : List Bool) (names : Names) → IsPlan plan
-    → plan ≡ record { graph = graph; target = target; config = config; sources = sources } → AreKept graph marks (length graph.vertices) kept names → HasSources sources kept.vertices
+pub kept_sources : {C : Type 0} (plan : PlanValue C) (graph kept : GraphValue) (target : ℕ) (config : C) (sources : SourcesValue) (marks : List Bool)
+    (names : Names) → IsPlan plan
+    → plan ≡ record { graph = graph; target = target; config = config; sources = sources } → AreKept graph marks (length graph.vertices) kept names
+    → HasSources sources kept.vertices
 kept_sources plan graph kept target config sources marks names is parts are id u there =
     let has : HasSources sources graph.vertices = rw parts at is.sources in
     let old = old_of graph marks kept names id u are there in
     subst (HasSource sources) (sym old.3.op) (has old.0 old.1 old.2)
 
-names_among : (names : Names) (olds news : List ℕ) (old : ℕ) → AreNames names olds news → Contains olds old → (new : ℕ) × (slice_get names old ≡ Some (Some new)) × Contains news new
+names_among : (names : Names) (olds news : List ℕ) (old : ℕ) → AreNames names olds news → Contains olds old
+    → (new : ℕ) × (slice_get names old ≡ Some (Some new)) × Contains news new
 names_among names [] [] old are h = absurd (contains_nil old h)
 names_among names [] (n ∷ ns) old are h = absurd are
 names_among names (o ∷ os) [] old are h = absurd are
@@ -111,7 +121,8 @@ pruned_needs old new is out id lt =
     leads_on old new is path.0 old.target k.0 new.target id path.1 is.last k.1
 
 -- the trees of inputs on their new numbers
-names_trees : (w : World) (names : Names) (old new : List Vertex) (n : ℕ) (olds news : List ℕ) → ((k id : ℕ) → k < n → slice_get names k ≡ Some (Some id) → value_of w.out w.sources new id ≡ value_of w.out w.sources old k)
+names_trees : (w : World) (names : Names) (old new : List Vertex) (n : ℕ) (olds news : List ℕ)
+    → ((k id : ℕ) → k < n → slice_get names k ≡ Some (Some id) → value_of w.out w.sources new id ≡ value_of w.out w.sources old k)
     → All (λ k. k < n) olds → AreNames names olds news → map (tree_at w new) news ≡ map (tree_at w old) olds
 names_trees w names old new n [] [] same low are = refl
 names_trees w names old new n [] (i ∷ is) same low are = absurd are
@@ -126,17 +137,20 @@ there_is (x ∷ xs) zero lt = (x, refl)
 there_is (x ∷ xs) (suc k) lt = there_is xs k (omega (arith, lt))
 
 -- a vertex with a new number is one of the old plan
-old_there : {C : Type 0} (old new : PlanValue C) (is : IsPruned old new) (k id : ℕ) → slice_get is.names k ≡ Some (Some id) → (v : Vertex) × (slice_get old.graph.vertices k ≡ Some v)
+old_there : {C : Type 0} (old new : PlanValue C) (is : IsPruned old new) (k id : ℕ) → slice_get is.names k ≡ Some (Some id)
+    → (v : Vertex) × (slice_get old.graph.vertices k ≡ Some v)
 old_there old new is k id name = there_is old.graph.vertices k (let l = slice_get_within is.names k (Some id) name in omega (arith, l, is.long))
 
 -- a vertex has the value that it had
-same_values : {C : Type 0} (old new : PlanValue C) (is : IsPruned old new) (w : World) (n k id : ℕ) → AreVertices old.graph.vertices → AreVertices new.graph.vertices → k < n → slice_get is.names k ≡ Some (Some id)
+same_values : {C : Type 0} (old new : PlanValue C) (is : IsPruned old new) (w : World) (n k id : ℕ) → AreVertices old.graph.vertices
+    → AreVertices new.graph.vertices → k < n → slice_get is.names k ≡ Some (Some id)
     → value_of w.out w.sources new.graph.vertices id ≡ value_of w.out w.sources old.graph.vertices k
 same_values old new is w zero k id olds news low name = absurd (omega (arith, low))
 same_values old new is w (suc n) k id olds news low name =
     let v = old_there old new is k id name in
     let s = is.same k id v.0 name v.1 in
-    let before : (j other : ℕ) → j < k → slice_get is.names j ≡ Some (Some other) → value_of w.out w.sources new.graph.vertices other ≡ value_of w.out w.sources old.graph.vertices j =
+    let before : (j other : ℕ) → j < k → slice_get is.names j ≡ Some (Some other)
+    → value_of w.out w.sources new.graph.vertices other ≡ value_of w.out w.sources old.graph.vertices j =
     λ j other lt e. same_values old new is w n j other olds news (omega (arith, lt, low)) e in
     let trees : map (tree_at w new.graph.vertices) s.0.inputs ≡ map (tree_at w old.graph.vertices) v.0.inputs =
     names_trees w is.names old.graph.vertices new.graph.vertices k v.0.inputs s.0.inputs before (olds.after k v.0 v.1) s.2.inputs in
@@ -144,13 +158,15 @@ same_values old new is w (suc n) k id olds news low name =
     ∙ (ap₂ (λ (op : Op) (ts : Trees). value_with w op ts) s.2.op trees
     ∙ sym (vertex_is w old.graph.vertices v.0.op v.0.inputs k olds v.1))
 
-pub value_stays : {C : Type 0} (old new : PlanValue C) (is : IsPruned old new) (out : Out) (k id : ℕ) → AreVertices old.graph.vertices → AreVertices new.graph.vertices → slice_get is.names k ≡ Some (Some id)
+pub value_stays : {C : Type 0} (old new : PlanValue C) (is : IsPruned old new) (out : Out) (k id : ℕ) → AreVertices old.graph.vertices
+    → AreVertices new.graph.vertices → slice_get is.names k ≡ Some (Some id)
     → vertex_value (problem_of out new) id ≡ vertex_value (problem_of out old) k
 unfolding vertex_value
 value_stays old new is out k id olds news name =
     ap (λ s. value_of out s new.graph.vertices id) is.sources ∙ same_values old new is (world out old.sources) (k + 1) k id olds news (omega arith) name
 
-pub failed_within : {C : Type 0} (out : Out) (plan : PlanValue C) (id : ℕ) (cause : Cause) → IsValue (problem_of out plan) id (Err cause) → id < length plan.graph.vertices
+pub failed_within : {C : Type 0} (out : Out) (plan : PlanValue C) (id : ℕ) (cause : Cause) → IsValue (problem_of out plan) id (Err cause)
+    → id < length plan.graph.vertices
 unfolding vertex_value
 failed_within out plan id cause is = value_within out plan.sources plan.graph.vertices id (Err cause) is
 
@@ -182,13 +198,16 @@ pruned_keeps old new is olds news = record {
 }
 
 -- what pruning answered on the way
-pub record IsMade {C : Type 0} (plan : PlanValue C) (graph kept : GraphValue) (target : ℕ) (config : C) (sources : SourcesValue) (marks : List Bool) (names : Names) : Type 0 where
+pub record IsMade {C : Type 0} (plan : PlanValue C) (graph kept : GraphValue) (target : ℕ) (config : C) (sources : SourcesValue) (marks : List Bool)
+    (names : Names) : Type 0 where
   pub parts : plan ≡ record { graph = graph; target = target; config = config; sources = sources }
   pub reached : AreReached graph.vertices target marks
   pub are : AreKept graph marks (length graph.vertices) kept names
 
-pub made : {C : Type 0} (plan : PlanValue C) (graph kept : GraphValue) (target : ℕ) (config : C) (sources : SourcesValue) (lent_vertices : List Vertex) (marks lent_marks : List Bool) (names : Names)
-    → plan ≡ record { graph = graph; target = target; config = config; sources = sources } → lent_vertices ≡ graph.vertices → AreReached lent_vertices target marks → lent_marks ≡ marks
+pub made : {C : Type 0} (plan : PlanValue C) (graph kept : GraphValue) (target : ℕ) (config : C) (sources : SourcesValue)
+    (lent_vertices : List Vertex) (marks lent_marks : List Bool) (names : Names)
+    → plan ≡ record { graph = graph; target = target; config = config; sources = sources } → lent_vertices ≡ graph.vertices
+    → AreReached lent_vertices target marks → lent_marks ≡ marks
     → AreKept graph lent_marks (length graph.vertices) kept names → IsMade plan graph kept target config sources marks names
 made plan graph kept target config sources lent_vertices marks lent_marks names parts same reached is are = record {
   parts = parts;
@@ -196,10 +215,14 @@ made plan graph kept target config sources lent_vertices marks lent_marks names 
   are = subst (λ ms. AreKept graph ms (length graph.vertices) kept names) is are;
 }
 
-pub made_pruned : {C : Type 0} (plan new : PlanValue C) (graph kept : GraphValue) (target last : ℕ) (config : C) (sources : SourcesValue) (marks : List Bool) (names lent_names : Names)
-    → IsMade plan graph kept target config sources marks names → lent_names ≡ names → slice_get lent_names target ≡ Some (Some last) → new ≡ record { graph = kept; target = last; config = config; sources = sources } → IsPruned plan new
+pub made_pruned : {C : Type 0} (plan new : PlanValue C) (graph kept : GraphValue) (target last : ℕ) (config : C) (sources : SourcesValue)
+    (marks : List Bool) (names lent_names : Names)
+    → IsMade plan graph kept target config sources marks names → lent_names ≡ names → slice_get lent_names target ≡ Some (Some last)
+    → new ≡ record { graph = kept; target = last; config = config; sources = sources } → IsPruned plan new
 made_pruned plan new graph kept target last config sources marks names lent_names is same name now =
-    kept_pruned plan new graph kept target last config sources marks names is.parts is.reached is.are (subst (λ (ns : Names). slice_get ns target ≡ Some (Some last)) same name) now
+    kept_pruned plan new graph kept target last config sources marks names is.parts is.reached is.are
+    (subst (λ (ns : Names). slice_get ns target ≡ Some (Some last)) same name) now
 
-pub made_keeps : {C : Type 0} (plan new : PlanValue C) (kept : GraphValue) → IsPlan plan → IsGraph kept → new.graph ≡ kept → IsPruned plan new → KeepsMeaning plan new
+pub made_keeps : {C : Type 0} (plan new : PlanValue C) (kept : GraphValue) → IsPlan plan → IsGraph kept → new.graph ≡ kept → IsPruned plan new
+    → KeepsMeaning plan new
 made_keeps plan new kept is graph same pruned = pruned_keeps plan new pruned is.graph (subst IsGraph (sym same) graph)

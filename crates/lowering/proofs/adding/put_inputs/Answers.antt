@@ -30,9 +30,11 @@ put_origin-requires-clause-room c = inputs_room _ _ _ _ _ _ _ _ c.in-Some.origin
 
 pub loop-origin-preserved : goal.loop-origin-preserved
 loop-origin-preserved c =
-    inputs_step _ _ _ _ _ _ _ _ _ c.in-Some.origin _ _ c.in_ok-id.id c.loop-origin.invariant c.in-Some.ensures.steps.0 c.in_ok-id.ensures c.in_ok-push-2.ensures.ok
+    inputs_step _ _ _ _ _ _ _ _ _ c.in-Some.origin _ _ c.in_ok-id.id c.loop-origin.invariant c.in-Some.ensures.steps.0 c.in_ok-id.ensures
+    c.in_ok-push-2.ensures.ok
 
 pub returns : goal.returns
 returns c =
     let all = inputs_all _ _ _ _ _ _ _ _ c.loop-origin.invariant (sym c.loop-origin.origin-iterator.rest.ok.0 ∙ c.in-None.ensures.steps.0) in
-    subst (λ os. AreInputsPut c.args.graph.now c.loop-origin.graph c.args.tips.now c.args.line c.args.base os c.loop-origin.inputs) c.into_iter-origin-iterator.ensures.into_iter_gives.0 all
+    subst (λ os. AreInputsPut c.args.graph.now c.loop-origin.graph c.args.tips.now c.args.line c.args.base os c.loop-origin.inputs)
+    c.into_iter-origin-iterator.ensures.into_iter_gives.0 all

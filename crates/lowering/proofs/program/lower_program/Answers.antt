@@ -5,7 +5,8 @@ use Rattle.lowering.proofs.PlanFacts.{stands_means, put_stands, no_room, rows_kn
 use Rattle.lowering.proofs.program.lower_program.Goals as goal
 
 pub lower_rows-requires-clause-room : goal.lower_rows-requires-clause-room
-lower_rows-requires-clause-room g c = record { sources = c.args.sources; has = c.requires.named; room = no_room c.args.rows c.args.sources c.requires.images c.requires.steps }
+lower_rows-requires-clause-room g c =
+    record { sources = c.args.sources; has = c.requires.named; room = no_room c.args.rows c.args.sources c.requires.images c.requires.steps }
 
 pub new-requires-clause-sources : goal.new-requires-clause-sources
 new-requires-clause-sources g c = rows_known c.args.rows _ _ c.args.sources c.in_ok-graph.ensures c.requires.named c.requires.images c.requires.steps

@@ -9,7 +9,8 @@ pub lower_stage-requires-clause-room : goal.lower_stage-requires-clause-room
 lower_stage-requires-clause-room c = subst (λ row. RoomFor (λ s. RowNames (HasTree s) row) c.args.graph.now (2 * row_steps row)) c.in-Some.is c.requires.room
 
 pub returns-in-None : goal.returns-in-None
-returns-in-None c = subst (λ row. IsRowPut c.args.graph.now c.args.graph.now c.args.tips.now row None) (sym c.in-None.is) (row_none c.args.graph.now c.args.tips.now)
+returns-in-None c = subst (λ row. IsRowPut c.args.graph.now c.args.graph.now c.args.tips.now row None) (sym c.in-None.is)
+    (row_none c.args.graph.now c.args.tips.now)
 
 pub returns-in_ok-lower_stage-in-Some : goal.returns-in_ok-lower_stage-in-Some
 returns-in_ok-lower_stage-in-Some c =

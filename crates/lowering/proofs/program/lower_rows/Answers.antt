@@ -24,7 +24,8 @@ lower_row-requires-clause-named c =
     (rows_named _ _ _ c.in-Some.row c.loop-row.graph c.loop-row.tips.items formed c.loop-row.invariant c.in-Some.ensures.steps.0)
 
 pub lower_row-requires-clause-inside : goal.lower_row-requires-clause-inside
-lower_row-requires-clause-inside c = subst (λ ts. AreInside ts (length c.loop-row.graph.vertices)) (sym c.as_slice.ensures.value) c.loop-row.invariant.are.inside
+lower_row-requires-clause-inside c =
+    subst (λ ts. AreInside ts (length c.loop-row.graph.vertices)) (sym c.as_slice.ensures.value) c.loop-row.invariant.are.inside
 
 pub lower_row-requires-clause-room : goal.lower_row-requires-clause-room
 lower_row-requires-clause-room c = rows_room _ _ _ c.in-Some.row c.loop-row.graph c.loop-row.tips.items c.loop-row.invariant c.in-Some.ensures.steps.0
@@ -37,5 +38,6 @@ loop-row-preserved c =
 pub returns : goal.returns
 returns c =
     let all = rows_all _ _ c.loop-row.graph c.loop-row.tips.items c.loop-row.invariant (sym c.loop-row.row-iterator.rest.ok.0 ∙ c.in-None.ensures.steps.0) in
-    let whole = subst (λ rows. AreRowsPut rows c.loop-row.graph c.loop-row.tips.items) (c.into_iter-row-iterator.ensures.into_iter_gives.0 ∙ c.into_vec-row-items.ensures) all in
+    let whole = subst (λ rows. AreRowsPut rows c.loop-row.graph c.loop-row.tips.items)
+    (c.into_iter-row-iterator.ensures.into_iter_gives.0 ∙ c.into_vec-row-items.ensures) all in
     subst (AreRowsPut c.args.rows c.loop-row.graph) (sym c.from_vec-tips.ensures) whole

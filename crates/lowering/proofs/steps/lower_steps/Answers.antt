@@ -43,4 +43,5 @@ loop-step-preserved c = steps_step _ _ _ _ _ _ _ _ _ _ c.in-Some.step c.loop-ste
 pub returns : goal.returns
 returns c =
     let all = steps_all _ _ _ _ _ _ _ c.loop-step.invariant (sym c.loop-step.step-iterator.rest.ok.0 ∙ c.in-None.ensures.steps.0) in
-    subst (λ ss. AreStepsPut c.args.graph.now c.loop-step.graph c.args.tips.now c.args.base ss c.loop-step.last) c.into_iter-step-iterator.ensures.into_iter_gives.0 all
+    subst (λ ss. AreStepsPut c.args.graph.now c.loop-step.graph c.args.tips.now c.args.base ss c.loop-step.last)
+    c.into_iter-step-iterator.ensures.into_iter_gives.0 all

@@ -13,7 +13,8 @@ add_all-requires-clause-inputs c =
 pub add_all-requires-clause-well_formed : goal.add_all-requires-clause-well_formed
 add_all-requires-clause-well_formed c =
     let are = subst (λ (is : List ℕ). AreNames c.args.names.now is c.in_ok-inputs.inputs) c.as_slice.ensures c.in_ok-inputs.ensures in
-    subst (λ n. IsTrue (is_well_formed_on c.args.vertex.op n)) (sym (names_long c.args.names.now c.args.vertex.inputs c.in_ok-inputs.inputs are)) c.requires.well_formed
+    subst (λ n. IsTrue (is_well_formed_on c.args.vertex.op n)) (sym (names_long c.args.names.now c.args.vertex.inputs c.in_ok-inputs.inputs are))
+    c.requires.well_formed
 
 pub returns-in-Ok : goal.returns-in-Ok
 returns-in-Ok c =

@@ -9,7 +9,8 @@ use Rattle.rewrite.proofs.MarkFacts.{marked_first, marked_step, unmarked_step, m
 use Rattle.rewrite.proofs.marks.mark_reached.Goals as goal
 
 pub loop-at-init : goal.loop-at-init
-loop-at-init c = marked_first _ _ c.in_ok-marks.marks.items _ _ c.in_ok-marks.ensures.long c.in_ok-marks.ensures.none c.requires.target (ap (λ n. slice_set c.in_ok-marks.marks.items n true) c.index.ensures) refl
+loop-at-init c = marked_first _ _ c.in_ok-marks.marks.items _ _ c.in_ok-marks.ensures.long c.in_ok-marks.ensures.none c.requires.target
+    (ap (λ n. slice_set c.in_ok-marks.marks.items n true) c.index.ensures) refl
 
 pub mark-requires : goal.mark-requires
 mark-requires c =
@@ -17,7 +18,8 @@ mark-requires c =
     let there = slice_get_read c.args.vertices.now _ (c.loop-at.at - 1) c.index-vertices-at.result refl at c.index-vertices-at.is in
     let same = c.as_slice.ensures ∙ ap (λ (v : Vertex). v.inputs) (sym c.index-vertices-at.is) in
     subst (All (λ i. i < vec_len c.loop-at.marks)) (sym same)
-    (inputs_inside c.args.vertices.now (c.loop-at.at - 1) (vec_len c.loop-at.marks) c.index-vertices-at.result c.requires.vertices there (omega (arith, c.loop-at.invariant.long, c.loop-at.marks.ok.0)))
+    (inputs_inside c.args.vertices.now (c.loop-at.at - 1) (vec_len c.loop-at.marks) c.index-vertices-at.result c.requires.vertices there
+    (omega (arith, c.loop-at.invariant.long, c.loop-at.marks.ok.0)))
 
 pub loop-at-preserved-then-index : goal.loop-at-preserved-then-index
 loop-at-preserved-then-index c =
@@ -26,13 +28,16 @@ loop-at-preserved-then-index c =
     let there = slice_get_read c.args.vertices.now _ (c.loop-at.at - 1) c.index-vertices-at.result refl at c.index-vertices-at.is in
     let same = c.as_slice.ensures ∙ ap (λ (v : Vertex). v.inputs) (sym c.index-vertices-at.is) in
     let marked = sym (get_or_read c.loop-at.marks.items _ _ in_marks c.index-in-loop-at.ensures false) ∙ c.if-index.true in
-    marked_step _ _ c.loop-at.at _ c.index-vertices-at.result _ _ _ c.requires.vertices c.loop-at.invariant c.loop-at-test.true refl there marked same c.mark.ensures
+    marked_step _ _ c.loop-at.at _ c.index-vertices-at.result _ _ _ c.requires.vertices c.loop-at.invariant c.loop-at-test.true refl there marked same
+    c.mark.ensures
 
 pub loop-at-preserved : goal.loop-at-preserved
 loop-at-preserved c =
-    let in_marks : c.loop-at.at - 1 < length c.loop-at.marks.items = omega (arith, c.loop-at.invariant.within, c.loop-at-test.true, c.loop-at.invariant.long) in
+    let in_marks : c.loop-at.at - 1 < length c.loop-at.marks.items =
+    omega (arith, c.loop-at.invariant.within, c.loop-at-test.true, c.loop-at.invariant.long) in
     let unmarked = sym (get_or_read c.loop-at.marks.items _ _ in_marks c.index-in-loop-at.ensures false) ∙ c.if-index.false in
     unmarked_step _ _ c.loop-at.at _ _ c.loop-at.invariant c.loop-at-test.true refl unmarked
 
 pub returns : goal.returns
-returns c = subst (AreReached c.args.vertices.now c.args.target) (sym c.from_vec.ensures) (marked_all _ _ c.loop-at.at _ c.loop-at.invariant c.loop-at-test.false)
+returns c = subst (AreReached c.args.vertices.now c.args.target) (sym c.from_vec.ensures)
+    (marked_all _ _ c.loop-at.at _ c.loop-at.invariant c.loop-at-test.false)
