@@ -4,18 +4,20 @@ use Rattle.std.specs.Result.{IsErrAnd}
 use Rattle.std.specs.Io.KnownBytes.{Appends, Consumes}
 use Rattle.std.proofs.lemmas.Bool.{lt-leb, leb-true, leb-false}
 use Rattle.std.proofs.lemmas.List.{take_all, length-take, length-take-le, take-append-drop}
-use Rattle.counted.specs.declared.fault.EdgeFault.{EdgeFault}
-use Rattle.counted.specs.declared.fault.EdgeFault.TheVariants as edge
-use Rattle.counted.specs.Edges.{AppendsBeginning, LosesBeginning, ReadsFirst, CountsFault}
+use Rattle.plain.specs.declared.fault.Fault.{Fault}
+use Rattle.plain.specs.declared.fault.Fault.TheVariants as edge
+use Rattle.counted.specs.declared.fault.Device.{Device}
+use Rattle.counted.specs.Edges.{AppendsBeginning, LosesBeginning, ReadsFirst, CountsFault, IsDevice}
 use Rattle.bundle.specs.Bundle.{bundle_of}
-use Rattle.llb.specs.Value.{Out}
+use Rattle.plans.specs.Value.{Out}
+use Rattle.lowering.specs.Meaning.{Rows}
 use Rattle.build.specs.declared.limits.Limits.{Limits}
 use Rattle.build.specs.declared.status.Status.{Status}
 use Rattle.build.specs.declared.told.Told.{Told}
 use Rattle.build.specs.Faults.{of_edge}
 use Rattle.build.specs.declared.status.BuildFault.{BuildFault}
 use Rattle.build.specs.declared.status.BuildFault.TheVariants as fault
-use Rattle.build.specs.Meaning.{Stage, Serves, Answers}
+use Rattle.build.specs.Meaning.{Serves, Answers}
 use Rattle.build.specs.Telling.{TellsBundle}
 use Rattle.build.specs.Ends.{Devices, IsBundle, IsUnwritten, HasAnswered, Ends}
 
@@ -53,14 +55,14 @@ loses_at_most limit (Some all) new bytes reads =
     let short : length (take limit all) ≤ limit = omega (arith, length-take limit all) in
     (take limit all, short, subst (λ rest. Consumes (Some all) rest (take limit all)) (sym reads.1) (sym (take-append-drop limit all)))
 
-serves : (limits : Limits) (bytes bundle : List ℕ) (stage : Stage) → bundle_of limits.bundle bytes ≡ bundle_of limits.bundle bundle
-    → Serves limits bytes stage → Serves limits bundle stage
-serves limits bytes bundle stage same s = record { text = s.text; command = s.command; reads = sym same ∙ s.reads; served = s.served; is = s.is }
+serves : (limits : Limits) (bytes bundle : List ℕ) (rows : Rows) → bundle_of limits.bundle bytes ≡ bundle_of limits.bundle bundle
+    → Serves limits bytes rows → Serves limits bundle rows
+serves limits bytes bundle rows same s = record { text = s.text; command = s.command; reads = sym same ∙ s.reads; served = s.served; is = s.is }
 
 answers : (limits : Limits) (bytes bundle : List ℕ) (out : Out) (status : Status) (text : List ℕ) → bundle_of limits.bundle bytes ≡ bundle_of limits.bundle bundle
     → Answers limits bytes out status text → Answers limits bundle out status text
 answers limits bytes bundle out status text same a =
-    record { stage = a.stage; serves = serves limits bytes bundle a.stage same a.serves; tells = a.tells }
+    record { rows = a.rows; serves = serves limits bytes bundle a.rows same a.serves; tells = a.tells }
 
 -- the line was written
 pub has_answered : (limits : Limits) (out : Out) (old new : Devices) (bytes line : List ℕ) (told : Told)
@@ -77,12 +79,12 @@ has_answered limits out old new bytes line told read tells is written reads writ
 }
 
 -- a write failed
-pub has_begun : (limits : Limits) (out : Out) (old new : Devices) (bytes line : List ℕ) (told : Told) (fault : EdgeFault)
+pub has_begun : (limits : Limits) (out : Out) (old new : Devices) (bytes line : List ℕ) (told : Told) (fault : Fault Device)
     → IsReadOf limits old.left bytes → TellsBundle limits bytes out (Ok told) → line ≡ told.line → AppendsBeginning old.written new.written line
-    → new.failed_reads ≡ old.failed_reads → CountsFault {T = Unit {0}} old.failed_writes new.failed_writes (Err fault) → fault ≡ edge.Device
+    → new.failed_reads ≡ old.failed_reads → CountsFault {T = Unit {0}} old.failed_writes new.failed_writes (Err fault) → IsDevice fault
     → Ends limits out old new (Err (of_edge fault))
-has_begun limits out old new bytes line told edge.Memory read tells is written reads writes device = cc
-has_begun limits out old new bytes line told edge.Device read tells is written reads writes device = inr (record {
+has_begun limits out old new bytes line told edge.Memory read tells is written reads writes device = absurd device
+has_begun limits out old new bytes line told (edge.Because failed) read tells is written reads writes device = inr (record {
   bundle = read.bundle;
   is = read.is;
   status = told.status;
@@ -103,7 +105,7 @@ tells_nothing limits out old new bytes fault.NotYet read tells unwritten reads =
   record {
     bundle = read.bundle;
     is = read.is;
-    unserved = λ stage s. tells stage (serves limits read.bundle bytes stage (sym read.same) s);
+    unserved = λ rows s. tells rows (serves limits read.bundle bytes rows (sym read.same) s);
   },
   unwritten,
   reads,

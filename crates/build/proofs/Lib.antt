@@ -1,5 +1,4 @@
 pub mod BuildingLemmas
+pub mod FileLemmas
 pub mod PlanLemmas
 pub mod ServedLemmas
-pub mod StageLemmas
-pub mod TellingLemmas

@@ -1,64 +1,90 @@
--- The plan of a Dockerfile that is served means its stage.
-use Rattle.std.proofs.Common.{◌≡◌, ℕ, zero, suc, List, [], ◌∷◌, Some, Err, ◌++◌, length, slice_index_or, refl, sym, ap, subst, arith}
-use Rattle.std.specs.FinMap.{empty}
-use Rattle.trees.specs.TreeMap.{TreeMap, empty_tree}
-use Rattle.trees.specs.declared.cause.Cause.{Cause}
-use Rattle.llb.specs.Graph.{GraphValue}
-use Rattle.llb.specs.Places.{least_line}
-use Rattle.llb.specs.Sources.{SourcesValue}
-use Rattle.llb.specs.declared.vertex.Vertex.{Vertex}
-use Rattle.llb.specs.Plan.{PlanValue, problem_of, IsValue, vertex_value}
-use Rattle.llb.specs.Value.{Out, ended}
-use Rattle.solver.specs.Needs.{NeedsAll}
-use Rattle.build.specs.Meaning.{run, shell_request, served_stage, Fails}
-use Rattle.build.specs.Means.{Means}
-use Rattle.build.specs.Vertices.{scratch_vertex, shell_vertex}
+-- The rows of a served Dockerfile are well formed, and whatever answers their pruned plan tells what they give.
+use Rattle.std.specs.FinMap.{entries, get-entries, get-empty}
+use Rattle.std.specs.FinMap.Entries.{find}
+use Rattle.std.specs.Ordering.{eq_by_cmp}
+use Rattle.std.proofs.lemmas.List.{length-map}
+use Rattle.paths.specs.Order.{name_cmp}
+use Rattle.paths.proofs.FrontLaws.{name_itself}
+use Rattle.plain.specs.Limits.{most_images}
+use Rattle.std.proofs.Common.{Bool, true, false, cond, map, length, ◌≡◌, ◌<◌, ◌≤◌, ℕ, List, [], ◌∷◌, ◌++◌, Option, Some, None, Result, Ok, Err, IfOk, refl, sym, ap, ◌∙◌, subst, arith}
+use Rattle.std.proofs.lemmas.List.Elements.{All-cons, All-nil}
+use Rattle.trees.specs.TreeMap.{TreeMap}
+use Rattle.plans.specs.Plan.{PlanValue, IsPlan, NeedsAll, problem_of}
+use Rattle.plans.specs.Value.{Out}
+use Rattle.lowering.specs.declared.stage.Stage.{Stage}
+use Rattle.lowering.specs.Meaning.{Rows}
+use Rattle.lowering.specs.Means.{Means, AreLined, world}
+use Rattle.lowering.specs.Outcome.{IsOutcome}
+use Rattle.lowering.specs.WellFormed.{IsRow, IsStage, IsStep, IsWellFormed, StageNames, IsNamed, NamesOnly, RowNames, HasTree}
+use Rattle.lowering.specs.declared.stage.Origin.{Origin}
+use Rattle.lowering.specs.declared.stage.Origin.TheVariants.{Source as SourceOf}
+use Rattle.lowering.specs.declared.stage.Step.{Step}
+use Rattle.llb.specs.declared.op.Source.TheVariants.{Scratch}
+use Rattle.plans.specs.Sources.{SourcesValue}
+use Rattle.std.specs.List.{All}
+use Rattle.rewrite.specs.Pruned.{IsPruned, KeepsMeaning}
+use Rattle.rewrite.proofs.LawFacts.{built_is, failure_is}
+use Rattle.solver.specs.Answer.{IsAnswer}
+use Rattle.solver.specs.declared.answer.Answer.{Answer}
+use Rattle.solver.specs.declared.answer.Answer.TheVariants as answer
+use Rattle.build.specs.declared.status.Status.{Status}
+use Rattle.build.specs.declared.told.Told.{Told}
+use Rattle.build.specs.Meaning.{Tells, line_of, no_sources, served_rows, served_stage, served_step}
+use Rattle.build.specs.Telling.{status_of, text_of, TellsFile}
 
--- the plan: the empty tree, and the shell on it
-abbrev pub served_plan : {C : Type 0} → C → List ℕ → PlanValue C
-served_plan config command = record {
-  graph = record { vertices = scratch_vertex ∷ (shell_vertex command 0 ∷ []); places = (1 ∷ []) ∷ ((2 ∷ []) ∷ []) };
-  target = 1;
-  config = config;
-  sources = record { context = empty_tree; images = empty };
+served_step-is : (command : List ℕ) → IsStep (served_step command)
+served_step-is command = record { line = (omega arith, omega arith); action = refl }
+
+served_stage-is : (command : List ℕ) → IsStage (served_stage command)
+served_stage-is command = record { line = (omega arith, omega arith); steps = All-cons IsStep (served_step command) [] (served_step-is command) (All-nil IsStep) }
+
+-- its one instruction names nothing
+names : (P : Origin → Type 0) (command : List ℕ) → P (SourceOf Scratch) → StageNames P (served_stage command)
+names P command base = record {
+  base = base;
+  steps = All-cons (λ (step : Step). NamesOnly P step.action) (served_step command) [] (All-nil P) (All-nil (λ (step : Step). NamesOnly P step.action));
 }
 
-failing : {C : Type 0} (config : C) (command : List ℕ) (out : Out) (id : ℕ) (cause : Cause)
-    → IsValue (problem_of out (served_plan config command)) id (Err cause) → (id ≡ 1) × (ended (out (shell_request empty_tree command)) ≡ Err cause)
-unfolding vertex_value
-failing config command out zero cause is = cc
-failing config command out (suc zero) cause is = (refl, cc)
-failing config command out (suc (suc id)) cause is = cc
+pub rows_are_named : (sources : SourcesValue) (command : List ℕ) → All (RowNames (HasTree sources)) (served_rows command)
+rows_are_named sources command =
+    All-cons (RowNames (HasTree sources)) (Some (served_stage command)) [] (names (HasTree sources) command refl) (All-nil (RowNames (HasTree sources)))
 
-failing_is : {C : Type 0} (config : C) (command : List ℕ) (out : Out) (id : ℕ) (cause : Cause)
-    → (id ≡ 1) × (ended (out (shell_request empty_tree command)) ≡ Err cause)
-    → Fails out (served_stage command) (least_line (slice_index_or (served_plan config command).graph.places id [])) cause
-failing_is config command out id cause is =
-    let fails : Fails out (served_stage command) 2 cause = record { before = []; instruction = run command; after = []; there = refl; gives = ap Some is.1 } in
-    subst (λ n. Fails out (served_stage command) (least_line (slice_index_or (served_plan config command).graph.places n [])) cause) (sym is.0) fails
+pub rows_are_well_formed : (command : List ℕ) → IsWellFormed (served_rows command)
+rows_are_well_formed command [] after row e =
+    let same : Some (served_stage command) ≡ row = cc in
+    subst (IsRow []) same (served_stage-is command, names (IsNamed []) command refl)
+rows_are_well_formed command (first ∷ []) after row e = cc
+rows_are_well_formed command (first ∷ (second ∷ before)) after row e = cc
 
-pub served_means : {C : Type 0} (config : C) (command : List ℕ) → Means (served_plan config command) (served_stage command)
-unfolding vertex_value
-served_means config command = record {
-  tree = λ out. refl;
-  failures = λ out id cause is. failing_is config command out id cause (failing config command out id cause is);
-}
+-- what a condition that holds gives is there
+some_is_there : (b : Bool) (tree : TreeMap) (rest : Option TreeMap) → b ≡ true → cond b (Some tree) rest ≡ None → ⊥
+some_is_there true tree rest holds none = cc
+some_is_there false tree rest holds none = cc
 
--- the target stands on the only other vertex
-pub served_needed : {C : Type 0} (config : C) (command : List ℕ) (out : Out) → NeedsAll (problem_of out (served_plan config command))
-served_needed config command out zero within = (0 ∷ [], (record { v = shell_vertex command 0; there = refl; among = (0, omega arith, refl) }, refl))
-served_needed config command out (suc zero) within = ([], refl)
-served_needed config command out (suc (suc vertex)) within = absurd (omega (arith, within))
+-- no image is there
+none_found : (es : List (List ℕ × TreeMap)) → ((q : List ℕ) → find name_cmp q es ≡ None) → length es ≡ 0
+none_found [] none = refl
+none_found (e ∷ es) none = absurd (some_is_there (eq_by_cmp name_cmp e.0 e.0) e.1 (find name_cmp e.0 es) (name_itself e.0) (none e.0))
 
--- a graph and a vertex that was added to it
-abbrev pub with_vertex : GraphValue → Vertex → ℕ → GraphValue
-with_vertex graph vertex line = record { vertices = graph.vertices ++ vertex ∷ []; places = graph.places ++ (line ∷ []) ∷ [] }
+pub no_images : length (map (λ (e : List ℕ × TreeMap). e.0) (entries no_sources.images)) ≤ most_images
+no_images =
+    let none : length (entries no_sources.images) ≡ 0 = none_found (entries no_sources.images) (λ q. sym (get-entries no_sources.images q) ∙ get-empty name_cmp q) in
+    omega (arith, length-map (entries no_sources.images) (λ (e : List ℕ × TreeMap). e.0))
 
--- what is made in the plan's order is the plan
-pub served_made : {C : Type 0} (config : C) (command : List ℕ) (none first second : GraphValue) (scratch shell : Vertex) (base target : ℕ) (context : TreeMap) (sources : SourcesValue) (plan : PlanValue C)
-    → none ≡ record { vertices = []; places = [] } → scratch ≡ scratch_vertex → base ≡ length none.vertices → first ≡ with_vertex none scratch 1
-    → shell ≡ shell_vertex command base → target ≡ length first.vertices → second ≡ with_vertex first shell 2
-    → context ≡ empty_tree → sources ≡ record { context = context; images = empty } → plan ≡ record { graph = second; target = target; config = config; sources = sources }
-    → plan ≡ served_plan config command
-served_made config command none first second scratch shell base target context sources plan a b c d e f h i j k =
-    rw (k, j, i, h, f, e, d, c, b, a)
+-- whatever answers the pruned plan of a served Dockerfile tells what the Dockerfile gives
+pub tells : {C : Type 0} (out : Out) (plan pruned : PlanValue C) (rows : Rows) (answer : Answer C)
+    → Means plan rows 0 → AreLined plan.graph → plan.sources ≡ no_sources → IsPlan pruned → IsPruned plan pruned → KeepsMeaning plan pruned
+    → NeedsAll (problem_of out pruned) → IsAnswer out pruned answer → Tells out rows (status_of answer) (text_of answer)
+tells out plan pruned rows (answer.Built tree config) means lined sources is same keeps needed a =
+    (tree, subst (λ s. IsOutcome (world out s) rows 0 (Ok tree)) sources (built_is out plan pruned rows 0 tree means keeps a.0), refl)
+tells out plan pruned rows (answer.Failed place cause) means lined sources is same keeps needed a =
+    let outcome : IsOutcome (world out plan.sources) rows 0 (Err (place, cause)) =
+    failure_is out plan pruned rows 0 a.0 place cause means lined is same keeps needed a.1.value a.1.least in
+    (place, cause, subst (λ s. IsOutcome (world out s) rows 0 (Err (place, cause))) sources outcome, refl)
+
+-- a line that is made of what tells a file
+pub line_tells : {E : Type 0} (out : Out) (rows : Rows) (status : Status) (text : List ℕ) (result : Result Told E)
+    → Tells out rows status text → IfOk result (λ told. told.status ≡ status) → IfOk result (λ told. told.line ≡ line_of text)
+    → IfOk result (TellsFile out rows)
+line_tells out rows status text (Ok told) tells is line = (text, subst (λ s. Tells out rows s text) (sym is) tells, line)
+line_tells out rows status text (Err e) tells is line = tt

@@ -10,7 +10,7 @@ use Rattle.std.proofs.lemmas.Bool.Decides.{Decides-eqb}
 use Rattle.std.proofs.lemmas.List.{take_more, take_all, get_or_past}
 use Rattle.std.proofs.lemmas.List.Folds.{list_all_at}
 use Rattle.build.specs.Served.{opening, IsPlain, IsCommand, IsServed}
-use Rattle.build.specs.ServedTests.{holds_mark, is_plain, is_beginning, ends_in_blank, is_command, without_line_end, IsCut}
+use Rattle.build.specs.PrivateServed.{holds_mark, is_plain, is_beginning, ends_in_blank, is_command, without_line_end, IsCut}
 
 cons_false : (c : ℕ) (cs : List ℕ) → starts_with nat_eq (c ∷ cs) (codes "<<") ≡ false → holds_mark cs ≡ holds_mark (c ∷ cs)
 cons_false c cs h = sym (ap (λ b. b || holds_mark cs) h)

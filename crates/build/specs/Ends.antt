@@ -2,16 +2,18 @@
 use Rattle.std.specs.Prelude.{◌≡◌, ◌⊎◌, ℕ, ◌+◌, List, Option, Some, None, Result, Ok, Err, ⊤}
 use Rattle.std.specs.Io.KnownBytes.{Appends}
 use Rattle.counted.specs.Edges.{AppendsBeginning}
-use Rattle.llb.specs.Value.{Out}
+use Rattle.plans.specs.Value.{Out}
+use Rattle.lowering.specs.Meaning.{Rows}
+use Rattle.plain.specs.Limits.{most_bundle_bytes, most_dockerfile_bytes}
 use Rattle.build.specs.declared.limits.Limits.{Limits}
 use Rattle.build.specs.declared.status.Status.{Status}
 use Rattle.build.specs.declared.status.BuildFault.{BuildFault}
 use Rattle.build.specs.declared.status.BuildFault.TheVariants.{Memory, Device, NotYet}
-use Rattle.build.specs.Meaning.{Stage, Serves, Answers, line_of}
+use Rattle.build.specs.Meaning.{Serves, Answers, line_of}
 
--- the limits of the program, in bytes: 64 MiB of a bundle, 1 MiB of a Dockerfile (own)
+-- the limits of the program, in bytes: those of a bundle and of a Dockerfile (own)
 abbrev pub program_limits : Limits
-program_limits = record { bundle = 67108864; dockerfile = 1048576 }
+program_limits = record { bundle = most_bundle_bytes; dockerfile = most_dockerfile_bytes }
 
 -- A reader and a writer: the bytes that are left to be read and those that were written, where they are known, and how many calls
 -- of each failed. Those in memory (std's `Cursor` and `Vec<u8>`) tell their bytes. Of standard input and output std says only how many
@@ -51,7 +53,7 @@ pub record HasAnswered (limits : Limits) (out : Out) (old new : Devices) (status
 pub record IsUnserved (limits : Limits) (old : Devices) : Type 0 where
   pub bundle : List ℕ
   pub is : IsBundle old.left bundle
-  pub unserved : (stage : Stage) → ¬ Serves limits bundle stage
+  pub unserved : (rows : Rows) → ¬ Serves limits bundle rows
 
 -- a write failed, and a beginning of an answer to the bundle, with its LF, was written
 pub record HasBegun (limits : Limits) (out : Out) (old new : Devices) : Type 0 where

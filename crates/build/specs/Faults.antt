@@ -1,23 +1,23 @@
 -- What faults of the layers below come to, and with which status the program ends (own).
 use Rattle.std.specs.Prelude.{ℕ, Result, Ok, Err}
-use Rattle.counted.specs.declared.fault.EdgeFault.{EdgeFault}
-use Rattle.counted.specs.declared.fault.EdgeFault.TheVariants as edge
-use Rattle.bundle.specs.declared.fault.BundleFault.{BundleFault}
-use Rattle.bundle.specs.declared.fault.BundleFault.TheVariants as bundle
+use Rattle.plain.specs.declared.fault.Fault.{Fault}
+use Rattle.plain.specs.declared.fault.Fault.TheVariants as fault
+use Rattle.counted.specs.declared.fault.Device.{Device as DeviceFailed}
+use Rattle.bundle.specs.declared.fault.NotYet.{NotYet as NotServed}
 use Rattle.build.specs.declared.status.Status.{Status}
 use Rattle.build.specs.declared.status.Status.TheVariants.{Built, Failed, Refused}
 use Rattle.build.specs.declared.status.BuildFault.{BuildFault}
 use Rattle.build.specs.declared.status.BuildFault.TheVariants.{Memory, Device, NotYet}
 
 -- a fault of an edge
-abbrev pub of_edge : EdgeFault → BuildFault
-of_edge edge.Memory = Memory
-of_edge edge.Device = Device
+abbrev pub of_edge : Fault DeviceFailed → BuildFault
+of_edge fault.Memory = Memory
+of_edge (fault.Because device) = Device
 
 -- a bundle that isn't read
-abbrev pub of_bundle : BundleFault → BuildFault
-of_bundle bundle.NotYet = NotYet
-of_bundle bundle.Memory = Memory
+abbrev pub of_bundle : Fault NotServed → BuildFault
+of_bundle (fault.Because bytes) = NotYet
+of_bundle fault.Memory = Memory
 
 -- the status that the program ends with
 abbrev pub exit_status : Result Status BuildFault → ℕ

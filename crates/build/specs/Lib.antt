@@ -2,10 +2,7 @@ pub mod Config
 pub mod Ends
 pub mod Faults
 pub mod Meaning
-pub mod MeaningLaws
-pub mod Means
 pub mod Messages
 pub mod Served
-pub mod ServedTests
+pub mod PrivateServed
 pub mod Telling
-pub mod Vertices

@@ -19,6 +19,7 @@ use std::alloc::Global;
 /// counts of failed calls are what is said. One body serves all: it doesn't know what it reads from or writes to.
 ///
 /// The counts of failed calls are machine numbers, so a caller has to know that there is room for one more in each.
+#[tactic(auto, unfolding(plain::specs::Limits::most_bundle_bytes, plain::specs::Limits::most_dockerfile_bytes))]
 pub fn run_build<R: CountedRead, W: CountedWrite, E: Executor>(
     alloc: Global,
     input: &mut R,

@@ -31,4 +31,3 @@ pub use config::PlainConfig;
 pub use limits::{LIMITS, Limits};
 pub use planning::plan_of;
 pub use status::{BuildFault, Status};
-

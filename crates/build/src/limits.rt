@@ -1,3 +1,5 @@
+use plain::limits::{MOST_BUNDLE_BYTES, MOST_DOCKERFILE_BYTES};
+
 /// How many bytes a build takes at most (own).
 #[derive(Clone, Copy, Debug, PartialEq, Eq)]
 pub struct Limits {
@@ -9,6 +11,6 @@ pub struct Limits {
 
 /// The limits of the program.
 pub const LIMITS: Limits = Limits {
-    bundle: 67_108_864,
-    dockerfile: 1_048_576,
+    bundle: MOST_BUNDLE_BYTES,
+    dockerfile: MOST_DOCKERFILE_BYTES,
 };

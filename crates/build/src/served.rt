@@ -1,7 +1,7 @@
 ghost use Rattle.std.specs.Prelude.{◌≡◌, ℕ, List, MatchOption};
 ghost use Rattle.std.specs.List.{list_all};
 ghost use Rattle.build.specs.Served.{IsServed};
-ghost use Rattle.build.specs.ServedTests.{without_line_end, holds_mark, is_plain, is_beginning, is_command, ends_in_blank};
+ghost use Rattle.build.specs.PrivateServed.{without_line_end, holds_mark, is_plain, is_beginning, is_command, ends_in_blank};
 
 /// How a served Dockerfile begins.
 const OPENING: &[u8; 17] = b"FROM scratch\nRUN ";

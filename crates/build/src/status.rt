@@ -1,6 +1,6 @@
-use bundle::BundleFault;
-use counted::EdgeFault;
-use plain::Memory;
+use bundle::{BundleFault, NotYet};
+use counted::{Device, EdgeFault};
+use plain::{Fault, Memory};
 use std::error::Error;
 use std::fmt;
 
@@ -51,8 +51,8 @@ impl From<EdgeFault> for BuildFault {
 
     fn from(edge: EdgeFault) -> BuildFault {
         match edge {
-            EdgeFault::Memory => BuildFault::Memory,
-            EdgeFault::Device => BuildFault::Device,
+            Fault::Memory => BuildFault::Memory,
+            Fault::Because(Device) => BuildFault::Device,
         }
     }
 }
@@ -65,8 +65,8 @@ impl From<BundleFault> for BuildFault {
 
     fn from(bundle: BundleFault) -> BuildFault {
         match bundle {
-            BundleFault::NotYet => BuildFault::NotYet,
-            BundleFault::Memory => BuildFault::Memory,
+            Fault::Because(NotYet) => BuildFault::NotYet,
+            Fault::Memory => BuildFault::Memory,
         }
     }
 }

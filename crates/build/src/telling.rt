@@ -1,12 +1,13 @@
 ghost use Rattle.std.specs.Prelude.{◌≡◌, IfOk};
-ghost use Rattle.build.specs.Meaning.{served_stage, line_of};
-ghost use Rattle.build.specs.Telling.{status_of, text_of, TellsStage, TellsBundle};
+ghost use Rattle.build.specs.Meaning.{served_rows, line_of};
+ghost use Rattle.build.specs.Telling.{status_of, text_of, TellsFile, TellsBundle};
 
 use crate::config::plain_value;
 use crate::served::served_command;
 use crate::told::Told;
 use crate::{BuildFault, Limits, PlainConfig, Status, plan_of};
 use bundle::{built_answer, failed_answer, read_bundle};
+use cachemounts::CacheStore;
 use executor::Executor;
 use plain::{Memory, Text};
 use solver::{Answer, solve_here};
@@ -33,10 +34,11 @@ pub(crate) fn tell_bundle<E: Executor>(
 
 /// What a build tells of the Dockerfile that is served with this command.
 fn tell_command<E: Executor>(alloc: Global, command: &str, executor: &E) -> Result<Told, Memory>
-    ensures { IfOk result (TellsStage (E.out executor.now) (served_stage command.now)) }
+    ensures { IfOk result (TellsFile (E.out executor.now) (served_rows command.now)) }
 {
     let plan = plan_of(alloc, command)?;
-    let answer = solve_here(alloc, &plan, executor)?;
+    let mut caches = CacheStore::new(alloc);
+    let answer = solve_here(alloc, &plan, executor, &mut caches)?;
     tell_answer(alloc, &answer)
 }
 

@@ -9,7 +9,7 @@ use Rattle.clap.specs.declared.error.kind.ErrorKind.TheVariants.{DisplayHelp, Di
 use Rattle.command.specs.CommandLine.{whole_command}
 use Rattle.command.specs.Tasks.{IsTaskOf}
 use Rattle.command.specs.declared.task.Task.{Task}
-use Rattle.llb.specs.Value.{Out}
+use Rattle.plans.specs.Value.{Out}
 use Rattle.build.specs.declared.status.Status.{Status}
 use Rattle.build.specs.declared.status.BuildFault.{BuildFault}
 use Rattle.build.specs.Ends.{Devices, Ends, program_limits}

@@ -3,7 +3,7 @@ use Rattle.std.proofs.lemmas.Bool.{true≢false}
 use Rattle.std.proofs.lemmas.Bool.Decides.{Decides-eqb}
 use Rattle.std.proofs.lemmas.Slice.Eq.{strip_prefix_is}
 use Rattle.build.specs.Served.{opening}
-use Rattle.build.specs.ServedTests.{is_command, without_line_end}
+use Rattle.build.specs.PrivateServed.{is_command, without_line_end}
 use Rattle.build.proofs.ServedLemmas.{served, served_is, cut_served, served_cut, command_from}
 use Rattle.build.proofs.served.command_in.Goals as goal
 

@@ -1,5 +1,5 @@
 use Rattle.std.proofs.Common.{◌≡◌, drop}
-use Rattle.build.specs.ServedTests.{holds_mark}
+use Rattle.build.specs.PrivateServed.{holds_mark}
 use Rattle.build.proofs.served.holds_mark.Given as goal
 
 -- what is left decides

@@ -1,7 +1,7 @@
 use Rattle.std.proofs.Common.{◌∙◌, sym, ap, Some, List, ℕ}
 use Rattle.bundle.specs.Bundle.{bundle_with}
 use Rattle.build.specs.Served.{IsServed}
-use Rattle.build.proofs.StageLemmas.{unserved}
+use Rattle.build.proofs.FileLemmas.{unserved}
 use Rattle.build.proofs.telling.tell_bundle.Goals as goal
 
 pub returns-in_default : goal.returns-in_default
