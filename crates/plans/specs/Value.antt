@@ -72,8 +72,9 @@ file_value (CopyOp files) trees = copy_value files trees
 file_value (MakeDirsOp path) trees = dirs_value path trees
 file_value MergeOp trees = None
 
--- what an operation gives on the trees of its inputs: a source its tree, if there is one. On another number of trees than it has
--- inputs, which no vertex of a graph gives it, a command, a copy and a directory give nothing
+-- what an operation gives on the trees of its inputs: a source its tree, if there is one. A vertex of a graph has as many inputs as its
+-- operation asks for; on another number of trees a copy and a directory give nothing, and a command leaves out the binds or the
+-- trees that are too many
 abbrev pub result_of : Out → SourcesValue → Op → List TreeMap → Value
 result_of out sources (SourceOp source) trees = option_map Ok (source_tree sources source)
 result_of out sources (ExecOp exec) trees = run_value out exec trees
