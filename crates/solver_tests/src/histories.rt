@@ -1,0 +1,127 @@
+use crate::rows::{Row, SCRATCH, locked_on, plan_of, run_on};
+use board::{Event, Happened};
+use executor::{Executor, Fixture};
+use plans::Plan;
+use replay::follow;
+use std::alloc::Global;
+use std::process::Abort;
+use std::test::Fail;
+
+/// A history in a line: what happened, the worker, and the vertex.
+fn written(alloc: Global, history: &[Happened]) -> Result<String, Fail> {
+    let mut text = String::new(alloc);
+    for happened in history {
+        let (what, worker, vertex) = match happened {
+            Happened::Claimed { worker, vertex } => ('c', worker, vertex),
+            Happened::Settled {
+                worker,
+                vertex,
+                given: _,
+            } => ('s', worker, vertex),
+            Happened::Abandoned { worker, vertex } => ('a', worker, vertex),
+        };
+        write!(text, "{what}{worker}:{} ", vertex.number())?;
+    }
+    Ok(text)
+}
+
+/// Events of a line: `c0 s0 a1` is a claim and a settle by worker 0 and an abandon by worker 1.
+fn events_of(alloc: Global, line: &str) -> Result<Vec<Event>, Fail> {
+    let mut events = Vec::new(alloc);
+    for word in line.split(' ') {
+        let worker = if word.ends_with('1') { 1 } else { 0 };
+        events.push(if word.starts_with('c') {
+            Event::Claim(worker)
+        } else if word.starts_with('s') {
+            Event::Settle(worker)
+        } else {
+            Event::Abandon(worker)
+        })?;
+    }
+    Ok(events)
+}
+
+/// Whether events leave this history of the plan of these rows.
+fn expect(
+    rt: &impl Abort,
+    alloc: Global,
+    rows: &[Row],
+    target: u32,
+    events: &str,
+    expected: &str,
+) -> Result<(), Fail> {
+    let plan = plan_of(alloc, rows, target)?;
+    let text = history_text(alloc, &plan, &Fixture, events)?;
+    assert_eq!(rt; text.as_str(), expected);
+    Ok(())
+}
+
+/// The history that events leave of a plan, in a line.
+fn history_text<E: Executor>(
+    alloc: Global,
+    plan: &Plan<u8>,
+    executor: &E,
+    events: &str,
+) -> Result<String, Fail> {
+    let events = events_of(alloc, events)?;
+    let history = follow(alloc, plan, executor, events.as_slice())?;
+    written(alloc, history.as_slice())
+}
+
+#[test]
+fn impossible_event_is_skipped(rt: HostRuntime) -> Result<(), Fail> {
+    let rows = [SCRATCH, run_on(0, 2, "put /a hi")];
+    expect(
+        &rt,
+        rt.alloc(),
+        &rows,
+        1,
+        "c0 c1 s0 c1 s1",
+        "c0:0 s0:0 c1:1 s1:1 ",
+    )
+}
+
+#[test]
+fn two_workers_one_target(rt: HostRuntime) -> Result<(), Fail> {
+    let rows = [SCRATCH, run_on(0, 2, "put /a 1"), run_on(0, 3, "put /a 2")];
+    expect(
+        &rt,
+        rt.alloc(),
+        &rows,
+        2,
+        "c0 s0 c0 c1 s1 c1 a0 c0",
+        "c0:0 s0:0 c0:1 c1:2 s1:2 a0:1 ",
+    )
+}
+
+#[test]
+fn failure_stops_the_board(rt: HostRuntime) -> Result<(), Fail> {
+    let rows = [SCRATCH, run_on(0, 2, "fail 1"), run_on(1, 3, "put /a 2")];
+    expect(
+        &rt,
+        rt.alloc(),
+        &rows,
+        2,
+        "c0 s0 c0 s0 c1",
+        "c0:0 s0:0 c0:1 s0:1 ",
+    )
+}
+
+#[test]
+fn locked_cache_is_held_alone(rt: HostRuntime) -> Result<(), Fail> {
+    let rows = [
+        SCRATCH,
+        locked_on(0, 2, "k", "put /a 1"),
+        locked_on(0, 3, "k", "put /o 1"),
+        locked_on(2, 4, "k", "put /p 1"),
+    ];
+    // Vertex 2 is ready once vertex 1 has given the cache back.
+    expect(
+        &rt,
+        rt.alloc(),
+        &rows,
+        3,
+        "c0 s0 c0 c1 s0 c1 c0 a1 c0",
+        "c0:0 s0:0 c0:1 s0:1 c1:2 a1:2 c0:2 ",
+    )
+}
