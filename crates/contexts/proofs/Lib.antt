@@ -1,0 +1,5 @@
+mod Joining
+mod Rows
+mod Placing
+mod Folders
+mod Whole

@@ -1,0 +1,104 @@
+ghost use Rattle.std.specs.Prelude.{◌≡◌, ◌<◌, ◌↔◌, ◌⊎◌, ℕ, true, List, [], None, IsTrue, IfOk, OnOk, is_some, length, get_or};
+ghost use Rattle.std.specs.FinMap.{get};
+ghost use Rattle.trees.specs.Put.{cause_at, planted};
+ghost use Rattle.trees.specs.TreeMap.{directory_meta, IsTree};
+ghost use Rattle.contexts.specs.Context.{IsListing, owned, owned_meta};
+ghost use Rattle.contexts.specs.PrivatePlaces.{IsPlaced, AreFolders, HasModes, AreApart};
+
+use paths::Path;
+use plain::{Fault, Memory};
+use std::alloc::Global;
+use trees::{Entry, Meta, Tree};
+
+/// An entry as a context has it: owned by 0:0.
+fn owned(entry: Entry) -> Entry
+    ensures { result ≡ owned entry }
+{
+    match entry {
+        Entry::Directory(meta) => Entry::Directory(owned_meta(meta)),
+        Entry::File(meta, content) => Entry::File(owned_meta(meta), content),
+    }
+}
+
+/// The same mode, owned by 0:0.
+fn owned_meta(meta: Meta) -> Meta
+    ensures { result ≡ owned_meta meta }
+{
+    Meta {
+        mode: meta.mode,
+        uid: 0,
+        gid: 0,
+    }
+}
+
+/// Puts an entry where nothing stands in its way.
+fn place(alloc: Global, tree: &mut Tree, path: &Path, entry: Entry) -> Result<(), Memory>
+    requires { cause_at (get tree.old) path.now entry ≡ None }
+    ensures { OnOk result ((q : List (List ℕ)) → get tree.new q ≡ planted (get tree.old) path.now directory_meta entry q) }
+{
+    match tree.put(alloc, path, entry) {
+        Ok(()) => Ok(()),
+        Err(Fault::Memory) => Err(Memory),
+        Err(Fault::Because(_)) => unreachable!(),
+    }
+}
+
+/// Whether the row at this position is wanted: its flag says so, or it is the root.
+fn is_wanted(flags: &[bool], position: usize, path: &Path) -> bool
+    requires { position < length flags.now }
+    ensures { IsTrue result ↔ ((path.now ≡ []) ⊎ (get_or flags.now position true ≡ true)) }
+{
+    flags[position] || path.is_root()
+}
+
+/// The tree of the rows that are wanted, and the directories among the others.
+pub(crate) fn place_rows(
+    alloc: Global,
+    rows: Vec<(Path, Entry)>,
+    flags: &[bool],
+) -> Result<(Tree, Vec<(Path, Meta)>), Memory>
+    requires listing { IsListing rows.items }
+    requires flagged { length flags.now ≡ length rows.items }
+    ensures tree { IfOk result (λ made. IsPlaced rows.items flags.now 0 made.0) }
+    ensures folders { IfOk result (λ made. AreFolders rows.items flags.now 0 made.1.items) }
+{
+    let mut left = rows;
+    let mut tree = Tree::empty(alloc);
+    let mut folders = Vec::new(alloc);
+    while let Some((path, entry)) = left.pop() {
+        if is_wanted(flags, left.len(), &path) {
+            place(alloc, &mut tree, &path, owned(entry))?;
+        } else if let Entry::Directory(meta) = entry {
+            folders.push((path, meta))?;
+        }
+    }
+    Ok((tree, folders))
+}
+
+/// Whether something stands at a path of a tree. That it is a tree is known from its root.
+fn stands(tree: &Tree, path: &Path) -> bool
+    ensures value { result ≡ is_some (get tree.now path.now) }
+    ensures tree { IsTree tree.now }
+{
+    let _root = tree.root();
+    tree.get(path).is_some()
+}
+
+/// Gives the directories that stand in a tree their modes.
+pub(crate) fn set_modes(
+    alloc: Global,
+    before: Tree,
+    folders: Vec<(Path, Meta)>,
+) -> Result<Tree, Memory>
+    requires { AreApart folders.items before }
+    ensures { IfOk result (λ tree. HasModes folders.items 0 before tree) }
+{
+    let mut tree = before;
+    let mut left = folders;
+    while let Some((path, meta)) = left.pop() {
+        if stands(&tree, &path) {
+            place(alloc, &mut tree, &path, Entry::Directory(owned_meta(meta)))?;
+        }
+    }
+    Ok(tree)
+}
