@@ -1,8 +1,7 @@
 -- The rows of a served Dockerfile are well formed, and whatever answers their pruned plan tells what they give.
-use Rattle.std.specs.FinMap.{entries, get-entries, get-empty}
+use Rattle.std.specs.FinMap.{entries, get-entries, get-empty, len, len-entries}
 use Rattle.std.specs.FinMap.Entries.{find}
 use Rattle.std.specs.Ordering.{eq_by_cmp}
-use Rattle.std.proofs.lemmas.List.{length-map}
 use Rattle.paths.specs.Order.{name_cmp}
 use Rattle.paths.proofs.FrontLaws.{name_itself}
 use Rattle.plain.specs.Limits.{most_images}
@@ -66,10 +65,10 @@ none_found : (es : List (List ℕ × TreeMap)) → ((q : List ℕ) → find name
 none_found [] none = refl
 none_found (e ∷ es) none = absurd (some_is_there (eq_by_cmp name_cmp e.0 e.0) e.1 (find name_cmp e.0 es) (name_itself e.0) (none e.0))
 
-pub no_images : length (map (λ (e : List ℕ × TreeMap). e.0) (entries no_sources.images)) ≤ most_images
+pub no_images : len no_sources.images ≤ most_images
 no_images =
     let none : length (entries no_sources.images) ≡ 0 = none_found (entries no_sources.images) (λ q. sym (get-entries no_sources.images q) ∙ get-empty name_cmp q) in
-    omega (arith, length-map (entries no_sources.images) (λ (e : List ℕ × TreeMap). e.0))
+    omega (arith, len-entries no_sources.images)
 
 -- whatever answers the pruned plan of a served Dockerfile tells what the Dockerfile gives
 pub tells : {C : Type 0} (out : Out) (plan pruned : PlanValue C) (rows : Rows) (answer : Answer C)

@@ -1,6 +1,6 @@
 use Rattle.std.proofs.Common.{◌≡◌, ◌≤◌, ◌∙◌, ap, sym, subst, refl, length, map, Some, arith}
 use Rattle.std.specs.List.{slice_get}
-use Rattle.std.specs.FinMap.{entries}
+use Rattle.std.specs.FinMap.{len}
 use Rattle.plain.specs.Limits.{most_images}
 use Rattle.plans.specs.Sources.{SourcesValue}
 use Rattle.lowering.specs.Means.{Means}
@@ -15,7 +15,7 @@ lower_program-requires-clause-target c =
 
 pub lower_program-requires-clause-images : goal.lower_program-requires-clause-images
 lower_program-requires-clause-images c =
-    subst (λ (s : SourcesValue). length (map (λ e. e.0) (entries s.images)) ≤ most_images) (sym c.new-sources.ensures) no_images
+    subst (λ (s : SourcesValue). len s.images ≤ most_images) (sym c.new-sources.ensures) no_images
 
 pub returns-clause-tells : goal.returns-clause-tells
 returns-clause-tells c = λ out answer is.
