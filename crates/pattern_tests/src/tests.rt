@@ -1,9 +1,11 @@
+use contexts::Context;
 use globs::*;
 use ignorefile::*;
 use paths::Path;
-use plain::Fault;
+use plain::{Fault, Mode};
 use std::alloc::Global;
 use std::test::Fail;
+use trees::{Entry, Meta};
 
 /// The path of a text.
 fn at(alloc: Global, text: &str) -> Result<Path, Fail> {
@@ -127,6 +129,34 @@ fn a_million_characters_are_a_pattern(rt: HostRuntime) -> Result<(), Fail> {
         text.push_str(end)?;
         let glob = Glob::read(alloc, text.as_str())?;
         assert_eq!(rt; glob.matches(&path), related);
+    }
+    Ok(())
+}
+
+#[test]
+fn a_context_has_the_ways_to_what_is_kept(rt: HostRuntime) -> Result<(), Fail> {
+    let alloc = rt.alloc();
+    let meta = Meta {
+        mode: Mode::file(),
+        uid: 5,
+        gid: 6,
+    };
+    let rows = vec![in alloc; (at(alloc, "/a/b")?, Entry::Directory(meta))]?;
+    let ignore = Ignore::read(alloc, b"a\n!a/b\n")?;
+    let context = Context::build(alloc, &rt, rows, ignore)?;
+    let owned = Meta {
+        mode: Mode::file(),
+        uid: 0,
+        gid: 0,
+    };
+    for (path, stands) in [
+        ("/", Some(Meta::directory())),
+        ("/a", Some(Meta::directory())),
+        ("/a/b", Some(owned)),
+        ("/a/c", None),
+    ] {
+        let entry = context.tree().get(&at(alloc, path)?);
+        assert!(rt; entry.map(|entry| entry.meta()) == stands);
     }
     Ok(())
 }
