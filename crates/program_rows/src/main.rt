@@ -1,0 +1,79 @@
+// Runs the program on cases, one a line: the words of a command line, ` | `, and what stands on standard input. It answers the exit
+// status, what was written on standard output, and what on standard error, each on a line of its own; a LF in them is written `¶`.
+//
+// The cases are data: `stdin` has them, and `stdout` what the rules say of each.
+#![tactic(auto)]
+
+use counted::Counted;
+use executor::Fixture;
+use plain::Memory;
+use program::run_program;
+use std::alloc::Global;
+use std::io;
+use std::io::Cursor;
+
+/// How much room an answer has: a writer in memory that has to grow could be refused.
+const ROOM: usize = 4096;
+
+/// What the program did.
+#[derive(Drop)]
+struct Ended {
+    status: u8,
+    output: String,
+    errors: String,
+}
+
+fn main(rt: HostRuntime) -> io::Result<()> {
+    for line in rt.lines(rt.alloc()) {
+        let case = line?;
+        println!(rt; "{case}")?;
+        match run_case(rt.alloc(), case.as_str()) {
+            Ok(ended) => {
+                println!(rt; "    {}", ended.status)?;
+                println!(rt; "    out {}", ended.output)?;
+                println!(rt; "    err {}", ended.errors)?;
+            }
+            Err(Memory) => println!(rt; "    out of memory")?,
+        }
+    }
+    Ok(())
+}
+
+/// Runs the program on a case.
+fn run_case(alloc: Global, case: &str) -> Result<Ended, Memory> {
+    let (line, bundle) = case.split_once(" | ").unwrap_or((case, ""));
+    let words: Vec<&str> = line.split(' ').collect(alloc)?;
+    let mut input = Counted::new(Cursor::new(bundle.as_bytes()));
+    let mut output = Counted::new(Vec::with_capacity(alloc, ROOM)?);
+    let mut errors = Counted::new(Vec::with_capacity(alloc, ROOM)?);
+    let words = Ok(words.as_slice());
+    let status = run_program(
+        alloc,
+        words,
+        &mut input,
+        &mut output,
+        &mut errors,
+        &Fixture,
+    );
+    let output = one_line(alloc, output.into_inner().as_slice())?;
+    let errors = one_line(alloc, errors.into_inner().as_slice())?;
+    Ok(Ended {
+        status,
+        output,
+        errors,
+    })
+}
+
+/// Bytes as one line of text: a LF is `¶`, and what is no UTF-8 isn't shown.
+fn one_line(alloc: Global, bytes: &[u8]) -> Result<String, Memory> {
+    let text = str::from_utf8(bytes).unwrap_or("not UTF-8");
+    let mut line = String::new(alloc);
+    for character in text.chars() {
+        if character == '\n' {
+            line.push('¶')?;
+        } else {
+            line.push(character)?;
+        }
+    }
+    Ok(line)
+}

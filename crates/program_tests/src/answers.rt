@@ -1,0 +1,43 @@
+use bundle::{built_answer, failed_answer, read_bundle};
+use paths::Path;
+use plain::{Bytes, Mode};
+use serde_json::Value;
+use std::test::Fail;
+use trees::{Cause, Content, Entry, Meta};
+
+#[test]
+fn a_bundle_is_read(rt: HostRuntime) -> Result<(), Fail> {
+    match read_bundle(rt.alloc(), 60, b"{\"dockerfile\":{\"text\":\"a\"}}") {
+        Ok(bundle) => assert_eq!(rt; bundle.dockerfile.as_str(), "a"),
+        Err(_) => return Err(Fail::from("no bundle")),
+    }
+    Ok(())
+}
+
+#[test]
+fn answers_are_compact_text(rt: HostRuntime) -> Result<(), Fail> {
+    let alloc = rt.alloc();
+    let root = Path::root(alloc);
+    let path = Path::read(alloc, "/a \"b\"", &root).map_err(|_| Fail::from("no path"))?;
+    let mode = Mode::new(0o7001).ok_or("a mode")?;
+    let directory = Entry::Directory(Meta {
+        mode,
+        uid: 4294967295,
+        gid: 7,
+    });
+    let content = Content::new(Bytes::from_slice(alloc, &[0, 255])?);
+    let file = Entry::File(Meta::file(), content);
+    let config = Value::Bool(true);
+    let text = built_answer(
+        alloc,
+        config,
+        [(root, &directory), (path, &file)].as_slice(),
+    )?;
+    let wanted =
+        r#"{"config":true,"result":"built","tree":[{"dir":true,"gid":7,"mode":"7001","path":"/","uid":4294967295},{"gid":0,"hex":"00ff","mode":"0644","path":"/a \"b\"","uid":0}]}"#;
+    assert_eq!(rt; text.as_str(), wanted);
+    let failed = failed_answer(alloc, 1048576, Cause::Exit(255))?;
+    let wanted = r#"{"cause":"exit 255","line":1048576,"result":"failed"}"#;
+    assert_eq!(rt; failed.as_str(), wanted);
+    Ok(())
+}
