@@ -21,4 +21,3 @@ pub use answering::{built_answer, failed_answer};
 pub use bundle::Bundle;
 pub use fault::{BundleFault, NotYet};
 pub use reading::read_bundle;
-

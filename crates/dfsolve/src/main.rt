@@ -46,8 +46,10 @@ fn fault_of(error: &io::Error) -> WordsFault {
 
 /// Runs the program on these words.
 fn run_words(rt: &HostRuntime, words: &[String]) -> u8 {
-    let lent: Result<Vec<&str>, AllocError> =
-        words.iter().map(|word| word.as_str()).collect(rt.alloc());
+    let lent: Result<Vec<&str>, AllocError> = words
+        .iter()
+        .map(|word| word.as_str())
+        .collect(rt.alloc());
     match lent {
         Ok(lent) => run(rt, Ok(lent.as_slice())),
         Err(_) => run(rt, Err(Fault::Memory)),

@@ -41,16 +41,16 @@ fn emit(
     ensures { IfOk result (λ _. found.new.items ≡ found.old.items ++ emitted escape state class character) }
 {
     match (state, class) {
-        (QuoteState::Outside, Class::SingleQuote | Class::DoubleQuote | Class::EscapeCharacter) => {}
+        (QuoteState::Outside, Class::SingleQuote | Class::DoubleQuote | Class::EscapeCharacter) =>
+            {}
         (QuoteState::Outside, _) => found.push(Character::Active(character))?,
         (QuoteState::Escaped, _) => found.push(Character::Literal(character))?,
         (QuoteState::Single, Class::SingleQuote) => {}
         (QuoteState::Single, _) => found.push(Character::Literal(character))?,
         (QuoteState::Double, Class::DoubleQuote | Class::EscapeCharacter) => {}
         (QuoteState::Double, _) => found.push(Character::Active(character))?,
-        (QuoteState::DoubleEscaped, Class::DoubleQuote | Class::Dollar | Class::EscapeCharacter) => {
-            found.push(Character::Literal(character))?
-        }
+        (QuoteState::DoubleEscaped, Class::DoubleQuote | Class::Dollar | Class::EscapeCharacter) =>
+            { found.push(Character::Literal(character))? }
         (QuoteState::DoubleEscaped, _) => {
             found.push(Character::Active(char::from(escape.byte())))?;
             found.push(Character::Active(character))?

@@ -50,7 +50,10 @@ pub fn run_program<'a, R: CountedRead, W: CountedWrite, S: CountedWrite, E: Exec
     let words = match words {
         Ok(words) => words,
         Err(Fault::Because(NotText)) => {
-            say(errors, "error: invalid UTF-8 was detected in one or more arguments\n");
+            say(
+                errors,
+                "error: invalid UTF-8 was detected in one or more arguments\n",
+            );
             return BAD_COMMAND;
         }
         Err(Fault::Memory) => {
@@ -93,7 +96,11 @@ fn refuse_words<W: CountedWrite, S: CountedWrite>(
         return NO_MEMORY;
     };
     // clap's words are never empty; no contract of it says so.
-    let text = if text.is_empty() { "error" } else { text.as_str() };
+    let text = if text.is_empty() {
+        "error"
+    } else {
+        text.as_str()
+    };
     if error.use_stderr() {
         say(errors, text);
     } else {

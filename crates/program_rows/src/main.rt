@@ -47,14 +47,7 @@ fn run_case(alloc: Global, case: &str) -> Result<Ended, Memory> {
     let mut output = Counted::new(Vec::with_capacity(alloc, ROOM)?);
     let mut errors = Counted::new(Vec::with_capacity(alloc, ROOM)?);
     let words = Ok(words.as_slice());
-    let status = run_program(
-        alloc,
-        words,
-        &mut input,
-        &mut output,
-        &mut errors,
-        &Fixture,
-    );
+    let status = run_program(alloc, words, &mut input, &mut output, &mut errors, &Fixture);
     let output = one_line(alloc, output.into_inner().as_slice())?;
     let errors = one_line(alloc, errors.into_inner().as_slice())?;
     Ok(Ended {
