@@ -10,14 +10,14 @@ use Rattle.std.proofs.lemmas.List.Elements.{All-cons, All-nil}
 use Rattle.trees.specs.TreeMap.{TreeMap}
 use Rattle.plans.specs.Plan.{PlanValue, IsPlan, NeedsAll, problem_of}
 use Rattle.plans.specs.Value.{Out}
-use Rattle.lowering.specs.declared.stage.Stage.{Stage}
+use Rattle.rows.specs.declared.row.Stage.{Stage}
 use Rattle.lowering.specs.Meaning.{Rows}
 use Rattle.lowering.specs.Means.{Means, AreLined, world}
 use Rattle.lowering.specs.Outcome.{IsOutcome}
 use Rattle.lowering.specs.WellFormed.{IsRow, IsStage, IsStep, IsWellFormed, StageNames, IsNamed, NamesOnly, RowNames, HasTree}
-use Rattle.lowering.specs.declared.stage.Origin.{Origin}
-use Rattle.lowering.specs.declared.stage.Origin.TheVariants.{Source as SourceOf}
-use Rattle.lowering.specs.declared.stage.Step.{Step}
+use Rattle.rows.specs.declared.row.Origin.{Origin}
+use Rattle.rows.specs.declared.row.Origin.TheVariants.{Source as SourceOf}
+use Rattle.rows.specs.declared.row.Step.{Step}
 use Rattle.llb.specs.declared.op.Source.TheVariants.{Scratch}
 use Rattle.plans.specs.Sources.{SourcesValue}
 use Rattle.std.specs.List.{All}

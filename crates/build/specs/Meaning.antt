@@ -8,10 +8,10 @@ use Rattle.llb.specs.declared.op.Exec.{Exec}
 use Rattle.llb.specs.declared.op.Source.TheVariants.{Scratch}
 use Rattle.plans.specs.Sources.{SourcesValue}
 use Rattle.plans.specs.Value.{Out, World}
-use Rattle.lowering.specs.declared.stage.Origin.TheVariants.{Source as SourceOf}
-use Rattle.lowering.specs.declared.stage.Action.TheVariants.{Run}
-use Rattle.lowering.specs.declared.stage.Step.{Step}
-use Rattle.lowering.specs.declared.stage.Stage.{Stage}
+use Rattle.rows.specs.declared.row.Origin.TheVariants.{Source as SourceOf}
+use Rattle.rows.specs.declared.row.Action.TheVariants.{Run}
+use Rattle.rows.specs.declared.row.Step.{Step}
+use Rattle.rows.specs.declared.row.Stage.{Stage}
 use Rattle.lowering.specs.Meaning.{Rows}
 use Rattle.lowering.specs.Means.{world}
 use Rattle.lowering.specs.Outcome.{IsOutcome}

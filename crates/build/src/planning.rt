@@ -9,7 +9,8 @@ ghost use Rattle.build.specs.declared.config.PlainConfig.{PlainConfig as PlainCo
 
 use crate::PlainConfig;
 use llb::{Exec, Source};
-use lowering::{Action, Origin, Stage, Step, lower_program};
+use lowering::lower_program;
+use rows::{Action, Origin, Stage, Step};
 use paths::Path;
 use plain::{Items, Memory, Text};
 use plans::{Plan, Sources};

@@ -5,12 +5,12 @@ use Rattle.std.specs.List.{AllZip}
 use Rattle.llb.specs.declared.op.Op.{Op}
 use Rattle.llb.specs.declared.op.CopyFiles.{CopyFiles}
 use Rattle.llb.specs.declared.vertex.Vertex.{Vertex}
-use Rattle.lowering.specs.declared.stage.Origin.{Origin}
-use Rattle.lowering.specs.declared.stage.Origin.TheVariants.{Source as SourceOf, Stage as StageOf}
-use Rattle.lowering.specs.declared.stage.Action.{Action}
-use Rattle.lowering.specs.declared.stage.Action.TheVariants.{Run, Copy, MakeDirs}
-use Rattle.lowering.specs.declared.stage.Step.{Step}
-use Rattle.lowering.specs.declared.stage.Stage.{Stage}
+use Rattle.rows.specs.declared.row.Origin.{Origin}
+use Rattle.rows.specs.declared.row.Origin.TheVariants.{Source as SourceOf, Stage as StageOf}
+use Rattle.rows.specs.declared.row.Action.{Action}
+use Rattle.rows.specs.declared.row.Action.TheVariants.{Run, Copy, MakeDirs}
+use Rattle.rows.specs.declared.row.Step.{Step}
+use Rattle.rows.specs.declared.row.Stage.{Stage}
 use Rattle.lowering.specs.Meaning.{Rows}
 use Rattle.lowering.specs.Vertices.{Tips, Places, IsVertex, IsOrigin, IsOperation, IsLinked, IsLowered, AreLowered, IsStageLowered, IsRowLowered}
 use Rattle.lowering.specs.Vertices.{AreRowsLowered}

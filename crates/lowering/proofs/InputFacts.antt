@@ -12,8 +12,8 @@ use Rattle.llb.specs.declared.op.Op.TheVariants.{Source as SourceOp, Exec as Exe
 use Rattle.llb.specs.declared.vertex.Vertex.{Vertex}
 use Rattle.llb.specs.Graph.{GraphValue}
 use Rattle.plans.specs.Sources.{SourcesValue, HasSource}
-use Rattle.lowering.specs.declared.stage.Origin.{Origin}
-use Rattle.lowering.specs.declared.stage.Origin.TheVariants.{Source as SourceOf, Stage as StageOf}
+use Rattle.rows.specs.declared.row.Origin.{Origin}
+use Rattle.rows.specs.declared.row.Origin.TheVariants.{Source as SourceOf, Stage as StageOf}
 use Rattle.lowering.specs.Vertices.{Tips, IsVertex, IsOrigin, origin_places, origins_places}
 use Rattle.lowering.specs.WellFormed.{HasTree}
 use Rattle.lowering.specs.PrivateRoom.{op_others, HasRoom, RoomFor}

@@ -4,8 +4,8 @@ use Rattle.std.proofs.Common.{ap, sym, ◌∙◌, append_assoc, append-nil}
 use Rattle.trees.specs.TreeMap.{TreeMap}
 use Rattle.trees.specs.declared.cause.Cause.{Cause}
 use Rattle.plans.specs.Value.{tree_of}
-use Rattle.lowering.specs.declared.stage.Step.{Step}
-use Rattle.lowering.specs.declared.stage.Stage.{Stage}
+use Rattle.rows.specs.declared.row.Step.{Step}
+use Rattle.rows.specs.declared.row.Stage.{Stage}
 use Rattle.plans.specs.Value.{World}
 use Rattle.lowering.specs.Meaning.{Rows, Trees, action_value, tree_after, stage_tree, trees_from, trees_of, failure_of, step_failures, stage_failures}
 use Rattle.lowering.specs.Meaning.{failures_from, failures_of}

@@ -19,12 +19,12 @@ use Rattle.llb.specs.declared.op.Op.TheVariants.{Exec as ExecOp, Copy as CopyOp,
 use Rattle.llb.specs.WellFormed.{is_pattern, inputs_of_copy, is_well_formed_on, is_well_formed_exec, is_well_formed_copy}
 use Rattle.plans.specs.Sources.{source_tree}
 use Rattle.plans.specs.Value.{World, Value, tree_of, all_trees, result_of}
-use Rattle.lowering.specs.declared.stage.Origin.{Origin}
-use Rattle.lowering.specs.declared.stage.Origin.TheVariants.{Source as SourceOf, Stage as StageOf}
-use Rattle.lowering.specs.declared.stage.Action.{Action}
-use Rattle.lowering.specs.declared.stage.Action.TheVariants.{Run, Copy, MakeDirs}
-use Rattle.lowering.specs.declared.stage.Step.{Step}
-use Rattle.lowering.specs.declared.stage.Stage.{Stage}
+use Rattle.rows.specs.declared.row.Origin.{Origin}
+use Rattle.rows.specs.declared.row.Origin.TheVariants.{Source as SourceOf, Stage as StageOf}
+use Rattle.rows.specs.declared.row.Action.{Action}
+use Rattle.rows.specs.declared.row.Action.TheVariants.{Run, Copy, MakeDirs}
+use Rattle.rows.specs.declared.row.Step.{Step}
+use Rattle.rows.specs.declared.row.Stage.{Stage}
 use Rattle.lowering.specs.Meaning.{Rows, Trees, origin_tree, listed, value_with, laid_over, action_value, tree_after, stage_tree, trees_from}
 use Rattle.lowering.specs.Meaning.{tree_of_stage, failure_of, step_failures, stage_failures, failures_from, Fails}
 use Rattle.lowering.specs.Outcome.{IsOutcome, AreAlike}

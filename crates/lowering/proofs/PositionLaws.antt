@@ -6,8 +6,8 @@ use Rattle.std.proofs.lemmas.List.Elements.{Contains-append_left, Contains-appen
 use Rattle.trees.specs.TreeMap.{TreeMap}
 use Rattle.trees.specs.declared.cause.Cause.{Cause}
 use Rattle.plans.specs.Value.{Value, tree_of}
-use Rattle.lowering.specs.declared.stage.Step.{Step}
-use Rattle.lowering.specs.declared.stage.Stage.{Stage}
+use Rattle.rows.specs.declared.row.Step.{Step}
+use Rattle.rows.specs.declared.row.Stage.{Stage}
 use Rattle.plans.specs.Value.{World}
 use Rattle.lowering.specs.Meaning.{Rows, Trees, origin_tree, action_value, tree_after, stage_tree, trees_from, trees_of, failure_of, step_failures}
 use Rattle.lowering.specs.Meaning.{stage_failures, failures_from, failures_of, Fails}

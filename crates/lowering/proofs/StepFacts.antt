@@ -11,10 +11,10 @@ use Rattle.llb.specs.declared.op.Op.{Op}
 use Rattle.llb.specs.declared.op.Op.TheVariants.{Source as SourceOp, Exec as ExecOp, Copy as CopyOp, MakeDirs as MakeDirsOp, Merge as MergeOp}
 use Rattle.llb.specs.Graph.{GraphValue}
 use Rattle.plans.specs.Sources.{SourcesValue, HasSource}
-use Rattle.lowering.specs.declared.stage.Origin.{Origin}
-use Rattle.lowering.specs.declared.stage.Action.TheVariants.{Run, Copy, MakeDirs}
-use Rattle.lowering.specs.declared.stage.Step.{Step}
-use Rattle.lowering.specs.declared.stage.Stage.{Stage}
+use Rattle.rows.specs.declared.row.Origin.{Origin}
+use Rattle.rows.specs.declared.row.Action.TheVariants.{Run, Copy, MakeDirs}
+use Rattle.rows.specs.declared.row.Step.{Step}
+use Rattle.rows.specs.declared.row.Stage.{Stage}
 use Rattle.lowering.specs.Meaning.{listed}
 use Rattle.lowering.specs.Vertices.{Tips, Places, origin_places, IsLowered, AreLowered}
 use Rattle.lowering.specs.WellFormed.{HasTree, NamesOnly, StageNames, IsStep}

@@ -1,6 +1,6 @@
 -- Files of which each row is well formed after those before it.
 use Rattle.std.proofs.Common.{◌≡◌, [], ◌∷◌, ◌++◌, Option, sym, ap, ◌∙◌, subst, append_assoc, append-nil}
-use Rattle.lowering.specs.declared.stage.Stage.{Stage}
+use Rattle.rows.specs.declared.row.Stage.{Stage}
 use Rattle.lowering.specs.Meaning.{Rows}
 use Rattle.lowering.specs.WellFormed.{IsRow, IsWellFormed}
 

@@ -9,12 +9,12 @@ use Rattle.llb.specs.declared.op.Op.TheVariants.{Exec as ExecOp, Copy as CopyOp,
 use Rattle.plans.specs.Sources.{source_tree}
 use Rattle.plans.specs.Value.{Value, tree_of, result_of}
 use Rattle.plans.specs.Value.{World, all_trees}
-use Rattle.lowering.specs.declared.stage.Origin.{Origin}
-use Rattle.lowering.specs.declared.stage.Origin.TheVariants.{Source as SourceOf, Stage as StageOf}
-use Rattle.lowering.specs.declared.stage.Action.{Action}
-use Rattle.lowering.specs.declared.stage.Action.TheVariants.{Run, Copy, MakeDirs}
-use Rattle.lowering.specs.declared.stage.Step.{Step}
-use Rattle.lowering.specs.declared.stage.Stage.{Stage}
+use Rattle.rows.specs.declared.row.Origin.{Origin}
+use Rattle.rows.specs.declared.row.Origin.TheVariants.{Source as SourceOf, Stage as StageOf}
+use Rattle.rows.specs.declared.row.Action.{Action}
+use Rattle.rows.specs.declared.row.Action.TheVariants.{Run, Copy, MakeDirs}
+use Rattle.rows.specs.declared.row.Step.{Step}
+use Rattle.rows.specs.declared.row.Stage.{Stage}
 
 -- the rows of a file: its stages by their numbers; none for one that the target doesn't need, which is left out
 abbrev pub Rows : Type 0

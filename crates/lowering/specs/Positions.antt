@@ -3,8 +3,8 @@ use Rattle.std.specs.Prelude.{◌≡◌, ℕ, List, ◌∷◌, ◌++◌, Option,
 use Rattle.trees.specs.TreeMap.{TreeMap}
 use Rattle.trees.specs.declared.cause.Cause.{Cause}
 use Rattle.plans.specs.Value.{World}
-use Rattle.lowering.specs.declared.stage.Step.{Step}
-use Rattle.lowering.specs.declared.stage.Stage.{Stage}
+use Rattle.rows.specs.declared.row.Step.{Step}
+use Rattle.rows.specs.declared.row.Stage.{Stage}
 use Rattle.lowering.specs.Meaning.{Rows, Trees, origin_tree, action_value, tree_after, trees_of}
 
 -- of some instructions, one on this line has this cause on the tree that those before it left

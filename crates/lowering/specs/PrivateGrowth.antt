@@ -13,10 +13,10 @@ use Rattle.lowering.specs.Vertices.{Tips, Places, HasPlace, IsVertex, IsOrigin, 
 use Rattle.lowering.specs.Vertices.{IsStageLowered, IsRowLowered, AreRowsLowered}
 use Rattle.lowering.specs.WellFormed.{HasTree, NamesOnly, StageNames, RowNames, row_steps, count_of_steps}
 use Rattle.lowering.specs.PrivateRoom.{op_others, Uses}
-use Rattle.lowering.specs.declared.stage.Origin.{Origin}
-use Rattle.lowering.specs.declared.stage.Origin.TheVariants.{Source as SourceOf, Stage as StageOf}
-use Rattle.lowering.specs.declared.stage.Step.{Step}
-use Rattle.lowering.specs.declared.stage.Stage.{Stage}
+use Rattle.rows.specs.declared.row.Origin.{Origin}
+use Rattle.rows.specs.declared.row.Origin.TheVariants.{Source as SourceOf, Stage as StageOf}
+use Rattle.rows.specs.declared.row.Step.{Step}
+use Rattle.rows.specs.declared.row.Stage.{Stage}
 
 -- the graph without a vertex
 abbrev pub no_graph : GraphValue

@@ -9,12 +9,12 @@ use Rattle.llb.specs.declared.op.Source.TheVariants.{Scratch}
 use Rattle.llb.specs.declared.op.CopyFiles.{CopyFiles}
 use Rattle.llb.specs.declared.vertex.Vertex.{Vertex}
 use Rattle.lowering.specs.Meaning.{Rows, listed}
-use Rattle.lowering.specs.declared.stage.Origin.{Origin}
-use Rattle.lowering.specs.declared.stage.Origin.TheVariants.{Source as SourceOf, Stage as StageOf}
-use Rattle.lowering.specs.declared.stage.Action.{Action}
-use Rattle.lowering.specs.declared.stage.Action.TheVariants.{Run, Copy, MakeDirs}
-use Rattle.lowering.specs.declared.stage.Step.{Step}
-use Rattle.lowering.specs.declared.stage.Stage.{Stage}
+use Rattle.rows.specs.declared.row.Origin.{Origin}
+use Rattle.rows.specs.declared.row.Origin.TheVariants.{Source as SourceOf, Stage as StageOf}
+use Rattle.rows.specs.declared.row.Action.{Action}
+use Rattle.rows.specs.declared.row.Action.TheVariants.{Run, Copy, MakeDirs}
+use Rattle.rows.specs.declared.row.Step.{Step}
+use Rattle.rows.specs.declared.row.Stage.{Stage}
 
 -- the last vertices of stages by their numbers, which have the stages' trees; none for a stage that is left out
 abbrev pub Tips : Type 0

@@ -6,12 +6,12 @@ use Rattle.llb.specs.Places.{IsLine}
 use Rattle.llb.specs.declared.op.Op.TheVariants.{Source as SourceOp, Exec as ExecOp, Copy as CopyOp, MakeDirs as MakeDirsOp}
 use Rattle.plans.specs.Sources.{SourcesValue, source_tree}
 use Rattle.lowering.specs.Meaning.{Rows, listed}
-use Rattle.lowering.specs.declared.stage.Origin.{Origin}
-use Rattle.lowering.specs.declared.stage.Origin.TheVariants.{Source as SourceOf, Stage as StageOf}
-use Rattle.lowering.specs.declared.stage.Action.{Action}
-use Rattle.lowering.specs.declared.stage.Action.TheVariants.{Run, Copy, MakeDirs}
-use Rattle.lowering.specs.declared.stage.Step.{Step}
-use Rattle.lowering.specs.declared.stage.Stage.{Stage}
+use Rattle.rows.specs.declared.row.Origin.{Origin}
+use Rattle.rows.specs.declared.row.Origin.TheVariants.{Source as SourceOf, Stage as StageOf}
+use Rattle.rows.specs.declared.row.Action.{Action}
+use Rattle.rows.specs.declared.row.Action.TheVariants.{Run, Copy, MakeDirs}
+use Rattle.rows.specs.declared.row.Step.{Step}
+use Rattle.rows.specs.declared.row.Stage.{Stage}
 
 -- all that an instruction names is so
 abbrev pub NamesOnly : (Origin → Type 0) → Action → Type 0

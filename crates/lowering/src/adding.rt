@@ -6,12 +6,12 @@ ghost use Rattle.plain.specs.Limits.{most_vertices};
 ghost use Rattle.llb.specs.WellFormed.{is_well_formed, is_well_formed_on};
 ghost use Rattle.llb.specs.Places.{IsLine};
 ghost use Rattle.plans.specs.Sources.{HasSource};
-ghost use Rattle.lowering.specs.declared.stage.Origin.TheVariants.{Stage as StageOf};
+ghost use Rattle.rows.specs.declared.row.Origin.TheVariants.{Stage as StageOf};
 ghost use Rattle.lowering.specs.PrivateGrowth.{AreInside, HasTip, IsPut, IsOriginPut, AreInputsPut, IsOperationPut};
 ghost use Rattle.lowering.specs.PrivateRoom.{op_others, RoomFor};
 ghost use Rattle.lowering.specs.WellFormed.{HasTree};
 
-use crate::Origin;
+use rows::Origin;
 use llb::{Full, Graph, Op, Vertex, VertexId};
 use plain::{Fault, Items, Memory};
 use std::alloc::Global;

@@ -4,7 +4,7 @@ ghost use Rattle.std.specs.List.{All};
 ghost use Rattle.trees.specs.TreeMap.{TreeMap};
 ghost use Rattle.trees.specs.declared.cause.Cause.{Cause};
 ghost use Rattle.plans.specs.Value.{World};
-ghost use Rattle.lowering.specs.declared.stage.Stage.{Stage};
+ghost use Rattle.rows.specs.declared.row.Stage.{Stage};
 ghost use Rattle.lowering.specs.Meaning.{Rows, stage_tree, trees_of, Fails};
 ghost use Rattle.lowering.specs.Outcome.{IsOutcome, AreAlike};
 ghost use Rattle.lowering.specs.Positions.{StageFails};

@@ -8,8 +8,6 @@
 mod adding;
 pub mod laws;
 mod program;
-mod stage;
 mod steps;
 
 pub use program::lower_program;
-pub use stage::{Action, Origin, Stage, Step};

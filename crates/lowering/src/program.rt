@@ -2,14 +2,14 @@
 ghost use Rattle.std.specs.Prelude.{◌≡◌, ◌<◌, ◌≤◌, ◌*◌, length, map, IfOk, Some, slice_get};
 ghost use Rattle.std.specs.List.{All};
 ghost use Rattle.std.specs.FinMap.{len};
-ghost use Rattle.lowering.specs.declared.stage.Stage.{Stage as StageValue};
+ghost use Rattle.rows.specs.declared.row.Stage.{Stage as StageValue};
 ghost use Rattle.lowering.specs.Means.{Means, StandsFor};
 ghost use Rattle.lowering.specs.PrivateGrowth.{AreInside, HasTip, no_graph, IsStagePut, IsRowPut, AreRowsPut};
 ghost use Rattle.lowering.specs.PrivateRoom.{RoomFor};
 ghost use Rattle.plain.specs.Limits.{most_images, most_lines};
 ghost use Rattle.lowering.specs.WellFormed.{HasTree, StageNames, RowNames, IsStage, IsWellFormed, row_steps, count_of_steps};
 
-use crate::Stage;
+use rows::Stage;
 use crate::adding::{find_tip, put_origin};
 use crate::steps::lower_steps;
 use llb::{Graph, VertexId};

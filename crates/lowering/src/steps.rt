@@ -4,14 +4,14 @@ ghost use Rattle.std.specs.List.{All};
 ghost use Rattle.llb.specs.WellFormed.{is_well_formed_on};
 ghost use Rattle.llb.specs.Places.{IsLine};
 ghost use Rattle.llb.specs.declared.op.Op.TheVariants.{Copy as CopyOp};
-ghost use Rattle.lowering.specs.declared.stage.Action.TheVariants.{Copy};
+ghost use Rattle.rows.specs.declared.row.Action.TheVariants.{Copy};
 ghost use Rattle.lowering.specs.Meaning.{listed};
 ghost use Rattle.lowering.specs.PrivateGrowth.{AreInside, HasTip, IsStepPut, AreStepsPut};
 ghost use Rattle.lowering.specs.PrivateRoom.{RoomFor};
 ghost use Rattle.lowering.specs.WellFormed.{HasTree, NamesOnly, IsStep};
 
 use crate::adding::{put, put_operation};
-use crate::{Action, Origin, Step};
+use rows::{Action, Origin, Step};
 use llb::{CopyFiles, Graph, Op, Source, VertexId};
 use plain::{Items, Memory};
 use std::alloc::Global;

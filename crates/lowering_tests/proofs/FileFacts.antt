@@ -8,9 +8,9 @@ use Rattle.trees.specs.TreeMap.{TreeMap}
 use Rattle.std.specs.List.{All}
 use Rattle.std.proofs.lemmas.List.Elements.{All-nil, All-cons}
 use Rattle.plans.specs.Sources.{SourcesValue}
-use Rattle.lowering.specs.declared.stage.Origin.{Origin}
-use Rattle.lowering.specs.declared.stage.Stage.{Stage}
-use Rattle.lowering.specs.declared.stage.Step.{Step}
+use Rattle.rows.specs.declared.row.Origin.{Origin}
+use Rattle.rows.specs.declared.row.Stage.{Stage}
+use Rattle.rows.specs.declared.row.Step.{Step}
 use Rattle.lowering.specs.Meaning.{Rows}
 use Rattle.lowering.specs.WellFormed.{NamesOnly, StageNames, RowNames, IsNamed, HasTree, IsStep, IsRow, IsWellFormed}
 use Rattle.lowering.proofs.WellFormedLaws.{rows_are}

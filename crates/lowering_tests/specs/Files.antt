@@ -2,9 +2,9 @@
 use Rattle.std.specs.Prelude.{◌+◌, ℕ, List, [], ◌∷◌, Some}
 use Rattle.llb.specs.declared.op.Exec.{Exec}
 use Rattle.llb.specs.declared.op.Source.TheVariants.{Scratch}
-use Rattle.lowering.specs.declared.stage.Action.TheVariants.{Run}
-use Rattle.lowering.specs.declared.stage.Origin.TheVariants.{Source as SourceOf}
-use Rattle.lowering.specs.declared.stage.Stage.{Stage}
+use Rattle.rows.specs.declared.row.Action.TheVariants.{Run}
+use Rattle.rows.specs.declared.row.Origin.TheVariants.{Source as SourceOf}
+use Rattle.rows.specs.declared.row.Stage.{Stage}
 use Rattle.lowering.specs.Meaning.{Rows}
 
 -- a command of one word, with nothing mounted

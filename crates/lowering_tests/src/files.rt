@@ -3,7 +3,8 @@ ghost use Rattle.std.specs.Prelude.{◌≡◌, ◌<◌, ◌+◌, IfOk};
 ghost use Rattle.lowering_tests.specs.Files.{run_exec, run_stage, two_stages};
 
 use llb::{Exec, Source, VertexId};
-use lowering::{Action, Origin, Stage, Step, lower_program};
+use lowering::lower_program;
+use rows::{Action, Origin, Stage, Step};
 use paths::Path;
 use plain::{Items, Memory, Text};
 use plans::{Plan, Sources};

@@ -1,6 +1,6 @@
 use Rattle.std.proofs.Common.{List, length, ◌*◌, [], refl, sym, subst, ◌∙◌}
 use Rattle.std.specs.List.{All}
-use Rattle.lowering.specs.declared.stage.Step.{Step}
+use Rattle.rows.specs.declared.row.Step.{Step}
 use Rattle.lowering.specs.WellFormed.{HasTree, NamesOnly, IsStep}
 use Rattle.lowering.specs.PrivateRoom.{HasRoom}
 use Rattle.lowering.specs.PrivateGrowth.{HasTip, AreStepsPut}
