@@ -14,7 +14,7 @@ use Rattle.rows.specs.declared.row.Stage.{Stage}
 use Rattle.lowering.specs.Meaning.{Rows}
 use Rattle.lowering.specs.Means.{Means, AreLined, world}
 use Rattle.lowering.specs.Outcome.{IsOutcome}
-use Rattle.lowering.specs.WellFormed.{IsRow, IsStage, IsStep, IsWellFormed, StageNames, IsNamed, NamesOnly, RowNames, HasTree}
+use Rattle.rows.specs.WellFormed.{IsRow, IsStage, IsStep, IsWellFormed, StageNames, IsNamed, NamesOnly, RowNames, HasTree}
 use Rattle.rows.specs.declared.row.Origin.{Origin}
 use Rattle.rows.specs.declared.row.Origin.TheVariants.{Source as SourceOf}
 use Rattle.rows.specs.declared.row.Step.{Step}

@@ -15,7 +15,7 @@ use Rattle.plans.specs.Sources.{SourcesValue, HasSource}
 use Rattle.rows.specs.declared.row.Origin.{Origin}
 use Rattle.rows.specs.declared.row.Origin.TheVariants.{Source as SourceOf, Stage as StageOf}
 use Rattle.lowering.specs.Vertices.{Tips, IsVertex, IsOrigin, origin_places, origins_places}
-use Rattle.lowering.specs.WellFormed.{HasTree}
+use Rattle.rows.specs.WellFormed.{HasTree}
 use Rattle.lowering.specs.PrivateRoom.{op_others, HasRoom, RoomFor}
 use Rattle.lowering.specs.PrivateGrowth.{AreInside, HasTip, IsPut, IsOriginPut, AreInputsPut, IsOperationPut}
 use Rattle.lowering.proofs.Fronts.{origins_kept}

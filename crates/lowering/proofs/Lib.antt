@@ -11,4 +11,3 @@ pub mod Rooms
 pub mod RowFacts
 pub mod StepFacts
 pub mod ValueFacts
-pub mod WellFormedLaws

@@ -28,7 +28,7 @@ use Rattle.rows.specs.declared.row.Stage.{Stage}
 use Rattle.lowering.specs.Meaning.{Rows, Trees, origin_tree, listed, value_with, laid_over, action_value, tree_after, stage_tree, trees_from}
 use Rattle.lowering.specs.Meaning.{tree_of_stage, failure_of, step_failures, stage_failures, failures_from, Fails}
 use Rattle.lowering.specs.Outcome.{IsOutcome, AreAlike}
-use Rattle.lowering.specs.WellFormed.{NamesOnly, RowNames, IsNamed, HasTree, IsAction, IsStep, IsRow, IsWellFormed}
+use Rattle.rows.specs.WellFormed.{NamesOnly, RowNames, IsNamed, HasTree, IsAction, IsStep, IsRow, IsWellFormed}
 use Rattle.lowering.proofs.RowFacts.{slice_get-last_cases}
 use Rattle.lowering.proofs.ValueFacts.{failure_there}
 

@@ -12,7 +12,7 @@ use Rattle.plans.specs.Value.{World}
 use Rattle.lowering.specs.Meaning.{Rows}
 use Rattle.lowering.specs.Means.{world, lines_at, Means, AreLined, StandsFor}
 use Rattle.lowering.specs.Vertices.{Tips, Places, HasPlace}
-use Rattle.lowering.specs.WellFormed.{HasTree, RowNames, count_of_steps}
+use Rattle.rows.specs.WellFormed.{HasTree, RowNames, count_of_steps}
 use Rattle.plain.specs.Limits.{most_images, most_lines}
 use Rattle.lowering.specs.PrivateRoom.{HasRoom}
 use Rattle.lowering.specs.PrivateGrowth.{no_graph, Grows, AreRowsPut}

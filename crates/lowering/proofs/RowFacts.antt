@@ -15,7 +15,7 @@ use Rattle.rows.specs.declared.row.Step.{Step}
 use Rattle.rows.specs.declared.row.Stage.{Stage}
 use Rattle.lowering.specs.Meaning.{Rows}
 use Rattle.lowering.specs.Vertices.{Tips, Places, IsRowLowered, AreRowsLowered}
-use Rattle.lowering.specs.WellFormed.{HasTree, NamesOnly, StageNames, RowNames, IsNamed, IsStage, IsRow, IsWellFormed, row_steps, count_of_steps}
+use Rattle.rows.specs.WellFormed.{HasTree, NamesOnly, StageNames, RowNames, IsNamed, IsStage, IsRow, IsWellFormed, row_steps, count_of_steps}
 use Rattle.lowering.specs.PrivateRoom.{HasRoom, RoomFor}
 use Rattle.lowering.specs.PrivateGrowth.{no_graph, HasTip, IsStagePut, IsRowPut, AreRowsPut}
 use Rattle.lowering.proofs.Fronts.{slice_get-kept, rows_kept}

@@ -17,7 +17,7 @@ use Rattle.rows.specs.declared.row.Step.{Step}
 use Rattle.rows.specs.declared.row.Stage.{Stage}
 use Rattle.lowering.specs.Meaning.{listed}
 use Rattle.lowering.specs.Vertices.{Tips, Places, origin_places, IsLowered, AreLowered}
-use Rattle.lowering.specs.WellFormed.{HasTree, NamesOnly, StageNames, IsStep}
+use Rattle.rows.specs.WellFormed.{HasTree, NamesOnly, StageNames, IsStep}
 use Rattle.lowering.specs.PrivateRoom.{HasRoom, RoomFor}
 use Rattle.lowering.specs.PrivateGrowth.{AreInside, HasTip, IsPut, IsOriginPut, IsOperationPut, IsStepPut, AreStepsPut, IsStagePut}
 use Rattle.lowering.proofs.Fronts.{vertex_kept, origin_kept, operation_kept, steps_kept, front_then}

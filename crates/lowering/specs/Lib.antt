@@ -5,4 +5,3 @@ pub mod Positions
 pub mod PrivateGrowth
 pub mod PrivateRoom
 pub mod Vertices
-pub mod WellFormed

@@ -9,16 +9,13 @@ use Rattle.llb.specs.declared.op.Op.TheVariants.{Exec as ExecOp, Copy as CopyOp,
 use Rattle.plans.specs.Sources.{source_tree}
 use Rattle.plans.specs.Value.{Value, tree_of, result_of}
 use Rattle.plans.specs.Value.{World, all_trees}
+pub use Rattle.rows.specs.Rows.{Rows, listed}
 use Rattle.rows.specs.declared.row.Origin.{Origin}
 use Rattle.rows.specs.declared.row.Origin.TheVariants.{Source as SourceOf, Stage as StageOf}
 use Rattle.rows.specs.declared.row.Action.{Action}
 use Rattle.rows.specs.declared.row.Action.TheVariants.{Run, Copy, MakeDirs}
 use Rattle.rows.specs.declared.row.Step.{Step}
 use Rattle.rows.specs.declared.row.Stage.{Stage}
-
--- the rows of a file: its stages by their numbers; none for one that the target doesn't need, which is left out
-abbrev pub Rows : Type 0
-Rows = List (Option Stage)
 
 -- the trees of stages by their numbers; none where a stage's tree is undefined
 abbrev pub Trees : Type 0
@@ -28,11 +25,6 @@ Trees = List (Option TreeMap)
 abbrev pub origin_tree : World → Trees → Origin → Option TreeMap
 origin_tree w trees (SourceOf source) = source_tree w.sources source
 origin_tree w trees (StageOf number) = slice_index_or trees number None
-
--- what a COPY names: a tree, or none where all that it copies stands in the file
-abbrev pub listed : Option Origin → List Origin
-listed None = []
-listed (Some origin) = origin ∷ []
 
 -- what an operation gives on some trees; nothing where one of them is undefined
 abbrev pub value_with : World → Op → Trees → Value

@@ -11,7 +11,7 @@ use Rattle.lowering.specs.Meaning.{Rows}
 use Rattle.lowering.specs.Means.{lines_at}
 use Rattle.lowering.specs.Vertices.{Tips, Places, HasPlace, IsVertex, IsOrigin, origin_places, origins_places, IsOperation, IsLowered, AreLowered}
 use Rattle.lowering.specs.Vertices.{IsStageLowered, IsRowLowered, AreRowsLowered}
-use Rattle.lowering.specs.WellFormed.{HasTree, NamesOnly, StageNames, RowNames, row_steps, count_of_steps}
+use Rattle.rows.specs.WellFormed.{HasTree, NamesOnly, StageNames, RowNames, row_steps, count_of_steps}
 use Rattle.lowering.specs.PrivateRoom.{op_others, Uses}
 use Rattle.rows.specs.declared.row.Origin.{Origin}
 use Rattle.rows.specs.declared.row.Origin.TheVariants.{Source as SourceOf, Stage as StageOf}

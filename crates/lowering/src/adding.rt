@@ -9,7 +9,7 @@ ghost use Rattle.plans.specs.Sources.{HasSource};
 ghost use Rattle.rows.specs.declared.row.Origin.TheVariants.{Stage as StageOf};
 ghost use Rattle.lowering.specs.PrivateGrowth.{AreInside, HasTip, IsPut, IsOriginPut, AreInputsPut, IsOperationPut};
 ghost use Rattle.lowering.specs.PrivateRoom.{op_others, RoomFor};
-ghost use Rattle.lowering.specs.WellFormed.{HasTree};
+ghost use Rattle.rows.specs.WellFormed.{HasTree};
 
 use rows::Origin;
 use llb::{Full, Graph, Op, Vertex, VertexId};

@@ -8,7 +8,7 @@ ghost use Rattle.rows.specs.declared.row.Stage.{Stage};
 ghost use Rattle.lowering.specs.Meaning.{Rows, stage_tree, trees_of, Fails};
 ghost use Rattle.lowering.specs.Outcome.{IsOutcome, AreAlike};
 ghost use Rattle.lowering.specs.Positions.{StageFails};
-ghost use Rattle.lowering.specs.WellFormed.{HasTree, RowNames, IsWellFormed};
+ghost use Rattle.rows.specs.WellFormed.{HasTree, RowNames, IsWellFormed};
 
 /// The tree of a stage is what its instructions give beside the trees of the stages before it.
 pub fn a_stage_stands_on_those_before()

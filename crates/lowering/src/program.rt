@@ -7,7 +7,7 @@ ghost use Rattle.lowering.specs.Means.{Means, StandsFor};
 ghost use Rattle.lowering.specs.PrivateGrowth.{AreInside, HasTip, no_graph, IsStagePut, IsRowPut, AreRowsPut};
 ghost use Rattle.lowering.specs.PrivateRoom.{RoomFor};
 ghost use Rattle.plain.specs.Limits.{most_images, most_lines};
-ghost use Rattle.lowering.specs.WellFormed.{HasTree, StageNames, RowNames, IsStage, IsWellFormed, row_steps, count_of_steps};
+ghost use Rattle.rows.specs.WellFormed.{HasTree, StageNames, RowNames, IsStage, IsWellFormed, row_steps, count_of_steps};
 
 use rows::Stage;
 use crate::adding::{find_tip, put_origin};

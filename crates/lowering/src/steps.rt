@@ -8,7 +8,7 @@ ghost use Rattle.rows.specs.declared.row.Action.TheVariants.{Copy};
 ghost use Rattle.lowering.specs.Meaning.{listed};
 ghost use Rattle.lowering.specs.PrivateGrowth.{AreInside, HasTip, IsStepPut, AreStepsPut};
 ghost use Rattle.lowering.specs.PrivateRoom.{RoomFor};
-ghost use Rattle.lowering.specs.WellFormed.{HasTree, NamesOnly, IsStep};
+ghost use Rattle.rows.specs.WellFormed.{HasTree, NamesOnly, IsStep};
 
 use crate::adding::{put, put_operation};
 use rows::{Action, Origin, Step};

@@ -1,7 +1,7 @@
 use Rattle.std.proofs.Common.{◌∷◌, [], refl, sym, ap, ◌∙◌, subst, ℕ, List, ◌++◌}
 use Rattle.std.specs.List.{All}
 use Rattle.lowering.specs.PrivateGrowth.{HasTip, AreInputsPut}
-use Rattle.lowering.specs.WellFormed.{HasTree}
+use Rattle.rows.specs.WellFormed.{HasTree}
 use Rattle.lowering.proofs.InputFacts.{inputs_none, inputs_step, inputs_named, inputs_room, inputs_all}
 use Rattle.lowering.proofs.adding.put_inputs.Goals as goal
 

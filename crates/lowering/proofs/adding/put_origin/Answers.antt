@@ -1,5 +1,5 @@
 use Rattle.std.proofs.Common.{sym, subst, IfOk}
-use Rattle.lowering.specs.WellFormed.{HasTree}
+use Rattle.rows.specs.WellFormed.{HasTree}
 use Rattle.lowering.specs.PrivateGrowth.{IsOriginPut}
 use Rattle.lowering.proofs.InputFacts.{source_ok, tip_is}
 use Rattle.lowering.proofs.adding.put_origin.Goals as goal

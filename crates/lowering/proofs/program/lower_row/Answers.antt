@@ -1,5 +1,5 @@
 use Rattle.std.proofs.Common.{sym, subst, ◌*◌, None, Some}
-use Rattle.lowering.specs.WellFormed.{HasTree, RowNames, row_steps}
+use Rattle.rows.specs.WellFormed.{HasTree, RowNames, row_steps}
 use Rattle.lowering.specs.PrivateRoom.{RoomFor}
 use Rattle.lowering.specs.PrivateGrowth.{IsRowPut}
 use Rattle.lowering.proofs.RowFacts.{row_none, row_stage}

@@ -1,6 +1,6 @@
 use Rattle.std.proofs.Common.{◌*◌, sym, subst, ◌∙◌, length}
 use Rattle.std.specs.List.{All}
-use Rattle.lowering.specs.WellFormed.{HasTree, RowNames, IsWellFormed, count_of_steps}
+use Rattle.rows.specs.WellFormed.{HasTree, RowNames, IsWellFormed, count_of_steps}
 use Rattle.lowering.specs.PrivateRoom.{RoomFor}
 use Rattle.lowering.specs.PrivateGrowth.{no_graph, AreInside, HasTip, IsRowPut, AreRowsPut}
 use Rattle.lowering.proofs.RowFacts.{rows_first, rows_step, rows_room, rows_formed, rows_named, rows_all}

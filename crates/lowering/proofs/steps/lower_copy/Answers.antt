@@ -1,6 +1,6 @@
 use Rattle.std.proofs.Common.{arith, sym, subst}
 use Rattle.std.specs.List.{All}
-use Rattle.lowering.specs.WellFormed.{HasTree}
+use Rattle.rows.specs.WellFormed.{HasTree}
 use Rattle.lowering.specs.PrivateRoom.{RoomFor}
 use Rattle.lowering.proofs.InputFacts.{operation_room_less}
 use Rattle.lowering.proofs.StepFacts.{copy_ok}

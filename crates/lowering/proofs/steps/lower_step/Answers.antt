@@ -1,6 +1,6 @@
 use Rattle.std.proofs.Common.{arith, sym, subst, IfOk}
 use Rattle.std.specs.List.{All}
-use Rattle.lowering.specs.WellFormed.{HasTree, NamesOnly}
+use Rattle.rows.specs.WellFormed.{HasTree, NamesOnly}
 use Rattle.lowering.specs.PrivateRoom.{RoomFor}
 use Rattle.lowering.specs.PrivateGrowth.{IsStepPut}
 use Rattle.lowering.proofs.InputFacts.{operation_room_less}

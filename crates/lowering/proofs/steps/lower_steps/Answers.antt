@@ -1,7 +1,7 @@
 use Rattle.std.proofs.Common.{List, length, ◌*◌, [], refl, sym, subst, ◌∙◌}
 use Rattle.std.specs.List.{All}
 use Rattle.rows.specs.declared.row.Step.{Step}
-use Rattle.lowering.specs.WellFormed.{HasTree, NamesOnly, IsStep}
+use Rattle.rows.specs.WellFormed.{HasTree, NamesOnly, IsStep}
 use Rattle.lowering.specs.PrivateRoom.{HasRoom}
 use Rattle.lowering.specs.PrivateGrowth.{HasTip, AreStepsPut}
 use Rattle.lowering.proofs.StepFacts.{steps_none, steps_step, steps_formed, steps_named, steps_room, steps_all}

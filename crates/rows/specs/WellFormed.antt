@@ -5,7 +5,7 @@ use Rattle.llb.specs.WellFormed.{is_well_formed_on}
 use Rattle.llb.specs.Places.{IsLine}
 use Rattle.llb.specs.declared.op.Op.TheVariants.{Source as SourceOp, Exec as ExecOp, Copy as CopyOp, MakeDirs as MakeDirsOp}
 use Rattle.plans.specs.Sources.{SourcesValue, source_tree}
-use Rattle.lowering.specs.Meaning.{Rows, listed}
+use Rattle.rows.specs.Rows.{Rows, listed}
 use Rattle.rows.specs.declared.row.Origin.{Origin}
 use Rattle.rows.specs.declared.row.Origin.TheVariants.{Source as SourceOf, Stage as StageOf}
 use Rattle.rows.specs.declared.row.Action.{Action}

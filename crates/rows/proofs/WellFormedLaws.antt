@@ -1,8 +1,8 @@
 -- Files of which each row is well formed after those before it.
 use Rattle.std.proofs.Common.{◌≡◌, [], ◌∷◌, ◌++◌, Option, sym, ap, ◌∙◌, subst, append_assoc, append-nil}
 use Rattle.rows.specs.declared.row.Stage.{Stage}
-use Rattle.lowering.specs.Meaning.{Rows}
-use Rattle.lowering.specs.WellFormed.{IsRow, IsWellFormed}
+use Rattle.rows.specs.Rows.{Rows}
+use Rattle.rows.specs.WellFormed.{IsRow, IsWellFormed}
 
 -- each of some rows is well formed after those before it, row by row
 abbrev pub EachRow : Rows → Rows → Type 0
