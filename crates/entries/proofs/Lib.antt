@@ -1,0 +1,4 @@
+mod FrontFacts
+mod RowFacts
+mod ApartFacts
+mod WrittenFacts

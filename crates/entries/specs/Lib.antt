@@ -1,0 +1,6 @@
+pub mod Row
+pub mod Reading
+pub mod Listing
+pub mod PrivateOrder
+pub mod Whole
+pub mod Written

@@ -1,0 +1,107 @@
+ghost use Rattle.std.specs.Prelude.{◌≡◌, [], None, true, IfOk, OnOk};
+ghost use Rattle.std.specs.FinMap.{get};
+ghost use Rattle.trees.specs.Put.{cause_at, placed};
+ghost use Rattle.trees.specs.TreeMap.{directory_meta};
+ghost use Rattle.entries.specs.Listing.{is_listing};
+ghost use Rattle.entries.specs.Whole.{tree_of};
+
+use crate::apart::is_listing;
+use crate::reading::read_rows;
+use paths::Path;
+use plain::{Fault, Items, Memory};
+use serde_json::Value;
+use std::alloc::Global;
+use std::marker::Model;
+use strict::{FromJson, NotRead, ReadFault};
+use trees::{Entry, Tree};
+
+/// A list of a tree's entries with their paths, as it was written: no path stands in it twice, no file stands on the way to another entry,
+/// and the root is no file. Contracts see its rows.
+#[derive(Drop)]
+pub struct Listing {
+    rows: Items<(Path, Entry)>,
+}
+
+impl Model for Listing {
+    ghost use Rattle.std.specs.Prelude.{◌≡◌, List, true};
+    ghost use Rattle.entries.specs.Row.{Row, rows_code};
+    ghost use Rattle.entries.specs.Listing.{is_listing};
+
+    ghost Value = { List Row };
+
+    ghost coded = { rows_code };
+
+    ghost view = { λ l. l.rows };
+
+    ghost invariant = { λ l. is_listing l.rows ≡ true };
+}
+
+impl FromJson for Listing {
+    ghost use Rattle.entries.specs.Listing.{listing_in};
+
+    ghost reading = { listing_in };
+
+    #[tactic(auto, unfolding(crate::specs::Listing::listing_in))]
+    fn from_json(alloc: Global, value: &Value) -> Result<Listing, ReadFault> {
+        let rows = read_rows(alloc, value)?;
+        if is_listing(alloc, rows.as_slice())? {
+            Ok(Listing { rows })
+        } else {
+            Err(Fault::Because(NotRead))
+        }
+    }
+}
+
+impl Listing {
+    /// The empty list, that of the empty tree. It takes no memory.
+    #[tactic(auto, unfolding(crate::specs::Listing::is_listing))]
+    pub fn empty(alloc: Global) -> Listing
+        ensures { result ≡ [] }
+    {
+        Listing {
+            rows: Items::new(alloc),
+        }
+    }
+
+    /// The rows, in the order that they are written in, lent.
+    pub fn rows(&self) -> &[(Path, Entry)]
+        ensures value { result.now ≡ self.now }
+        ensures listing { is_listing self.now ≡ true }
+    {
+        self.rows.as_slice()
+    }
+
+    /// The rows, in the order that they are written in. It takes no memory.
+    pub fn into_rows(self) -> Vec<(Path, Entry)>
+        ensures value { result.items ≡ self }
+        ensures listing { is_listing self ≡ true }
+    {
+        let Listing { rows } = self;
+        rows.into_vec()
+    }
+
+    /// The tree of the list: each entry stands at its path, and directories on the way that the list doesn't have are made, 0755 and 0:0,
+    /// as the root is.
+    pub fn into_tree(self, alloc: Global) -> Result<Tree, Memory>
+        ensures { IfOk result (λ tree. tree ≡ tree_of self) }
+    {
+        let mut left = self.into_rows();
+        let mut tree = Tree::empty(alloc);
+        while let Some((path, entry)) = left.pop() {
+            place(alloc, &mut tree, &path, entry)?;
+        }
+        Ok(tree)
+    }
+}
+
+/// Puts an entry where nothing stands in its way.
+fn place(alloc: Global, tree: &mut Tree, path: &Path, entry: Entry) -> Result<(), Memory>
+    requires { cause_at (get tree.old) path.now entry ≡ None }
+    ensures { OnOk result (tree.new ≡ placed directory_meta tree.old path.now entry) }
+{
+    match tree.put(alloc, path, entry) {
+        Ok(()) => Ok(()),
+        Err(Fault::Memory) => Err(Memory),
+        Err(Fault::Because(_)) => unreachable!(),
+    }
+}

@@ -1,0 +1,174 @@
+ghost use Rattle.std.specs.Prelude.{◌≡◌, ◌<◌, IfOk, Some, None, codes, option_map};
+ghost use Rattle.std.specs.Option.{option_and_then};
+ghost use Rattle.serde_json.specs.View.{view, items_view};
+ghost use Rattle.serde_json.specs.Find.{get, as_str};
+ghost use Rattle.strict.specs.Gives.{Gives};
+ghost use Rattle.strict.specs.Strict.{at_most_one, all_in};
+ghost use Rattle.entries.specs.Reading.{is_octal, digit_at, mode_of, mode_in, meta_in, bytes_of, content_of, content_in, directory_in, file_in, row_in, rows_of};
+
+use hex::FromHexError;
+use paths::Path;
+use plain::{Bytes, Fault, Items, Mode};
+use serde_json::Value;
+use std::alloc::Global;
+use strict::{NotRead, ReadFault, is_strict, one_at, optional_at};
+use trees::{Content, Entry, Meta};
+
+/// Whether a character is a digit from 0 to 7.
+fn is_octal(digit: u8) -> bool
+    ensures { result ≡ is_octal digit }
+{
+    b'0' <= digit && digit <= b'7'
+}
+
+/// The mode that a text spells: it is four octal digits.
+fn mode_of(text: &str) -> Option<Mode>
+    ensures { result ≡ mode_of text.now }
+{
+    let digits = text.as_bytes();
+    if digits.len() != 4 || !digits.iter().all(|digit| is_octal(*digit)) {
+        return None;
+    }
+    let value = |at: usize| u16::from(digits[at] - b'0');
+    Mode::new(512 * value(0) + 64 * value(1) + 8 * value(2) + value(3))
+}
+
+/// The mode that a value is.
+#[tactic(auto, unfolding(crate::specs::Reading::mode_in))]
+fn read_mode(value: &Value) -> Result<Mode, ReadFault>
+    ensures { Gives result (mode_in (view value.now)) }
+{
+    let Some(text) = value.as_str() else {
+        return Err(Fault::Because(NotRead));
+    };
+    match mode_of(text) {
+        Some(mode) => Ok(mode),
+        None => Err(Fault::Because(NotRead)),
+    }
+}
+
+/// The mode that stands in an object, if one does.
+fn mode_at(value: &Value) -> Result<Option<Mode>, ReadFault>
+    ensures { Gives result (at_most_one mode_in (get (codes "mode") (view value.now))) }
+{
+    match value.get("mode") {
+        Some(value) => Ok(Some(read_mode(value)?)),
+        None => Ok(None),
+    }
+}
+
+/// The mode and the owner that stand in an object; what isn't there is as in `default`.
+#[tactic(auto, unfolding(crate::specs::Reading::meta_in))]
+fn read_meta(alloc: Global, value: &Value, default: Meta) -> Result<Meta, ReadFault>
+    ensures { Gives result (meta_in default (view value.now)) }
+{
+    let mode = mode_at(value)?;
+    let uid: Option<u32> = optional_at(alloc, value, "uid")?;
+    let gid: Option<u32> = optional_at(alloc, value, "gid")?;
+    Ok(Meta {
+        mode: mode.unwrap_or(default.mode),
+        uid: uid.unwrap_or(default.uid),
+        gid: gid.unwrap_or(default.gid),
+    })
+}
+
+/// The bytes that a value spells in hexadecimal.
+fn read_hex(alloc: Global, value: &Value) -> Result<Bytes, ReadFault>
+    ensures { Gives result (option_and_then bytes_of (as_str (view value.now))) }
+{
+    let Some(text) = value.as_str() else {
+        return Err(Fault::Because(NotRead));
+    };
+    match hex::decode(alloc, text) {
+        Ok(bytes) => Ok(Bytes::from_vec(bytes)),
+        Err(FromHexError::OutOfMemory) => Err(Fault::Memory),
+        Err(_) => Err(Fault::Because(NotRead)),
+    }
+}
+
+/// The bytes of a text that a value is.
+fn read_text(alloc: Global, value: &Value) -> Result<Bytes, ReadFault>
+    ensures { Gives result (as_str (view value.now)) }
+{
+    let Some(text) = value.as_str() else {
+        return Err(Fault::Because(NotRead));
+    };
+    Ok(Bytes::from_slice(alloc, text.as_bytes())?)
+}
+
+/// The bytes that stand in an object, at `text` as a text or at `hex` in hexadecimal. `NotRead` where there are none, or both, or they
+/// can't be read.
+#[tactic(auto, unfolding(crate::specs::Reading::content_in))]
+pub fn read_content(alloc: Global, value: &Value) -> Result<Bytes, ReadFault>
+    ensures { Gives result (content_in (view value.now)) }
+{
+    match (value.get("text"), value.get("hex")) {
+        (Some(text), None) => read_text(alloc, text),
+        (None, Some(hex)) => read_hex(alloc, hex),
+        (None, None) => Err(Fault::Because(NotRead)),
+        (Some(_), Some(_)) => Err(Fault::Because(NotRead)),
+    }
+}
+
+/// A directory with its path.
+#[tactic(auto, unfolding(crate::specs::Reading::directory_in))]
+fn read_directory(alloc: Global, value: &Value) -> Result<(Path, Entry), ReadFault>
+    ensures { Gives result (directory_in (view value.now)) }
+{
+    if !is_strict(value, &["dir", "gid", "mode", "path", "uid"]) {
+        return Err(Fault::Because(NotRead));
+    }
+    let flag: bool = one_at(alloc, value, "dir")?;
+    if !flag {
+        return Err(Fault::Because(NotRead));
+    }
+    let path: Path = one_at(alloc, value, "path")?;
+    let meta = read_meta(alloc, value, Meta::directory())?;
+    Ok((path, Entry::Directory(meta)))
+}
+
+/// A file with its path.
+#[tactic(auto, unfolding(crate::specs::Reading::file_in))]
+fn read_file(alloc: Global, value: &Value) -> Result<(Path, Entry), ReadFault>
+    ensures { Gives result (file_in (view value.now)) }
+{
+    if !is_strict(value, &["gid", "hex", "mode", "path", "text", "uid"]) {
+        return Err(Fault::Because(NotRead));
+    }
+    let path: Path = one_at(alloc, value, "path")?;
+    let meta = read_meta(alloc, value, Meta::file())?;
+    let content = read_content(alloc, value)?;
+    Ok((path, Entry::File(meta, Content::new(content))))
+}
+
+/// An entry with its path: a directory where `dir` is there, else a file.
+fn read_row(alloc: Global, value: &Value) -> Result<(Path, Entry), ReadFault>
+    ensures { Gives result (row_in (view value.now)) }
+{
+    match value.get("dir") {
+        Some(_) => read_directory(alloc, value),
+        None => read_file(alloc, value),
+    }
+}
+
+/// What each of some values is.
+fn read_each(alloc: Global, values: &[Value]) -> Result<Items<(Path, Entry)>, ReadFault>
+    ensures { Gives result (all_in row_in (items_view values.now)) }
+{
+    let mut rows = Items::new(alloc);
+    for value in values {
+        rows.push(read_row(alloc, value)?)?;
+    }
+    Ok(rows)
+}
+
+/// A list of entries with their paths, as it is written.
+#[tactic(auto, unfolding(strict::specs::Strict::list_in))]
+pub(crate) fn read_rows(alloc: Global, value: &Value) -> Result<Items<(Path, Entry)>, ReadFault>
+    ensures { Gives result (rows_of (view value.now)) }
+{
+    let Some(values) = value.as_array() else {
+        return Err(Fault::Because(NotRead));
+    };
+    read_each(alloc, values.as_slice())
+}
