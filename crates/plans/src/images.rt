@@ -1,5 +1,5 @@
 ghost use Rattle.std.specs.Prelude.{◌≡◌, IfOk, OnOk, OnErr, option_copied};
-ghost use Rattle.std.specs.FinMap.{empty, get, insert};
+ghost use Rattle.std.specs.FinMap.{empty, get, insert, remove};
 
 use plain::{Memory, Text};
 use std::alloc::Global;
@@ -46,6 +46,14 @@ impl<C> Images<C> {
         ensures { option_copied result ≡ get self.now name.now }
     {
         self.images.get(name)
+    }
+
+    /// Takes the image of exactly this name out, and gives it; `None` where there is none. It takes no memory.
+    pub fn take(&mut self, name: &Text) -> Option<Image<C>>
+        ensures taken { result ≡ get self.old name.now }
+        ensures left { self.new ≡ remove self.old name.now }
+    {
+        self.images.remove(name)
     }
 }
 
