@@ -3,3 +3,4 @@ pub mod FixtureLaws
 mod CutLemmas
 mod JoinLemmas
 mod ScriptLemmas
+mod SightLemmas

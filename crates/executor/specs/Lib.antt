@@ -1,5 +1,7 @@
+pub mod Edits
 pub mod Fixture
 pub mod FixtureExits
 pub mod Number
+pub mod Places
 pub mod Script
 pub mod PrivateOutcome

@@ -1,26 +1,31 @@
 -- What a call inside the fixture answers (own). Want of memory says nothing of the commands.
-use Rattle.std.specs.Prelude.{◌≡◌, ℕ, true, Option, Some, None, Result, Ok, Err, List, is_some}
+use Rattle.std.specs.Prelude.{◌≡◌, ℕ, Result, Ok, Err, List, IsErr}
 use Rattle.plain.specs.declared.fault.Fault.{Fault}
 use Rattle.plain.specs.declared.fault.Fault.TheVariants.{Because, Memory}
-use Rattle.paths.specs.Reading.{limit_of}
 use Rattle.trees.specs.TreeMap.{TreeMap}
-use Rattle.runs.specs.declared.run.RunOutcome.{RunOutcome}
-use Rattle.runs.specs.declared.run.RunOutcome.TheVariants.{Done, Exit}
+use Rattle.trees.specs.Cause.{TreeOrCause}
+use Rattle.executor.specs.Edits.{SightValue, SightOrStatus}
 
--- a call that runs commands on a tree ends with this outcome, tree being the tree after it
-abbrev pub GivesOutcome : RunOutcome → TreeMap → Result (Unit {0}) (Fault ℕ) → Type 0
-GivesOutcome outcome tree (Ok done) = outcome ≡ Done tree
-GivesOutcome outcome tree (Err (Because status)) = outcome ≡ Exit status
-GivesOutcome outcome tree (Err Memory) = Unit {0}
+-- a call gives this value, or ends with this status
+abbrev pub Gives : {X : Type 0} → Result X ℕ → Result X (Fault ℕ) → Type 0
+Gives value (Ok given) = value ≡ Ok given
+Gives value (Err (Because status)) = value ≡ Err status
+Gives value (Err Memory) = Unit {0}
 
--- a call that reads a path gives p where p is within the limits, and else the status 1
-abbrev pub GivesPath : List (List ℕ) → Result (List (List ℕ)) (Fault ℕ) → Type 0
-GivesPath p (Ok path) = (path ≡ p) × (limit_of p ≡ None)
-GivesPath p (Err (Because status)) = (status ≡ 1) × (is_some (limit_of p) ≡ true)
-GivesPath p (Err Memory) = Unit {0}
+-- a call that makes a change ends with this, sight being what is seen after it
+abbrev pub SeesNext : SightOrStatus → SightValue → Result (Unit {0}) (Fault ℕ) → Type 0
+SeesNext after sight (Ok done) = after ≡ Ok sight
+SeesNext after sight (Err (Because status)) = after ≡ Err status
+SeesNext after sight (Err Memory) = Unit {0}
 
--- a call that reads a file gives its bytes, and the status 1 where there is none
-abbrev pub GivesBytes : Option (List ℕ) → Result (List ℕ) (Fault ℕ) → Type 0
-GivesBytes found (Ok bytes) = found ≡ Some bytes
-GivesBytes found (Err (Because status)) = (status ≡ 1) × (found ≡ None)
-GivesBytes found (Err Memory) = Unit {0}
+-- a call that changes a tree makes it this value, and ends with status 1 where there is none
+abbrev pub SeesTree : TreeOrCause → TreeMap → Result (Unit {0}) (Fault ℕ) → Type 0
+SeesTree value tree (Ok done) = value ≡ Ok tree
+SeesTree value tree (Err (Because status)) = (status ≡ 1) × IsErr value
+SeesTree value tree (Err Memory) = Unit {0}
+
+-- A call that runs commands ends with this, and leaves this in the caches: sight and caches are what is seen and what caches hold after it.
+abbrev pub RunsTo : SightOrStatus → List TreeMap → SightValue → List TreeMap → Result (Unit {0}) (Fault ℕ) → Type 0
+RunsTo after held sight caches (Ok done) = (after ≡ Ok sight) × (caches ≡ held)
+RunsTo after held sight caches (Err (Because status)) = (after ≡ Err status) × (caches ≡ held)
+RunsTo after held sight caches (Err Memory) = Unit {0}

@@ -1,27 +1,16 @@
-ghost use Rattle.std.specs.Prelude.{◌≡◌, ◌++◌, ◌∷◌, [], map, unwrap_or, IfOk};
+ghost use Rattle.std.specs.Prelude.{◌≡◌, Ok, Err, map, IfOk};
 ghost use Rattle.std.specs.List.{join_with_byte};
-ghost use Rattle.std.specs.FinMap.{get};
-ghost use Rattle.paths.specs.Reading.{read_from};
-ghost use Rattle.trees.specs.TreeMap.{TreeMap};
-ghost use Rattle.executor.specs.PrivateOutcome.{GivesOutcome, GivesPath, GivesBytes};
-ghost use Rattle.executor.specs.Fixture.{command_of, kept_meta, written, written_at, bytes_at, value_in, after_put, after_cat, after_show, after_remove, after_bump, after_true, fail_status, after_known, after_command};
+ghost use Rattle.executor.specs.PrivateOutcome.{Gives};
+ghost use Rattle.executor.specs.Fixture.{command_of, path_at, edit_of, edit_at, bytes_at, value_in, put_edit, cat_edit, show_edit, only_edit, no_edit, fail_status, known_edit, command_edit};
 
 use crate::Request;
+use crate::edit::{Change, Edit};
 use crate::number::status_of;
-use crate::stop::Stop;
+use crate::sight::Sight;
+use crate::stop::{REFUSED, Stop, UNKNOWN, WRONG_WORDS};
 use paths::Path;
 use plain::{Bytes, Fault, Memory, Variable};
 use std::alloc::Global;
-use trees::{Content, Entry, Meta, Tree};
-
-/// A path can't be read, or what a command wants of a file can't be.
-const REFUSED: u8 = 1;
-
-/// A command is given a wrong number of words, or `fail` no status.
-const WRONG_WORDS: u8 = 2;
-
-/// There is no such command. It is what a shell answers.
-const UNKNOWN: u8 = 127;
 
 /// A command that the fixture knows.
 #[derive(Clone, Copy, Debug, PartialEq, Eq)]
@@ -65,52 +54,52 @@ fn command_of(name: &str) -> Option<Command>
     }
 }
 
-/// Runs one command on a tree, from its words.
-pub(crate) fn run_command(
+/// What a command changes, from its words; nothing, or the status that it ends with.
+pub(crate) fn command_edit(
     alloc: Global,
     request: &Request,
-    tree: &mut Tree,
+    sight: &Sight,
     words: &[&str],
-) -> Result<(), Stop>
-    ensures { GivesOutcome (after_command request.now (map (λ word. word.now) words.now) tree.old) tree.new result }
+) -> Result<Option<Edit>, Stop>
+    ensures { Gives (command_edit request.now sight.now (map (λ word. word.now) words.now)) result }
 {
     let [name, operands @ ..] = words else {
         return Err(Fault::Because(UNKNOWN));
     };
-    run_known(alloc, request, tree, command_of(name), operands)
+    known_edit(alloc, request, sight, command_of(name), operands)
 }
 
-/// Runs a command on the words after its name.
-fn run_known(
+/// What a command changes, from the words after its name.
+fn known_edit(
     alloc: Global,
     request: &Request,
-    tree: &mut Tree,
+    sight: &Sight,
     command: Option<Command>,
     operands: &[&str],
-) -> Result<(), Stop>
-    ensures { GivesOutcome (after_known request.now command (map (λ word. word.now) operands.now) tree.old) tree.new result }
+) -> Result<Option<Edit>, Stop>
+    ensures { Gives (known_edit request.now sight.now command (map (λ word. word.now) operands.now)) result }
 {
     match command {
         None => Err(Fault::Because(UNKNOWN)),
-        Some(Command::Put) => put(alloc, request, tree, operands),
-        Some(Command::Cat) => cat(alloc, request, tree, operands),
-        Some(Command::Show) => show(alloc, request, tree, operands),
-        Some(Command::Remove) => remove(alloc, request, tree, operands),
-        Some(Command::Bump) => bump(alloc, request, tree, operands),
-        Some(Command::True) => run_true(operands),
+        Some(Command::Put) => put_edit(alloc, request, operands),
+        Some(Command::Cat) => cat_edit(alloc, request, sight, operands),
+        Some(Command::Show) => show_edit(alloc, request, operands),
+        Some(Command::Remove) => only_edit(alloc, request, Change::Remove, operands),
+        Some(Command::Bump) => only_edit(alloc, request, Change::Bump, operands),
+        Some(Command::True) => no_edit(operands),
         Some(Command::Fail) => Err(Fault::Because(fail_status(operands))),
     }
 }
 
 /// `put P w..`: the file P holds the words, a space between each two.
-fn put(alloc: Global, request: &Request, tree: &mut Tree, operands: &[&str]) -> Result<(), Stop>
-    ensures { GivesOutcome (after_put request.now (map (λ word. word.now) operands.now) tree.old) tree.new result }
+fn put_edit(alloc: Global, request: &Request, operands: &[&str]) -> Result<Option<Edit>, Stop>
+    ensures { Gives (put_edit request.now (map (λ word. word.now) operands.now)) result }
 {
     let [name, words @ ..] = operands else {
         return Err(Fault::Because(WRONG_WORDS));
     };
     let bytes = joined(alloc, words)?;
-    write_at(alloc, request, tree, name, bytes)
+    edit_at(alloc, request, name, Change::Write(bytes))
 }
 
 /// The words with a space between each two.
@@ -130,25 +119,38 @@ fn joined(alloc: Global, words: &[&str]) -> Result<Bytes, Memory>
 }
 
 /// `cat P Q`: the file Q holds what the file P holds.
-fn cat(alloc: Global, request: &Request, tree: &mut Tree, operands: &[&str]) -> Result<(), Stop>
-    ensures { GivesOutcome (after_cat request.now (map (λ word. word.now) operands.now) tree.old) tree.new result }
+fn cat_edit(
+    alloc: Global,
+    request: &Request,
+    sight: &Sight,
+    operands: &[&str],
+) -> Result<Option<Edit>, Stop>
+    ensures { Gives (cat_edit request.now sight.now (map (λ word. word.now) operands.now)) result }
 {
     let [from, to] = operands else {
         return Err(Fault::Because(WRONG_WORDS));
     };
-    let bytes = read_at(alloc, request, tree, from)?;
-    write_at(alloc, request, tree, to, bytes)
+    let bytes = bytes_at(alloc, request, sight, from)?;
+    edit_at(alloc, request, to, Change::Write(bytes))
+}
+
+/// A copy of the bytes of the file that a word leads to.
+fn bytes_at(alloc: Global, request: &Request, sight: &Sight, name: &str) -> Result<Bytes, Stop>
+    ensures { Gives (bytes_at request.now sight.now name.now) result }
+{
+    let path = path_at(alloc, request, name)?;
+    sight.read(alloc, request, &path)
 }
 
 /// `show N P`: the file P holds the environment's value of N.
-fn show(alloc: Global, request: &Request, tree: &mut Tree, operands: &[&str]) -> Result<(), Stop>
-    ensures { GivesOutcome (after_show request.now (map (λ word. word.now) operands.now) tree.old) tree.new result }
+fn show_edit(alloc: Global, request: &Request, operands: &[&str]) -> Result<Option<Edit>, Stop>
+    ensures { Gives (show_edit request.now (map (λ word. word.now) operands.now)) result }
 {
     let [name, to] = operands else {
         return Err(Fault::Because(WRONG_WORDS));
     };
     let value = Bytes::from_slice(alloc, value_in(name, request.env.as_slice()).as_bytes())?;
-    write_at(alloc, request, tree, to, value)
+    edit_at(alloc, request, to, Change::Write(value))
 }
 
 /// The value that a name has in an environment, or the empty text where it has none.
@@ -163,51 +165,27 @@ fn value_in<'a>(name: &str, env: &'a [Variable]) -> &'a str
     ""
 }
 
-/// `rm P`: P goes, with all below it.
-fn remove(alloc: Global, request: &Request, tree: &mut Tree, operands: &[&str]) -> Result<(), Stop>
-    ensures { GivesOutcome (after_remove request.now (map (λ word. word.now) operands.now) tree.old) tree.new result }
+/// A command of one path, which makes this change there: `rm P` and `bump P`.
+fn only_edit(
+    alloc: Global,
+    request: &Request,
+    change: Change,
+    operands: &[&str],
+) -> Result<Option<Edit>, Stop>
+    ensures { Gives (only_edit request.now change (map (λ word. word.now) operands.now)) result }
 {
     let [name] = operands else {
         return Err(Fault::Because(WRONG_WORDS));
     };
-    let path = path_at(alloc, request, name)?;
-    match tree.remove(&path) {
-        Ok(()) => Ok(()),
-        Err(Fault::Because(_)) => Err(Fault::Because(REFUSED)),
-        Err(Fault::Memory) => Err(Fault::Memory),
-    }
-}
-
-/// `bump P`: a `+` is added to the file P, which is made if it is missing.
-fn bump(alloc: Global, request: &Request, tree: &mut Tree, operands: &[&str]) -> Result<(), Stop>
-    ensures { GivesOutcome (after_bump request.now (map (λ word. word.now) operands.now) tree.old) tree.new result }
-{
-    let [name] = operands else {
-        return Err(Fault::Because(WRONG_WORDS));
-    };
-    let mut bytes = bytes_or_none(alloc, request, tree, name)?.into_vec();
-    bytes.push(b'+')?;
-    write_at(alloc, request, tree, name, Bytes::from_vec(bytes))
-}
-
-/// A copy of the bytes of the file that a word leads to, or no bytes where it leads to none.
-fn bytes_or_none(alloc: Global, request: &Request, tree: &Tree, name: &str) -> Result<Bytes, Memory>
-    ensures { IfOk result (λ bytes. bytes ≡ unwrap_or (bytes_at request.now name.now tree.now) []) }
-{
-    match read_at(alloc, request, tree, name) {
-        Ok(bytes) => Ok(bytes),
-        Err(Fault::Because(_)) => Ok(Bytes::from_vec(Vec::new(alloc))),
-        Err(Fault::Memory) => Err(Memory),
-    }
+    edit_at(alloc, request, name, change)
 }
 
 /// `true`: nothing.
-fn run_true(operands: &[&str]) -> Result<(), Stop>
-    ensures { (tree : TreeMap)
-        → GivesOutcome (after_true (map (λ word. word.now) operands.now) tree) tree result }
+fn no_edit(operands: &[&str]) -> Result<Option<Edit>, Stop>
+    ensures { Gives (no_edit (map (λ word. word.now) operands.now)) result }
 {
     if operands.is_empty() {
-        Ok(())
+        Ok(None)
     } else {
         Err(Fault::Because(WRONG_WORDS))
     }
@@ -223,60 +201,26 @@ fn fail_status(operands: &[&str]) -> u8
     status_of(number).unwrap_or(WRONG_WORDS)
 }
 
+/// A change at the path that a word leads to.
+fn edit_at(
+    alloc: Global,
+    request: &Request,
+    name: &str,
+    change: Change,
+) -> Result<Option<Edit>, Stop>
+    ensures { Gives (edit_at request.now name.now change) result }
+{
+    let path = path_at(alloc, request, name)?;
+    Ok(Some(Edit { path, change }))
+}
+
 /// The path that a command's word leads to from the request's directory; one that leads past a limit is refused.
 fn path_at(alloc: Global, request: &Request, name: &str) -> Result<Path, Stop>
-    ensures { GivesPath (read_from name.now request.now.dir) result }
+    ensures { Gives (path_at request.now name.now) result }
 {
     match Path::read(alloc, name, &request.dir) {
         Ok(path) => Ok(path),
         Err(Fault::Because(_)) => Err(Fault::Because(REFUSED)),
         Err(Fault::Memory) => Err(Fault::Memory),
-    }
-}
-
-/// A copy of the bytes of the file that a word leads to.
-fn read_at(alloc: Global, request: &Request, tree: &Tree, name: &str) -> Result<Bytes, Stop>
-    ensures { GivesBytes (bytes_at request.now name.now tree.now) result }
-{
-    let path = path_at(alloc, request, name)?;
-    match tree.get(&path) {
-        Some(Entry::File(_, content)) => Ok(Bytes::from_slice(alloc, content.as_slice())?),
-        _ => Err(Fault::Because(REFUSED)),
-    }
-}
-
-/// Writes a file at the path that a word leads to.
-fn write_at(
-    alloc: Global,
-    request: &Request,
-    tree: &mut Tree,
-    name: &str,
-    bytes: Bytes,
-) -> Result<(), Stop>
-    ensures { GivesOutcome (written_at request.now name.now bytes tree.old) tree.new result }
-{
-    let path = path_at(alloc, request, name)?;
-    write(alloc, tree, &path, bytes)
-}
-
-/// Writes a file. One that stands there keeps its mode and owner.
-fn write(alloc: Global, tree: &mut Tree, path: &Path, bytes: Bytes) -> Result<(), Stop>
-    ensures { GivesOutcome (written path.now bytes tree.old) tree.new result }
-{
-    let meta = kept_meta(tree, path);
-    match tree.put(alloc, path, Entry::File(meta, Content::new(bytes))) {
-        Ok(()) => Ok(()),
-        Err(Fault::Because(_)) => Err(Fault::Because(REFUSED)),
-        Err(Fault::Memory) => Err(Fault::Memory),
-    }
-}
-
-/// The mode and owner with which a file is written at a path.
-fn kept_meta(tree: &Tree, path: &Path) -> Meta
-    ensures { result ≡ kept_meta (get tree.now path.now) }
-{
-    match tree.get(path) {
-        Some(Entry::File(meta, _)) => *meta,
-        _ => Meta::file(),
     }
 }

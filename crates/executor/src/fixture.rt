@@ -1,10 +1,11 @@
 ghost use Rattle.std.specs.Prelude.{◌≡◌, map, IfOk, option_copied};
-ghost use Rattle.executor.specs.PrivateOutcome.{GivesOutcome};
+ghost use Rattle.executor.specs.PrivateOutcome.{RunsTo};
 ghost use Rattle.executor.specs.Script.{commands, commands_of, script_of};
-ghost use Rattle.executor.specs.Fixture.{after_commands, after_line};
+ghost use Rattle.executor.specs.Fixture.{after_command, after_commands, after_line, held_by_command, held_by_commands, held_by_line};
 
-use crate::command::run_command;
+use crate::command::command_edit;
 use crate::script::split_line;
+use crate::sight::Sight;
 use crate::stop::Stop;
 use crate::{Executor, Outcome, Request};
 use ascii::split_at_blanks;
@@ -19,7 +20,7 @@ use trees::Tree;
 /// status isn't 0; that status is the answer.
 ///
 /// - `put P w..` writes the file P, which holds the words with a space between each two.
-/// - `cat P Q` writes the file Q, which holds what the file P holds; status 1 where P is no file.
+/// - `cat P Q` writes the file Q, which holds what the file P holds; status 1 where P is no file, and 126 where it lies in a cache.
 /// - `show N P` writes the file P, which holds the environment's value of N, and nothing where N has none.
 /// - `rm P` takes P away with all below it; status 1 where nothing stands there, and at the root.
 /// - `bump P` adds a `+` to the file P, which is made if it is missing.
@@ -31,19 +32,23 @@ use trees::Tree;
 /// directory stands there or a file stands on the way. A wrong number of words is status 2, and an unknown command 127, the empty
 /// word and no word at all among them. The user counts for nothing.
 ///
-/// Binds and caches aren't known yet: a path at or under the target of a mount is a path of the root like any other, so the answer is
-/// that of the request without its mounts, and the caches that are lent come back as they were.
+/// A path at or under the target of a bind leads into the bind's tree and nowhere else: it is read and written there, and what is written
+/// is seen by later commands of the run alone. In a bind without `rw`, writing and `rm` end with status 1, and so does `rm` of a target.
+///
+/// A path at or under the target of a cache leads into the cache. Writing and `rm` succeed there, and change nothing where what the cache
+/// holds doesn't allow them; nothing is read from it. So no outcome depends on what a cache holds. A cache keeps what was written to it also
+/// where a later command ends the run with a status.
 #[derive(Clone, Copy, Debug, PartialEq, Eq)]
 pub struct Fixture;
 
 impl Executor for Fixture {
-    ghost use Rattle.executor.specs.Fixture.{fixture_out};
+    ghost use Rattle.executor.specs.Fixture.{fixture_out, fixture_caches};
     ghost use Rattle.executor.specs.FixtureExits.{fixture_out-exits};
     ghost use Rattle.std.specs.Prelude.{◌≡◌};
 
     ghost out = { λ _ request. fixture_out request };
 
-    ghost leaves = { λ _ _ before after. after ≡ before };
+    ghost leaves = { λ _ request before after. after ≡ fixture_caches request before };
 
     ghost exits = { λ _ request status e. fixture_out-exits request status e };
 
@@ -51,11 +56,11 @@ impl Executor for Fixture {
         &self,
         alloc: Global,
         request: &Request,
-        _caches: &mut Vec<Tree>,
+        caches: &mut Vec<Tree>,
     ) -> Result<Outcome, Memory> {
-        let mut root = request.root.copy(alloc)?;
-        match run_words(alloc, request, &mut root) {
-            Ok(()) => Ok(Outcome::Done(root)),
+        let mut sight = Sight::first(alloc, request)?;
+        match run_words(alloc, request, &mut sight, caches) {
+            Ok(()) => Ok(Outcome::Done(sight.into_root())),
             Err(Fault::Because(status)) => Ok(Outcome::Exit(status)),
             Err(Fault::Memory) => Err(Memory),
         }
@@ -63,16 +68,39 @@ impl Executor for Fixture {
 }
 
 /// Runs the commands that a request's words hold.
-fn run_words(alloc: Global, request: &Request, tree: &mut Tree) -> Result<(), Stop>
-    ensures { GivesOutcome (after_commands request.now (commands_of request.now.words) tree.old) tree.new result }
+fn run_words(
+    alloc: Global,
+    request: &Request,
+    sight: &mut Sight,
+    caches: &mut Vec<Tree>,
+) -> Result<(), Stop>
+    ensures { RunsTo (after_commands request.now (commands_of request.now.words) sight.old)
+        (held_by_commands request.now (commands_of request.now.words) sight.old caches.old.items) sight.new caches.new.items result }
 {
     let words = request.words.as_slice();
     match script_of(words) {
-        Some(script) => run_script(alloc, request, tree, script),
+        Some(script) => run_script(alloc, request, sight, caches, script),
         None => {
             let texts = texts_of(alloc, words)?;
-            run_command(alloc, request, tree, texts.as_slice())
+            run_command(alloc, request, sight, caches, texts.as_slice())
         }
+    }
+}
+
+/// Runs one command, from its words.
+fn run_command(
+    alloc: Global,
+    request: &Request,
+    sight: &mut Sight,
+    caches: &mut Vec<Tree>,
+    words: &[&str],
+) -> Result<(), Stop>
+    ensures { RunsTo (after_command request.now (map (λ word. word.now) words.now) sight.old)
+        (held_by_command request.now (map (λ word. word.now) words.now) sight.old caches.old.items) sight.new caches.new.items result }
+{
+    match command_edit(alloc, request, sight, words)? {
+        Some(edit) => sight.apply(alloc, request, caches, edit),
+        None => Ok(()),
     }
 }
 
@@ -102,24 +130,38 @@ fn texts_of(alloc: Global, words: &[Text]) -> Result<Vec<&str>, Memory>
 }
 
 /// Runs the commands of a script, one for each line that has a word.
-fn run_script(alloc: Global, request: &Request, tree: &mut Tree, script: &str) -> Result<(), Stop>
-    ensures { GivesOutcome (after_commands request.now (commands script.now) tree.old) tree.new result }
+fn run_script(
+    alloc: Global,
+    request: &Request,
+    sight: &mut Sight,
+    caches: &mut Vec<Tree>,
+    script: &str,
+) -> Result<(), Stop>
+    ensures { RunsTo (after_commands request.now (commands script.now) sight.old)
+        (held_by_commands request.now (commands script.now) sight.old caches.old.items) sight.new caches.new.items result }
 {
     let mut rest = script;
     while let Some((line, tail)) = split_line(rest) {
-        run_line(alloc, request, tree, line)?;
+        run_line(alloc, request, sight, caches, line)?;
         rest = tail;
     }
-    run_line(alloc, request, tree, rest)
+    run_line(alloc, request, sight, caches, rest)
 }
 
 /// Runs the command of a line; a line with no word holds none.
-fn run_line(alloc: Global, request: &Request, tree: &mut Tree, line: &str) -> Result<(), Stop>
-    ensures { GivesOutcome (after_line request.now line.now tree.old) tree.new result }
+fn run_line(
+    alloc: Global,
+    request: &Request,
+    sight: &mut Sight,
+    caches: &mut Vec<Tree>,
+    line: &str,
+) -> Result<(), Stop>
+    ensures { RunsTo (after_line request.now line.now sight.old)
+        (held_by_line request.now line.now sight.old caches.old.items) sight.new caches.new.items result }
 {
     let words = split_at_blanks(alloc, line)?;
     if words.is_empty() {
         return Ok(());
     }
-    run_command(alloc, request, tree, words.as_slice())
+    run_command(alloc, request, sight, caches, words.as_slice())
 }

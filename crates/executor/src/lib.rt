@@ -11,11 +11,14 @@
 #![tactic(auto)]
 
 mod command;
+mod edit;
 mod executor;
 mod fixture;
 pub mod laws;
 mod number;
+mod place;
 mod script;
+mod sight;
 mod stop;
 
 pub use executor::Executor;

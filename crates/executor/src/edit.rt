@@ -1,0 +1,82 @@
+ghost use Rattle.std.specs.Prelude.{◌≡◌, [], ◌∷◌, ◌++◌, IfOk};
+ghost use Rattle.std.specs.FinMap.{get};
+ghost use Rattle.trees.specs.Cause.{ChangesTree};
+ghost use Rattle.executor.specs.declared.edit.Change.TheVariants.{Bump};
+ghost use Rattle.executor.specs.Edits.{kept_meta, bytes_of, bytes_or_none, written, changed};
+
+use paths::Path;
+use plain::{Bytes, Memory};
+use std::alloc::Global;
+use trees::{Content, Entry, Meta, Tree, TreeFault};
+
+/// What a command makes of the path that it names.
+#[derive(Drop)]
+pub(crate) enum Change {
+    /// A file that holds these bytes.
+    Write(Bytes),
+    /// A file with a `+` more, which is made if it is missing.
+    Bump,
+    /// Nothing stands there any more, nor below it.
+    Remove,
+}
+
+/// The change that a command makes, and where.
+#[derive(Drop)]
+pub(crate) struct Edit {
+    pub path: Path,
+    pub change: Change,
+}
+
+/// Makes a change in a tree. After a fault the tree is as it was.
+pub(crate) fn change_tree(
+    alloc: Global,
+    tree: &mut Tree,
+    path: &Path,
+    change: Change,
+) -> Result<(), TreeFault>
+    ensures { ChangesTree (changed tree.old path.now change) tree.old tree.new result }
+{
+    match change {
+        Change::Write(bytes) => write(alloc, tree, path, bytes),
+        Change::Bump => bump(alloc, tree, path),
+        Change::Remove => tree.remove(path),
+    }
+}
+
+/// Adds a `+` to a file, which is made if it is missing.
+fn bump(alloc: Global, tree: &mut Tree, path: &Path) -> Result<(), TreeFault>
+    ensures { ChangesTree (changed tree.old path.now Bump) tree.old tree.new result }
+{
+    let bytes = bumped(alloc, tree, path)?;
+    write(alloc, tree, path, bytes)
+}
+
+/// The bytes of a file with a `+` more; the `+` alone where no file stands there.
+fn bumped(alloc: Global, tree: &Tree, path: &Path) -> Result<Bytes, Memory>
+    ensures { IfOk result (λ bytes. bytes ≡ bytes_or_none (bytes_of (get tree.now path.now)) ++ 43 ∷ []) }
+{
+    let mut bytes = Vec::new(alloc);
+    if let Some(Entry::File(_, content)) = tree.get(path) {
+        bytes.extend_from_slice(content.as_slice())?;
+    }
+    bytes.push(b'+')?;
+    Ok(Bytes::from_vec(bytes))
+}
+
+/// Writes a file. One that stands there keeps its mode and owner.
+fn write(alloc: Global, tree: &mut Tree, path: &Path, bytes: Bytes) -> Result<(), TreeFault>
+    ensures { ChangesTree (written tree.old path.now bytes) tree.old tree.new result }
+{
+    let meta = kept_meta(tree, path);
+    tree.put(alloc, path, Entry::File(meta, Content::new(bytes)))
+}
+
+/// The mode and owner with which a file is written at a path.
+fn kept_meta(tree: &Tree, path: &Path) -> Meta
+    ensures { result ≡ kept_meta (get tree.now path.now) }
+{
+    match tree.get(path) {
+        Some(Entry::File(meta, _)) => *meta,
+        _ => Meta::file(),
+    }
+}
