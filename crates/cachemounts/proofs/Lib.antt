@@ -1,3 +1,4 @@
 pub mod HoldLemmas
 pub mod ContentLemmas
 pub mod StoreLemmas
+mod BeginFacts

@@ -49,3 +49,13 @@ given_back (hold ∷ holds) (tree ∷ trees) id slot before =
 -- whether each content that is held is listed, so that giving a tree back takes no memory (own)
 abbrev pub have_contents : List Content → List Hold → Bool
 have_contents contents holds = list_all (λ (hold : Hold). list_any (is_content hold.id (slot_of hold.access)) contents) holds
+
+-- the common content of a cache (own)
+abbrev pub common_content : List ℕ × TreeMap → Content
+common_content row = record { id = row.0; slot = None; tree = row.1 }
+
+-- the tree that is in a content at first, where caches have these common contents: that of the first row of the cache, and the empty one in a
+-- private slot (own)
+abbrev pub tree_at_first : List (List ℕ × TreeMap) → List ℕ → Option ℕ → TreeMap
+tree_at_first rows id None = option_map_or (λ (row : List ℕ × TreeMap). row.1) (find (λ (row : List ℕ × TreeMap). same_id row.0 id) rows) empty_tree
+tree_at_first rows id (Some slot) = empty_tree

@@ -1,7 +1,7 @@
 ghost use Rattle.std.specs.Prelude.{◌≡◌, ℕ, List, [], ◌∷◌, ◌++◌, OnOk, true, false, cond, length, map, IfOk, IfSome, IfNone, Option};
 ghost use Rattle.std.specs.List.{list_any};
 ghost use Rattle.cachemounts.specs.Holds.{of_holder};
-ghost use Rattle.cachemounts.specs.Content.{slot_of, same_slot, same_content, is_content, tree_in, tree_held, given_back, have_contents};
+ghost use Rattle.cachemounts.specs.Content.{common_content, slot_of, same_slot, same_content, is_content, tree_in, tree_held, given_back, have_contents};
 ghost use Rattle.cachemounts.specs.PrivateContent.{IsFirst, AreEmpty};
 ghost use Rattle.cachemounts.specs.declared.holds.Hold.{Hold};
 
@@ -16,6 +16,24 @@ pub struct Content {
     pub id: Text,
     pub slot: Option<usize>,
     pub tree: Tree,
+}
+
+/// The common contents of caches, by the caches' ids.
+pub(crate) fn common_contents(
+    alloc: Global,
+    trees: Vec<(Text, Tree)>,
+) -> Result<Vec<Content>, Memory>
+    ensures { IfOk result (λ contents. contents.items ≡ map common_content trees.items) }
+{
+    let mut contents = Vec::with_capacity(alloc, trees.len())?;
+    for (id, tree) in trees {
+        contents.push(Content {
+            id,
+            slot: None,
+            tree,
+        })?;
+    }
+    Ok(contents)
 }
 
 fn slot_of(access: Access) -> Option<usize>

@@ -1,5 +1,7 @@
 // What the definitions of holds come to: each function's contract is one law, and its body is empty.
-ghost use Rattle.std.specs.Prelude.{◌≡◌, ℕ, true, List, Some, slice_get};
+ghost use Rattle.std.specs.Prelude.{◌≡◌, ℕ, true, List, Option, Some, map, slice_get};
+ghost use Rattle.trees.specs.TreeMap.{TreeMap};
+ghost use Rattle.cachemounts.specs.Content.{common_content, tree_in, tree_at_first};
 ghost use Rattle.cachemounts.specs.Holds.{is_common, is_lawful, lowest_free, IsLowestFree};
 ghost use Rattle.cachemounts.specs.declared.holds.Access.TheVariants.{Alone};
 ghost use Rattle.cachemounts.specs.declared.holds.Hold.{Hold};
@@ -14,4 +16,9 @@ pub fn a_locked_holder_is_alone()
 /// A private use gets the lowest slot that nobody holds.
 pub fn the_lowest_free_slot_is_found()
     ensures { (holds : List Hold) (id : List ℕ) → IsLowestFree holds id (lowest_free holds id) }
+{}
+
+/// What is in the contents of a store that begins with common contents.
+pub fn a_store_begins_with_common_contents()
+    ensures { (rows : List (List ℕ × TreeMap)) (id : List ℕ) (slot : Option ℕ) → tree_in (map common_content rows) id slot ≡ tree_at_first rows id slot }
 {}

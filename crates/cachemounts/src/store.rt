@@ -1,12 +1,12 @@
 ghost use Rattle.std.specs.Prelude.{◌≡◌, ◌↔◌, ◌++◌, ◌+◌, ◌≤◌, vec_len, vec_capacity, [], ℕ, List, true, false, length, map, IsTrue, IfOk, OnOk, OnErr};
 ghost use Rattle.runs.specs.Run.{ids_differ, ids_of};
 ghost use Rattle.cachemounts.specs.Holds.{can_take, new_holds, of_holder, is_holder};
-ghost use Rattle.cachemounts.specs.Content.{tree_in, tree_held};
+ghost use Rattle.cachemounts.specs.Content.{common_content, tree_in, tree_held};
 ghost use Rattle.cachemounts.specs.Changes.{Takes, Gives, Leaves};
 ghost use Rattle.cachemounts.specs.Store.{IsAfter, IsStore};
 
 use crate::{Content, Hold, content, holds};
-use plain::{Items, Memory};
+use plain::{Items, Memory, Text};
 use runs::CacheUse;
 use std::alloc::Global;
 use std::marker::Model;
@@ -84,6 +84,18 @@ impl CacheStore {
             contents: Vec::new(alloc),
             holds: Vec::new(alloc),
         }
+    }
+
+    /// A store whose caches have these common contents, by their ids; every other content is the empty tree, and nobody holds anything. Of an
+    /// id that is there twice the first tree counts.
+    pub fn with_common(alloc: Global, trees: Vec<(Text, Tree)>) -> Result<CacheStore, Memory>
+        ensures { IfOk result (λ store. store ≡ record { contents = map common_content trees.items; holds = [] }) }
+    {
+        let contents = content::common_contents(alloc, trees)?;
+        Ok(CacheStore {
+            contents,
+            holds: Vec::new(alloc),
+        })
     }
 
     /// Whether these uses may begin now: a locked one where nobody holds the cache's common content, a shared one where no locked use does, a
