@@ -1,4 +1,5 @@
 pub mod Counting
+pub mod FailureLaws
 pub mod Fronts
 pub mod Growing
 pub mod InputFacts

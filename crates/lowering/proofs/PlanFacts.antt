@@ -60,6 +60,7 @@ put_stands plan rows target tip graph tips config sources are is made = rw made 
   tips = tips;
   places = are.places;
   lowered = are.are;
+  order = are.grows.order;
   last = is;
   lines = grown_lines graph are.places are.grows;
   lined = grown_lined graph are.places are.grows;

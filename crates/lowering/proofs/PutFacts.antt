@@ -10,7 +10,7 @@ use Rattle.llb.specs.Graph.{GraphValue, IsGraph, Adds, IsFound, IsAppended}
 use Rattle.llb.specs.Places.{with_line, places_with}
 use Rattle.llb.proofs.GraphLaws.{added_grows, added_stands}
 use Rattle.lowering.specs.Means.{lines_at}
-use Rattle.lowering.specs.Vertices.{HasPlace}
+use Rattle.lowering.specs.Vertices.{HasPlace, AreNumbered}
 use Rattle.lowering.specs.PrivateGrowth.{Grows, IsPut}
 use Rattle.lowering.proofs.Rooms.{uses_found, uses_appended}
 use Rattle.llb.proofs.LineFacts.{line_there, line_kept, line_only, contains_here, contains_cases, contains_nil}
@@ -29,8 +29,8 @@ is_place line id l k e f = rw (e, f) (contains_here {X = ℕ × ℕ} (line, id) 
 grows_by : (old new : GraphValue) (line id : ℕ) → (more : List Vertex) × (new.vertices ≡ old.vertices ++ more)
     → ((l : ℕ) → Contains (lines_at new id) l ↔ (Contains (lines_at old id) l ⊎ (l ≡ line)))
     → ((k : ℕ) → (k ≡ id → ⊥) → lines_at new k ≡ lines_at old k) → ((k : ℕ) → k < length new.vertices → (k < length old.vertices) ⊎ (k ≡ id))
-    → Grows old new ((line, id) ∷ [])
-grows_by old new line id front here there more = record {
+    → AreNumbered (length old.vertices) ((line, id) ∷ []) (length new.vertices) → Grows old new ((line, id) ∷ [])
+grows_by old new line id front here there more order = record {
   front = front;
   lines = λ k l. elim (cases_eq k id) [
     | inl same ↦ subst (λ n. Contains (lines_at new n) l ↔ (Contains (lines_at old n) l ⊎ HasPlace ((line, id) ∷ []) l n)) (sym same) (
@@ -43,6 +43,7 @@ grows_by old new line id front here there more = record {
     )
   ];
   more = λ k lt. elim (more k lt) [ inl before ↦ inl before | inr same ↦ inr (line, is_place line id line k refl same) ];
+  order = order;
 }
 
 -- an equal vertex stood there
@@ -66,7 +67,7 @@ found_put old new vertex line id is found =
             ]),
           ))
           (λ k ne. ap (λ ps. slice_index_or ps k []) places ∙ get_or-set_other old.places id k (with_line line (lines_at old id)) [] ne)
-          (λ k lt. inl (omega (arith, ap length vertices, lt)));
+          (λ k lt. inl (omega (arith, ap length vertices, lt))) (inl (within, ap length vertices));
       uses = uses_found old new vertex (line ∷ []) id found;
     }
 
@@ -98,7 +99,8 @@ appended_put old new vertex line id is appended =
             | inl lt ↦ ap (λ ps. slice_index_or ps k []) places ∙ get_or_append_left old.places ((line ∷ []) ∷ []) [] k lt
             | inr past ↦ get_or_past new.places k [] (omega (arith, past, ne, is.beside, long_places)) ∙ sym (get_or_past old.places k [] past)
           ])
-          (λ k lt. elim (cases_lt k (length old.vertices)) [ inl before ↦ inl before | inr past ↦ inr (omega (arith, lt, past)) ]);
+          (λ k lt. elim (cases_lt k (length old.vertices)) [ inl before ↦ inl before | inr past ↦ inr (omega (arith, lt, past)) ])
+          (inr (last, long));
       uses = uses_appended old new vertex (line ∷ []) id appended;
     }
 

@@ -7,7 +7,7 @@ use Rattle.plans.specs.Sources.{SourcesValue}
 use Rattle.plans.specs.Value.{Out, tree_of}
 use Rattle.plans.specs.Value.{World}
 use Rattle.lowering.specs.Meaning.{Rows, tree_of_stage, Fails}
-use Rattle.lowering.specs.Vertices.{Tips, Places, HasPlace, AreRowsLowered}
+use Rattle.lowering.specs.Vertices.{Tips, Places, HasPlace, AreNumbered, AreRowsLowered}
 
 -- the world of an executor that answers so, and of sources
 abbrev pub world : Out → SourcesValue → World
@@ -34,11 +34,13 @@ abbrev pub AreLined : GraphValue → Type 0
 AreLined graph = (id : ℕ) → id < length graph.vertices → (line : ℕ) × Contains (lines_at graph id) line
 
 -- The graph is that of the file: its vertices stand for the file's instructions, the target is the last one of its stage, and the lines
--- behind each vertex are those of the instructions that it stands for.
+-- behind each vertex are those of the instructions that it stands for. They come in the order of the file, and what an instruction names
+-- comes before it, in its order.
 pub record StandsFor {C : Type 0} (plan : PlanValue C) (rows : Rows) (target : ℕ) : Type 0 where
   pub tips : Tips
   pub places : Places
   pub lowered : AreRowsLowered plan.graph.vertices [] rows tips places
+  pub order : AreNumbered 0 places (length plan.graph.vertices)
   pub last : slice_get tips target ≡ Some (Some plan.target)
   pub lines : (id line : ℕ) → Contains (lines_at plan.graph id) line ↔ HasPlace places line id
   pub lined : AreLined plan.graph

@@ -9,7 +9,7 @@ use Rattle.llb.specs.WellFormed.{is_well_formed_on}
 use Rattle.plans.specs.Sources.{HasSource}
 use Rattle.lowering.specs.Meaning.{Rows}
 use Rattle.lowering.specs.Means.{lines_at}
-use Rattle.lowering.specs.Vertices.{Tips, Places, HasPlace, IsVertex, IsOrigin, origin_places, origins_places, IsOperation, IsLowered, AreLowered}
+use Rattle.lowering.specs.Vertices.{Tips, Places, HasPlace, AreNumbered, IsVertex, IsOrigin, origin_places, origins_places, IsOperation, IsLowered, AreLowered}
 use Rattle.lowering.specs.Vertices.{IsStageLowered, IsRowLowered, AreRowsLowered}
 use Rattle.rows.specs.WellFormed.{HasTree, NamesOnly, StageNames, RowNames, row_steps, count_of_steps}
 use Rattle.lowering.specs.PrivateRoom.{op_others, Uses}
@@ -26,11 +26,13 @@ no_graph = record { vertices = []; places = [] }
 abbrev pub IsFront : List Vertex → List Vertex → Type 0
 IsFront old new = (more : List Vertex) × (new ≡ old ++ more)
 
--- A graph became larger: its vertices stand where they stood, these places came to it, and each vertex that came has one of them.
+-- A graph became larger: its vertices stand where they stood, these places came to it, and each vertex that came has one of them and
+-- stands where its first one does.
 pub record Grows (old new : GraphValue) (places : Places) : Type 0 where
   pub front : IsFront old.vertices new.vertices
   pub lines : (id line : ℕ) → Contains (lines_at new id) line ↔ (Contains (lines_at old id) line ⊎ HasPlace places line id)
   pub more : (id : ℕ) → id < length new.vertices → (id < length old.vertices) ⊎ ((line : ℕ) × HasPlace places line id)
+  pub order : AreNumbered (length old.vertices) places (length new.vertices)
 
 -- all last vertices are in a graph
 abbrev pub AreInside : Tips → ℕ → Type 0

@@ -1,7 +1,7 @@
 -- Which vertices of a graph stand for the instructions of a file, and which lines are behind them (own, after BuildKit's LLB: FROM and
 -- COPY --link add a source's vertex, an instruction adds the vertices of the sources that it names, and a stage that is named adds none).
 -- All is said of a finished graph, where equal operations on equal inputs are one vertex.
-use Rattle.std.specs.Prelude.{◌≡◌, ℕ, List, [], ◌∷◌, ◌++◌, true, false, Option, Some, None, slice_get, Contains}
+use Rattle.std.specs.Prelude.{◌≡◌, ◌<◌, ◌+◌, ◌⊎◌, ℕ, List, [], ◌∷◌, ◌++◌, true, false, Option, Some, None, slice_get, Contains}
 use Rattle.std.specs.List.{AllZip}
 use Rattle.llb.specs.declared.op.Op.{Op}
 use Rattle.llb.specs.declared.op.Op.TheVariants.{Source as SourceOp, Exec as ExecOp, Copy as CopyOp, MakeDirs as MakeDirsOp, Merge as MergeOp}
@@ -27,6 +27,13 @@ Places = List (ℕ × ℕ)
 -- the line is among the places of the vertex
 abbrev pub HasPlace : Places → ℕ → ℕ → Type 0
 HasPlace places line id = Contains places (line, id)
+
+-- How the vertices of places are numbered where a graph has so many before them: each place has a vertex that is there by then, or the
+-- next one, and so many are there after all of them. So a vertex comes where its first place stands, and there is no other
+abbrev pub AreNumbered : ℕ → Places → ℕ → Type 0
+AreNumbered before [] after = after ≡ before
+AreNumbered before (place ∷ places) after =
+    ((place.1 < before) × AreNumbered before places after) ⊎ ((place.1 ≡ before) × AreNumbered (before + 1) places after)
 
 -- the vertex with this number has this operation on these inputs
 abbrev pub IsVertex : List Vertex → Op → List ℕ → ℕ → Type 0

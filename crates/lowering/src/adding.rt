@@ -11,9 +11,9 @@ ghost use Rattle.lowering.specs.PrivateGrowth.{AreInside, HasTip, IsPut, IsOrigi
 ghost use Rattle.lowering.specs.PrivateRoom.{op_others, RoomFor};
 ghost use Rattle.rows.specs.WellFormed.{HasTree};
 
-use rows::Origin;
 use llb::{Full, Graph, Op, Vertex, VertexId};
 use plain::{Fault, Items, Memory};
+use rows::Origin;
 use std::alloc::Global;
 
 /// Adds a vertex to a graph that isn't full.

@@ -9,12 +9,12 @@ ghost use Rattle.lowering.specs.PrivateRoom.{RoomFor};
 ghost use Rattle.plain.specs.Limits.{most_images, most_lines};
 ghost use Rattle.rows.specs.WellFormed.{HasTree, StageNames, RowNames, IsStage, IsWellFormed, row_steps, count_of_steps};
 
-use rows::Stage;
 use crate::adding::{find_tip, put_origin};
 use crate::steps::lower_steps;
 use llb::{Graph, VertexId};
 use plain::{Items, Memory};
 use plans::{Plan, Sources};
+use rows::Stage;
 use std::alloc::Global;
 
 /// Adds the vertices of a stage, and gives the last one.
@@ -83,7 +83,10 @@ fn lower_rows(alloc: Global, rows: Items<Option<Stage>>) -> Result<Lowered, Memo
 /// Under every executor the plan means the file: the target's tree is the stage's, undefined alike, and what fails in the file fails in
 /// the graph, on the same lines. Rows come in the order of the file, with `None` for a stage that isn't needed, so that a stage is known
 /// by its number in the file. It asks for well-formed rows, a target that isn't left out, the tree of each source that the rows name, and
-/// no more images and instructions than a Dockerfile within its limits has, which evaluation gives.
+/// no more images and instructions than a Dockerfile within its limits has, which evaluation gives. Hand only images that the rows name:
+/// each one in the sources is counted, named or not.
+///
+/// The vertices come in the order of the file, what an instruction names before the instruction, and each once.
 pub fn lower_program<C: Drop>(
     alloc: Global,
     rows: Items<Option<Stage>>,

@@ -11,9 +11,9 @@ ghost use Rattle.lowering.specs.PrivateRoom.{RoomFor};
 ghost use Rattle.rows.specs.WellFormed.{HasTree, NamesOnly, IsStep};
 
 use crate::adding::{put, put_operation};
-use rows::{Action, Origin, Step};
 use llb::{CopyFiles, Graph, Op, Source, VertexId};
 use plain::{Items, Memory};
+use rows::{Action, Origin, Step};
 use std::alloc::Global;
 
 /// What a COPY names, as a list.
