@@ -1,0 +1,66 @@
+ghost use Rattle.std.specs.Prelude.{◌≡◌};
+ghost use Rattle.dockerfile.specs.Dockerfile.{IsDockerfile, IsRead};
+
+use crate::reading::{logical_lines, spelled};
+use instructions::Instruction;
+use lines::LineFault;
+use plain::Items;
+use std::alloc::Global;
+use std::marker::Model;
+
+/// A Dockerfile's instructions, in the order of the file.
+///
+/// Contracts see their list. Each instruction is whole, their lines ascend from 1 on, and there are at most 4,096 of them.
+#[derive(Debug, Drop)]
+pub struct Dockerfile {
+    instructions: Items<Instruction>,
+}
+
+impl Model for Dockerfile {
+    ghost use Rattle.std.specs.Prelude.{List};
+    ghost use Rattle.std.specs.Coded.{coded_list};
+    ghost use Rattle.instructions.specs.declared.instruction.Instruction.{Instruction};
+    ghost use Rattle.instructions.specs.contracts.instruction.Instruction as instruction;
+
+    ghost Value = { List Instruction };
+
+    ghost coded = { coded_list instruction.the_row.coded };
+
+    ghost use Rattle.dockerfile.specs.Dockerfile.{IsDockerfile};
+
+    ghost view = { λ d. d.instructions };
+
+    ghost invariant = { λ d. IsDockerfile d.instructions };
+}
+
+impl Dockerfile {
+    /// The instructions of a text: one for each of its logical lines (Dockerfile reference).
+    ///
+    /// A text is refused with the least fault by phase, then line, then number (own): with what is wrong with the whole text or its
+    /// lines, as a reader of lines tells it; else at the first line that spells no instruction, with the least code that is due for it,
+    /// as `parse` tells it.
+    pub fn read(alloc: Global, text: &[u8]) -> Result<Dockerfile, LineFault>
+        ensures { IsRead text.now result }
+    {
+        let lines = logical_lines(alloc, text)?;
+        let instructions = spelled(alloc, lines)?;
+        Ok(Dockerfile { instructions })
+    }
+
+    /// The instructions, lent.
+    pub fn instructions(&self) -> &[Instruction]
+        ensures list { result.now ≡ self.now }
+        ensures whole { IsDockerfile self.now }
+    {
+        self.instructions.as_slice()
+    }
+
+    /// The instructions. It takes no memory.
+    pub fn into_instructions(self) -> Items<Instruction>
+        ensures list { result ≡ self }
+        ensures whole { IsDockerfile result }
+    {
+        let Dockerfile { instructions } = self;
+        instructions
+    }
+}

@@ -1,0 +1,19 @@
+// The instructions of a Dockerfile: what its whole text spells.
+//
+// It joins the logical lines of a text (`lines`) with what each of them spells (`instructions`), and knows nothing of stages, names and
+// values.
+//
+// The central definition is `IsRead` in specs/Dockerfile.antt: a text has a list of instructions, one for each logical line, or it is
+// refused, and never both (`laws`). What each such list keeps is `IsDockerfile`, in the same file.
+//
+// ```
+// let file = Dockerfile::read(alloc, b"FROM scratch\nRUN a\n")?;
+// file.instructions().len()              // 2
+// ```
+#![tactic(auto)]
+
+mod dockerfile;
+pub mod laws;
+mod reading;
+
+pub use dockerfile::Dockerfile;

@@ -1,0 +1,30 @@
+ghost use Rattle.lines.specs.Text.{Answers};
+ghost use Rattle.dockerfile.specs.Dockerfile.{AreParsed};
+
+use instructions::{Instruction, parse};
+use lines::{Line, LineFault, Reader};
+use plain::Items;
+use std::alloc::Global;
+
+/// The logical lines of a text, or why there are none.
+pub(crate) fn logical_lines(alloc: Global, text: &[u8]) -> Result<Vec<Line>, LineFault>
+    ensures { Answers text.now result }
+{
+    let mut reader = Reader::new(alloc);
+    reader.feed(alloc, text)?;
+    reader.finish(alloc)
+}
+
+/// The instructions that lines spell, or the refusal of the first line that spells none.
+pub(crate) fn spelled(alloc: Global, lines: Vec<Line>) -> Result<Items<Instruction>, LineFault>
+    ensures { AreParsed lines.items result }
+{
+    let mut instructions = Items::new(alloc);
+    for line in lines {
+        match parse(alloc, &line) {
+            Ok(instruction) => instructions.push(instruction)?,
+            Err(fault) => return Err(fault),
+        }
+    }
+    Ok(instructions)
+}
