@@ -1,2 +1,5 @@
 pub mod AnswerLemmas
 pub mod BundleLemmas
+mod ListingFacts
+mod RestFacts
+mod WholeFacts

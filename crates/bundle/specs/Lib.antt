@@ -1,3 +1,5 @@
 pub mod Answer
 pub mod Bundle
 pub mod Gives
+pub mod Parts
+pub mod Reading

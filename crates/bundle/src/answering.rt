@@ -1,15 +1,14 @@
-ghost use Rattle.std.specs.Prelude.{◌≡◌, ◌<◌, ◌+◌, IfOk, false, map};
+ghost use Rattle.std.specs.Prelude.{◌≡◌, IfOk, false, map};
 ghost use Rattle.serde_json.specs.Written.{has_float};
-ghost use Rattle.std.specs.String.{string_bytes};
 ghost use Rattle.serde_json.specs.View.{view};
-ghost use Rattle.trees.specs.declared.entry.Entry.TheVariants.{Directory, File};
-ghost use Rattle.bundle.specs.Answer.{mode_text, directory_data, file_data, entry_data, tree_data, built_data, failed_data, built_text, failed_text};
+ghost use Rattle.bundle.specs.Answer.{built_data, failed_data, refused_data, built_text, failed_text, refused_text};
 
+use entries::tree_to_json;
 use paths::Path;
-use plain::{Memory, Mode, Text};
+use plain::{Memory, Refusal, Text};
 use serde_json::{Value, json};
-use std::alloc::{AllocError, Global};
-use trees::{Cause, Entry, Meta};
+use std::alloc::Global;
+use trees::{Cause, Entry};
 
 /// The answer of a build that gave a tree of these entries, with the image's configuration as JSON: one line of compact JSON, without
 /// the LF that ends it. No number in a configuration is a float.
@@ -36,107 +35,22 @@ pub fn failed_answer(alloc: Global, line: u32, cause: Cause) -> Result<Text, Mem
     Ok(Text::from_string(text))
 }
 
+/// The answer for an input that is refused.
+pub fn refused_answer(alloc: Global, refusal: Refusal) -> Result<Text, Memory>
+    ensures { IfOk result (λ text. text ≡ refused_text refusal) }
+{
+    let answer = refused_value(alloc, refusal)?;
+    let text = answer.to_string(alloc)?;
+    Ok(Text::from_string(text))
+}
+
 /// The answer of a build that gave a tree, as JSON.
 #[tactic(auto, unfolding(crate::specs::Answer::built_data))]
 fn built_value(alloc: Global, config: Value, entries: &[(Path, &Entry)]) -> Result<Value, Memory>
     ensures { IfOk result (λ v. view v ≡ built_data (view config) (map (λ row. (row.0, row.1.now)) entries.now)) }
 {
-    let tree = tree_value(alloc, entries)?;
+    let tree = tree_to_json(alloc, entries)?;
     Ok(json!(in alloc; {"config": config, "result": "built", "tree": tree})?)
-}
-
-/// The entries of a tree, in the order that they are given in.
-fn tree_value(alloc: Global, entries: &[(Path, &Entry)]) -> Result<Value, Memory>
-    ensures { IfOk result (λ v. view v ≡ tree_data (map (λ row. (row.0, row.1.now)) entries.now)) }
-{
-    let mut values = Vec::with_capacity(alloc, entries.len())?;
-    for row in entries {
-        values.push(entry_value(alloc, &row.0, row.1)?)?;
-    }
-    Ok(Value::Array(values))
-}
-
-/// An entry with its path.
-#[tactic(auto, unfolding(crate::specs::Answer::entry_data))]
-fn entry_value(alloc: Global, path: &Path, entry: &Entry) -> Result<Value, Memory>
-    ensures { IfOk result (λ v. view v ≡ entry_data path.now entry.now) }
-{
-    match entry {
-        Entry::Directory(meta) => directory_value(alloc, path, *meta),
-        Entry::File(meta, content) => file_value(alloc, path, *meta, content.as_slice()),
-    }
-}
-
-/// A directory with its path.
-fn directory_value(alloc: Global, path: &Path, meta: Meta) -> Result<Value, Memory>
-    ensures { IfOk result (λ v. view v ≡ entry_data path.now (Directory meta)) }
-{
-    let path = path.text(alloc)?.into_string();
-    let mode = mode_text(alloc, meta.mode)?;
-    let value = directory_object(alloc, meta, mode, path)?;
-    Ok(value)
-}
-
-/// The object of a directory, whose mode and path are given as texts.
-fn directory_object(
-    alloc: Global,
-    meta: Meta,
-    mode: String,
-    path: String,
-) -> Result<Value, AllocError>
-    ensures { IfOk result (λ v. view v ≡ directory_data meta (string_bytes mode) (string_bytes path)) }
-{
-    let gid = u64::from(meta.gid);
-    let uid = u64::from(meta.uid);
-    json!(in alloc; {"dir": true, "gid": gid, "mode": mode, "path": path, "uid": uid})
-}
-
-/// A file with its path.
-fn file_value(alloc: Global, path: &Path, meta: Meta, bytes: &[u8]) -> Result<Value, Memory>
-    ensures { IfOk result (λ v. view v ≡ entry_data path.now (File meta bytes.now)) }
-{
-    let path = path.text(alloc)?.into_string();
-    let mode = mode_text(alloc, meta.mode)?;
-    let hex = hex::encode(alloc, bytes)?;
-    let value = file_object(alloc, meta, hex, mode, path)?;
-    Ok(value)
-}
-
-/// The object of a file, whose bytes are given in hexadecimal, and its mode and path as texts.
-fn file_object(
-    alloc: Global,
-    meta: Meta,
-    hex: String,
-    mode: String,
-    path: String,
-) -> Result<Value, AllocError>
-    ensures { IfOk result (λ v. view v ≡ file_data meta (string_bytes hex) (string_bytes mode) (string_bytes path)) }
-{
-    let gid = u64::from(meta.gid);
-    let uid = u64::from(meta.uid);
-    json!(in alloc; {"gid": gid, "hex": hex, "mode": mode, "path": path, "uid": uid})
-}
-
-/// A mode as four octal digits.
-fn mode_text(alloc: Global, mode: Mode) -> Result<String, Memory>
-    ensures { IfOk result (λ text. string_bytes text ≡ mode_text mode) }
-{
-    let bits = mode.bits();
-    let mut text = String::new(alloc);
-    text.push(octal_digit(bits / 512))?;
-    text.push(octal_digit(bits / 64 % 8))?;
-    text.push(octal_digit(bits / 8 % 8))?;
-    text.push(octal_digit(bits % 8))?;
-    Ok(text)
-}
-
-/// The character of an octal digit.
-fn octal_digit(digit: u16) -> char
-    requires { digit < 8 }
-    ensures value { result ≡ 48 + digit }
-    ensures ascii { result < 128 }
-{
-    char::from(b'0' + digit as u8)
 }
 
 /// The answer of a build in which an instruction failed, as JSON.
@@ -147,4 +61,14 @@ fn failed_value(alloc: Global, line: u32, cause: Cause) -> Result<Value, Memory>
     let line = u64::from(line);
     let name = cause.to_string(alloc)?;
     Ok(json!(in alloc; {"cause": name, "line": line, "result": "failed"})?)
+}
+
+/// The answer for an input that is refused, as JSON.
+#[tactic(auto, unfolding(crate::specs::Answer::refused_data))]
+fn refused_value(alloc: Global, refusal: Refusal) -> Result<Value, Memory>
+    ensures { IfOk result (λ v. view v ≡ refused_data refusal) }
+{
+    let line = u64::from(refusal.line);
+    let name = refusal.code.to_string(alloc)?;
+    Ok(json!(in alloc; {"code": name, "line": line, "result": "refused"})?)
 }

@@ -15,9 +15,11 @@
 mod answering;
 mod bundle;
 mod fault;
+mod parts;
 mod reading;
+pub mod whole;
 
-pub use answering::{built_answer, failed_answer};
+pub use answering::{built_answer, failed_answer, refused_answer};
 pub use bundle::Bundle;
 pub use fault::{BundleFault, NotYet};
 pub use reading::read_bundle;

@@ -110,7 +110,7 @@ clash-how row other h = elim (either (path_eq row.0 other.0) (is_in_way row othe
   | inr ways ↦ inr (either (is_in_way row other) (is_in_way other row) ways)
 ]
 
-clash-flip : (row other : Row) → clash row other ≡ true → clash other row ≡ true
+pub clash-flip : (row other : Row) → clash row other ≡ true → clash other row ≡ true
 clash-flip row other h = elim (clash-how row other h) [
   | inl same ↦ clash-same other row (sym same)
   | inr ways ↦ elim ways [ inl way ↦ clash-back other row way | inr way ↦ clash-way other row way ]

@@ -1,4 +1,4 @@
 mod FrontFacts
-mod RowFacts
-mod ApartFacts
-mod WrittenFacts
+pub mod RowFacts
+pub mod ApartFacts
+pub mod WrittenFacts

@@ -1,0 +1,174 @@
+ghost use Rattle.std.specs.Prelude.{◌≡◌, IfOk};
+ghost use Rattle.contexts.specs.Context.{IsContext};
+ghost use Rattle.plain.specs.declared.refusal.Code.TheVariants.{R19};
+ghost use Rattle.serde_json.specs.View.{view};
+ghost use Rattle.strict.specs.Gives.{Gives};
+ghost use Rattle.bundle.specs.Parts.{parts_within, parts_of};
+ghost use Rattle.bundle.specs.Reading.{is_ignore_path, bytes_in, ignore_bytes, told_line, Completes, ReadsBundle};
+
+use crate::parts::{Parts, read_parts};
+use cachemounts::CacheStore;
+use contexts::Context;
+use entries::Listing;
+use ignorefile::Ignore;
+use paths::Path;
+use plain::limits::MOST_BUNDLE_BYTES;
+use plain::{Bytes, Code, Fault, Memory, Refusal, Text};
+use plans::Images;
+use scopes::Args;
+use serde_json::Value;
+use std::alloc::Global;
+use std::thread::Threads;
+use strict::{FromJson, NotRead, ReadFault};
+use trees::{Entry, Tree};
+
+/// What a build is made from. `C` is what an image's configuration is read as.
+#[derive(Drop)]
+pub struct Bundle<C> {
+    /// The bytes of the Dockerfile, which need not be text.
+    pub dockerfile: Bytes,
+    /// The build's own folder, filtered by its ignore file.
+    pub context: Tree,
+    pub images: Images<C>,
+    pub args: Args,
+    /// What caches hold at first; nobody holds any of them.
+    pub caches: CacheStore,
+    /// The target's text, if one is given.
+    pub target: Option<Text>,
+}
+
+/// Whether a path is `/.dockerignore`.
+fn is_ignore_path(path: &Path) -> bool
+    ensures { result ≡ is_ignore_path path.now }
+{
+    match path.components() {
+        [] => false,
+        [name] => name.as_str() == ".dockerignore",
+        [_, _, ..] => false,
+    }
+}
+
+/// The bytes of a file; a directory has none.
+fn bytes_in(entry: &Entry) -> &[u8]
+    ensures { result.now ≡ bytes_in entry.now }
+{
+    match entry {
+        Entry::Directory(_) => &[],
+        Entry::File(_, content) => content.as_slice(),
+    }
+}
+
+/// The bytes of a context's ignore file, none where it has none.
+fn ignore_bytes(rows: &[(Path, Entry)]) -> &[u8]
+    ensures { result.now ≡ ignore_bytes rows.now }
+{
+    for row in rows {
+        if is_ignore_path(&row.0) {
+            return bytes_in(&row.1);
+        }
+    }
+    &[]
+}
+
+/// The refusal of an ignore file with a bad line.
+fn bad_ignore(number: usize) -> Refusal
+    ensures { result ≡ record { code = R19; line = told_line number } }
+{
+    Refusal {
+        code: Code::R19,
+        line: u32::try_from(number).unwrap_or(u32::MAX),
+    }
+}
+
+/// The tree of a context, as its ignore file filters it.
+fn filtered(
+    alloc: Global,
+    rt: &(impl Threads + Sync),
+    context: Listing,
+    ignore: Ignore,
+) -> Result<Tree, Memory>
+    ensures { IfOk result (λ tree. IsContext context ignore tree) }
+{
+    let rows = context.into_rows();
+    let context = Context::build(alloc, rt, rows, ignore)?;
+    Ok(context.into_tree())
+}
+
+/// The bundle of its parts.
+fn complete<C: Drop>(
+    alloc: Global,
+    rt: &(impl Threads + Sync),
+    parts: Parts<C>,
+) -> Result<Bundle<C>, Fault<Refusal>>
+    ensures { Completes parts result }
+{
+    let Parts { files, named } = parts;
+    let ignore = match Ignore::read(alloc, ignore_bytes(files.context.rows())) {
+        Ok(ignore) => ignore,
+        Err(Fault::Because(bad)) => return Err(Fault::Because(bad_ignore(bad.number))),
+        Err(Fault::Memory) => return Err(Fault::Memory),
+    };
+    let context = filtered(alloc, rt, files.context, ignore)?;
+    let caches = CacheStore::with_common(alloc, named.caches.into_vec())?;
+    Ok(Bundle {
+        dockerfile: files.dockerfile,
+        context,
+        images: named.images,
+        args: named.args,
+        caches,
+        target: files.target,
+    })
+}
+
+/// The parts of a bundle of at most so many bytes.
+fn parts_within<C: FromJson>(
+    alloc: Global,
+    most: usize,
+    bytes: &[u8],
+) -> Result<Parts<C>, ReadFault>
+    ensures { Gives result (parts_within most C.reading bytes.now) }
+{
+    if bytes.len() > most {
+        return Err(Fault::Because(NotRead));
+    }
+    match Value::from_slice(alloc, bytes) {
+        Ok(value) => read_parts(alloc, &value),
+        Err(e) => {
+            if e.is_memory() {
+                Err(Fault::Memory)
+            } else {
+                Err(Fault::Because(NotRead))
+            }
+        }
+    }
+}
+
+/// The parts of a bundle.
+#[tactic(auto, unfolding(plain::specs::Limits::most_bundle_bytes))]
+fn parts_of<C: FromJson>(alloc: Global, bytes: &[u8]) -> Result<Parts<C>, ReadFault>
+    ensures { Gives result (parts_of C.reading bytes.now) }
+{
+    parts_within(alloc, MOST_BUNDLE_BYTES, bytes)
+}
+
+/// Reads a bundle: JSON in any spelling, of at most 67,108,864 bytes. The context is filtered by its own file `/.dockerignore`, in several
+/// threads.
+///
+/// R20 without a line where the bytes are no bundle: they aren't JSON, a key is missing that has to be there, or is there that isn't known,
+/// or a value has a wrong type or is out of range; else R19 with the first bad line of the ignore file.
+pub fn read_bundle<C: FromJson>(
+    alloc: Global,
+    rt: &(impl Threads + Sync),
+    bytes: &[u8],
+) -> Result<Bundle<C>, Fault<Refusal>>
+    ensures { ReadsBundle C.reading bytes.now result }
+{
+    match parts_of(alloc, bytes) {
+        Ok(parts) => complete(alloc, rt, parts),
+        Err(Fault::Because(_)) => Err(Fault::Because(Refusal {
+            code: Code::R20,
+            line: 0,
+        })),
+        Err(Fault::Memory) => Err(Fault::Memory),
+    }
+}
