@@ -1,0 +1,10 @@
+pub mod Environment
+pub mod Lines
+pub mod Ports
+pub mod PrivateLines
+pub mod PrivateRows
+pub mod Reading
+pub mod Rows
+pub mod Stage
+pub mod Steps
+pub mod Writing

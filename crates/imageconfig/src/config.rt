@@ -1,0 +1,127 @@
+ghost use Rattle.std.specs.Prelude.{◌≡◌, IfOk, false};
+ghost use Rattle.serde_json.specs.View.{view};
+ghost use Rattle.serde_json.specs.Written.{has_float};
+ghost use Rattle.instructions.specs.Instruction.{IsInstruction};
+ghost use Rattle.scopes.specs.Scope.{value_in};
+ghost use Rattle.strict.specs.Gives.{Gives};
+ghost use Rattle.imageconfig.specs.Reading.{plain, config_in};
+ghost use Rattle.imageconfig.specs.Writing.{config_data};
+ghost use Rattle.imageconfig.specs.Steps.{dir_of, child_of, IsApplied};
+
+use crate::changing::change;
+use crate::copying::copied_config;
+use crate::environment::Environment;
+use crate::fields::bare;
+use crate::names::Names;
+use crate::reading::read_config;
+use crate::rows::Rows;
+use crate::writing::config_value;
+use instructions::Instruction;
+use lines::LineFault;
+use paths::Path;
+use plain::{Exact, Fault, Items, Memory, Refusal, Text};
+use scopes::Scope;
+use serde_json::Value;
+use std::alloc::Global;
+use strict::ReadFault;
+
+/// The configuration of an image, or of a stage at a line. A list, an object or a text that is empty isn't set: no rule tells the two apart.
+#[derive(Drop)]
+pub struct Config {
+    pub architecture: Text,
+    pub os: Text,
+    pub env: Environment,
+    pub user: Text,
+    pub stop_signal: Text,
+    /// `None` where it isn't set; `/` is set, and is written.
+    pub working_dir: Option<Path>,
+    pub cmd: Items<Text>,
+    /// Whether the Cmd was set by the stage itself, and not by its base.
+    pub cmd_is_own: bool,
+    pub entrypoint: Items<Text>,
+    pub labels: Rows,
+    pub exposed_ports: Names,
+    pub volumes: Names,
+    /// The words that a shell form stands behind. It is never written.
+    pub shell: Items<Text>,
+}
+
+impl Config {
+    /// The configuration that a stage from `scratch` begins with: `amd64` and `linux`, and nothing set.
+    pub fn plain(alloc: Global) -> Result<Config, Memory>
+        ensures { IfOk result (λ config. config ≡ plain) }
+    {
+        let architecture = Text::from_str(alloc, "amd64")?;
+        let os = Text::from_str(alloc, "linux")?;
+        bare(alloc, architecture, os)
+    }
+
+    /// An image's configuration (OCI image specification). `NotRead` where the value isn't one: a key is missing that has to be there, a
+    /// value has a wrong type, a variable has no name or one that is there before, a working directory isn't absolute or breaks a limit.
+    pub fn from_json(alloc: Global, value: &Value) -> Result<Config, ReadFault>
+        ensures { Gives result (config_in (view value.now)) }
+    {
+        read_config(alloc, value)
+    }
+
+    /// The configuration as JSON (OCI image specification): the fields that are set, and no layers. No number in it is a float.
+    #[tactic(auto, using(crate::proofs::FloatFacts::config_is_plain))]
+    pub fn to_json(&self, alloc: Global) -> Result<Value, Memory>
+        ensures data { IfOk result (λ v. view v ≡ config_data self.now) }
+        ensures whole { IfOk result (λ v. has_float (view v) ≡ false) }
+    {
+        config_value(alloc, self)
+    }
+
+    /// An equal configuration of its own.
+    pub fn copy(&self, alloc: Global) -> Result<Config, Memory>
+        ensures { IfOk result (λ copied. copied ≡ self.now) }
+    {
+        copied_config(alloc, self)
+    }
+
+    /// What a stage begins with whose base has this configuration: the base's Cmd isn't the stage's own.
+    pub fn child(&self, alloc: Global) -> Result<Config, Memory>
+        ensures { IfOk result (λ child. child ≡ child_of self.now) }
+    {
+        let mut child = copied_config(alloc, self)?;
+        child.cmd_is_own = false;
+        Ok(child)
+    }
+
+    /// The working directory, `/` where none is set.
+    pub fn dir(&self, alloc: Global) -> Result<Path, Memory>
+        ensures { IfOk result (λ dir. dir ≡ dir_of self.now.working_dir) }
+    {
+        match &self.working_dir {
+            Some(path) => path.copy(alloc),
+            None => Ok(Path::root(alloc)),
+        }
+    }
+
+    /// Applies an instruction, whose words have their values under the scope before its line. FROM, ARG, RUN and COPY change nothing.
+    ///
+    /// R06 where a USER, a WORKDIR, a STOPSIGNAL or a VOLUME has an empty text, R10 where a label has an empty key, R16 where an EXPOSE has
+    /// what is no port, R18 where a text has more than 1,048,576 bytes or a WORKDIR leads past a limit of paths: the least of them, with
+    /// the instruction's line. After a fault the configuration is as it was.
+    ///
+    /// The instruction keeps what each keeps that a line spells: that is a law of `instructions`.
+    pub fn apply(
+        &mut self,
+        alloc: Global,
+        instruction: &Instruction,
+        before: &Scope,
+    ) -> Result<(), LineFault>
+        requires { IsInstruction instruction.now.kind }
+        ensures { IsApplied self.old (value_in before.now) instruction.now self.new result }
+    {
+        match change(alloc, self, &instruction.kind, before) {
+            Ok(()) => Ok(()),
+            Err(Fault::Because(code)) => Err(Fault::Because(Refusal {
+                code,
+                line: instruction.line,
+            })),
+            Err(Fault::Memory) => Err(Fault::Memory),
+        }
+    }
+}

@@ -1,0 +1,100 @@
+ghost use Rattle.std.specs.Prelude.{◌≡◌, ◌==◌, [], length, true, IfOk, OnOk, OnErr};
+ghost use Rattle.std.specs.List.{list_all};
+ghost use Rattle.scopes.specs.Scope.{is_environment_name, names_differ, names_of as variable_names};
+ghost use Rattle.serde_json.specs.View.{view};
+ghost use Rattle.strict.specs.Gives.{Gives};
+ghost use Rattle.strict.specs.Written.{list_data};
+ghost use Rattle.imageconfig.specs.Environment.{IsEnvironment, variables_of};
+ghost use Rattle.imageconfig.specs.Reading.{if_they_differ};
+ghost use Rattle.imageconfig.specs.Rows.{names_of, put_rows};
+ghost use Rattle.imageconfig.specs.Writing.{variable_data};
+
+use crate::rows::Rows;
+use plain::{Items, Memory, Text, Variable};
+use serde_json::Value;
+use std::alloc::Global;
+use std::marker::Model;
+use strict::ReadFault;
+
+/// The variables of an image's environment, in the order in which their names came first. Each name is one that an operating system takes:
+/// it isn't empty and holds no `=`. No two are the same.
+#[derive(Drop)]
+pub struct Environment {
+    rows: Rows,
+}
+
+impl Model for Environment {
+    ghost use Rattle.std.specs.Prelude.{List, ℕ};
+    ghost use Rattle.std.specs.Coded.{coded_list, coded_ℕ, coded×};
+    ghost use Rattle.imageconfig.specs.Environment.{IsEnvironment};
+
+    ghost Value = { List (List ℕ × List ℕ) };
+
+    ghost coded = { coded_list (coded× (coded_list coded_ℕ) (coded_list coded_ℕ)) };
+
+    ghost view = { λ e. e.rows };
+
+    ghost invariant = { λ e. IsEnvironment e.rows };
+}
+
+impl Environment {
+    /// The empty environment. It takes no memory.
+    pub fn new(alloc: Global) -> Environment
+        ensures { result ≡ [] }
+    {
+        Environment {
+            rows: Rows::new(alloc),
+        }
+    }
+
+    /// The variables in their order.
+    #[tactic(auto, using(crate::proofs::NameFacts::variables_names))]
+    pub fn variables(&self, alloc: Global) -> Result<Items<Variable>, Memory>
+        ensures variables { IfOk result (λ variables. variables ≡ variables_of self.now) }
+        ensures names { IsEnvironment self.now }
+        ensures fit { IfOk result (λ variables. list_all is_environment_name (variable_names variables) ≡ true) }
+        ensures differ { IfOk result (λ variables. names_differ (variable_names variables) ≡ true) }
+    {
+        self.rows.variables(alloc)
+    }
+
+    /// An equal environment of its own.
+    pub fn copy(&self, alloc: Global) -> Result<Environment, Memory>
+        ensures { IfOk result (λ copied. copied ≡ self.now) }
+    {
+        let rows = self.rows.copy(alloc)?;
+        Ok(Environment { rows })
+    }
+
+    /// Whether there is no variable.
+    pub fn is_empty(&self) -> bool
+        ensures { result ≡ (length self.now == 0) }
+    {
+        self.rows.is_empty()
+    }
+
+    /// The environment of these rows, of which none may have another one's name. `NotRead` where two have the same.
+    pub(crate) fn once(alloc: Global, rows: Items<(Text, Text)>) -> Result<Environment, ReadFault>
+        requires { list_all is_environment_name (names_of rows) ≡ true }
+        ensures { Gives result (if_they_differ rows) }
+    {
+        let rows = Rows::once(alloc, rows)?;
+        Ok(Environment { rows })
+    }
+
+    /// Gives names values. After `Memory` the environment is as it was.
+    pub(crate) fn set_all(&mut self, rows: Items<(Text, Text)>) -> Result<(), Memory>
+        requires { list_all is_environment_name (names_of rows) ≡ true }
+        ensures ok { OnOk result (self.new ≡ put_rows self.old rows) }
+        ensures err { OnErr result (self.new ≡ self.old) }
+    {
+        self.rows.set_all(rows)
+    }
+
+    /// The variables as a list of texts `NAME=VALUE`.
+    pub(crate) fn to_json(&self, alloc: Global) -> Result<Value, Memory>
+        ensures { IfOk result (λ v. view v ≡ list_data variable_data self.now) }
+    {
+        self.rows.to_list(alloc)
+    }
+}

@@ -1,0 +1,66 @@
+ghost use Rattle.std.specs.Prelude.{◌≡◌, IfOk};
+ghost use Rattle.imageconfig.specs.Reading.{default_shell, bare};
+
+use crate::config::Config;
+use crate::environment::Environment;
+use crate::names::Names;
+use crate::rows::Rows;
+use paths::Path;
+use plain::{Items, Memory, Text};
+use std::alloc::Global;
+
+/// The fields of a configuration that are lists.
+#[derive(Drop)]
+pub(crate) struct Lists {
+    pub(crate) cmd: Items<Text>,
+    pub(crate) entrypoint: Items<Text>,
+    pub(crate) env: Environment,
+}
+
+/// The fields of a configuration that are objects.
+#[derive(Drop)]
+pub(crate) struct Objects {
+    pub(crate) exposed_ports: Names,
+    pub(crate) labels: Rows,
+    pub(crate) volumes: Names,
+}
+
+/// The fields of a configuration that are texts.
+#[derive(Drop)]
+pub(crate) struct Texts {
+    pub(crate) stop_signal: Text,
+    pub(crate) user: Text,
+    pub(crate) working_dir: Option<Path>,
+}
+
+/// The words of the shell where no SHELL was given.
+pub(crate) fn default_shell(alloc: Global) -> Result<Items<Text>, Memory>
+    ensures { IfOk result (λ words. words ≡ default_shell) }
+{
+    let mut words = Items::new(alloc);
+    words.push(Text::from_str(alloc, "/bin/sh")?)?;
+    words.push(Text::from_str(alloc, "-c")?)?;
+    Ok(words)
+}
+
+/// The configuration with nothing set.
+pub(crate) fn bare(alloc: Global, architecture: Text, os: Text) -> Result<Config, Memory>
+    ensures { IfOk result (λ config. config ≡ bare architecture os) }
+{
+    let shell = default_shell(alloc)?;
+    Ok(Config {
+        architecture,
+        os,
+        env: Environment::new(alloc),
+        user: Text::from_string(String::new(alloc)),
+        stop_signal: Text::from_string(String::new(alloc)),
+        working_dir: None,
+        cmd: Items::new(alloc),
+        cmd_is_own: false,
+        entrypoint: Items::new(alloc),
+        labels: Rows::new(alloc),
+        exposed_ports: Names::new(alloc),
+        volumes: Names::new(alloc),
+        shell,
+    })
+}

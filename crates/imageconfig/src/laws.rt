@@ -1,0 +1,28 @@
+// What is proved of the definitions alone. The functions do nothing: their contracts are laws.
+
+ghost use Rattle.std.specs.Prelude.{◌≡◌, true, false, List, [], Some, None};
+ghost use Rattle.plain.specs.declared.refusal.Code.{Code};
+ghost use Rattle.plain.specs.declared.refusal.Code.TheVariants.{R18};
+ghost use Rattle.instructions.specs.Least.{least};
+ghost use Rattle.instructions.specs.declared.instruction.Assignment.{Assignment};
+ghost use Rattle.instructions.specs.declared.instruction.Command.{Command};
+ghost use Rattle.instructions.specs.declared.instruction.InstructionKind.TheVariants.{Env, Entrypoint};
+ghost use Rattle.scopes.specs.Evaluate.{Values, env_texts, is_one_long};
+ghost use Rattle.imageconfig.specs.declared.config.Config.{Config};
+ghost use Rattle.imageconfig.specs.Steps.{due, changed};
+
+/// A configuration refuses an ENV just where a scope does: where one of its texts is too long.
+pub fn env_lines_are_refused_as_in_scopes()
+    ensures taken { (before : Values) (config : Config) (assignments : List Assignment)
+        → least (due before config (Env assignments)) ≡ None → is_one_long (env_texts before assignments) ≡ false }
+    ensures refused { (before : Values) (config : Config) (assignments : List Assignment) (code : Code)
+        → least (due before config (Env assignments)) ≡ Some code → (code ≡ R18) × (is_one_long (env_texts before assignments) ≡ true) }
+{}
+
+/// ENTRYPOINT unsets a Cmd that the stage began with, and keeps one that the stage has set itself.
+pub fn entrypoint_unsets_the_cmd_of_the_base()
+    ensures unset { (before : Values) (config : Config) (command : Command)
+        → config.cmd_is_own ≡ false → (changed before config (Entrypoint command)).cmd ≡ [] }
+    ensures kept { (before : Values) (config : Config) (command : Command)
+        → config.cmd_is_own ≡ true → (changed before config (Entrypoint command)).cmd ≡ config.cmd }
+{}

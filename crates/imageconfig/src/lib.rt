@@ -1,0 +1,33 @@
+// The configuration of an image: read from JSON, written as JSON, and changed by the instructions of a stage.
+//
+// It knows no stage and no tree: the crates above choose the instructions, and the scope that each of them is evaluated under. Of
+// the image's own file it keeps what the OCI image specification calls the configuration, without layers and history.
+//
+// The central definitions are `changed` and `due` in specs/Steps.antt, what an instruction does to a configuration and which codes are due
+// for it; `config_in` in specs/Reading.antt and `config_data` in specs/Writing.antt, what a configuration is in JSON.
+//
+// ```
+// let mut config = Config::plain(alloc)?;
+// config.apply(alloc, &instruction, &scope)?;       // of `CMD ["a"]`
+// config.to_json(alloc)?                            // .. "config":{"Cmd":["a"]} ..
+// ```
+#![tactic(auto)]
+
+mod changing;
+mod config;
+mod copying;
+mod environment;
+mod fields;
+pub mod laws;
+mod line;
+mod names;
+mod ports;
+mod reading;
+mod rows;
+mod values;
+mod writing;
+
+pub use config::Config;
+pub use environment::Environment;
+pub use names::Names;
+pub use rows::Rows;

@@ -1,0 +1,349 @@
+ghost use Rattle.std.specs.Prelude.{◌≡◌, [], Some, None, map, option_map, codes, IfOk};
+ghost use Rattle.std.specs.Option.{option_and_then};
+ghost use Rattle.serde_json.specs.View.{view, members_view};
+ghost use Rattle.serde_json.specs.Find.{get, as_str};
+ghost use Rattle.options.specs.Lists.{all_some};
+ghost use Rattle.paths.specs.Reading.{is_absolute};
+ghost use Rattle.strict.specs.Gives.{Gives};
+ghost use Rattle.strict.specs.Strict.{list_in};
+ghost use Rattle.imageconfig.specs.Reading.{set_at, field, cut_row, env_in, member_keys, names_in, labels_in, dir_of_text, dir_in, lists_in, objects_in, texts_in, joined, fields_in, settings_in, rootfs_in, config_in};
+
+use crate::config::Config;
+use crate::environment::Environment;
+use crate::fields::{Lists, Objects, Texts, bare, default_shell};
+use crate::names::Names;
+use crate::rows::Rows;
+use paths::Path;
+use plain::{Fault, Items, Memory, Text};
+use serde_json::{Map, Value};
+use std::alloc::Global;
+use strict::{FromJson, NotRead, ReadFault, is_strict, list_at, one_at, read_list, read_rows};
+
+/// What stands at a key; `null` is as absent.
+fn set_at<'a>(value: &'a Value, key: &str) -> Option<&'a Value>
+    ensures { option_map (λ v. view v.now) result ≡ set_at key.now (view value.now) }
+{
+    match value.get(key) {
+        Some(value) => { if value.is_null() { None } else { Some(value) } }
+        None => None,
+    }
+}
+
+/// A list of texts that stands at a key, empty where none does.
+fn texts_at(alloc: Global, value: &Value, key: &str) -> Result<Items<Text>, ReadFault>
+    ensures { Gives result (field [] (list_in as_str) key.now (view value.now)) }
+{
+    match set_at(value, key) {
+        Some(value) => read_list(alloc, value),
+        None => Ok(Items::new(alloc)),
+    }
+}
+
+/// A text that stands at a key, empty where none does.
+fn text_at(alloc: Global, value: &Value, key: &str) -> Result<Text, ReadFault>
+    ensures { Gives result (field [] as_str key.now (view value.now)) }
+{
+    match set_at(value, key) {
+        Some(value) => Text::from_json(alloc, value),
+        None => Ok(Text::from_string(String::new(alloc))),
+    }
+}
+
+/// The name and the value of a text `NAME=VALUE`.
+fn cut_row(alloc: Global, text: &str) -> Result<(Text, Text), ReadFault>
+    ensures { Gives result (cut_row text.now) }
+{
+    match text.split_once('=') {
+        Some((name, value)) => {
+            if name.is_empty() {
+                return Err(Fault::Because(NotRead));
+            }
+            let name = Text::from_str(alloc, name)?;
+            let value = Text::from_str(alloc, value)?;
+            Ok((name, value))
+        }
+        None => Err(Fault::Because(NotRead)),
+    }
+}
+
+/// The names and values of texts `NAME=VALUE`, in their order.
+fn cut_rows(alloc: Global, texts: &[Text]) -> Result<Items<(Text, Text)>, ReadFault>
+    ensures { Gives result (all_some (map cut_row texts.now)) }
+{
+    let mut rows = Items::new(alloc);
+    for text in texts {
+        rows.push(cut_row(alloc, text.as_str())?)?;
+    }
+    Ok(rows)
+}
+
+/// An environment: a list of texts `NAME=VALUE`, no name twice.
+#[tactic(auto, unfolding(crate::specs::Reading::env_in))]
+fn read_env(alloc: Global, value: &Value) -> Result<Environment, ReadFault>
+    ensures { Gives result (env_in (view value.now)) }
+{
+    let texts = read_list::<Text>(alloc, value)?;
+    let rows = cut_rows(alloc, texts.as_slice())?;
+    Environment::once(alloc, rows)
+}
+
+/// An environment that stands at a key, empty where none does.
+fn env_at(alloc: Global, value: &Value, key: &str) -> Result<Environment, ReadFault>
+    ensures { Gives result (field [] env_in key.now (view value.now)) }
+{
+    match set_at(value, key) {
+        Some(value) => read_env(alloc, value),
+        None => Ok(Environment::new(alloc)),
+    }
+}
+
+/// An object's keys.
+fn member_keys(alloc: Global, members: &Map<String, Value>) -> Result<Items<Text>, Memory>
+    ensures { IfOk result (λ keys. keys ≡ member_keys (members_view members.now.entries)) }
+{
+    let mut keys = Items::new(alloc);
+    for (key, _) in members.iter() {
+        keys.push(Text::from_str(alloc, key.as_str())?)?;
+    }
+    Ok(keys)
+}
+
+/// The keys of an object, whose values are forgotten.
+#[tactic(auto, unfolding(crate::specs::Reading::names_in))]
+fn read_names(alloc: Global, value: &Value) -> Result<Names, ReadFault>
+    ensures { Gives result (names_in (view value.now)) }
+{
+    let Some(members) = value.as_object() else {
+        return Err(Fault::Because(NotRead));
+    };
+    let keys = member_keys(alloc, members)?;
+    let mut names = Names::new(alloc);
+    names.add_all(keys)?;
+    Ok(names)
+}
+
+/// The keys of an object that stands at a key, none where none does.
+fn names_at(alloc: Global, value: &Value, key: &str) -> Result<Names, ReadFault>
+    ensures { Gives result (field [] names_in key.now (view value.now)) }
+{
+    match set_at(value, key) {
+        Some(value) => read_names(alloc, value),
+        None => Ok(Names::new(alloc)),
+    }
+}
+
+/// Labels: an object of texts.
+#[tactic(auto, unfolding(crate::specs::Reading::labels_in))]
+fn read_labels(alloc: Global, value: &Value) -> Result<Rows, ReadFault>
+    ensures { Gives result (labels_in (view value.now)) }
+{
+    let texts = read_rows::<Text>(alloc, value)?;
+    let mut rows = Rows::new(alloc);
+    rows.set_all(texts)?;
+    Ok(rows)
+}
+
+/// Labels that stand at a key, none where none do.
+fn labels_at(alloc: Global, value: &Value, key: &str) -> Result<Rows, ReadFault>
+    ensures { Gives result (field [] labels_in key.now (view value.now)) }
+{
+    match set_at(value, key) {
+        Some(value) => read_labels(alloc, value),
+        None => Ok(Rows::new(alloc)),
+    }
+}
+
+/// The working directory that a text is: none where it is empty.
+fn dir_of_text(alloc: Global, text: &str) -> Result<Option<Path>, ReadFault>
+    ensures { Gives result (dir_of_text text.now) }
+{
+    if text.is_empty() {
+        return Ok(None);
+    }
+    if !is_absolute(text.as_bytes()) {
+        return Err(Fault::Because(NotRead));
+    }
+    match Path::read(alloc, text, &Path::root(alloc)) {
+        Ok(path) => Ok(Some(path)),
+        Err(Fault::Because(_)) => Err(Fault::Because(NotRead)),
+        Err(Fault::Memory) => Err(Fault::Memory),
+    }
+}
+
+/// Whether a text begins with `/`.
+fn is_absolute(bytes: &[u8]) -> bool
+    ensures { result ≡ is_absolute bytes.now }
+{
+    match bytes {
+        [first, ..] => *first == b'/',
+        [] => false,
+    }
+}
+
+/// A working directory.
+#[tactic(auto, unfolding(crate::specs::Reading::dir_in))]
+fn read_dir(alloc: Global, value: &Value) -> Result<Option<Path>, ReadFault>
+    ensures { Gives result (dir_in (view value.now)) }
+{
+    let Some(text) = value.as_str() else {
+        return Err(Fault::Because(NotRead));
+    };
+    dir_of_text(alloc, text)
+}
+
+/// A working directory that stands at a key, if one does.
+fn dir_at(alloc: Global, value: &Value, key: &str) -> Result<Option<Path>, ReadFault>
+    ensures { Gives result (field None dir_in key.now (view value.now)) }
+{
+    match set_at(value, key) {
+        Some(value) => read_dir(alloc, value),
+        None => Ok(None),
+    }
+}
+
+/// The fields of `config` that are lists.
+#[tactic(auto, unfolding(crate::specs::Reading::lists_in))]
+fn read_lists(alloc: Global, value: &Value) -> Result<Lists, ReadFault>
+    ensures { Gives result (lists_in (view value.now)) }
+{
+    let cmd = texts_at(alloc, value, "Cmd")?;
+    let entrypoint = texts_at(alloc, value, "Entrypoint")?;
+    let env = env_at(alloc, value, "Env")?;
+    Ok(Lists {
+        cmd,
+        entrypoint,
+        env,
+    })
+}
+
+/// The fields of `config` that are objects.
+#[tactic(auto, unfolding(crate::specs::Reading::objects_in))]
+fn read_objects(alloc: Global, value: &Value) -> Result<Objects, ReadFault>
+    ensures { Gives result (objects_in (view value.now)) }
+{
+    let exposed_ports = names_at(alloc, value, "ExposedPorts")?;
+    let labels = labels_at(alloc, value, "Labels")?;
+    let volumes = names_at(alloc, value, "Volumes")?;
+    Ok(Objects {
+        exposed_ports,
+        labels,
+        volumes,
+    })
+}
+
+/// The fields of `config` that are texts.
+#[tactic(auto, unfolding(crate::specs::Reading::texts_in))]
+fn read_texts(alloc: Global, value: &Value) -> Result<Texts, ReadFault>
+    ensures { Gives result (texts_in (view value.now)) }
+{
+    let stop_signal = text_at(alloc, value, "StopSignal")?;
+    let user = text_at(alloc, value, "User")?;
+    let working_dir = dir_at(alloc, value, "WorkingDir")?;
+    Ok(Texts {
+        stop_signal,
+        user,
+        working_dir,
+    })
+}
+
+/// The configuration of these fields.
+fn joined(
+    alloc: Global,
+    architecture: Text,
+    os: Text,
+    lists: Lists,
+    objects: Objects,
+    texts: Texts,
+) -> Result<Config, ReadFault>
+    ensures { Gives result (Some (joined architecture os lists objects texts)) }
+{
+    let shell = default_shell(alloc)?;
+    Ok(Config {
+        architecture,
+        os,
+        env: lists.env,
+        user: texts.user,
+        stop_signal: texts.stop_signal,
+        working_dir: texts.working_dir,
+        cmd: lists.cmd,
+        cmd_is_own: false,
+        entrypoint: lists.entrypoint,
+        labels: objects.labels,
+        exposed_ports: objects.exposed_ports,
+        volumes: objects.volumes,
+        shell,
+    })
+}
+
+/// The configuration whose `config` this is.
+fn read_settings(
+    alloc: Global,
+    architecture: Text,
+    os: Text,
+    value: &Value,
+) -> Result<Config, ReadFault>
+    ensures { Gives result (settings_in architecture os (view value.now)) }
+{
+    match value.as_object() {
+        Some(_) => read_fields(alloc, architecture, os, value),
+        None => Err(Fault::Because(NotRead)),
+    }
+}
+
+/// The configuration whose fields are read.
+#[tactic(auto, unfolding(crate::specs::Reading::fields_in))]
+fn read_fields(
+    alloc: Global,
+    architecture: Text,
+    os: Text,
+    value: &Value,
+) -> Result<Config, ReadFault>
+    ensures { Gives result (fields_in architecture os (view value.now)) }
+{
+    let lists = read_lists(alloc, value)?;
+    let objects = read_objects(alloc, value)?;
+    match read_texts(alloc, value) {
+        Ok(texts) => joined(alloc, architecture, os, lists, objects, texts),
+        Err(fault) => Err(fault),
+    }
+}
+
+/// The layers of `rootfs`, which are then forgotten.
+#[tactic(auto, unfolding(crate::specs::Reading::rootfs_in))]
+fn read_rootfs(alloc: Global, value: &Value) -> Result<Items<Text>, ReadFault>
+    ensures { Gives result (rootfs_in (view value.now)) }
+{
+    if !is_strict(value, &["diff_ids", "type"]) {
+        return Err(Fault::Because(NotRead));
+    }
+    let kind = one_at::<Text>(alloc, value, "type")?;
+    if kind.as_str() == "layers" {
+        list_at::<Text>(alloc, value, "diff_ids")
+    } else {
+        Err(Fault::Because(NotRead))
+    }
+}
+
+/// The layers of the `rootfs` of a configuration.
+fn rootfs_at(alloc: Global, value: &Value) -> Result<Items<Text>, ReadFault>
+    ensures { Gives result (option_and_then rootfs_in (get (codes "rootfs") (view value.now))) }
+{
+    match value.get("rootfs") {
+        Some(value) => read_rootfs(alloc, value),
+        None => Err(Fault::Because(NotRead)),
+    }
+}
+
+/// The configuration that a value is.
+#[tactic(auto, unfolding(crate::specs::Reading::config_in))]
+pub(crate) fn read_config(alloc: Global, value: &Value) -> Result<Config, ReadFault>
+    ensures { Gives result (config_in (view value.now)) }
+{
+    let architecture = one_at::<Text>(alloc, value, "architecture")?;
+    let os = one_at::<Text>(alloc, value, "os")?;
+    let _layers = rootfs_at(alloc, value)?;
+    match value.get("config") {
+        Some(settings) => read_settings(alloc, architecture, os, settings),
+        None => Ok(bare(alloc, architecture, os)?),
+    }
+}
