@@ -1,0 +1,5 @@
+pub mod Copy
+pub mod PrivateMounts
+pub mod PrivateTexts
+pub mod Run
+pub mod Texts
