@@ -3,8 +3,7 @@ ghost use Rattle.serde_json.specs.View.{view};
 ghost use Rattle.serde_json.specs.Written.{has_float};
 ghost use Rattle.instructions.specs.Instruction.{IsInstruction};
 ghost use Rattle.scopes.specs.Scope.{value_in};
-ghost use Rattle.strict.specs.Gives.{Gives};
-ghost use Rattle.imageconfig.specs.Reading.{plain, config_in};
+ghost use Rattle.imageconfig.specs.Reading.{plain};
 ghost use Rattle.imageconfig.specs.Writing.{config_data};
 ghost use Rattle.imageconfig.specs.Steps.{dir_of, child_of, IsApplied};
 
@@ -23,7 +22,7 @@ use plain::{Exact, Fault, Items, Memory, Refusal, Text};
 use scopes::Scope;
 use serde_json::Value;
 use std::alloc::Global;
-use strict::ReadFault;
+use strict::{FromJson, ReadFault};
 
 /// The configuration of an image, or of a stage at a line. A list, an object or a text that is empty isn't set: no rule tells the two apart.
 #[derive(Drop)]
@@ -54,14 +53,6 @@ impl Config {
         let architecture = Text::from_str(alloc, "amd64")?;
         let os = Text::from_str(alloc, "linux")?;
         bare(alloc, architecture, os)
-    }
-
-    /// An image's configuration (OCI image specification). `NotRead` where the value isn't one: a key is missing that has to be there, a
-    /// value has a wrong type, a variable has no name or one that is there before, a working directory isn't absolute or breaks a limit.
-    pub fn from_json(alloc: Global, value: &Value) -> Result<Config, ReadFault>
-        ensures { Gives result (config_in (view value.now)) }
-    {
-        read_config(alloc, value)
     }
 
     /// The configuration as JSON (OCI image specification): the fields that are set, and no layers. No number in it is a float.
@@ -123,5 +114,17 @@ impl Config {
             })),
             Err(Fault::Memory) => Err(Fault::Memory),
         }
+    }
+}
+
+impl FromJson for Config {
+    ghost use Rattle.imageconfig.specs.Reading.{config_in};
+
+    ghost reading = { config_in };
+
+    /// An image's configuration (OCI image specification). `NotRead` where the value isn't one: a key is missing that has to be there, a
+    /// value has a wrong type, a variable has no name or one that is there before, a working directory isn't absolute or breaks a limit.
+    fn from_json(alloc: Global, value: &Value) -> Result<Config, ReadFault> {
+        read_config(alloc, value)
     }
 }
