@@ -1,4 +1,5 @@
 mod CopyFacts
+mod EnvLaws
 mod FloatFacts
 mod LawFacts
 mod NameFacts

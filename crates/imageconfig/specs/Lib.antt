@@ -1,3 +1,4 @@
+pub mod EnvRows
 pub mod Environment
 pub mod Lines
 pub mod Ports

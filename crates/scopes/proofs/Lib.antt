@@ -4,6 +4,6 @@ mod HistoryLemmas
 mod LineLemmas
 mod MapLemmas
 mod NameLemmas
-mod Said
-mod SaidLemmas
-mod ScopeLemmas
+pub mod Said
+pub mod SaidLemmas
+pub mod ScopeLemmas
