@@ -1,0 +1,6 @@
+mod BeforeFacts
+mod DraftFacts
+mod MarkFacts
+mod NamingFacts
+mod TableFacts
+mod WholeFacts

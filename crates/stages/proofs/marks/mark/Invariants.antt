@@ -1,0 +1,6 @@
+use Rattle.std.proofs.Common.{take}
+use Rattle.stages.specs.PrivateMarks.{MarksMore}
+use Rattle.stages.proofs.marks.mark.Given as goal
+
+abbrev pub invariant-loop-origin : goal.invariant-loop-origin
+invariant-loop-origin l = MarksMore l.initial.marks.items l.marks.items (take l.origin-index l.origins)

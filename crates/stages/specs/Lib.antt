@@ -1,0 +1,9 @@
+pub mod Before
+pub mod Due
+pub mod Naming
+pub mod Needed
+pub mod PrivateMarks
+pub mod PrivateResolving
+pub mod PrivateTable
+pub mod Resolved
+pub mod Table

@@ -1,0 +1,40 @@
+-- Which stages a target needs.
+use Rattle.std.specs.Prelude.{◌≡◌, ◌↔◌, ◌++◌, ℕ, Bool, true, false, List, [], ◌∷◌, Some, length, slice_get, slice_index_or, Contains}
+use Rattle.rows.specs.declared.row.Origin.{Origin}
+use Rattle.rows.specs.declared.row.Origin.TheVariants.{Stage as StageOf}
+use Rattle.stages.specs.declared.stage.ResolvedInstruction.{ResolvedInstruction}
+use Rattle.stages.specs.declared.stage.ResolvedStage.{ResolvedStage}
+
+-- all that some instructions name
+abbrev pub origins_in : List ResolvedInstruction → List Origin
+origins_in [] = []
+origins_in (r ∷ rs) = r.origins ++ origins_in rs
+
+-- all that a stage names: what it begins with, and what its instructions name
+abbrev pub stage_origins : ResolvedStage → List Origin
+stage_origins stage = stage.base ∷ origins_in stage.instructions
+
+-- a stage names another one by its FROM, by a `--from` or by a mount's `from`
+pub record Refers (stages : List ResolvedStage) (from to : ℕ) : Type 0 where
+  pub stage : ResolvedStage
+  pub there : slice_get stages from ≡ Some stage
+  pub named : Contains (stage_origins stage) (StageOf to)
+
+-- each stage of a path is named by the one before it, and the last one is `to`
+abbrev pub Leads : List ResolvedStage → ℕ → List ℕ → ℕ → Type 0
+Leads stages from [] to = from ≡ to
+Leads stages from (next ∷ path) to = Refers stages from next × Leads stages next path to
+
+-- a stage is needed: it is the target, or is named by a stage that is needed. So the stages that are needed are the least set that has the
+-- target and, with each stage, all that it names (Dockerfile reference, multi-stage builds)
+abbrev pub IsNeeded : List ResolvedStage → ℕ → ℕ → Type 0
+IsNeeded stages target stage = (path : List ℕ) × Leads stages target path stage
+
+-- a stage is marked
+abbrev pub is_marked : List Bool → ℕ → Bool
+is_marked marks stage = slice_index_or marks stage false
+
+-- there is a mark for each stage, and just those that are needed are marked
+pub record AreNeeded (stages : List ResolvedStage) (target : ℕ) (marks : List Bool) : Type 0 where
+  pub long : length marks ≡ length stages
+  pub just : (stage : ℕ) → is_marked marks stage ≡ true ↔ IsNeeded stages target stage

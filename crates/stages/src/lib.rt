@@ -1,0 +1,24 @@
+// What each name in a Dockerfile means: the stages, what each begins with, and the trees that its instructions name.
+//
+// It is given a file's instructions and judges each by what stands before it. It evaluates no text but those of FROM and of the ARGs before
+// the first FROM, and looks into no image. What an instruction does to its stage is for the crates above.
+//
+// The central definition is `resolved` in specs/Resolved.antt: the table of a file's stages as a function of its instructions, or the
+// refusal that is due for it. `IsNeeded` in specs/Needed.antt says which stages a target needs.
+//
+// ```
+// let table = StageTable::resolve(alloc, file, &images, &args, None)?;     // FROM scratch AS a; FROM scratch; COPY --from=a /x /x
+// table.target()                                                           // 1
+// table.needed(alloc)?                                                     // both stages
+// ```
+#![tactic(auto)]
+
+mod marks;
+mod naming;
+mod resolving;
+mod stage;
+mod table;
+mod target;
+
+pub use stage::{ResolvedInstruction, ResolvedStage};
+pub use table::StageTable;

@@ -1,0 +1,336 @@
+// Going through the instructions of a file.
+ghost use Rattle.std.specs.Prelude.{◌≡◌, ◌≤◌, ◌∷◌, [], option_map, length, IfOk};
+ghost use Rattle.std.specs.FinMap.{get as arg_value};
+ghost use Rattle.plain.specs.Limits.{most_stages};
+ghost use Rattle.instructions.specs.Least.{Meets};
+ghost use Rattle.scopes.specs.Scope.{value_in};
+ghost use Rattle.scopes.specs.Evaluate.{arg_texts};
+ghost use Rattle.stages.specs.Naming.{names_in, base_named, origins_of};
+ghost use Rattle.stages.specs.Before.{begun, declared_by, all_but_last};
+ghost use Rattle.stages.specs.Due.{is_taken, base_text, base_due, argument_due, outer_due, inner_due, other_due, kind_due};
+ghost use Rattle.stages.specs.PrivateResolving.{with_last, last_with, draft_begun, draft_outer, draft_extended, draft_other, draft_after, Drafts};
+
+use crate::naming::{base_named, origins_of, stage_called};
+use crate::stage::{ResolvedInstruction, ResolvedStage};
+use expand::{Word, expand};
+use instructions::{Argument, Instruction, InstructionKind};
+use lines::LineFault;
+use plain::limits::MOST_STAGES;
+use plain::{Code, Exact, Fault, Items, Memory, Refusal, Text};
+use plans::Images;
+use rows::Origin;
+use scopes::{Args, Scope};
+use std::alloc::Global;
+use words::TextFault;
+
+/// What is known of a file behind some of its instructions.
+#[derive(Drop)]
+pub(crate) struct Draft {
+    /// The scope of the ARGs before the first FROM.
+    pub(crate) outer: Scope,
+    /// The names of the stages so far.
+    pub(crate) names: Items<Option<Text>>,
+    /// The stages that are whole.
+    pub(crate) stages: Items<ResolvedStage>,
+    /// The stage that may go on.
+    pub(crate) last: Option<ResolvedStage>,
+}
+
+/// The image and the name of a stage, of a FROM.
+fn begun(kind: &InstructionKind) -> Option<(&Word, &Option<Text>)>
+    ensures { option_map (λ stage. (stage.0.now, stage.1.now)) result ≡ begun kind.entry.now }
+{
+    match kind {
+        InstructionKind::From { image, name } => Some((image, name)),
+        InstructionKind::Arg { .. }
+        | InstructionKind::Env { .. }
+        | InstructionKind::Label { .. }
+        | InstructionKind::Expose { .. }
+        | InstructionKind::User { .. }
+        | InstructionKind::Workdir { .. }
+        | InstructionKind::StopSignal { .. }
+        | InstructionKind::Volume { .. }
+        | InstructionKind::Shell { .. }
+        | InstructionKind::Cmd { .. }
+        | InstructionKind::Entrypoint { .. }
+        | InstructionKind::Run { .. }
+        | InstructionKind::Copy { .. } => None,
+    }
+}
+
+/// What an ARG declares.
+pub(crate) fn declared_by(kind: &InstructionKind) -> Option<&[Argument]>
+    ensures { option_map (λ arguments. arguments.now) result ≡ declared_by kind.entry.now }
+{
+    match kind {
+        InstructionKind::Arg { arguments } => Some(arguments.as_slice()),
+        InstructionKind::From { .. }
+        | InstructionKind::Env { .. }
+        | InstructionKind::Label { .. }
+        | InstructionKind::Expose { .. }
+        | InstructionKind::User { .. }
+        | InstructionKind::Workdir { .. }
+        | InstructionKind::StopSignal { .. }
+        | InstructionKind::Volume { .. }
+        | InstructionKind::Shell { .. }
+        | InstructionKind::Cmd { .. }
+        | InstructionKind::Entrypoint { .. }
+        | InstructionKind::Run { .. }
+        | InstructionKind::Copy { .. } => None,
+    }
+}
+
+/// Whether one of the stages has the name that a stage is given.
+fn is_taken(names: &[Option<Text>], name: &Option<Text>) -> bool
+    requires { length names.now ≤ most_stages }
+    ensures { result ≡ is_taken names.now name.now }
+{
+    match name {
+        None => false,
+        Some(name) => stage_called(names, name).is_some(),
+    }
+}
+
+/// The tree that a FROM names, where its stage may begin.
+fn base<C>(
+    alloc: Global,
+    images: &Images<C>,
+    outer: &Scope,
+    names: &[Option<Text>],
+    image: &Word,
+    name: &Option<Text>,
+) -> Result<Origin, TextFault>
+    requires { length names.now ≤ most_stages }
+    ensures { Meets (base_named (names_in images.now) names.now (base_text outer.now image.now)) (base_due (names_in images.now) names.now (base_text outer.now image.now) name.now) result }
+{
+    let is_taken = is_taken(names, name);
+    let text = match expand(alloc, image, outer) {
+        Ok(text) => text,
+        Err(Fault::Because(code)) => {
+            return if is_taken {
+                Err(Fault::Because(Code::R11))
+            } else {
+                Err(Fault::Because(code))
+            };
+        }
+        Err(Fault::Memory) => return Err(Fault::Memory),
+    };
+    if is_taken {
+        return Err(Fault::Because(Code::R11));
+    }
+    let Some(base) = base_named(alloc, images, names, &text)? else {
+        return Err(Fault::Because(Code::R12));
+    };
+    if names.len() == MOST_STAGES {
+        return Err(Fault::Because(Code::R18));
+    }
+    Ok(base)
+}
+
+/// The stages with the last one.
+pub(crate) fn with_last(
+    stages: Items<ResolvedStage>,
+    last: Option<ResolvedStage>,
+) -> Result<Items<ResolvedStage>, Memory>
+    ensures { IfOk result (λ all. all ≡ with_last stages last) }
+{
+    let mut stages = stages;
+    if let Some(last) = last {
+        stages.push(last)?;
+    }
+    Ok(stages)
+}
+
+/// A FROM.
+fn begin<C>(
+    alloc: Global,
+    draft: Draft,
+    images: &Images<C>,
+    line: u32,
+    image: &Word,
+    name: &Option<Text>,
+) -> Result<Draft, TextFault>
+    requires { length draft.names ≤ most_stages }
+    ensures { Meets (Some (draft_begun (names_in images.now) draft line image.now name.now)) (base_due (names_in images.now) draft.names (base_text draft.outer image.now) name.now) result }
+{
+    let Draft {
+        outer,
+        mut names,
+        stages,
+        last,
+    } = draft;
+    let base = base(alloc, images, &outer, names.as_slice(), image, name)?;
+    let stages = with_last(stages, last)?;
+    let name = name.copy(alloc)?;
+    names.push(name)?;
+    let instructions = Items::new(alloc);
+    let stage = ResolvedStage {
+        line,
+        base,
+        instructions,
+    };
+    Ok(Draft {
+        outer,
+        names,
+        stages,
+        last: Some(stage),
+    })
+}
+
+/// An instruction before the first FROM.
+fn declare(
+    alloc: Global,
+    draft: Draft,
+    kind: &InstructionKind,
+    args: &Args,
+) -> Result<Draft, TextFault>
+    ensures { Meets (Some (draft_outer (arg_value args.now) draft (declared_by kind.now))) (outer_due (arg_value args.now) draft.outer (declared_by kind.now)) result }
+{
+    let Some(arguments) = declared_by(kind) else {
+        return Err(Fault::Because(Code::R05));
+    };
+    let mut draft = draft;
+    draft
+        .outer
+        .declare(alloc, arguments, args, &Scope::new(alloc))?;
+    Ok(draft)
+}
+
+/// The names of all stages but the last.
+fn all_but_last(names: &[Option<Text>]) -> &[Option<Text>]
+    ensures { result.now ≡ all_but_last names.now }
+{
+    &names[..names.len().saturating_sub(1)]
+}
+
+/// What an instruction of the last of some stages names beside its stage.
+fn inner_origins<C>(
+    alloc: Global,
+    images: &Images<C>,
+    names: &[Option<Text>],
+    kind: &InstructionKind,
+) -> Result<Items<Origin>, TextFault>
+    requires { length names.now ≤ most_stages }
+    ensures { Meets (Some (origins_of (names_in images.now) (all_but_last names.now) kind.now)) (inner_due (names_in images.now) (all_but_last names.now) kind.now) result }
+{
+    origins_of(alloc, images, all_but_last(names), kind)
+}
+
+/// An instruction of a stage.
+fn extend<C>(
+    alloc: Global,
+    draft: Draft,
+    images: &Images<C>,
+    instruction: Instruction,
+) -> Result<Draft, TextFault>
+    requires { length draft.names ≤ most_stages }
+    ensures { Meets (Some (draft_extended (names_in images.now) draft instruction)) (inner_due (names_in images.now) (all_but_last draft.names) instruction.kind) result }
+{
+    let Draft {
+        outer,
+        names,
+        stages,
+        last,
+    } = draft;
+    let origins = match inner_origins(alloc, images, names.as_slice(), &instruction.kind) {
+        Ok(origins) => origins,
+        Err(fault) => return Err(fault),
+    };
+    let resolved = ResolvedInstruction {
+        instruction,
+        origins,
+    };
+    let last = with_instruction(last, resolved)?;
+    Ok(Draft {
+        outer,
+        names,
+        stages,
+        last,
+    })
+}
+
+/// The last stage with one more instruction.
+fn with_instruction(
+    last: Option<ResolvedStage>,
+    resolved: ResolvedInstruction,
+) -> Result<Option<ResolvedStage>, Memory>
+    ensures { IfOk result (λ found. found ≡ last_with resolved last) }
+{
+    match last {
+        Some(stage) => {
+            let ResolvedStage {
+                line,
+                base,
+                mut instructions,
+            } = stage;
+            instructions.push(resolved)?;
+            Ok(Some(ResolvedStage {
+                line,
+                base,
+                instructions,
+            }))
+        }
+        None => Ok(None),
+    }
+}
+
+/// An instruction other than FROM.
+fn add_other<C>(
+    alloc: Global,
+    draft: Draft,
+    images: &Images<C>,
+    args: &Args,
+    instruction: Instruction,
+) -> Result<Draft, TextFault>
+    requires { length draft.names ≤ most_stages }
+    ensures { Meets (Some (draft_other (names_in images.now) (arg_value args.now) draft draft.names instruction)) (other_due (names_in images.now) (arg_value args.now) draft.outer draft.names instruction.kind) result }
+{
+    if draft.names.is_empty() {
+        declare(alloc, draft, &instruction.kind, args)
+    } else {
+        extend(alloc, draft, images, instruction)
+    }
+}
+
+/// One more instruction.
+fn add<C>(
+    alloc: Global,
+    draft: Draft,
+    images: &Images<C>,
+    args: &Args,
+    instruction: Instruction,
+) -> Result<Draft, TextFault>
+    requires { length draft.names ≤ most_stages }
+    ensures { Meets (Some (draft_after (names_in images.now) (arg_value args.now) draft instruction)) (kind_due (names_in images.now) (arg_value args.now) draft.outer draft.names instruction.kind) result }
+{
+    match begun(&instruction.kind) {
+        Some((image, name)) => begin(alloc, draft, images, instruction.line, image, name),
+        None => add_other(alloc, draft, images, args, instruction),
+    }
+}
+
+/// All instructions of a file, one after another, up to the first for which a code is due.
+pub(crate) fn add_all<C>(
+    alloc: Global,
+    images: &Images<C>,
+    args: &Args,
+    instructions: Vec<Instruction>,
+) -> Result<Draft, LineFault>
+    ensures { Drafts (names_in images.now) (arg_value args.now) instructions.items result }
+{
+    let mut draft = Draft {
+        outer: Scope::new(alloc),
+        names: Items::new(alloc),
+        stages: Items::new(alloc),
+        last: None,
+    };
+    for instruction in instructions {
+        let line = instruction.line;
+        draft = match add(alloc, draft, images, args, instruction) {
+            Ok(draft) => draft,
+            Err(Fault::Because(code)) => return Err(Fault::Because(Refusal { code, line })),
+            Err(Fault::Memory) => return Err(Fault::Memory),
+        };
+    }
+    Ok(draft)
+}
