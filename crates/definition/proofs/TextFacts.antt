@@ -1,0 +1,129 @@
+-- No operation's data holds a float, so that its compact text is the one that is written.
+use Rattle.std.specs.Prelude.{◌≡◌, ℕ, Bool, false, List, [], ◌∷◌, ◌++◌, map, length, drop, Some, None, Option, is_some, true, cond, ◌+◌, ◌<◌, ◌≤◌, slice_index_or, get_or}
+use Rattle.std.proofs.Common.{refl, ap, sym, ◌∙◌, subst, append_assoc, append-nil}
+use Rattle.std.proofs.lemmas.List.{drop_more, drop_all, length_push}
+use Rattle.serde_json.specs.Data.{Data, string}
+use Rattle.serde_json.specs.View.{items_of}
+use Rattle.serde_json.specs.Written.{has_float, items_have_float, compact_text}
+use Rattle.llb.specs.declared.op.Op.{Op}
+use Rattle.llb.specs.declared.op.FileSource.{FileSource}
+use Rattle.llb.specs.declared.op.FileSource.TheVariants.{Pattern, Data as OwnFile}
+use Rattle.llb.specs.declared.op.Op.TheVariants.{Source as SourceOp, Exec as ExecOp, Copy as CopyOp, MakeDirs as MakeDirsOp, Merge as MergeOp}
+use Rattle.plain.specs.declared.owner.Owner.{Owner}
+use Rattle.llb.specs.declared.vertex.Vertex.{Vertex}
+use Rattle.definition.specs.Texts.{bind_data, cache_data, variable_data, number_data, uid_data, gid_data, file_source_data, op_data, source_data, exec_data, copy_data, mkdir_data, merge_data, end_data}
+use Rattle.definition.specs.Address.{address_of, vertex_data, vertex_address, place_of, data_after, addresses_after, addresses_of, clash_after}
+use Rattle.definition.specs.Definition.{whole_data, definition_data, definition_text}
+
+list_plain : {A : Type 0} (shown : A → Data) → ((x : A) → has_float (shown x) ≡ false) → (xs : List A) → items_have_float (items_of (map shown xs)) ≡ false
+list_plain shown each [] = refl
+list_plain shown each (x ∷ xs) = rw (each x) (list_plain shown each xs)
+
+number_plain : (n : Option ℕ) → has_float (number_data n) ≡ false
+number_plain None = refl
+number_plain (Some n) = refl
+
+uid_plain : (owner : Option Owner) → has_float (uid_data owner) ≡ false
+uid_plain None = refl
+uid_plain (Some owner) = refl
+
+gid_plain : (owner : Option Owner) → has_float (gid_data owner) ≡ false
+gid_plain None = refl
+gid_plain (Some owner) = refl
+
+file_source_plain : (source : FileSource) → has_float (file_source_data source) ≡ false
+file_source_plain (Pattern text) = refl
+file_source_plain (OwnFile name content) = refl
+
+pub op_plain : (inputs : List (List ℕ)) (op : Op) → has_float (op_data inputs op) ≡ false
+unfolding source_data exec_data copy_data mkdir_data merge_data
+op_plain inputs (SourceOp source) = rw (list_plain string (λ t. refl) inputs) refl
+op_plain inputs (ExecOp exec) =
+    rw (list_plain bind_data (λ b. refl) exec.binds, list_plain cache_data (λ u. refl) exec.caches, list_plain variable_data (λ v. refl) exec.env, list_plain string (λ t. refl) inputs, list_plain string (λ t. refl) exec.words) refl
+op_plain inputs (CopyOp files) =
+    rw (gid_plain files.options.owner, list_plain string (λ t. refl) inputs, number_plain files.options.mode, list_plain file_source_data file_source_plain files.sources, uid_plain files.options.owner) refl
+op_plain inputs (MakeDirsOp path) = rw (list_plain string (λ t. refl) inputs) refl
+op_plain inputs MergeOp = rw (list_plain string (λ t. refl) inputs) refl
+
+pub end_plain : (address : List ℕ) → has_float (end_data address) ≡ false
+unfolding end_data
+end_plain address = refl
+
+pub data_plain : (known : List (List ℕ)) (vertices : List Vertex) (last : Data) → has_float last ≡ false → items_have_float (items_of (data_after known vertices ++ last ∷ [])) ≡ false
+data_plain known [] last h = rw h refl
+data_plain known (v ∷ vs) last h = rw (op_plain _ v.op) (data_plain (known ++ vertex_address known v ∷ []) vs last h)
+
+pub whole_plain : (ds : List Data) → items_have_float (items_of ds) ≡ false → has_float (whole_data ds) ≡ false
+unfolding whole_data
+whole_plain ds h = rw h refl
+
+-- what is written so far, and what is still to be written
+pub record IsWriting (known : List (List ℕ)) (written : List Data) (rest all : List Vertex) : Type 0 where
+  pub addresses : addresses_after known rest ≡ addresses_after [] all
+  pub operations : written ++ data_after known rest ≡ data_after [] all
+  pub clash : clash_after known rest ≡ clash_after [] all
+
+pub writing-start : (all : List Vertex) → IsWriting [] [] all all
+writing-start all = record { addresses = refl; operations = refl; clash = refl }
+
+-- one vertex more is written
+pub writing-step : (known : List (List ℕ)) (ds : List Data) (rest rest' all : List Vertex) (v : Vertex) → IsWriting known ds rest all → rest ≡ v ∷ rest' → is_some (place_of known (vertex_address known v)) ≡ false
+    → IsWriting (known ++ vertex_address known v ∷ []) (ds ++ vertex_data known v ∷ []) rest' all
+writing-step known ds rest rest' all v so_far next fresh = record {
+  addresses = ap (addresses_after known) (sym next) ∙ so_far.addresses;
+  operations = append_assoc ds (vertex_data known v ∷ []) (data_after (known ++ vertex_address known v ∷ []) rest') ∙ ap (λ r. ds ++ data_after known r) (sym next) ∙ so_far.operations;
+  clash = (λ i. cond (sym fresh i) (Some (length known)) (clash_after (known ++ vertex_address known v ∷ []) rest')) ∙ ap (clash_after known) (sym next) ∙ so_far.clash;
+}
+
+-- a vertex that has an address before it
+pub writing-clash : (known : List (List ℕ)) (ds : List Data) (rest rest' all : List Vertex) (v : Vertex) → IsWriting known ds rest all → rest ≡ v ∷ rest' → is_some (place_of known (vertex_address known v)) ≡ true → clash_after [] all ≡ Some (length known)
+writing-clash known ds rest rest' all v so_far next found =
+    sym so_far.clash ∙ ap (clash_after known) next ∙ (λ i. cond (found i) (Some (length known)) (clash_after (known ++ vertex_address known v ∷ []) rest'))
+
+-- what is left from a number on
+pub rest-at : (all : List Vertex) (n : ℕ) (item : Vertex) → n < length all → item ≡ get_or all n item → drop n all ≡ item ∷ drop (n + 1) all
+rest-at all n item inside is = drop_more all n item inside ∙ (λ i. sym is i ∷ drop (n + 1) all)
+
+-- the loop's step, by what its calls tell
+pub writing-next : (all : List Vertex) (n : ℕ) (item : Vertex) (known new : List (List ℕ)) (ds ds' : List Data) (d : Data) (address : List ℕ) (place : Option ℕ) (found : Bool) → IsWriting known ds (drop n all) all → length known ≡ n → n < length all → item ≡ get_or all n item
+    → d ≡ vertex_data known item → address ≡ address_of d → place ≡ place_of known address → found ≡ is_some place → found ≡ false → new ≡ known ++ address ∷ [] → ds' ≡ ds ++ d ∷ [] → IsWriting new ds' (drop (n + 1) all) all × (length new ≡ n + 1)
+writing-next all n item known new ds ds' d address place found so_far count inside is data-is address-is place-is found-is held new-is ds-is =
+    let same : address ≡ vertex_address known item = address-is ∙ ap address_of data-is in
+    let fresh : is_some (place_of known (vertex_address known item)) ≡ false = (λ i. is_some (place_of known (sym same i))) ∙ ap is_some (sym place-is) ∙ sym found-is ∙ held in
+    let next = writing-step known ds (drop n all) (drop (n + 1) all) all item so_far (rest-at all n item inside is) fresh in
+    let new_is : new ≡ known ++ vertex_address known item ∷ [] = new-is ∙ (λ i. known ++ same i ∷ []) in
+    let ds_is : ds' ≡ ds ++ vertex_data known item ∷ [] = ds-is ∙ (λ i. ds ++ data-is i ∷ []) in (
+      subst (λ (k : List (List ℕ)). IsWriting k ds' (drop (n + 1) all) all) (sym new_is) (subst (λ (k : List Data). IsWriting (known ++ vertex_address known item ∷ []) k (drop (n + 1) all) all) (sym ds_is) next),
+      ap length new-is ∙ length_push known address ∙ ap (λ k. k + 1) count,
+    )
+
+-- a clash, by what the loop's calls tell
+pub clash-at : (all : List Vertex) (n : ℕ) (item : Vertex) (known : List (List ℕ)) (ds : List Data) (d : Data) (address : List ℕ) (place : Option ℕ) (found : Bool) → IsWriting known ds (drop n all) all → length known ≡ n → n < length all → item ≡ get_or all n item
+    → d ≡ vertex_data known item → address ≡ address_of d → place ≡ place_of known address → found ≡ is_some place → found ≡ true → clash_after [] all ≡ Some n
+clash-at all n item known ds d address place found so_far count inside is data-is address-is place-is found-is held =
+    let same : address ≡ vertex_address known item = address-is ∙ ap address_of data-is in
+    let there : is_some (place_of known (vertex_address known item)) ≡ true = (λ i. is_some (place_of known (sym same i))) ∙ ap is_some (sym place-is) ∙ sym found-is ∙ held in
+    writing-clash known ds (drop n all) (drop (n + 1) all) all item so_far (rest-at all n item inside is) there ∙ ap Some count
+
+-- the loop's end: what was made is the definition
+module _ (all : List Vertex) (n wanted : ℕ) (known : List (List ℕ)) (ds ds' : List Data) (last whole : Data) (name : List ℕ) (so_far : IsWriting known ds (drop n all) all) (past : length all ≤ n)
+    (name-is : name ≡ slice_index_or known wanted []) (last-is : last ≡ end_data name) (ds-is : ds' ≡ ds ++ last ∷ []) (whole-is : whole ≡ whole_data ds') where
+  none : drop n all ≡ []
+  none = drop_all n all past
+
+  operations : ds ≡ data_after [] all
+  operations = sym (append-nil ds) ∙ (λ i. ds ++ data_after known (sym none i)) ∙ so_far.operations
+
+  addresses : known ≡ addresses_of all
+  addresses = (λ i. addresses_after known (sym none i)) ∙ so_far.addresses
+
+  pub writing-data : whole ≡ definition_data all wanted
+  writing-data = whole-is ∙ ap whole_data (ds-is ∙ (λ i. operations i ++ (last-is ∙ ap end_data (name-is ∙ (λ j. slice_index_or (addresses j) wanted []))) i ∷ []))
+
+  pub writing-clear : clash_after [] all ≡ None
+  writing-clear = sym so_far.clash ∙ (λ i. clash_after known (none i))
+
+  pub writing-end : (text text' : List ℕ) → (has_float whole ≡ false → text ≡ compact_text whole) → text' ≡ text → (clash_after [] all ≡ None) × (text' ≡ definition_text all wanted)
+  writing-end text text' written text-is =
+      let plain : has_float (definition_data all wanted) ≡ false = whole_plain _ (data_plain [] all (end_data (slice_index_or (addresses_of all) wanted [])) (end_plain _)) in
+      (writing-clear, text-is ∙ written (ap has_float writing-data ∙ plain) ∙ ap compact_text writing-data)

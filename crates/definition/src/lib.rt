@@ -1,0 +1,28 @@
+// The definition of a build: the text of its graph, written and read.
+//
+// Each operation names its inputs by their addresses, and an address is the SHA-256 of an operation's own text. So a text says the same of a
+// graph wherever it stands. Nothing here knows trees, files or runs.
+//
+// The central definitions are `op_data` in specs/Texts.antt, the text of an operation, `IsWritten` in specs/Definition.antt and `IsReadAs` in
+// specs/Reading.antt, what a text is read as, by cases on what was answered.
+//
+// ```
+// let text = write(alloc, &plan)?;             // {"ops":[{"inputs":[],"op":"source","source":"scratch"},..],"version":1}
+// let (graph, target) = read(alloc, text.as_str())?;
+// ```
+#![tactic(auto)]
+
+mod address;
+mod addresses;
+mod fault;
+mod known;
+pub mod laws;
+mod lists;
+mod operation;
+mod reading;
+mod spelled;
+mod writing;
+
+pub use fault::{DefFault, Defect};
+pub use reading::read;
+pub use writing::write;
