@@ -3,3 +3,4 @@ mod Rows
 mod Placing
 mod Folders
 mod Whole
+mod OneContext

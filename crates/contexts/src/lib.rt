@@ -13,6 +13,7 @@
 
 mod context;
 mod flags;
+pub mod laws;
 mod places;
 
 pub use context::Context;
