@@ -5,6 +5,8 @@
 #[cfg(test)]
 mod copies;
 #[cfg(test)]
+mod mounts;
+#[cfg(test)]
 mod running;
 #[cfg(test)]
 mod samples;

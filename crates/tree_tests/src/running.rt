@@ -10,7 +10,7 @@ use std::test::Fail;
 use trees::{Meta, Tree};
 
 /// The words of a shell that is handed a script.
-fn words(alloc: Global, script: &str) -> Result<Items<Text>, Memory> {
+pub fn words(alloc: Global, script: &str) -> Result<Items<Text>, Memory> {
     let mut words = Items::new(alloc);
     words.push(Text::from_str(alloc, "/bin/sh")?)?;
     words.push(Text::from_str(alloc, "-c")?)?;
@@ -19,7 +19,7 @@ fn words(alloc: Global, script: &str) -> Result<Items<Text>, Memory> {
 }
 
 /// The environment `A=1`.
-fn environment(alloc: Global) -> Result<Items<Variable>, Memory> {
+pub fn environment(alloc: Global) -> Result<Items<Variable>, Memory> {
     let name = Text::from_str(alloc, "A")?;
     let value = Text::from_str(alloc, "1")?;
     let mut env = Items::new(alloc);
@@ -46,12 +46,18 @@ fn request(alloc: Global, root: Tree, dir: Path, script: &str) -> Result<Request
     })
 }
 
-/// What a script comes to in the directory `/d` on the tree of `/d/f`, with one line for each `;`.
-fn outcome<E: Executor>(alloc: Global, executor: &E, script: &str) -> Result<Outcome, Fail> {
+/// A script with one line for each `;`.
+pub fn lines(alloc: Global, script: &str) -> Result<String, Memory> {
     let mut lines = String::new(alloc);
     for c in script.chars() {
         lines.push(if c == ';' { '\n' } else { c })?;
     }
+    Ok(lines)
+}
+
+/// What a script comes to in the directory `/d` on the tree of `/d/f`, with one line for each `;`.
+fn outcome<E: Executor>(alloc: Global, executor: &E, script: &str) -> Result<Outcome, Fail> {
+    let lines = lines(alloc, script)?;
     let mut root = Tree::empty(alloc);
     put(alloc, &mut root, "/d/f", Meta::file(), "old")?;
     let request = request(alloc, root, path(alloc, "/d")?, lines.as_str())?;
