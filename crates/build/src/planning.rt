@@ -10,11 +10,11 @@ ghost use Rattle.build.specs.declared.config.PlainConfig.{PlainConfig as PlainCo
 use crate::PlainConfig;
 use llb::{Exec, Source};
 use lowering::lower_program;
-use rows::{Action, Origin, Stage, Step};
 use paths::Path;
 use plain::{Items, Memory, Text};
 use plans::{Plan, Sources};
 use rewrite::prune;
+use rows::{Action, Origin, Stage, Step};
 use std::alloc::Global;
 use trees::Tree;
 

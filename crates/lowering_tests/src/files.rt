@@ -4,11 +4,11 @@ ghost use Rattle.lowering_tests.specs.Files.{run_exec, run_stage, two_stages};
 
 use llb::{Exec, Source, VertexId};
 use lowering::lower_program;
-use rows::{Action, Origin, Stage, Step};
 use paths::Path;
 use plain::{Items, Memory, Text};
 use plans::{Plan, Sources};
 use rewrite::prune;
+use rows::{Action, Origin, Stage, Step};
 use std::alloc::Global;
 use std::test::Fail;
 use trees::Tree;
