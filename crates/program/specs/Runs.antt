@@ -15,7 +15,7 @@ use Rattle.build.specs.declared.status.BuildFault.{BuildFault}
 use Rattle.build.specs.Ends.{Devices, Ends, program_limits}
 use Rattle.build.specs.Faults.{exit_status}
 use Rattle.build.specs.Messages.{fault_text}
-use Rattle.program.specs.declared.words.NotText.{NotText}
+use Rattle.program.specs.declared.arguments.NotText.{NotText}
 use Rattle.program.specs.Saying.{Stream, Says}
 
 -- the reader and the writer of a build, and the writer on which is said why there is no whole answer

@@ -10,9 +10,9 @@
 // ```
 #![tactic(auto)]
 
+mod arguments;
 mod running;
 mod saying;
-mod words;
 
+pub use arguments::{NotText, WordsFault};
 pub use running::run_program;
-pub use words::{NotText, WordsFault};
