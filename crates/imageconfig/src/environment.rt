@@ -47,6 +47,13 @@ impl Environment {
         }
     }
 
+    /// What the type keeps of the names. It does nothing at run time.
+    pub fn keeps_names(&self)
+        ensures { IsEnvironment self.now }
+    {
+        let _rows = &self.rows;
+    }
+
     /// The variables in their order.
     #[tactic(auto, using(crate::proofs::NameFacts::variables_names))]
     pub fn variables(&self, alloc: Global) -> Result<Items<Variable>, Memory>

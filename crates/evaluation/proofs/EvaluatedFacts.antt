@@ -1,0 +1,92 @@
+-- What evaluating a table answers, by what its stages answer.
+use Rattle.std.specs.Prelude.{◌≡◌, ◌≤◌, ℕ, Bool, List, Option, Result, Ok, Err, length, slice_index_or, refl}
+use Rattle.std.specs.List.{All}
+use Rattle.std.specs.FinMap.{len}
+use Rattle.std.proofs.Common.{sym, ◌∙◌, ap, subst}
+use Rattle.std.proofs.lemmas.Option.{slice_get-get_or}
+use Rattle.plain.specs.declared.fault.Fault.{Fault}
+use Rattle.plain.specs.declared.fault.Fault.TheVariants.{Because, Memory}
+use Rattle.plain.specs.declared.refusal.Refusal.{Refusal}
+use Rattle.trees.specs.TreeMap.{TreeMap}
+use Rattle.plans.specs.Images.{ImagesValue}
+use Rattle.plans.specs.Sources.{SourcesValue}
+use Rattle.rows.specs.declared.row.Stage.{Stage}
+use Rattle.scopes.specs.Evaluate.{Values}
+use Rattle.scopes.specs.Scope.{value_in}
+use Rattle.scopes.specs.declared.declaration.Declaration.{Declaration}
+use Rattle.stages.specs.Needed.{AreNeeded}
+use Rattle.stages.specs.Table.{TableValue, IsTable}
+use Rattle.stages.specs.declared.stage.ResolvedStage.{ResolvedStage}
+use Rattle.imageconfig.specs.declared.config.Config.{Config}
+use Rattle.evaluation.specs.Evaluated.{no_stage, IsMade, Answers, config_at}
+use Rattle.evaluation.specs.Images.{ImageNames, AreSources}
+use Rattle.evaluation.specs.PrivateMaking.{MakesWith, Makes}
+use Rattle.evaluation.specs.PrivateNames.{AreWhole}
+use Rattle.evaluation.specs.PrivateWalk.{AreStages}
+use Rattle.evaluation.specs.Stages.{stages_from}
+use Rattle.evaluation.specs.declared.evaluated.Evaluated.{Evaluated}
+use Rattle.evaluation.specs.declared.state.State.{State}
+use Rattle.evaluation.specs.declared.walk.Walk.{Walk}
+
+-- each instruction of a table is whole
+pub all_whole : (table : TableValue) (stages : List ResolvedStage) → IsTable table → stages ≡ table.stages → All AreWhole stages
+all_whole table stages are same =
+    subst (All AreWhole) (sym same)
+    (λ k d within j e inside. ((are.each k (slice_index_or table.stages k d) (slice_get-get_or table.stages k d within)).instructions j e inside).whole)
+
+-- what a table answers
+
+pub answers_none : (args : Values) (images : ImagesValue Config) (context : TreeMap) (table : TableValue) → Answers args images context table (Err Memory)
+answers_none args images context table = tt
+
+pub answers_told : (args : Values) (images : ImagesValue Config) (context : TreeMap) (table : TableValue) (outer : List Declaration) (stages : List ResolvedStage) (needed : List Bool) (fault : Fault Refusal)
+    → outer ≡ table.outer → stages ≡ table.stages → AreNeeded table.stages table.target needed → AreStages args (value_in outer) images needed stages (Err fault)
+    → Answers args images context table (Err fault)
+unfolding AreStages
+answers_told args images context table outer stages needed (Because refusal) same_outer same are told = (
+  needed,
+  are,
+  ap (λ (ds : List Declaration). stages_from args (value_in ds) images needed (Ok no_stage) table.stages) (sym same_outer)
+      ∙ (ap (λ (ss : List ResolvedStage). stages_from args (value_in outer) images needed (Ok no_stage) ss) (sym same) ∙ told),
+)
+answers_told args images context table outer stages needed Memory same_outer same are told = tt
+
+pub made_with : (images : ImagesValue Config) (context : TreeMap) (number : ℕ) (rows : List (Option Stage)) (names : ImageNames) (config : Config) (sources : SourcesValue)
+    → AreSources context images names sources → len sources.images ≤ length names
+    → MakesWith images context number rows names config (Ok (record { rows = rows; target = number; config = config; sources = sources }))
+unfolding MakesWith
+made_with images context number rows names config sources are few = record { same_rows = refl; same_target = refl; same_config = refl; are_sources = are; few = few }
+
+pub made_with_none : (images : ImagesValue Config) (context : TreeMap) (number : ℕ) (rows : List (Option Stage)) (names : ImageNames) (config : Config)
+    → MakesWith images context number rows names config (Err Memory)
+unfolding MakesWith
+made_with_none images context number rows names config = tt
+
+pub made_none : (images : ImagesValue Config) (context : TreeMap) (number : ℕ) (walk : Walk) → Makes images context number walk (Err Memory)
+unfolding Makes
+made_none images context number walk = tt
+
+pub made_of : (images : ImagesValue Config) (context : TreeMap) (number : ℕ) (walk : Walk) (states : List (Option State)) (config : Config) (result : Result Evaluated (Fault Refusal)) → states ≡ walk.states → config ≡ config_at states number
+    → MakesWith images context number walk.rows walk.names config result → Makes images context number walk result
+unfolding MakesWith Makes
+made_of images context number walk states config (Ok made) same is h =
+    (record { rows = h.same_rows; target = h.same_target; config = h.same_config ∙ (is ∙ ap (λ (ss : List (Option State)). config_at ss number) same); sources = h.are_sources }, h.few)
+made_of images context number walk states config (Err (Because refusal)) same is h = absurd h
+made_of images context number walk states config (Err Memory) same is h = tt
+
+pub answers_made : (args : Values) (images : ImagesValue Config) (context : TreeMap) (table : TableValue) (outer : List Declaration) (stages : List ResolvedStage) (target : ℕ) (needed : List Bool) (walk : Walk) (result : Result Evaluated (Fault Refusal))
+    → outer ≡ table.outer → stages ≡ table.stages → target ≡ table.target → AreNeeded table.stages table.target needed → AreStages args (value_in outer) images needed stages (Ok walk)
+    → Makes images context target walk result → Answers args images context table result
+unfolding AreStages Makes
+answers_made args images context table outer stages target needed walk (Ok made) same_outer same same_target are went is = (
+  needed,
+  are,
+  (
+    walk,
+    ap (λ (ds : List Declaration). stages_from args (value_in ds) images needed (Ok no_stage) table.stages) (sym same_outer)
+        ∙ (ap (λ (ss : List ResolvedStage). stages_from args (value_in outer) images needed (Ok no_stage) ss) (sym same) ∙ went),
+    subst (λ (n : ℕ). IsMade images context n walk made) same_target is.0,
+  ),
+)
+answers_made args images context table outer stages target needed walk (Err (Because refusal)) same_outer same same_target are went is = absurd is
+answers_made args images context table outer stages target needed walk (Err Memory) same_outer same same_target are went is = tt

@@ -1,0 +1,268 @@
+-- The images that are named: names are kept, and each has its tree.
+use Rattle.std.specs.Prelude.{◌≡◌, ◌≤◌, ◌+◌, ◌||◌, ℕ, Bool, true, false, cond, List, [], ◌∷◌, ◌++◌, Option, Some, None, option_map, length, map, nat_lt, bytes_eq, refl, if◌then◌else◌}
+use Rattle.std.specs.List.{All, list_any}
+use Rattle.std.specs.String.{string_bytes}
+use Rattle.std.specs.declared.string.String.{String}
+use Rattle.std.specs.Cmp.Lexicographic.{nat_list_cmp_total, texts_ties}
+use Rattle.std.specs.FinMap.{FinMap, empty, get, insert, remove, contains_key, len, get-empty, get-insert, get-remove, len-empty, len-insert}
+use Rattle.std.proofs.Common.{sym, ◌∙◌, ap, subst, arith, append_assoc, length-append}
+use Rattle.std.proofs.lemmas.Bool.{true≢false}
+use Rattle.std.proofs.lemmas.Bool.Decides.{nat_tests}
+use Rattle.std.proofs.lemmas.List.{append-nil}
+use Rattle.std.proofs.lemmas.Slice.Eq.{bytes_eq-Decides}
+use Rattle.std.proofs.lemmas.List.Elements.{All-nil, All-cons}
+use Rattle.std.proofs.lemmas.List.Folds.{list_any-append}
+use Rattle.plain.specs.Limits.{most_images}
+use Rattle.plain.specs.declared.refusal.Code.TheVariants.{R18}
+use Rattle.trees.specs.TreeMap.{TreeMap}
+use Rattle.llb.specs.declared.op.Source.TheVariants.{Scratch, Context, Image}
+use Rattle.plans.specs.Images.{ImagesValue}
+use Rattle.plans.specs.Sources.{name_cmp, SourcesValue}
+use Rattle.plans.specs.declared.images.Image as image
+use Rattle.rows.specs.declared.row.Origin.{Origin}
+use Rattle.rows.specs.declared.row.Origin.TheVariants.{Source as SourceOf, Stage as StageOf}
+use Rattle.evaluation.specs.Images.{ImageNames, is_among, with_name, with_origin, with_origins, many_due, named_tree, AreSources}
+
+-- a text that is added to a set of texts is a name that is added to theirs
+
+any_shown : {Z : Type 0} (ks : List (String Z)) (name : List ℕ) → list_any (λ k. bytes_eq name (string_bytes k)) ks ≡ is_among (map string_bytes ks) name
+any_shown [] name = refl
+any_shown (k ∷ ks) name = ap (λ b. bytes_eq name (string_bytes k) || b) (any_shown ks name)
+
+map_push : {Z : Type 0} (ks : List (String Z)) (k : String Z) → map string_bytes (ks ++ k ∷ []) ≡ map string_bytes ks ++ string_bytes k ∷ []
+map_push [] k = refl
+map_push (l ∷ ks) k = ap (λ (ns : ImageNames). string_bytes l ∷ ns) (map_push ks k)
+
+pub names_there : {Z : Type 0} (ks : List (String Z)) (name : List ℕ) → list_any (λ k. bytes_eq name (string_bytes k)) ks ≡ true → map string_bytes ks ≡ with_name (map string_bytes ks) name
+names_there ks name there = rw (sym (any_shown ks name) ∙ there) refl
+
+pub names_added : {Z : Type 0} (ks : List (String Z)) (key : String Z) (name : List ℕ) → string_bytes key ≡ name → list_any (λ k. bytes_eq name (string_bytes k)) ks ≡ false
+    → map string_bytes (ks ++ key ∷ []) ≡ with_name (map string_bytes ks) name
+names_added ks key name is none =
+    map_push ks key ∙ (ap (λ (n : List ℕ). map string_bytes ks ++ n ∷ []) is ∙ sym (rw (sym (any_shown ks name) ∙ none) refl))
+
+pub names_inserted : {Z : Type 0} (ks new : List (String Z)) (key : String Z) (name : List ℕ) → string_bytes key ≡ name
+    → list_any (λ k. bytes_eq (string_bytes key) (string_bytes k)) ks ≡ false
+    → new ≡ (if list_any (λ k. bytes_eq (string_bytes key) (string_bytes k)) ks then ks else ks ++ key ∷ [])
+    → map string_bytes new ≡ with_name (map string_bytes ks) name
+names_inserted ks new key name is none made =
+    ap (map string_bytes) (made ∙ ap (λ b. if b then ks else ks ++ key ∷ []) none)
+    ∙ names_added ks key name is (subst (λ (n : List ℕ). list_any (λ k. bytes_eq n (string_bytes k)) ks ≡ false) is none)
+
+-- names that are there stay, and those that are added are there
+
+or_first : (a b : Bool) → a ≡ true → (a || b) ≡ true
+or_first true b h = refl
+or_first false b h = absurd (true≢false (sym h))
+
+or_second : (a b : Bool) → b ≡ true → (a || b) ≡ true
+or_second true b h = refl
+or_second false b h = h
+
+text_itself : (name : List ℕ) → bytes_eq name name ≡ true
+text_itself [] = refl
+text_itself (c ∷ cs) = grind (arith, nat_tests, text_itself cs)
+
+pushed_stays : (names : ImageNames) (more name : List ℕ) → is_among names name ≡ true → is_among (names ++ more ∷ []) name ≡ true
+pushed_stays names more name h = list_any-append (bytes_eq name) names (more ∷ []) ∙ or_first (is_among names name) _ h
+
+pushed_there : (names : ImageNames) (name : List ℕ) → is_among (names ++ name ∷ []) name ≡ true
+pushed_there names name =
+    list_any-append (bytes_eq name) names (name ∷ []) ∙ or_second (is_among names name) _ (or_first (bytes_eq name name) false (text_itself name))
+
+stays_by : (names : ImageNames) (more name : List ℕ) (b : Bool) → is_among names name ≡ true → is_among (cond b names (names ++ more ∷ [])) name ≡ true
+stays_by names more name true h = h
+stays_by names more name false h = pushed_stays names more name h
+
+there_by : (names : ImageNames) (name : List ℕ) (b : Bool) → is_among names name ≡ b → is_among (cond b names (names ++ name ∷ [])) name ≡ true
+there_by names name true h = h
+there_by names name false h = pushed_there names name
+
+-- an image that is named is among the names
+abbrev pub HasName : ImageNames → Origin → Type 0
+HasName names (SourceOf Scratch) = Unit {0}
+HasName names (SourceOf Context) = Unit {0}
+HasName names (SourceOf (Image name)) = is_among names name ≡ true
+HasName names (StageOf number) = Unit {0}
+
+-- all names that are among some are among others
+abbrev pub Stay : ImageNames → ImageNames → Type 0
+Stay names more = (name : List ℕ) → is_among names name ≡ true → is_among more name ≡ true
+
+pub has_stays : (names more : ImageNames) → Stay names more → (origin : Origin) → HasName names origin → HasName more origin
+has_stays names more stay (SourceOf Scratch) h = tt
+has_stays names more stay (SourceOf Context) h = tt
+has_stays names more stay (SourceOf (Image name)) h = stay name h
+has_stays names more stay (StageOf number) h = tt
+
+pub origin_stays : (names : ImageNames) (origin : Origin) → Stay names (with_origin names origin)
+origin_stays names (SourceOf Scratch) name h = h
+origin_stays names (SourceOf Context) name h = h
+origin_stays names (SourceOf (Image more)) name h = stays_by names more name (is_among names more) h
+origin_stays names (StageOf number) name h = h
+
+pub origin_there : (names : ImageNames) (origin : Origin) → HasName (with_origin names origin) origin
+origin_there names (SourceOf Scratch) = tt
+origin_there names (SourceOf Context) = tt
+origin_there names (SourceOf (Image name)) = there_by names name (is_among names name) refl
+origin_there names (StageOf number) = tt
+
+pub origins_stay : (names : ImageNames) (origins : List Origin) → Stay names (with_origins names origins)
+origins_stay names [] name h = h
+origins_stay names (origin ∷ origins) name h = origins_stay (with_origin names origin) origins name (origin_stays names origin name h)
+
+pub origins_there : (names : ImageNames) (origins : List Origin) → All (HasName (with_origins names origins)) origins
+origins_there names [] = All-nil (HasName names)
+origins_there names (origin ∷ origins) =
+    All-cons (HasName (with_origins (with_origin names origin) origins)) origin origins
+    (has_stays (with_origin names origin) (with_origins (with_origin names origin) origins) (origins_stay (with_origin names origin) origins) origin (origin_there names origin))
+    (origins_there (with_origin names origin) origins)
+
+-- where no code is due for the number of images, they are no more than may be named
+
+none_or_some : {X : Type 0} (x : X) → None ≡ Some x → ⊥
+none_or_some x e = cc
+
+few_by : (most many : ℕ) (b : Bool) → nat_lt most many ≡ b → (if b then Some R18 else None) ≡ None → many ≤ most
+few_by most many true e h = absurd (none_or_some R18 (sym h))
+few_by most many false e h = grind (arith, nat_tests)
+
+pub few_named : (names : ImageNames) → many_due names ≡ None → length names ≤ most_images
+few_named names h = few_by most_images (length names) (nat_lt most_images (length names)) refl h
+
+-- the trees of the images that are named
+
+among_push : (names : ImageNames) (more name : List ℕ) → is_among (names ++ more ∷ []) name ≡ (is_among names name || bytes_eq name more)
+among_push names more name = list_any-append (bytes_eq name) names (more ∷ []) ∙ ap (λ b. is_among names name || b) (or_false (bytes_eq name more))
+  where
+    or_false : (b : Bool) → (b || false) ≡ b
+    or_false true = refl
+    or_false false = refl
+
+-- what is left of the images, and the sources that were made of those that were taken
+pub record TakenSoFar {C : Type 0} (context : TreeMap) (all : ImagesValue C) (names rest : ImageNames) (images : ImagesValue C) (sources : SourcesValue) : Type 0 where
+  pub before : ImageNames
+  pub split : names ≡ before ++ rest
+  pub same : sources.context ≡ context
+  pub left : (name : List ℕ) → get images name ≡ (if is_among before name then None else get all name)
+  pub trees : (name : List ℕ) → get sources.images name ≡ named_tree all before name
+  pub few : len sources.images ≤ length before
+
+pub taken_first : {C : Type 0} (context : TreeMap) (all : ImagesValue C) (names : ImageNames) (sources : SourcesValue) → sources ≡ (record { context = context; images = empty })
+    → TakenSoFar context all names names all sources
+taken_first context all names sources is = record {
+  before = [];
+  split = refl;
+  same = ap (λ (s : SourcesValue). s.context) is;
+  left = λ name. refl;
+  trees = λ name. ap (λ (s : SourcesValue). get s.images name) is ∙ get-empty name_cmp name;
+  few = subst (λ (n : ℕ). n ≤ 0) (sym (ap (λ (s : SourcesValue). len s.images) is ∙ len-empty name_cmp TreeMap)) (omega arith);
+}
+
+left_by : {C : Type 0} (found whole : Option (image.Image C)) (among same : Bool) → found ≡ (if among then None else whole) → cond same None found ≡ (if (among || same) then None else whole)
+left_by found whole true true h = refl
+left_by found whole true false h = h
+left_by found whole false true h = refl
+left_by found whole false false h = h
+
+left_more : {C : Type 0} (all images : ImagesValue C) (before : ImageNames) (taken : List ℕ) → ((name : List ℕ) → get images name ≡ (if is_among before name then None else get all name))
+    → (name : List ℕ) → get (remove images taken) name ≡ (if is_among (before ++ taken ∷ []) name then None else get all name)
+left_more all images before taken left name =
+    get-remove nat_list_cmp_total images taken name
+    ∙ (ap (λ b. cond b None (get images name)) (sym (texts_ties name taken))
+    ∙ (left_by (get images name) (get all name) (is_among before name) (bytes_eq name taken) (left name)
+    ∙ ap (λ b. if b then None else get all name) (sym (among_push before taken name))))
+
+some_whole : {X : Type 0} (whole : Option X) (x : X) (among : Bool) → Some x ≡ (if among then None else whole) → whole ≡ Some x
+some_whole whole x true h = absurd (none_or_some x (sym h))
+some_whole whole x false h = sym h
+
+none_whole : {X : Type 0} (whole : Option X) (among : Bool) → None ≡ (if among then None else whole) → among ≡ false → whole ≡ None
+none_whole whole true h e = absurd (true≢false e)
+none_whole whole false h e = sym h
+
+tree_some : {C : Type 0} (found : image.Image C) (whole : Option (image.Image C)) (now : Option TreeMap) (among same : Bool) → (same ≡ true → whole ≡ Some found)
+    → now ≡ (if among then option_map (λ (i : image.Image C). i.tree) whole else None)
+    → cond same (Some found.tree) now ≡ (if (among || same) then option_map (λ (i : image.Image C). i.tree) whole else None)
+tree_some found whole now true true is h = sym (ap (option_map (λ i. i.tree)) (is refl))
+tree_some found whole now false true is h = sym (ap (option_map (λ i. i.tree)) (is refl))
+tree_some found whole now true false is h = h
+tree_some found whole now false false is h = h
+
+tree_none : {C : Type 0} (whole : Option (image.Image C)) (now : Option TreeMap) (among same : Bool) → (same ≡ true → among ≡ false → whole ≡ None)
+    → now ≡ (if among then option_map (λ (i : image.Image C). i.tree) whole else None)
+    → now ≡ (if (among || same) then option_map (λ (i : image.Image C). i.tree) whole else None)
+tree_none whole now true same is h = h
+tree_none whole now false true is h = h ∙ sym (ap (option_map (λ i. i.tree)) (is refl refl))
+tree_none whole now false false is h = h
+
+trees_more : {C : Type 0} (all images : ImagesValue C) (before : ImageNames) (taken : List ℕ) (found : image.Image C) (trees : FinMap name_cmp TreeMap)
+    → ((name : List ℕ) → get images name ≡ (if is_among before name then None else get all name)) → get images taken ≡ Some found
+    → ((name : List ℕ) → get trees name ≡ named_tree all before name)
+    → (name : List ℕ) → get (insert trees taken found.tree) name ≡ named_tree all (before ++ taken ∷ []) name
+trees_more all images before taken found trees left is now name =
+    let whole : get all taken ≡ Some found = some_whole (get all taken) found (is_among before taken) (sym is ∙ left taken) in
+    get-insert nat_list_cmp_total trees taken found.tree name
+    ∙ (ap (λ b. cond b (Some found.tree) (get trees name)) (sym (texts_ties name taken))
+    ∙ (tree_some found (get all name) (get trees name) (is_among before name) (bytes_eq name taken)
+    (λ same. ap (get all) ((bytes_eq-Decides name taken).0 same) ∙ whole) (now name)
+    ∙ ap (λ b. if b then option_map (λ i. i.tree) (get all name) else None) (sym (among_push before taken name))))
+
+trees_same : {C : Type 0} (all images : ImagesValue C) (before : ImageNames) (taken : List ℕ) (trees : FinMap name_cmp TreeMap)
+    → ((name : List ℕ) → get images name ≡ (if is_among before name then None else get all name)) → get images taken ≡ None
+    → ((name : List ℕ) → get trees name ≡ named_tree all before name)
+    → (name : List ℕ) → get trees name ≡ named_tree all (before ++ taken ∷ []) name
+trees_same all images before taken trees left is now name =
+    tree_none (get all name) (get trees name) (is_among before name) (bytes_eq name taken)
+    (λ same none.
+    let here : name ≡ taken = (bytes_eq-Decides name taken).0 same in
+    ap (get all) here ∙ none_whole (get all taken) (is_among before taken) (sym is ∙ left taken) (sym (ap (is_among before) here) ∙ none))
+    (now name)
+    ∙ ap (λ b. if b then option_map (λ i. i.tree) (get all name) else None) (sym (among_push before taken name))
+
+long_push : (before : ImageNames) (taken : List ℕ) → length (before ++ taken ∷ []) ≡ length before + 1
+long_push before taken = length-append before (taken ∷ [])
+
+len_by : (n m : ℕ) (b : Bool) → n ≤ m → cond b n (n + 1) ≤ m + 1
+len_by n m true h = omega arith
+len_by n m false h = omega arith
+
+split_more : (names before rest left : ImageNames) (taken : List ℕ) → names ≡ before ++ rest → rest ≡ taken ∷ left → names ≡ (before ++ taken ∷ []) ++ left
+split_more names before rest left taken h is = h ∙ (ap (λ ns. before ++ ns) is ∙ sym (append_assoc before (taken ∷ []) left))
+
+pub taken_some : {C : Type 0} (context : TreeMap) (all : ImagesValue C) (names rest behind : ImageNames) (taken : List ℕ) (images fewer : ImagesValue C) (sources more : SourcesValue) (found : image.Image C)
+    → TakenSoFar context all names rest images sources → rest ≡ taken ∷ behind → get images taken ≡ Some found → fewer ≡ remove images taken
+    → more ≡ (record sources { images = insert sources.images taken found.tree }) → TakenSoFar context all names behind fewer more
+taken_some {C = C} context all names rest behind taken images fewer sources more found far is there gone added = record {
+  before = far.before ++ taken ∷ [];
+  split = split_more names far.before rest behind taken far.split is;
+  same = ap (λ (s : SourcesValue). s.context) added ∙ far.same;
+  left = λ name. ap (λ (i : ImagesValue C). get i name) gone ∙ left_more all images far.before taken far.left name;
+  trees = λ name. ap (λ (s : SourcesValue). get s.images name) added ∙ trees_more all images far.before taken found sources.images far.left there far.trees name;
+  few =
+      subst (λ (s : SourcesValue). len s.images ≤ length (far.before ++ taken ∷ [])) (sym added)
+      (subst (λ (n : ℕ). len (insert sources.images taken found.tree) ≤ n) (sym (long_push far.before taken))
+      (subst (λ (n : ℕ). n ≤ length far.before + 1) (sym (len-insert nat_list_cmp_total sources.images taken found.tree))
+      (len_by (len sources.images) (length far.before) (contains_key sources.images taken) far.few)));
+}
+
+pub taken_none : {C : Type 0} (context : TreeMap) (all : ImagesValue C) (names rest behind : ImageNames) (taken : List ℕ) (images fewer : ImagesValue C) (sources : SourcesValue)
+    → TakenSoFar context all names rest images sources → rest ≡ taken ∷ behind → get images taken ≡ None → fewer ≡ remove images taken
+    → TakenSoFar context all names behind fewer sources
+taken_none {C = C} context all names rest behind taken images fewer sources far is none gone = record {
+  before = far.before ++ taken ∷ [];
+  split = split_more names far.before rest behind taken far.split is;
+  same = far.same;
+  left = λ name. ap (λ (i : ImagesValue C). get i name) gone ∙ left_more all images far.before taken far.left name;
+  trees = trees_same all images far.before taken sources.images far.left none far.trees;
+  few = subst (λ (n : ℕ). len sources.images ≤ n) (sym (long_push far.before taken)) (omega (arith, far.few));
+}
+
+pub taken_all : {C : Type 0} (context : TreeMap) (all : ImagesValue C) (names rest : ImageNames) (images : ImagesValue C) (sources : SourcesValue)
+    → TakenSoFar context all names rest images sources → length rest ≡ 0 → AreSources context all names sources × (len sources.images ≤ length names)
+taken_all context all names [] images sources far over =
+    let whole : names ≡ far.before = far.split ∙ append-nil far.before in (
+      record { same = far.same; trees = λ name. far.trees name ∙ ap (λ (ns : ImageNames). named_tree all ns name) (sym whole) },
+      subst (λ (ns : ImageNames). len sources.images ≤ length ns) (sym whole) far.few,
+    )
+taken_all context all names (name ∷ rest) images sources far over = absurd (omega (arith, over))

@@ -1,0 +1,12 @@
+mod FoldFacts
+mod ImageFacts
+mod InstructionFacts
+mod LineFacts
+mod ScopeFacts
+mod StepFacts
+mod WalkFacts
+mod EvaluatedFacts
+mod KeptFacts
+mod LawFacts
+mod RowFacts
+mod WholeFacts

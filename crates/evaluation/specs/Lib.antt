@@ -1,0 +1,11 @@
+pub mod Evaluated
+pub mod Images
+pub mod Instruction
+pub mod PrivateInstruction
+pub mod PrivateMaking
+pub mod PrivateNames
+pub mod PrivateStage
+pub mod PrivateWalk
+pub mod Refusals
+pub mod Stages
+pub mod State

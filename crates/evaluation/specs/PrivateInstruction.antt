@@ -1,0 +1,96 @@
+-- Parts of what an instruction does.
+use Rattle.std.specs.Prelude.{ℕ, Bool, false, List, ◌++◌, Option, Some, None}
+use Rattle.plain.specs.declared.fault.Fault.{Fault}
+use Rattle.plain.specs.declared.fault.Fault.TheVariants.{Because, Memory}
+use Rattle.plain.specs.declared.refusal.Code.{Code}
+use Rattle.plain.specs.declared.refusal.Refusal.{Refusal}
+use Rattle.rows.specs.declared.row.Action.{Action}
+use Rattle.rows.specs.declared.row.Action.TheVariants.{MakeDirs}
+use Rattle.rows.specs.declared.row.Origin.{Origin}
+use Rattle.instructions.specs.declared.instruction.Assignment.{Assignment}
+use Rattle.instructions.specs.declared.instruction.InstructionKind.{InstructionKind}
+use Rattle.instructions.specs.declared.instruction.InstructionKind.TheVariants.{From, Arg, Env, Label, Expose, User, Workdir, StopSignal, Volume, Shell, Cmd, Entrypoint, Run, Copy}
+use Rattle.scopes.specs.Scope.{value_in, kept}
+use Rattle.scopes.specs.Evaluate.{Values, env_line, arg_texts}
+use Rattle.stages.specs.Due.{argument_due}
+use Rattle.imageconfig.specs.Steps.{changed}
+use Rattle.imageconfig.specs.Steps as config
+use Rattle.actions.specs.Copy.{copy_action, copy_due}
+use Rattle.actions.specs.Run.{run_action, run_due}
+use Rattle.evaluation.specs.Instruction.{dir_in, first_of}
+use Rattle.evaluation.specs.declared.instruction.Done.{Done}
+use Rattle.evaluation.specs.declared.state.State.{State}
+
+-- a fault with its line
+abbrev pub with_line : Fault Code → ℕ → Fault Refusal
+with_line (Because code) line = Because (record { code = code; line = line })
+with_line Memory line = Memory
+
+-- what an instruction leaves that changes the configuration alone
+abbrev pub configured : State → InstructionKind → State
+configured s kind = record { scope = s.scope; config = changed (value_in s.scope) s.config kind }
+
+-- what an ENV leaves
+abbrev pub variables_set : State → List Assignment → State
+variables_set s assignments = record {
+  scope = kept (s.scope ++ env_line (value_in s.scope) assignments);
+  config = changed (value_in s.scope) s.config (Env assignments);
+}
+
+-- the codes that are due for what an instruction leaves; a RUN and a COPY leave what they found
+abbrev pub left_due : Values → State → InstructionKind → Code → Bool
+left_due args s (From image name) = config.due (value_in s.scope) s.config (From image name)
+left_due args s (Arg arguments) = argument_due (arg_texts (value_in s.scope) args arguments)
+left_due args s (Env assignments) = config.due (value_in s.scope) s.config (Env assignments)
+left_due args s (Label labels) = config.due (value_in s.scope) s.config (Label labels)
+left_due args s (Expose ports) = config.due (value_in s.scope) s.config (Expose ports)
+left_due args s (User user) = config.due (value_in s.scope) s.config (User user)
+left_due args s (Workdir path) = config.due (value_in s.scope) s.config (Workdir path)
+left_due args s (StopSignal signal) = config.due (value_in s.scope) s.config (StopSignal signal)
+left_due args s (Volume paths) = config.due (value_in s.scope) s.config (Volume paths)
+left_due args s (Shell words) = config.due (value_in s.scope) s.config (Shell words)
+left_due args s (Cmd command) = config.due (value_in s.scope) s.config (Cmd command)
+left_due args s (Entrypoint command) = config.due (value_in s.scope) s.config (Entrypoint command)
+left_due args s (Run mounts command) = config.due (value_in s.scope) s.config (Run mounts command)
+left_due args s (Copy sources destination flags) = config.due (value_in s.scope) s.config (Copy sources destination flags)
+
+-- what an instruction does to the tree, by what it left
+abbrev pub acted : State → InstructionKind → List Origin → Option Action
+acted s (From image name) origins = None
+acted s (Arg arguments) origins = None
+acted s (Env assignments) origins = None
+acted s (Label labels) origins = None
+acted s (Expose ports) origins = None
+acted s (User user) origins = None
+acted s (Workdir path) origins = Some (MakeDirs (dir_in s))
+acted s (StopSignal signal) origins = None
+acted s (Volume paths) origins = None
+acted s (Shell words) origins = None
+acted s (Cmd command) origins = None
+acted s (Entrypoint command) origins = None
+acted s (Run mounts command) origins = Some (run_action s.scope (dir_in s) s.config.user s.config.shell mounts command origins)
+acted s (Copy sources destination flags) origins = Some (copy_action s.scope (dir_in s) sources destination flags (first_of origins))
+
+abbrev pub nothing_due : Code → Bool
+nothing_due code = false
+
+-- the codes that are due for that
+abbrev pub acted_due : State → InstructionKind → Code → Bool
+acted_due s (From image name) = nothing_due
+acted_due s (Arg arguments) = nothing_due
+acted_due s (Env assignments) = nothing_due
+acted_due s (Label labels) = nothing_due
+acted_due s (Expose ports) = nothing_due
+acted_due s (User user) = nothing_due
+acted_due s (Workdir path) = nothing_due
+acted_due s (StopSignal signal) = nothing_due
+acted_due s (Volume paths) = nothing_due
+acted_due s (Shell words) = nothing_due
+acted_due s (Cmd command) = nothing_due
+acted_due s (Entrypoint command) = nothing_due
+acted_due s (Run mounts command) = run_due (dir_in s) mounts
+acted_due s (Copy sources destination flags) = copy_due s.scope (dir_in s) sources destination
+
+-- what an instruction left and does by that
+abbrev pub finished : State → InstructionKind → List Origin → Done
+finished s kind origins = record { state = s; action = acted s kind origins }

@@ -1,0 +1,82 @@
+-- The needed stages one after another, each with its instructions one after another, up to the first line for which a code is due.
+use Rattle.std.specs.Prelude.{ℕ, Bool, List, [], ◌∷◌, ◌++◌, Option, Some, None, Result, Ok, Err, length, if◌then◌else◌}
+use Rattle.plain.specs.declared.refusal.Refusal.{Refusal}
+use Rattle.plans.specs.Images.{ImagesValue}
+use Rattle.rows.specs.declared.row.Action.{Action}
+use Rattle.rows.specs.declared.row.Step.{Step}
+use Rattle.instructions.specs.Least.{least}
+use Rattle.scopes.specs.Evaluate.{Values}
+use Rattle.stages.specs.Needed.{is_marked}
+use Rattle.stages.specs.declared.stage.ResolvedInstruction.{ResolvedInstruction}
+use Rattle.stages.specs.declared.stage.ResolvedStage.{ResolvedStage}
+use Rattle.imageconfig.specs.declared.config.Config.{Config}
+use Rattle.evaluation.specs.Images.{with_origin, with_origins, many_due}
+use Rattle.evaluation.specs.Instruction.{after, action_in, due}
+use Rattle.evaluation.specs.Refusals.{unless_due, all_from}
+use Rattle.evaluation.specs.State.{start}
+use Rattle.evaluation.specs.declared.stage.Progress.{Progress}
+use Rattle.evaluation.specs.declared.walk.Walk.{Walk}
+
+-- the instructions of a stage
+
+-- the step of a line that does something to the tree
+abbrev pub step_of : ℕ → Option Action → List Step
+step_of line None = []
+step_of line (Some action) = record { line = line; action = action } ∷ []
+
+-- a stage so far, with one instruction more
+abbrev pub with_instruction : Values → Values → Progress → ResolvedInstruction → Progress
+with_instruction args outer p r = record {
+  state = after args outer p.state r.instruction.kind;
+  steps = p.steps ++ step_of r.instruction.line (action_in p.state r.instruction.kind r.origins);
+  names = with_origins p.names r.origins;
+}
+
+-- an instruction of a stage behind what the stage is so far: the line is refused where a code is due for what it says, and where none is but it
+-- goes past the limit of images, whose code is the greatest that is due here
+abbrev pub next_instruction : Values → Values → Progress → ResolvedInstruction → Result Progress Refusal
+next_instruction args outer p r =
+    unless_due (least (due args p.state r.instruction.kind)) r.instruction.line
+    (unless_due (many_due (with_origins p.names r.origins)) r.instruction.line (Ok (with_instruction args outer p r)))
+
+-- instructions of a stage, up to the first line for which a code is due
+abbrev pub instructions_from : Values → Values → Result Progress Refusal → List ResolvedInstruction → Result Progress Refusal
+instructions_from args outer so_far rs = all_from (next_instruction args outer) so_far rs
+
+-- stages
+
+-- what a stage begins with, behind those before it: its FROM names what it begins with
+abbrev pub begun : ImagesValue Config → Walk → ResolvedStage → Progress
+begun images walk stage = record { state = start images walk.states stage.base; steps = []; names = with_origin walk.names stage.base }
+
+-- the stages so far, with one more at whose end this is
+abbrev pub with_stage : Walk → ResolvedStage → Progress → Walk
+with_stage walk stage p = record {
+  rows = walk.rows ++ Some (record { line = stage.line; base = stage.base; steps = p.steps }) ∷ [];
+  states = walk.states ++ Some p.state ∷ [];
+  names = p.names;
+}
+
+-- the same of what its instructions gave
+abbrev pub with_ended : Walk → ResolvedStage → Result Progress Refusal → Result Walk Refusal
+with_ended walk stage (Ok p) = Ok (with_stage walk stage p)
+with_ended walk stage (Err refusal) = Err refusal
+
+-- a needed stage behind those before it
+abbrev pub stage_from : Values → Values → ImagesValue Config → Walk → ResolvedStage → Result Walk Refusal
+stage_from args outer images walk stage =
+    unless_due (many_due (with_origin walk.names stage.base)) stage.line
+    (with_ended walk stage (instructions_from args outer (Ok (begun images walk stage)) stage.instructions))
+
+-- the stages so far, with one more that isn't needed: nothing is evaluated, and nothing refused
+abbrev pub with_none : Walk → Walk
+with_none walk = record { rows = walk.rows ++ None ∷ []; states = walk.states ++ None ∷ []; names = walk.names }
+
+-- a stage behind those before it, which is evaluated where it is needed
+abbrev pub next_stage : Values → Values → ImagesValue Config → List Bool → Walk → ResolvedStage → Result Walk Refusal
+next_stage args outer images needed walk stage =
+    if is_marked needed (length walk.rows) then stage_from args outer images walk stage else Ok (with_none walk)
+
+-- stages in the order of the file, up to the first line for which a code is due
+abbrev pub stages_from : Values → Values → ImagesValue Config → List Bool → Result Walk Refusal → List ResolvedStage → Result Walk Refusal
+stages_from args outer images needed so_far stages = all_from (next_stage args outer images needed) so_far stages

@@ -1,0 +1,193 @@
+ghost use Rattle.std.specs.Prelude.{◌≡◌, ◌≤◌, ◌<◌, length, None as NoneOf, Some as SomeOf, slice_get, slice_index_or, IfOk};
+ghost use Rattle.std.specs.List.{All};
+ghost use Rattle.std.specs.FinMap.{get as arg_value, len};
+ghost use Rattle.plain.specs.Limits.{most_images, most_lines};
+ghost use Rattle.rows.specs.WellFormed.{IsWellFormed, RowNames, HasTree, count_of_steps};
+ghost use Rattle.rows.specs.declared.row.Stage.{Stage as StageValue};
+ghost use Rattle.stages.specs.Naming.{names_in};
+ghost use Rattle.stages.specs.Needed.{AreNeeded};
+ghost use Rattle.stages.specs.Table.{NamesKnown};
+ghost use Rattle.evaluation.specs.Evaluated.{Answers, config_at, config_of};
+ghost use Rattle.evaluation.specs.Images.{AreSources};
+ghost use Rattle.evaluation.specs.PrivateMaking.{MakesWith, Makes, AnswersWhole};
+
+use crate::names::NamedImages;
+use crate::sources::sources_of;
+use crate::state::{State, keep_names};
+use crate::walk::{Walk, with_stages};
+use actions::laws::{copies_are_well_formed, runs_are_well_formed};
+use imageconfig::Config;
+use lines::LineFault;
+use plain::{Fault, Items, Memory};
+use plans::{Images, Sources};
+use rows::Stage;
+use scopes::Args;
+use scopes::laws::{
+    environments_have_the_names_of_declarations, lines_declare_their_names, names_fit_environments,
+};
+use stages::StageTable;
+use std::alloc::Global;
+use trees::Tree;
+
+/// The needed stages of a file, evaluated.
+#[derive(Drop)]
+pub struct Evaluated {
+    /// A row for each stage by its number, `None` for one that isn't needed.
+    pub rows: Items<Option<Stage>>,
+    /// The number of the stage that is wanted.
+    pub target: u32,
+    /// The configuration at its end.
+    pub config: Config,
+    /// The context, and the trees of the images that needed stages name.
+    pub sources: Sources,
+}
+
+/// What a stage leaves, `None` where it isn't needed.
+#[tactic(auto, using(std::proofs::lemmas::List::get_or_past, std::proofs::lemmas::List::get_or_read))]
+fn state_at(states: Vec<Option<State>>, number: u32) -> Option<State>
+    ensures { result ≡ slice_index_or states.items number NoneOf }
+{
+    let mut states = states;
+    let number = number as usize;
+    if number < states.len() {
+        states.swap_remove(number)
+    } else {
+        None
+    }
+}
+
+/// The configuration of what a stage leaves.
+fn config_of(alloc: Global, state: Option<State>) -> Result<Config, Memory>
+    ensures { IfOk result (λ config. config ≡ config_of state) }
+{
+    match state {
+        Some(state) => {
+            let State { scope: _, config } = state;
+            Ok(config)
+        }
+        None => Config::plain(alloc),
+    }
+}
+
+/// The configuration at the end of a stage.
+fn config_at(alloc: Global, states: Vec<Option<State>>, number: u32) -> Result<Config, Memory>
+    ensures { IfOk result (λ config. config ≡ config_at states.items number) }
+{
+    config_of(alloc, state_at(states, number))
+}
+
+/// The trees of the context and of the images that are named.
+fn named_sources(
+    alloc: Global,
+    context: Tree,
+    images: Images<Config>,
+    names: NamedImages,
+) -> Result<Sources, Memory>
+    ensures sources { IfOk result (λ sources. AreSources context images names sources) }
+    ensures few { IfOk result (λ sources. len sources.images ≤ length names) }
+{
+    match names.into_items(alloc) {
+        Ok(names) => sources_of(alloc, context, images, names.into_vec()),
+        Err(memory) => Err(memory),
+    }
+}
+
+/// These rows, with this configuration and the trees of what they name.
+fn make_with(
+    alloc: Global,
+    rows: Items<Option<Stage>>,
+    names: NamedImages,
+    config: Config,
+    images: Images<Config>,
+    context: Tree,
+    target: u32,
+) -> Result<Evaluated, LineFault>
+    ensures { MakesWith images context target rows names config result }
+{
+    match named_sources(alloc, context, images, names) {
+        Ok(sources) => Ok(Evaluated {
+            rows,
+            target,
+            config,
+            sources,
+        }),
+        Err(_) => Err(Fault::Memory),
+    }
+}
+
+/// What the stages give, with the target's configuration and the trees of what they name.
+fn make(
+    alloc: Global,
+    walk: Walk,
+    images: Images<Config>,
+    context: Tree,
+    target: u32,
+) -> Result<Evaluated, LineFault>
+    ensures { Makes images context target walk result }
+{
+    let Walk {
+        rows,
+        states,
+        names,
+    } = walk;
+    match config_at(alloc, states.into_vec(), target) {
+        Ok(config) => make_with(alloc, rows, names, config, images, context, target),
+        Err(_) => Err(Fault::Memory),
+    }
+}
+
+/// What a table gives of which just these stages are needed.
+fn evaluate_needed(
+    alloc: Global,
+    table: StageTable,
+    images: Images<Config>,
+    context: Tree,
+    args: &Args,
+    needed: &[bool],
+) -> Result<Evaluated, LineFault>
+    requires { AreNeeded table.stages table.target needed.now }
+    ensures answers { Answers (arg_value args.now) images context table result }
+    ensures whole { AnswersWhole images table result }
+{
+    runs_are_well_formed();
+    copies_are_well_formed();
+    environments_have_the_names_of_declarations();
+    lines_declare_their_names();
+    names_fit_environments();
+    let (outer, stages, target) = table.into_parts();
+    keep_names(&images, stages.as_slice());
+    match with_stages(alloc, args, &outer, &images, needed, stages.into_vec()) {
+        Ok(walk) => make(alloc, walk, images, context, target),
+        Err(fault) => Err(fault),
+    }
+}
+
+/// Evaluates the stages of a table that its target needs, one after another (Dockerfile reference).
+///
+/// Refused is the first line for which a code is due, with the least of its codes: R06 where a text is empty that mayn't be, R10 where a
+/// label has an empty key, R14 where a COPY of several sources has a destination that doesn't end in `/`, R15 where a pattern is malformed,
+/// R16 where a port is none, R17 where mounts clash, R18 where a text or a path is past its limit, and at the line that names the 8,001st
+/// different image (own). A stage that isn't needed isn't evaluated, and nothing of it is refused.
+///
+/// The rows are such as lowering asks for: each is well formed after those before it, the target is one of them, no more images and
+/// instructions come than a Dockerfile within its limits has, and each source that they name has its tree, where the table was made with
+/// just these images.
+pub fn evaluate(
+    alloc: Global,
+    table: StageTable,
+    images: Images<Config>,
+    context: Tree,
+    args: &Args,
+) -> Result<Evaluated, LineFault>
+    ensures answers { Answers (arg_value args.now) images context table result }
+    ensures rows { IfOk result (λ made. IsWellFormed made.rows) }
+    ensures target { IfOk result (λ made. (stage : StageValue) × (slice_get made.rows made.target ≡ SomeOf (SomeOf stage))) }
+    ensures named { IfOk result (λ made. All (NamesKnown (names_in images)) table.stages → All (RowNames (HasTree made.sources)) made.rows) }
+    ensures images { IfOk result (λ made. len made.sources.images ≤ most_images) }
+    ensures steps { IfOk result (λ made. count_of_steps made.rows < most_lines) }
+{
+    match table.needed(alloc) {
+        Ok(needed) => evaluate_needed(alloc, table, images, context, args, needed.as_slice()),
+        Err(_) => Err(Fault::Memory),
+    }
+}

@@ -1,0 +1,25 @@
+// The needed stages of a file, evaluated: rows with all texts evaluated and all names resolved, the target's configuration, and the trees
+// of the images that are named.
+//
+// It goes through the table of stages in the order of the file and knows no graph. What each kind of line does is said by the crates
+// below: ENV and ARG by `scopes`, what becomes of the configuration by `imageconfig`, RUN and COPY by `actions`.
+//
+// The central definition is `evaluated` in specs/Evaluated.antt: stages one after another, in each its instructions one after another, each
+// under what was set before it, up to the first line for which a code is due (specs/Refusals.antt). A stage that the target doesn't need is
+// left out: nothing of it is evaluated, and nothing is refused.
+//
+// ```
+// let made = evaluate(alloc, table, images, context, &args)?;
+// made.rows                              // a row for each stage, `None` for one that isn't needed
+// ```
+#![tactic(auto)]
+
+mod evaluated;
+mod instruction;
+mod names;
+mod sources;
+mod stage;
+mod state;
+mod walk;
+
+pub use evaluated::{Evaluated, evaluate};

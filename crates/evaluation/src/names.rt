@@ -1,0 +1,103 @@
+ghost use Rattle.std.specs.Prelude.{◌≡◌, [], length, nat_lt, IfOk, OnOk, OnErr};
+ghost use Rattle.plain.specs.Limits.{most_images};
+ghost use Rattle.evaluation.specs.Images.{with_name, with_origin, with_origins};
+
+use indexmap::IndexSet;
+use llb::Source;
+use plain::limits::MOST_IMAGES;
+use plain::{Items, Memory, Text};
+use rows::Origin;
+use std::alloc::Global;
+use std::marker::Model;
+
+/// The names of the images that were named so far.
+///
+/// Contracts see a list of them, each once, in the order in which they were named first.
+#[derive(Drop)]
+pub struct NamedImages {
+    names: IndexSet<String>,
+}
+
+impl Model for NamedImages {
+    ghost use Rattle.std.specs.Prelude.{List, ℕ, map};
+    ghost use Rattle.std.specs.Coded.{coded_list, coded_ℕ};
+    ghost use Rattle.std.specs.String.{string_bytes};
+
+    ghost Value = { List (List ℕ) };
+
+    ghost coded = { coded_list (coded_list coded_ℕ) };
+
+    ghost view = { λ n. map string_bytes n.names.keys };
+}
+
+impl NamedImages {
+    /// No name. It takes no memory.
+    pub fn new(alloc: Global) -> NamedImages
+        ensures { result ≡ [] }
+    {
+        NamedImages {
+            names: IndexSet::new(alloc),
+        }
+    }
+
+    /// How many names there are.
+    pub fn len(&self) -> usize
+        ensures { result ≡ length self.now }
+    {
+        self.names.len()
+    }
+
+    /// Adds a name, unless it is there. After `Memory` nothing has changed.
+    pub fn add(&mut self, alloc: Global, name: &Text) -> Result<(), Memory>
+        ensures ok { OnOk result (self.new ≡ with_name self.old name.now) }
+        ensures err { OnErr result (self.new ≡ self.old) }
+    {
+        if self.names.contains(name.as_str()) {
+            return Ok(());
+        }
+        let name = String::from_str(alloc, name.as_str())?;
+        self.names.insert(name)?;
+        Ok(())
+    }
+
+    /// Adds the name of an image that is named.
+    pub fn add_origin(&mut self, alloc: Global, origin: &Origin) -> Result<(), Memory>
+        ensures { OnOk result (self.new ≡ with_origin self.old origin.now) }
+    {
+        match origin {
+            Origin::Source(Source::Image(name)) => self.add(alloc, name),
+            Origin::Source(Source::Scratch) => Ok(()),
+            Origin::Source(Source::Context) => Ok(()),
+            Origin::Stage(_) => Ok(()),
+        }
+    }
+
+    /// Adds the names of all images among these.
+    pub fn add_origins(&mut self, alloc: Global, origins: &[Origin]) -> Result<(), Memory>
+        ensures { OnOk result (self.new ≡ with_origins self.old origins.now) }
+    {
+        for origin in origins {
+            self.add_origin(alloc, origin)?;
+        }
+        Ok(())
+    }
+
+    /// Whether there are more names than one build may name.
+    pub fn are_many(&self) -> bool
+        ensures { result ≡ nat_lt most_images (length self.now) }
+    {
+        self.len() > MOST_IMAGES
+    }
+
+    /// The names as a list.
+    pub fn into_items(self, alloc: Global) -> Result<Items<Text>, Memory>
+        ensures { IfOk result (λ names. names ≡ self) }
+    {
+        let NamedImages { names } = self;
+        let mut items = Items::new(alloc);
+        for name in names {
+            items.push(Text::from_string(name))?;
+        }
+        Ok(items)
+    }
+}

@@ -1,0 +1,132 @@
+ghost use Rattle.std.specs.Prelude.{◌≡◌, map, IfOk};
+ghost use Rattle.std.specs.List.{All};
+ghost use Rattle.scopes.specs.Scope.{kept};
+ghost use Rattle.stages.specs.declared.stage.ResolvedStage.{ResolvedStage as Resolved};
+ghost use Rattle.evaluation.specs.State.{bare_state, declaration_of, image_state, stage_state, source_state, start};
+ghost use Rattle.evaluation.specs.PrivateNames.{IsProperSource, IsProperBase};
+
+use imageconfig::Config;
+use llb::Source;
+use plain::{Memory, Variable};
+use plans::Images;
+use rows::Origin;
+use scopes::Scope;
+use stages::ResolvedStage;
+use std::alloc::Global;
+
+/// What the instructions of a stage so far leave to those after them.
+#[derive(Drop)]
+pub struct State {
+    /// What names have values.
+    pub scope: Scope,
+    /// The configuration; the working directory, the user and the shell are its.
+    pub config: Config,
+}
+
+impl State {
+    /// What a stage from the empty tree begins with.
+    fn bare(alloc: Global) -> Result<State, Memory>
+        ensures { IfOk result (λ state. state ≡ bare_state) }
+    {
+        let config = Config::plain(alloc)?;
+        let scope = Scope::new(alloc);
+        Ok(State { scope, config })
+    }
+
+    /// What a stage from an image with this configuration begins with.
+    fn from_image(alloc: Global, config: &Config) -> Result<State, Memory>
+        ensures { IfOk result (λ state. state ≡ image_state config.now) }
+    {
+        let variables = config.env.variables(alloc)?;
+        let scope = inherited(alloc, variables.into_vec())?;
+        let config = config.child(alloc)?;
+        Ok(State { scope, config })
+    }
+
+    /// What a stage from a stage that leaves this begins with.
+    fn child(&self, alloc: Global) -> Result<State, Memory>
+        ensures { IfOk result (λ state. state ≡ stage_state self.now) }
+    {
+        let scope = self.scope.copy(alloc)?;
+        let config = self.config.child(alloc)?;
+        Ok(State { scope, config })
+    }
+}
+
+/// The scope in which each of these variables was set.
+fn inherited(alloc: Global, variables: Vec<Variable>) -> Result<Scope, Memory>
+    ensures { IfOk result (λ scope. scope ≡ kept (map declaration_of variables.items)) }
+{
+    scopes::laws::kept_declarations_mean_the_same();
+    let mut scope = Scope::new(alloc);
+    for variable in variables {
+        scope.inherit(alloc, variable.name.as_str(), variable.value.as_str())?;
+    }
+    Ok(scope)
+}
+
+/// What a stage from a source begins with.
+fn begin_source(alloc: Global, images: &Images<Config>, source: &Source) -> Result<State, Memory>
+    ensures { IfOk result (λ state. state ≡ source_state images.now source.now) }
+{
+    match source {
+        Source::Scratch => State::bare(alloc),
+        Source::Context => State::bare(alloc),
+        Source::Image(name) => match images.find(name) {
+            Some(image) => State::from_image(alloc, &image.config),
+            None => State::bare(alloc),
+        },
+    }
+}
+
+/// What a stage begins with, behind stages that left these states.
+pub(crate) fn begin(
+    alloc: Global,
+    images: &Images<Config>,
+    states: &[Option<State>],
+    base: &Origin,
+) -> Result<State, Memory>
+    ensures { IfOk result (λ state. state ≡ start images.now states.now base.now) }
+{
+    match base {
+        Origin::Source(source) => begin_source(alloc, images, source),
+        Origin::Stage(number) => match states.get(*number as usize) {
+            Some(Some(state)) => state.child(alloc),
+            Some(None) => State::bare(alloc),
+            None => State::bare(alloc),
+        },
+    }
+}
+
+/// Says of an image's environment what its type keeps, if a source is one.
+fn keep_source_names(images: &Images<Config>, source: &Source)
+    ensures { IsProperSource images.now source.now }
+{
+    match source {
+        Source::Scratch => {}
+        Source::Context => {}
+        Source::Image(name) => match images.find(name) {
+            Some(image) => image.config.env.keeps_names(),
+            None => {}
+        },
+    }
+}
+
+/// The same of what a stage begins with.
+fn keep_base_names(images: &Images<Config>, base: &Origin)
+    ensures { IsProperBase images.now base.now }
+{
+    match base {
+        Origin::Source(source) => keep_source_names(images, source),
+        Origin::Stage(_) => {}
+    }
+}
+
+/// The same of what all stages begin with: names in the environments of their images are such as an environment may have.
+pub(crate) fn keep_names(images: &Images<Config>, stages: &[ResolvedStage])
+    ensures { All (λ (stage : Resolved). IsProperBase images.now stage.base) stages.now }
+{
+    for stage in stages {
+        keep_base_names(images, &stage.base);
+    }
+}

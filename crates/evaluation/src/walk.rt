@@ -1,0 +1,310 @@
+ghost use Rattle.std.specs.Prelude.{◌≡◌, ◌∷◌, ◌++◌, [], Some as SomeOf, IfOk};
+ghost use Rattle.std.specs.List.{All};
+ghost use Rattle.std.specs.FinMap.{get as arg_value};
+ghost use Rattle.instructions.specs.Instruction.{IsInstruction};
+ghost use Rattle.stages.specs.Needed.{is_marked};
+ghost use Rattle.stages.specs.declared.stage.ResolvedInstruction.{ResolvedInstruction as Resolved};
+ghost use Rattle.scopes.specs.Scope.{value_in};
+ghost use Rattle.evaluation.specs.Stages.{with_none};
+ghost use Rattle.evaluation.specs.PrivateNames.{AreWhole};
+ghost use Rattle.evaluation.specs.PrivateStage.{AreNext};
+ghost use Rattle.evaluation.specs.PrivateWalk.{AreFew, AreNamed, begun_with, IsEnded, IsWalk, IsStageAdded, IsNextStage, AreStages};
+
+use crate::names::NamedImages;
+use crate::stage::{Progress, many_images, with_instructions};
+use crate::state::{State, begin};
+use imageconfig::Config;
+use lines::LineFault;
+use plain::{Fault, Items, Memory};
+use plans::Images;
+use rows::{Origin, Stage, Step};
+use scopes::{Args, Scope};
+use stages::{ResolvedInstruction, ResolvedStage};
+use std::alloc::Global;
+
+/// The stages so far: their rows, what each leaves, and the images that they name; `None` for a stage that isn't needed.
+#[derive(Drop)]
+pub struct Walk {
+    pub rows: Items<Option<Stage>>,
+    pub states: Items<Option<State>>,
+    pub names: NamedImages,
+}
+
+/// The names, unless they are more than one build may name.
+fn unless_many(names: NamedImages, line: u32) -> Result<NamedImages, LineFault>
+    ensures { AreFew names line result }
+{
+    if names.are_many() {
+        return Err(many_images(line));
+    }
+    Ok(names)
+}
+
+/// The names with that of the image that a FROM names.
+fn with_base(
+    alloc: Global,
+    names: NamedImages,
+    base: &Origin,
+    line: u32,
+) -> Result<NamedImages, LineFault>
+    ensures { AreNamed names base.now line result }
+{
+    let mut names = names;
+    match names.add_origin(alloc, base) {
+        Ok(()) => unless_many(names, line),
+        Err(_) => Err(Fault::Memory),
+    }
+}
+
+/// What a stage begins with, behind stages that left these states.
+fn begin_stage(
+    alloc: Global,
+    images: &Images<Config>,
+    states: &[Option<State>],
+    names: NamedImages,
+    base: &Origin,
+) -> Result<Progress, Memory>
+    ensures { IfOk result (λ progress. progress ≡ begun_with images.now states.now base.now names) }
+{
+    match begin(alloc, images, states, base) {
+        Ok(state) => Ok(Progress {
+            state,
+            steps: Items::new(alloc),
+            names,
+        }),
+        Err(memory) => Err(memory),
+    }
+}
+
+/// What a stage's instructions leave and do, behind stages that left these states, with its FROM's image among the names.
+fn evaluate_begun(
+    alloc: Global,
+    args: &Args,
+    outer: &Scope,
+    images: &Images<Config>,
+    states: &[Option<State>],
+    names: NamedImages,
+    base: &Origin,
+    instructions: Vec<ResolvedInstruction>,
+) -> Result<Progress, LineFault>
+    requires { All (λ (r : Resolved). IsInstruction r.instruction.kind) instructions.items }
+    ensures { AreNext (arg_value args.now) (value_in outer.now) (begun_with images.now states.now base.now names) instructions.items result }
+{
+    match begin_stage(alloc, images, states, names, base) {
+        Ok(progress) => with_instructions(alloc, args, outer, progress, instructions),
+        Err(_) => Err(Fault::Memory),
+    }
+}
+
+/// What a stage's instructions leave and do, behind stages that left these states.
+fn evaluate_stage(
+    alloc: Global,
+    args: &Args,
+    outer: &Scope,
+    images: &Images<Config>,
+    states: &[Option<State>],
+    names: NamedImages,
+    line: u32,
+    base: &Origin,
+    instructions: Vec<ResolvedInstruction>,
+) -> Result<Progress, LineFault>
+    requires { All (λ (r : Resolved). IsInstruction r.instruction.kind) instructions.items }
+    ensures { IsEnded (arg_value args.now) (value_in outer.now) images.now states.now names line base.now instructions.items result }
+{
+    match with_base(alloc, names, base, line) {
+        Ok(names) => {
+            evaluate_begun(
+                alloc,
+                args,
+                outer,
+                images,
+                states,
+                names,
+                base,
+                instructions,
+            )
+        }
+        Err(fault) => Err(fault),
+    }
+}
+
+/// The rows so far, with that of a stage.
+fn with_row(
+    rows: Items<Option<Stage>>,
+    line: u32,
+    base: Origin,
+    steps: Items<Step>,
+) -> Result<Items<Option<Stage>>, Memory>
+    ensures { IfOk result (λ more. more ≡ rows ++ SomeOf (record { line = line; base = base; steps = steps }) ∷ []) }
+{
+    let mut rows = rows;
+    match rows.push(Some(Stage { line, base, steps })) {
+        Ok(()) => Ok(rows),
+        Err(memory) => Err(memory),
+    }
+}
+
+/// What the stages so far leave, and what one more leaves.
+fn with_state(states: Items<Option<State>>, state: State) -> Result<Items<Option<State>>, Memory>
+    ensures { IfOk result (λ more. more ≡ states ++ SomeOf state ∷ []) }
+{
+    let mut states = states;
+    match states.push(Some(state)) {
+        Ok(()) => Ok(states),
+        Err(memory) => Err(memory),
+    }
+}
+
+/// The stages so far, with these rows, and with what one more leaves.
+fn put_state(
+    rows: Items<Option<Stage>>,
+    states: Items<Option<State>>,
+    state: State,
+    names: NamedImages,
+) -> Result<Walk, LineFault>
+    ensures { IsWalk rows (states ++ SomeOf state ∷ []) names result }
+{
+    match with_state(states, state) {
+        Ok(states) => Ok(Walk {
+            rows,
+            states,
+            names,
+        }),
+        Err(_) => Err(Fault::Memory),
+    }
+}
+
+/// The stages so far, with one more that ends so; the names so far are its own.
+fn put_stage(
+    rows: Items<Option<Stage>>,
+    states: Items<Option<State>>,
+    line: u32,
+    base: Origin,
+    progress: Progress,
+) -> Result<Walk, LineFault>
+    ensures { IsWalk (rows ++ SomeOf (record { line = line; base = base; steps = progress.steps }) ∷ []) (states ++ SomeOf progress.state ∷ []) progress.names result }
+{
+    let Progress {
+        state,
+        steps,
+        names,
+    } = progress;
+    match with_row(rows, line, base, steps) {
+        Ok(rows) => put_state(rows, states, state, names),
+        Err(_) => Err(Fault::Memory),
+    }
+}
+
+/// The stages so far, with one more that is needed.
+fn add_needed(
+    alloc: Global,
+    args: &Args,
+    outer: &Scope,
+    images: &Images<Config>,
+    walk: Walk,
+    stage: ResolvedStage,
+) -> Result<Walk, LineFault>
+    requires { AreWhole stage }
+    ensures { IsStageAdded (arg_value args.now) (value_in outer.now) images.now walk stage result }
+{
+    let Walk {
+        rows,
+        states,
+        names,
+    } = walk;
+    let ResolvedStage {
+        line,
+        base,
+        instructions,
+    } = stage;
+    match evaluate_stage(
+        alloc,
+        args,
+        outer,
+        images,
+        states.as_slice(),
+        names,
+        line,
+        &base,
+        instructions.into_vec(),
+    ) {
+        Ok(progress) => put_stage(rows, states, line, base, progress),
+        Err(fault) => Err(fault),
+    }
+}
+
+/// The stages so far, with one more that is left out.
+fn with_none(walk: Walk) -> Result<Walk, Memory>
+    ensures { IfOk result (λ more. more ≡ with_none walk) }
+{
+    let Walk {
+        mut rows,
+        mut states,
+        names,
+    } = walk;
+    rows.push(None)?;
+    states.push(None)?;
+    Ok(Walk {
+        rows,
+        states,
+        names,
+    })
+}
+
+/// Whether a stage is marked.
+fn is_marked(marks: &[bool], stage: usize) -> bool
+    ensures { result ≡ is_marked marks.now stage }
+{
+    match marks.get(stage) {
+        Some(is_marked) => *is_marked,
+        None => false,
+    }
+}
+
+/// The stages so far, with one more, which is evaluated where it is needed.
+fn add_stage(
+    alloc: Global,
+    args: &Args,
+    outer: &Scope,
+    images: &Images<Config>,
+    needed: &[bool],
+    walk: Walk,
+    stage: ResolvedStage,
+) -> Result<Walk, LineFault>
+    requires { AreWhole stage }
+    ensures { IsNextStage (arg_value args.now) (value_in outer.now) images.now needed.now walk stage result }
+{
+    if is_marked(needed, walk.rows.len()) {
+        return add_needed(alloc, args, outer, images, walk, stage);
+    }
+    match with_none(walk) {
+        Ok(more) => Ok(more),
+        Err(_) => Err(Fault::Memory),
+    }
+}
+
+/// The needed stages one after another, up to the first line that is refused.
+pub(crate) fn with_stages(
+    alloc: Global,
+    args: &Args,
+    outer: &Scope,
+    images: &Images<Config>,
+    needed: &[bool],
+    stages: Vec<ResolvedStage>,
+) -> Result<Walk, LineFault>
+    requires { All AreWhole stages.items }
+    ensures { AreStages (arg_value args.now) (value_in outer.now) images.now needed.now stages.items result }
+{
+    let mut walk = Walk {
+        rows: Items::new(alloc),
+        states: Items::new(alloc),
+        names: NamedImages::new(alloc),
+    };
+    for stage in stages {
+        match add_stage(alloc, args, outer, images, needed, walk, stage) {
+            Ok(more) => walk = more,
+            Err(fault) => return Err(fault),
+        }
+    }
+    Ok(walk)
+}
