@@ -1,4 +1,5 @@
-pub mod BuildingLemmas
-pub mod FileLemmas
-pub mod PlanLemmas
-pub mod ServedLemmas
+mod AnswerFacts
+mod AskFacts
+mod BuildingFacts
+mod PlanFacts
+mod TellFacts

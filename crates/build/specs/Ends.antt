@@ -3,17 +3,10 @@ use Rattle.std.specs.Prelude.{◌≡◌, ◌⊎◌, ℕ, ◌+◌, List, Option, 
 use Rattle.std.specs.Io.KnownBytes.{Appends}
 use Rattle.counted.specs.Edges.{AppendsBeginning}
 use Rattle.plans.specs.Value.{Out}
-use Rattle.lowering.specs.Meaning.{Rows}
-use Rattle.plain.specs.Limits.{most_bundle_bytes, most_dockerfile_bytes}
-use Rattle.build.specs.declared.limits.Limits.{Limits}
 use Rattle.build.specs.declared.status.Status.{Status}
 use Rattle.build.specs.declared.status.BuildFault.{BuildFault}
-use Rattle.build.specs.declared.status.BuildFault.TheVariants.{Memory, Device, NotYet}
-use Rattle.build.specs.Meaning.{Serves, Answers, line_of}
-
--- the limits of the program, in bytes: those of a bundle and of a Dockerfile (own)
-abbrev pub program_limits : Limits
-program_limits = record { bundle = most_bundle_bytes; dockerfile = most_dockerfile_bytes }
+use Rattle.build.specs.declared.status.BuildFault.TheVariants.{Memory, Device}
+use Rattle.build.specs.Meaning.{Answers, line_of}
 
 -- A reader and a writer: the bytes that are left to be read and those that were written, where they are known, and how many calls
 -- of each failed. Those in memory (std's `Cursor` and `Vec<u8>`) tell their bytes. Of standard input and output std says only how many
@@ -40,36 +33,29 @@ pub record IsUnwritten (old new : Devices) : Type 0 where
   pub failed_writes : new.failed_writes ≡ old.failed_writes
 
 -- an answer to the bundle was written, with the LF that ends it, and no call failed
-pub record HasAnswered (limits : Limits) (out : Out) (old new : Devices) (status : Status) : Type 0 where
+pub record HasAnswered (out : Out) (old new : Devices) (status : Status) : Type 0 where
   pub bundle : List ℕ
   pub is : IsBundle old.left bundle
   pub text : List ℕ
-  pub answers : Answers limits bundle out status text
+  pub answers : Answers bundle out status text
   pub written : Appends old.written new.written (line_of text)
   pub failed_reads : new.failed_reads ≡ old.failed_reads
   pub failed_writes : new.failed_writes ≡ old.failed_writes
 
--- the bundle isn't served
-pub record IsUnserved (limits : Limits) (old : Devices) : Type 0 where
-  pub bundle : List ℕ
-  pub is : IsBundle old.left bundle
-  pub unserved : (rows : Rows) → ¬ Serves limits bundle rows
-
 -- a write failed, and a beginning of an answer to the bundle, with its LF, was written
-pub record HasBegun (limits : Limits) (out : Out) (old new : Devices) : Type 0 where
+pub record HasBegun (out : Out) (old new : Devices) : Type 0 where
   pub bundle : List ℕ
   pub is : IsBundle old.left bundle
   pub status : Status
   pub text : List ℕ
-  pub answers : Answers limits bundle out status text
+  pub answers : Answers bundle out status text
   pub written : AppendsBeginning old.written new.written (line_of text)
   pub failed_reads : new.failed_reads ≡ old.failed_reads
   pub failed_writes : new.failed_writes ≡ old.failed_writes + 1
 
--- How a build ends, by its result: an answer was written, which only a bundle that is served has; the bundle isn't served, and
--- nothing was written; there was no memory, and nothing was written; a read failed, and nothing was written, or a write failed.
-abbrev pub Ends : Limits → Out → Devices → Devices → Result Status BuildFault → Type 0
-Ends limits out old new (Ok status) = HasAnswered limits out old new status
-Ends limits out old new (Err NotYet) = IsUnserved limits old × IsUnwritten old new × (new.failed_reads ≡ old.failed_reads)
-Ends limits out old new (Err Memory) = IsUnwritten old new × (new.failed_reads ≡ old.failed_reads)
-Ends limits out old new (Err Device) = (IsUnwritten old new × (new.failed_reads ≡ old.failed_reads + 1)) ⊎ HasBegun limits out old new
+-- How a build ends, by its result: an answer was written; there was no memory, and nothing was written; a read failed, and nothing was
+-- written, or a write failed.
+abbrev pub Ends : Out → Devices → Devices → Result Status BuildFault → Type 0
+Ends out old new (Ok status) = HasAnswered out old new status
+Ends out old new (Err Memory) = IsUnwritten old new × (new.failed_reads ≡ old.failed_reads)
+Ends out old new (Err Device) = (IsUnwritten old new × (new.failed_reads ≡ old.failed_reads + 1)) ⊎ HasBegun out old new

@@ -3,27 +3,20 @@ use Rattle.std.specs.Prelude.{ℕ, Result, Ok, Err}
 use Rattle.plain.specs.declared.fault.Fault.{Fault}
 use Rattle.plain.specs.declared.fault.Fault.TheVariants as fault
 use Rattle.counted.specs.declared.fault.Device.{Device as DeviceFailed}
-use Rattle.bundle.specs.declared.fault.NotYet.{NotYet as NotServed}
 use Rattle.build.specs.declared.status.Status.{Status}
 use Rattle.build.specs.declared.status.Status.TheVariants.{Built, Failed, Refused}
 use Rattle.build.specs.declared.status.BuildFault.{BuildFault}
-use Rattle.build.specs.declared.status.BuildFault.TheVariants.{Memory, Device, NotYet}
+use Rattle.build.specs.declared.status.BuildFault.TheVariants.{Memory, Device}
 
 -- a fault of an edge
 abbrev pub of_edge : Fault DeviceFailed → BuildFault
 of_edge fault.Memory = Memory
 of_edge (fault.Because device) = Device
 
--- a bundle that isn't read
-abbrev pub of_bundle : Fault NotServed → BuildFault
-of_bundle (fault.Because bytes) = NotYet
-of_bundle fault.Memory = Memory
-
 -- the status that the program ends with
 abbrev pub exit_status : Result Status BuildFault → ℕ
 exit_status (Ok Built) = 0
 exit_status (Ok Failed) = 1
 exit_status (Ok Refused) = 2
-exit_status (Err NotYet) = 2
 exit_status (Err Memory) = 3
 exit_status (Err Device) = 3

@@ -1,8 +1,7 @@
-pub mod Config
 pub mod Ends
 pub mod Faults
+pub mod Lowerable
 pub mod Meaning
 pub mod Messages
-pub mod Served
-pub mod PrivateServed
+pub mod PrivateAsking
 pub mod Telling

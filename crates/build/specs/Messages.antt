@@ -1,10 +1,9 @@
 -- What a fault prints (own).
 use Rattle.std.specs.Prelude.{ℕ, List, codes}
 use Rattle.build.specs.declared.status.BuildFault.{BuildFault}
-use Rattle.build.specs.declared.status.BuildFault.TheVariants.{Memory, Device, NotYet}
+use Rattle.build.specs.declared.status.BuildFault.TheVariants.{Memory, Device}
 
 -- the text that a fault prints
 abbrev pub fault_text : BuildFault → List ℕ
 fault_text Memory = codes "out of memory"
 fault_text Device = codes "device failed"
-fault_text NotYet = codes "not yet"

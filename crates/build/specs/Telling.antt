@@ -1,38 +1,42 @@
--- What the answer to a plan is told as.
+-- What the solution of a plan is told as.
 use Rattle.std.specs.Prelude.{◌≡◌, ℕ, List, Result, Ok, Err}
 use Rattle.std.specs.FinMap.{entries}
+use Rattle.plain.specs.declared.fault.Fault.{Fault}
+use Rattle.plain.specs.declared.fault.Fault.TheVariants.{Because, Memory}
+use Rattle.plain.specs.declared.refusal.Refusal.{Refusal}
 use Rattle.plans.specs.Value.{Out}
-use Rattle.lowering.specs.Meaning.{Rows}
+use Rattle.evaluation.specs.declared.evaluated.Evaluated.{Evaluated}
+use Rattle.imageconfig.specs.Writing.{config_data}
+use Rattle.imageconfig.specs.declared.config.Config.{Config}
 use Rattle.bundle.specs.Answer.{built_text, failed_text}
-use Rattle.build.specs.Config.{plain_config}
-use Rattle.solver.specs.declared.answer.Answer.{Answer}
-use Rattle.solver.specs.declared.answer.Answer.TheVariants as answer
-use Rattle.build.specs.declared.limits.Limits.{Limits}
+use Rattle.solver.specs.declared.solution.Solution.{Solution}
+use Rattle.solver.specs.declared.solution.Solution.TheVariants as solution
 use Rattle.build.specs.declared.status.Status.{Status}
 use Rattle.build.specs.declared.status.Status.TheVariants.{Built, Failed}
-use Rattle.build.specs.declared.status.BuildFault.{BuildFault}
-use Rattle.build.specs.declared.status.BuildFault.TheVariants.{NotYet, Memory, Device}
+use Rattle.build.specs.declared.asking.Asked.{Asked}
 use Rattle.build.specs.declared.told.Told.{Told}
-use Rattle.build.specs.Meaning.{Serves, Tells, Answers, line_of}
+use Rattle.build.specs.Meaning.{Asks, Tells, Answers, line_of}
 
--- the status that tells an answer
-abbrev pub status_of : {C : Type 0} → Answer C → Status
-status_of (answer.Built tree config) = Built
-status_of (answer.Failed place cause) = Failed
+-- what a call answers of a bundle's bytes: what they ask for, or their refusal; want of memory says nothing of them
+abbrev pub IsAsked : List ℕ → Result Asked (Fault Refusal) → Type 0
+IsAsked bytes (Ok asked) = Asks bytes (Ok asked.evaluated)
+IsAsked bytes (Err (Because refusal)) = Asks bytes (Err refusal)
+IsAsked bytes (Err Memory) = Unit {0}
 
--- the text that tells an answer
-abbrev pub text_of : {C : Type 0} → Answer C → List ℕ
-text_of (answer.Built tree config) = built_text plain_config (entries tree)
-text_of (answer.Failed place cause) = failed_text place cause
+-- the status that tells a solution
+abbrev pub status_of : Solution → Status
+status_of (solution.Built tree) = Built
+status_of (solution.Failed vertex place cause) = Failed
 
--- a line tells what a file gives: it is a text that does, and LF
-abbrev pub TellsFile : Out → Rows → Told → Type 0
-TellsFile out rows told = (text : List ℕ) × Tells out rows told.status text × (told.line ≡ line_of text)
+-- the text that tells a solution, with this configuration
+abbrev pub text_of : Config → Solution → List ℕ
+text_of config (solution.Built tree) = built_text (config_data config) (entries tree)
+text_of config (solution.Failed vertex place cause) = failed_text place cause
 
--- What is told of a bundle's bytes: an answer, and LF; or that they aren't served, and then they aren't. No device is told of: none
--- is touched.
-abbrev pub TellsBundle : Limits → List ℕ → Out → Result Told BuildFault → Type 0
-TellsBundle limits bundle out (Ok told) = (text : List ℕ) × Answers limits bundle out told.status text × (told.line ≡ line_of text)
-TellsBundle limits bundle out (Err NotYet) = (rows : Rows) → ¬ Serves limits bundle rows
-TellsBundle limits bundle out (Err Memory) = Unit {0}
-TellsBundle limits bundle out (Err Device) = ⊥
+-- a line tells what is asked for: it is a text that does, and LF
+abbrev pub TellsAsked : Out → Result Evaluated Refusal → Told → Type 0
+TellsAsked out asked told = (text : List ℕ) × Tells out asked told.status text × (told.line ≡ line_of text)
+
+-- a line is an answer to a bundle of these bytes, and LF
+abbrev pub TellsBundle : List ℕ → Out → Told → Type 0
+TellsBundle bytes out told = (text : List ℕ) × Answers bytes out told.status text × (told.line ≡ line_of text)

@@ -1,61 +1,67 @@
-ghost use Rattle.std.specs.Prelude.{◌<◌, ◌+◌};
+ghost use Rattle.std.specs.Prelude.{◌≡◌, ◌<◌, ◌+◌};
 ghost use Rattle.counted.specs.Edges.{LosesBeginning};
-ghost use Rattle.build.specs.Ends.{Ends, devices, program_limits};
+ghost use Rattle.plain.specs.Limits.{most_bundle_bytes};
+ghost use Rattle.build.specs.Ends.{Ends, devices};
 
 use crate::telling::tell_bundle;
-use crate::{BuildFault, LIMITS, Limits, Status};
+use crate::{BuildFault, Status};
 use counted::{CountedRead, CountedWrite, read_all, write_all};
 use executor::Executor;
+use plain::limits::MOST_BUNDLE_BYTES;
 use std::alloc::Global;
+use std::thread::Threads;
 
 /// Reads a bundle, builds it and writes one answer: a line of JSON with the LF that ends it.
 ///
-/// `NotYet` only where the bundle isn't served, and such a bundle is never answered; nothing was written then, and nothing after
-/// `Memory`. After `Device` a read failed, and nothing was written, or a write failed, and a beginning of an answer was written. A
-/// call that failed isn't tried again. No more than one byte past the limit of bundles is read.
+/// Nothing was written after `Memory`. After `Device` a read failed, and nothing was written, or a write failed, and a beginning of an answer was
+/// written. A call that failed isn't tried again. No more than one byte past the limit of bundles is read. The context is filtered in several
+/// threads, and all else is done in the caller's.
 ///
 /// All this is said where the reader and the writer tell their bytes, as those in memory do (`Cursor`, `Vec<u8>`). Of standard
 /// input and output the standard library says how many bytes a call takes at most, and not which bytes those are; there the
 /// counts of failed calls are what is said. One body serves all: it doesn't know what it reads from or writes to.
 ///
 /// The counts of failed calls are machine numbers, so a caller has to know that there is room for one more in each.
-#[tactic(auto, unfolding(plain::specs::Limits::most_bundle_bytes, plain::specs::Limits::most_dockerfile_bytes))]
+#[tactic(auto, unfolding(plain::specs::Limits::most_bundle_bytes))]
 pub fn run_build<R: CountedRead, W: CountedWrite, E: Executor>(
     alloc: Global,
+    rt: &(impl Threads + Sync),
     input: &mut R,
     output: &mut W,
     executor: &E,
 ) -> Result<Status, BuildFault>
     requires reads { R.failures input.old < u64.MAX }
     requires writes { W.failures output.old < u64.MAX }
-    ensures ends { Ends program_limits (E.out executor.now)
+    ensures ends { Ends (E.out executor.now)
         (devices (R.remaining input.old) (R.failures input.old) (W.contents output.old) (W.failures output.old))
         (devices (R.remaining input.new) (R.failures input.new) (W.contents output.new) (W.failures output.new))
         result }
-    ensures taken { LosesBeginning (program_limits.bundle + 1) (R.remaining input.old) (R.remaining input.new) }
+    ensures taken { LosesBeginning (most_bundle_bytes + 1) (R.remaining input.old) (R.remaining input.new) }
 {
-    build_within(alloc, LIMITS, input, output, executor)
+    build_within(alloc, rt, MOST_BUNDLE_BYTES, input, output, executor)
 }
 
-/// The same under any limits.
-pub(crate) fn build_within<R: CountedRead, W: CountedWrite, E: Executor>(
+/// The same, the limit of bundles being a value and no number that is written out.
+fn build_within<R: CountedRead, W: CountedWrite, E: Executor>(
     alloc: Global,
-    limits: Limits,
+    rt: &(impl Threads + Sync),
+    most: usize,
     input: &mut R,
     output: &mut W,
     executor: &E,
 ) -> Result<Status, BuildFault>
-    requires limit { limits.bundle < usize.MAX }
+    requires limit { most ≡ most_bundle_bytes }
+    requires room { most < usize.MAX }
     requires reads { R.failures input.old < u64.MAX }
     requires writes { W.failures output.old < u64.MAX }
-    ensures ends { Ends limits (E.out executor.now)
+    ensures ends { Ends (E.out executor.now)
         (devices (R.remaining input.old) (R.failures input.old) (W.contents output.old) (W.failures output.old))
         (devices (R.remaining input.new) (R.failures input.new) (W.contents output.new) (W.failures output.new))
         result }
-    ensures taken { LosesBeginning (limits.bundle + 1) (R.remaining input.old) (R.remaining input.new) }
+    ensures taken { LosesBeginning (most + 1) (R.remaining input.old) (R.remaining input.new) }
 {
-    let bytes = read_all(alloc, input, limits.bundle + 1)?;
-    let told = tell_bundle(alloc, limits, bytes.as_slice(), executor)?;
+    let bytes = read_all(alloc, input, most + 1)?;
+    let told = tell_bundle(alloc, rt, bytes.as_slice(), executor)?;
     write_all(output, told.line.as_str().as_bytes())?;
     Ok(told.status)
 }

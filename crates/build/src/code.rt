@@ -3,15 +3,14 @@ ghost use Rattle.build.specs.Faults.{exit_status};
 
 use crate::{BuildFault, Status};
 
-/// The status that the program ends with: 0 where a build built, 1 where it failed, 2 where the bundle is refused or isn't served
-/// yet, 3 where there was no memory or a device failed.
+/// The status that the program ends with: 0 where a build built, 1 where it failed, 2 where the bundle is refused, 3 where there was no memory or a device failed.
 pub fn status_code(ended: Result<Status, BuildFault>) -> u8
     ensures { result ≡ exit_status ended }
 {
     match ended {
         Ok(Status::Built) => 0,
         Ok(Status::Failed) => 1,
-        Ok(Status::Refused) | Err(BuildFault::NotYet) => 2,
+        Ok(Status::Refused) => 2,
         Err(BuildFault::Memory | BuildFault::Device) => 3,
     }
 }

@@ -1,28 +1,27 @@
 // The laws of what a bundle means, claimed: each function's contract is one law, and its body is empty.
-ghost use Rattle.std.specs.Prelude.{◌≡◌, ℕ, List};
+ghost use Rattle.std.specs.Prelude.{◌≡◌, ◌≢◌, ℕ, List, Result};
+ghost use Rattle.plain.specs.declared.refusal.Refusal.{Refusal};
 ghost use Rattle.plans.specs.Value.{Out};
-ghost use Rattle.lowering.specs.Meaning.{Rows};
-ghost use Rattle.build.specs.Meaning.{Answers, Serves};
-ghost use Rattle.build.specs.declared.limits.Limits.{Limits};
+ghost use Rattle.evaluation.specs.declared.evaluated.Evaluated.{Evaluated};
+ghost use Rattle.build.specs.Meaning.{Asks, Answers};
 ghost use Rattle.build.specs.declared.status.Status.{Status};
-ghost use Rattle.build.specs.declared.status.Status.TheVariants.{Built};
+ghost use Rattle.build.specs.declared.status.Status.TheVariants.{Failed};
 
-/// A bundle asks for one file at most.
-pub fn a_bundle_asks_for_one_file()
-    ensures { (limits : Limits) (bundle : List ℕ) (rows other : Rows)
-        → Serves limits bundle rows → Serves limits bundle other → rows ≡ other }
-{}
+/// A bundle asks for one thing at most, or has one refusal, and never both: so one that isn't to be refused never is.
+pub fn a_bundle_asks_for_one_thing()
+    ensures { (bytes : List ℕ) (one other : Result Evaluated Refusal) → Asks bytes one → Asks bytes other → one ≡ other }
+{
+    dockerfile::laws::answers_are_unique();
+    contexts::laws::a_listing_has_one_context();
+}
 
-/// All answers to a bundle under an executor have one status, and those that are built one text: they differ at most in which failure they
-/// name.
+/// All answers to a bundle under an executor have one status, and those that aren't failed have one text: they differ at most in which failure
+/// they name.
 pub fn answers_differ_in_the_failure_alone()
-    ensures { (limits : Limits) (bundle : List ℕ) (out : Out) (one other : Status) (text beside : List ℕ)
-        → Answers limits bundle out one text → Answers limits bundle out other beside
-        → (one ≡ other) × (one ≡ Built → text ≡ beside) }
-{}
-
-/// A bundle that is served has an answer under every executor.
-pub fn a_served_bundle_has_an_answer()
-    ensures { (limits : Limits) (bundle : List ℕ) (out : Out) (rows : Rows) → Serves limits bundle rows
-        → (status : Status) × (text : List ℕ) × Answers limits bundle out status text }
-{}
+    ensures { (bytes : List ℕ) (out : Out) (one other : Status) (text beside : List ℕ)
+        → Answers bytes out one text → Answers bytes out other beside
+        → (one ≡ other) × (one ≢ Failed → text ≡ beside) }
+{
+    dockerfile::laws::answers_are_unique();
+    contexts::laws::a_listing_has_one_context();
+}

@@ -1,82 +1,38 @@
-ghost use Rattle.std.specs.Prelude.{◌≡◌, IfOk};
+ghost use Rattle.std.specs.Prelude.{◌≡◌, IfOk, Ok as OkOf};
 ghost use Rattle.plans.specs.Plan.{NeedsAll, problem_of};
 ghost use Rattle.plans.specs.Value.{Out};
-ghost use Rattle.solver.specs.Answer.{IsAnswer};
-ghost use Rattle.solver.specs.declared.answer.Answer.{Answer};
-ghost use Rattle.build.specs.Meaning.{Tells, served_rows, shell_exec, shell_words};
+ghost use Rattle.solver.specs.Solution.{IsSolution};
+ghost use Rattle.solver.specs.declared.solution.Solution.{Solution};
+ghost use Rattle.build.specs.Lowerable.{IsLowerable};
+ghost use Rattle.build.specs.Meaning.{Tells};
 ghost use Rattle.build.specs.Telling.{status_of, text_of};
-ghost use Rattle.build.specs.declared.config.PlainConfig.{PlainConfig as PlainConfigValue};
 
-use crate::PlainConfig;
-use llb::{Exec, Source};
+use evaluation::Evaluated;
+use imageconfig::Config;
 use lowering::lower_program;
-use paths::Path;
-use plain::{Items, Memory, Text};
-use plans::{Plan, Sources};
+use plain::Memory;
+use plans::Plan;
 use rewrite::prune;
-use rows::{Action, Origin, Stage, Step};
 use std::alloc::Global;
-use trees::Tree;
 
-/// The plan of the Dockerfile that is served with this command.
+/// The plan of a file's needed stages, without what the target doesn't need.
 ///
-/// Under every executor, whatever answers the plan tells what the Dockerfile gives; and the target needs every vertex, so that two answers
-/// of the plan differ at most in which failure they name. The context is the empty tree, which no vertex of the plan looks at.
-pub fn plan_of(alloc: Global, command: &str) -> Result<Plan<PlainConfig>, Memory>
-    ensures tells { IfOk result (λ plan. (out : Out) (answer : Answer PlainConfigValue)
-        → IsAnswer out plan answer → Tells out (served_rows command.now) (status_of answer) (text_of answer)) }
+/// Under every executor, whatever solves the plan tells what the stages give, with the plan's configuration; and the target needs every
+/// vertex, so that two solutions of the plan differ at most in which failure they name. It asks for what evaluation gives.
+pub fn plan_of(alloc: Global, evaluated: Evaluated) -> Result<Plan<Config>, Memory>
+    requires { IsLowerable evaluated }
+    ensures tells { IfOk result (λ plan. (out : Out) (solution : Solution)
+        → IsSolution (problem_of out plan) solution → Tells out (OkOf evaluated) (status_of solution) (text_of plan.config solution)) }
     ensures needed { IfOk result (λ plan. (out : Out) → NeedsAll (problem_of out plan)) }
 {
-    let rows = served_rows(alloc, command)?;
-    let sources = Sources::new(alloc, Tree::empty(alloc));
-    let plan = lower_program(alloc, rows, 0, PlainConfig, sources)?;
+    let Evaluated {
+        rows,
+        target,
+        config,
+        sources,
+    } = evaluated;
+    let plan = lower_program(alloc, rows, target, config, sources)?;
     let pruned = prune(alloc, plan)?;
     let _known = pruned.graph();
     Ok(pruned)
-}
-
-/// The rows of a Dockerfile of `FROM scratch` on line 1 and RUN in shell form with this command on line 2.
-fn served_rows(alloc: Global, command: &str) -> Result<Items<Option<Stage>>, Memory>
-    ensures { IfOk result (λ rows. rows ≡ served_rows command.now) }
-{
-    let exec = shell_exec(alloc, command)?;
-    let from = Items::new(alloc);
-    let mut steps = Items::new(alloc);
-    let action = Action::Run { exec, from };
-    steps.push(Step { line: 2, action })?;
-    let base = Origin::Source(Source::Scratch);
-    let stage = Stage {
-        line: 1,
-        base,
-        steps,
-    };
-    let mut rows = Items::new(alloc);
-    rows.push(Some(stage))?;
-    Ok(rows)
-}
-
-/// The command of RUN in shell form, in `/`.
-fn shell_exec(alloc: Global, command: &str) -> Result<Exec, Memory>
-    ensures { IfOk result (λ exec. exec ≡ shell_exec command.now) }
-{
-    let words = shell_words(alloc, command)?;
-    Ok(Exec {
-        binds: Items::new(alloc),
-        caches: Items::new(alloc),
-        dir: Path::root(alloc),
-        env: Items::new(alloc),
-        user: Text::from_string(String::new(alloc)),
-        words,
-    })
-}
-
-/// The words of the shell form.
-fn shell_words(alloc: Global, command: &str) -> Result<Items<Text>, Memory>
-    ensures { IfOk result (λ words. words ≡ shell_words command.now) }
-{
-    let mut words = Items::new(alloc);
-    words.push(Text::from_str(alloc, "/bin/sh")?)?;
-    words.push(Text::from_str(alloc, "-c")?)?;
-    words.push(Text::from_str(alloc, command)?)?;
-    Ok(words)
 }

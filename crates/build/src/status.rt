@@ -1,4 +1,3 @@
-use bundle::{BundleFault, NotYet};
 use counted::{Device, EdgeFault};
 use plain::{Fault, Memory};
 use std::error::Error;
@@ -11,7 +10,7 @@ pub enum Status {
     Built,
     /// An instruction that failed, with its cause.
     Failed,
-    /// Why the bundle is refused. No bundle is refused yet.
+    /// Why the bundle is refused.
     Refused,
 }
 
@@ -22,8 +21,6 @@ pub enum BuildFault {
     Memory,
     /// A read or a write failed. Nothing was written, or a beginning of the answer.
     Device,
-    /// The bundle isn't one that is served yet. Nothing was written.
-    NotYet,
 }
 
 impl fmt::Display for BuildFault {
@@ -36,7 +33,6 @@ impl fmt::Display for BuildFault {
         match self {
             BuildFault::Memory => write!(f, "out of memory"),
             BuildFault::Device => write!(f, "device failed"),
-            BuildFault::NotYet => write!(f, "not yet"),
         }
     }
 }
@@ -53,20 +49,6 @@ impl From<EdgeFault> for BuildFault {
         match edge {
             Fault::Memory => BuildFault::Memory,
             Fault::Because(Device) => BuildFault::Device,
-        }
-    }
-}
-
-impl From<BundleFault> for BuildFault {
-    ghost use Rattle.std.specs.Prelude.{◌≡◌};
-    ghost use Rattle.build.specs.Faults.{of_bundle};
-
-    ghost from_gives = { λ bundle fault. fault ≡ of_bundle bundle };
-
-    fn from(bundle: BundleFault) -> BuildFault {
-        match bundle {
-            Fault::Because(NotYet) => BuildFault::NotYet,
-            Fault::Memory => BuildFault::Memory,
         }
     }
 }

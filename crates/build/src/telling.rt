@@ -1,60 +1,70 @@
-ghost use Rattle.std.specs.Prelude.{◌≡◌, IfOk};
-ghost use Rattle.build.specs.Meaning.{served_rows, line_of};
-ghost use Rattle.build.specs.Telling.{status_of, text_of, TellsFile, TellsBundle};
+ghost use Rattle.std.specs.Prelude.{◌≡◌, [], IfOk, Ok as OkOf};
+ghost use Rattle.build.specs.Lowerable.{IsLowerable};
+ghost use Rattle.build.specs.Meaning.{line_of};
+ghost use Rattle.build.specs.Telling.{status_of, text_of, TellsAsked, TellsBundle};
 
-use crate::config::plain_value;
-use crate::served::served_command;
+use crate::asking::{Asked, ask};
 use crate::told::Told;
-use crate::{BuildFault, Limits, PlainConfig, Status, plan_of};
-use bundle::{built_answer, failed_answer, read_bundle};
-use cachemounts::CacheStore;
+use crate::{Status, plan_of};
+use bundle::{built_answer, failed_answer, refused_answer};
 use executor::Executor;
-use plain::{Memory, Text};
-use solver::{Answer, solve_here};
+use imageconfig::Config;
+use plain::{Fault, Memory, Text};
+use solver::{Solution, solve_problem};
 use std::alloc::Global;
+use std::thread::Threads;
 
 /// What a build tells of a bundle's bytes.
-///
-/// `NotYet` is answered only where the bundle isn't served, and such a bundle is never told of. `Memory` says nothing of it.
 pub(crate) fn tell_bundle<E: Executor>(
     alloc: Global,
-    limits: Limits,
+    rt: &(impl Threads + Sync),
     bytes: &[u8],
     executor: &E,
-) -> Result<Told, BuildFault>
-    ensures { TellsBundle limits bytes.now (E.out executor.now) result }
+) -> Result<Told, Memory>
+    ensures { IfOk result (TellsBundle bytes.now (E.out executor.now)) }
 {
-    let bundle = read_bundle(alloc, limits.bundle, bytes)?;
-    let Some(command) = served_command(limits.dockerfile, bundle.dockerfile.as_str()) else {
-        return Err(BuildFault::NotYet);
-    };
-    let told = tell_command(alloc, command, executor)?;
-    Ok(told)
+    match ask(alloc, rt, bytes) {
+        Ok(asked) => tell_asked(alloc, asked, executor),
+        Err(Fault::Because(refusal)) => {
+            let text = refused_answer(alloc, refusal)?;
+            line_of(Status::Refused, text)
+        }
+        Err(Fault::Memory) => Err(Memory),
+    }
 }
 
-/// What a build tells of the Dockerfile that is served with this command.
-fn tell_command<E: Executor>(alloc: Global, command: &str, executor: &E) -> Result<Told, Memory>
-    ensures { IfOk result (TellsFile (E.out executor.now) (served_rows command.now)) }
+/// What a build tells of what a bundle asks for.
+fn tell_asked<E: Executor>(alloc: Global, asked: Asked, executor: &E) -> Result<Told, Memory>
+    requires lowerable { IsLowerable asked.evaluated }
+    requires idle { asked.caches.holds ≡ [] }
+    ensures { IfOk result (TellsAsked (E.out executor.now) (OkOf asked.evaluated)) }
 {
-    let plan = plan_of(alloc, command)?;
-    let mut caches = CacheStore::new(alloc);
-    let answer = solve_here(alloc, &plan, executor, &mut caches)?;
-    tell_answer(alloc, &answer)
+    let Asked {
+        evaluated,
+        mut caches,
+    } = asked;
+    let plan = plan_of(alloc, evaluated)?;
+    let solution = solve_problem(alloc, &plan, executor, &mut caches)?;
+    tell_solution(alloc, plan.config(), &solution)
 }
 
-/// The line that tells an answer.
-fn tell_answer(alloc: Global, answer: &Answer<PlainConfig>) -> Result<Told, Memory>
-    ensures status { IfOk result (λ told. told.status ≡ status_of answer.now) }
-    ensures line { IfOk result (λ told. told.line ≡ line_of (text_of answer.now)) }
+/// The line that tells a solution, with this configuration.
+fn tell_solution(alloc: Global, config: &Config, solution: &Solution) -> Result<Told, Memory>
+    ensures status { IfOk result (λ told. told.status ≡ status_of solution.now) }
+    ensures line { IfOk result (λ told. told.line ≡ line_of (text_of config.now solution.now)) }
 {
-    match answer {
-        Answer::Built(tree, PlainConfig) => {
+    match solution {
+        Solution::Built(tree) => {
             let entries = tree.entries(alloc)?;
-            let config = plain_value(alloc)?;
+            let config = config.to_json(alloc)?;
             let text = built_answer(alloc, config, entries.as_slice())?;
             line_of(Status::Built, text)
         }
-        Answer::Failed { place, cause } => {
+        Solution::Failed {
+            vertex: _,
+            place,
+            cause,
+        } => {
             let text = failed_answer(alloc, *place, *cause)?;
             line_of(Status::Failed, text)
         }

@@ -1,5 +1,4 @@
 pub mod AnswerLemmas
-pub mod BundleLemmas
 mod ListingFacts
 mod RestFacts
 mod WholeFacts

@@ -1,5 +1,3 @@
 pub mod Answer
-pub mod Bundle
-pub mod Gives
 pub mod Parts
 pub mod Reading

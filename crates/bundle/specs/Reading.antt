@@ -10,7 +10,7 @@ use Rattle.trees.specs.declared.entry.Entry.{Entry}
 use Rattle.trees.specs.declared.entry.Entry.TheVariants.{Directory, File}
 use Rattle.ignorefile.specs.declared.line.Line.{Line}
 use Rattle.ignorefile.specs.File.{ignore_of}
-use Rattle.contexts.specs.Context.{IsContext}
+use Rattle.contexts.specs.Context.{IsListing, IsContext}
 use Rattle.cachemounts.specs.Content.{common_content}
 use Rattle.entries.specs.Row.{Row}
 use Rattle.bundle.specs.declared.parts.Parts.{Parts}
@@ -38,8 +38,9 @@ ignore_bytes (row ∷ rows) = if is_ignore_path row.0 then bytes_in row.1 else i
 abbrev pub told_line : ℕ → ℕ
 told_line number = if nat_lt number (2 ^ 32) then number else 2 ^ 32 - 1
 
--- a bundle is what its parts say: its context is filtered by the lines of its ignore file, and its caches hold their common contents
+-- a bundle is what its parts say: its context is a listing, filtered by the lines of its ignore file, and its caches hold their common contents
 pub record IsBundle {C : Type 0} (parts : Parts C) (lines : List Line) (bundle : Bundle C) : Type 0 where
+  pub listing : IsListing parts.files.context
   pub dockerfile : bundle.dockerfile ≡ parts.files.dockerfile
   pub context : IsContext parts.files.context lines bundle.context
   pub images : bundle.images ≡ parts.named.images

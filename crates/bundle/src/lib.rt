@@ -1,25 +1,20 @@
 // The two ends of a build as text: the bundle that it reads, and the answer that it writes.
 //
 // A bundle is one JSON object with the Dockerfile and all that the build may look at; an answer is one
-// line of compact JSON. The crate knows nothing of graphs, executors or workers.
+// line of compact JSON. The crate knows nothing of graphs, executors or workers, and not what an image's configuration is: it is read by
+// what the caller names.
 //
-// The central definitions are `bundle_of`, what the bytes of a bundle hold, and `built_text` and
-// `failed_text`, the texts of the answers.
+// The central definitions are `ReadsBundle` in specs/Reading.antt, what the bytes of a bundle give, and `built_text`, `failed_text` and
+// `refused_text` in specs/Answer.antt, the texts of the answers.
 //
 // ```
-// let most = 67_108_864;                            // bytes of a bundle
-// let bundle = read_bundle(alloc, most, bytes)?;    // of {"dockerfile":{"text":"FROM scratch\nRUN true\n"}}
+// let bundle: Bundle<Config> = read_bundle(alloc, rt, bytes)?;    // of {"dockerfile":{"text":"FROM scratch\nRUN true\n"}}
 // ```
 #![tactic(auto)]
 
 mod answering;
-mod bundle;
-mod fault;
 mod parts;
-mod reading;
-pub mod whole;
+mod whole;
 
 pub use answering::{built_answer, failed_answer, refused_answer};
-pub use bundle::Bundle;
-pub use fault::{BundleFault, NotYet};
-pub use reading::read_bundle;
+pub use whole::{Bundle, read_bundle};

@@ -1,5 +1,5 @@
 ghost use Rattle.std.specs.Prelude.{◌≡◌, IfOk};
-ghost use Rattle.contexts.specs.Context.{IsContext};
+ghost use Rattle.contexts.specs.Context.{IsListing, IsContext};
 ghost use Rattle.plain.specs.declared.refusal.Code.TheVariants.{R19};
 ghost use Rattle.serde_json.specs.View.{view};
 ghost use Rattle.strict.specs.Gives.{Gives};
@@ -81,13 +81,15 @@ fn bad_ignore(number: usize) -> Refusal
 }
 
 /// The tree of a context, as its ignore file filters it.
+#[tactic(auto, using(crate::proofs::ListingFacts::listing))]
 fn filtered(
     alloc: Global,
     rt: &(impl Threads + Sync),
     context: Listing,
     ignore: Ignore,
 ) -> Result<Tree, Memory>
-    ensures { IfOk result (λ tree. IsContext context ignore tree) }
+    ensures tree { IfOk result (λ tree. IsContext context ignore tree) }
+    ensures listing { IfOk result (λ tree. IsListing context) }
 {
     let rows = context.into_rows();
     let context = Context::build(alloc, rt, rows, ignore)?;

@@ -63,6 +63,7 @@ fn run<'a>(rt: &HostRuntime, words: Result<&'a [&'a str], WordsFault>) -> u8 {
     let mut errors = Counted::new(rt.stderr());
     run_program(
         rt.alloc(),
+        rt,
         words,
         &mut input,
         &mut output,

@@ -12,7 +12,7 @@ use Rattle.command.specs.declared.task.Task.{Task}
 use Rattle.plans.specs.Value.{Out}
 use Rattle.build.specs.declared.status.Status.{Status}
 use Rattle.build.specs.declared.status.BuildFault.{BuildFault}
-use Rattle.build.specs.Ends.{Devices, Ends, program_limits}
+use Rattle.build.specs.Ends.{Devices, Ends}
 use Rattle.build.specs.Faults.{exit_status}
 use Rattle.build.specs.Messages.{fault_text}
 use Rattle.program.specs.declared.arguments.NotText.{NotText}
@@ -42,7 +42,7 @@ SaysEnd (Err fault) old new = Says (line_of (fault_text fault)) old new
 -- a build was run, and the program ends with its status
 pub record Builds (out : Out) (old new : Streams) (status : ℕ) : Type 0 where
   pub ended : Result Status BuildFault
-  pub ends : Ends program_limits out old.devices new.devices ended
+  pub ends : Ends out old.devices new.devices ended
   pub says : SaysEnd ended old.errors new.errors
   pub is : status ≡ exit_status ended
 

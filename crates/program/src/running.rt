@@ -18,6 +18,7 @@ use counted::{CountedRead, CountedWrite};
 use executor::Executor;
 use plain::Fault;
 use std::alloc::Global;
+use std::thread::Threads;
 
 /// The status after a bad command line, and after help.
 const BAD_COMMAND: u8 = 2;
@@ -30,9 +31,11 @@ const NO_MEMORY_LINE: &str = "out of memory\n";
 
 /// Does what the words of a command line ask for, and gives the status to end with.
 ///
-/// The first word is the program's name. Where the system gave no words, it is handed why.
+/// The first word is the program's name. Where the system gave no words, it is handed why. The context of a build is filtered in several
+/// threads, and all else is done in the caller's.
 pub fn run_program<'a, R: CountedRead, W: CountedWrite, S: CountedWrite, E: Executor>(
     alloc: Global,
+    rt: &(impl Threads + Sync),
     words: Result<&'a [&'a str], WordsFault>,
     input: &mut R,
     output: &mut W,
@@ -64,7 +67,7 @@ pub fn run_program<'a, R: CountedRead, W: CountedWrite, S: CountedWrite, E: Exec
     match read_command(alloc, words) {
         // The number of workers is 1: `read_command` takes no other yet.
         Ok(Task::Build(_)) => {
-            let ended = run_build(alloc, input, output, executor);
+            let ended = run_build(alloc, rt, input, output, executor);
             if let Err(fault) = &ended {
                 say(errors, fault_line(*fault));
             }
@@ -116,6 +119,5 @@ fn fault_line(fault: BuildFault) -> &'static str
     match fault {
         BuildFault::Memory => NO_MEMORY_LINE,
         BuildFault::Device => "device failed\n",
-        BuildFault::NotYet => "not yet\n",
     }
 }

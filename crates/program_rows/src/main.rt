@@ -1,7 +1,9 @@
-// Runs the program on cases, one a line: the words of a command line, ` | `, and what stands on standard input. It answers the exit
-// status, what was written on standard output, and what on standard error, each on a line of its own; a LF in them is written `¶`.
+// Runs the program on cases, one a line: a name, ` | `, the words of a command line, ` | `, and what stands on standard input. It
+// answers the name, and on a line of its own each the exit status, what was written on standard output and what on standard error; a LF
+// in them is written `¶`.
 //
-// The cases are data: `stdin` has them, and `stdout` what the rules say of each.
+// The cases are data: `stdin` has them, and `stdout` what the rules say of each. Names that begin with `example_` are the bundles and the
+// packed folder of `examples/`, and those that begin with `bundle_` are about the bundle itself.
 #![tactic(auto)]
 
 use counted::Counted;
@@ -13,7 +15,7 @@ use std::io;
 use std::io::Cursor;
 
 /// How much room an answer has: a writer in memory that has to grow could be refused.
-const ROOM: usize = 4096;
+const ROOM: usize = 16384;
 
 /// What the program did.
 #[derive(Drop)]
@@ -26,8 +28,12 @@ struct Ended {
 fn main(rt: HostRuntime) -> io::Result<()> {
     for line in rt.lines(rt.alloc()) {
         let case = line?;
-        println!(rt; "{case}")?;
-        match run_case(rt.alloc(), case.as_str()) {
+        let (name, run) = case
+            .as_str()
+            .split_once(" | ")
+            .unwrap_or((case.as_str(), ""));
+        println!(rt; "{name}")?;
+        match run_case(&rt, run) {
             Ok(ended) => {
                 println!(rt; "    {}", ended.status)?;
                 println!(rt; "    out {}", ended.output)?;
@@ -39,15 +45,24 @@ fn main(rt: HostRuntime) -> io::Result<()> {
     Ok(())
 }
 
-/// Runs the program on a case.
-fn run_case(alloc: Global, case: &str) -> Result<Ended, Memory> {
-    let (line, bundle) = case.split_once(" | ").unwrap_or((case, ""));
+/// Runs the program on what stands behind a case's name.
+fn run_case(rt: &HostRuntime, run: &str) -> Result<Ended, Memory> {
+    let alloc = rt.alloc();
+    let (line, bundle) = run.split_once(" | ").unwrap_or((run, ""));
     let words: Vec<&str> = line.split(' ').collect(alloc)?;
     let mut input = Counted::new(Cursor::new(bundle.as_bytes()));
     let mut output = Counted::new(Vec::with_capacity(alloc, ROOM)?);
     let mut errors = Counted::new(Vec::with_capacity(alloc, ROOM)?);
     let words = Ok(words.as_slice());
-    let status = run_program(alloc, words, &mut input, &mut output, &mut errors, &Fixture);
+    let status = run_program(
+        alloc,
+        rt,
+        words,
+        &mut input,
+        &mut output,
+        &mut errors,
+        &Fixture,
+    );
     let output = one_line(alloc, output.into_inner().as_slice())?;
     let errors = one_line(alloc, errors.into_inner().as_slice())?;
     Ok(Ended {

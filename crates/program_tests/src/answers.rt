@@ -1,16 +1,22 @@
-use bundle::{built_answer, failed_answer, read_bundle};
+use bundle::{Bundle, built_answer, failed_answer, read_bundle, refused_answer};
+use imageconfig::Config;
+use lines::LineFault;
 use paths::Path;
-use plain::{Bytes, Mode};
+use plain::{Bytes, Code, Mode, Refusal};
 use serde_json::Value;
 use std::test::Fail;
 use trees::{Cause, Content, Entry, Meta};
 
 #[test]
 fn a_bundle_is_read(rt: HostRuntime) -> Result<(), Fail> {
-    match read_bundle(rt.alloc(), 60, b"{\"dockerfile\":{\"text\":\"a\"}}") {
-        Ok(bundle) => assert_eq!(rt; bundle.dockerfile.as_str(), "a"),
-        Err(_) => return Err(Fail::from("no bundle")),
-    }
+    let bytes = b"{\"dockerfile\":{\"hex\":\"FF\"},\"target\":\"a\"}";
+    let read: Result<Bundle<Config>, LineFault> = read_bundle(rt.alloc(), &rt, bytes);
+    let Ok(bundle) = read else {
+        return Err(Fail::from("no bundle"));
+    };
+    assert_eq!(rt; bundle.dockerfile.as_slice(), [255].as_slice());
+    let target = bundle.target.ok_or("no target")?;
+    assert_eq!(rt; target.as_str(), "a");
     Ok(())
 }
 
@@ -39,5 +45,11 @@ fn answers_are_compact_text(rt: HostRuntime) -> Result<(), Fail> {
     let failed = failed_answer(alloc, 1048576, Cause::Exit(255))?;
     let wanted = r#"{"cause":"exit 255","line":1048576,"result":"failed"}"#;
     assert_eq!(rt; failed.as_str(), wanted);
+    let refusal = Refusal {
+        code: Code::R05,
+        line: 1,
+    };
+    let refused = refused_answer(alloc, refusal)?;
+    assert_eq!(rt; refused.as_str(), r#"{"code":"R05","line":1,"result":"refused"}"#);
     Ok(())
 }

@@ -1,4 +1,4 @@
-use build::{BuildFault, Status, plan_of, run_build};
+use build::{BuildFault, Status, ask, plan_of, run_build};
 use counted::Counted;
 use executor::Fixture;
 use plain::Fault;
@@ -8,6 +8,12 @@ use std::io::{Cursor, Read, Write};
 use std::test::Fail;
 
 const FIRST: &str = r#"{"dockerfile":{"text":"FROM scratch\nRUN put /a hi\n"}}"#;
+
+/// The third stage isn't needed.
+const UNNEEDED: &str = r#"{"dockerfile":{"text":"FROM scratch AS one\nRUN put /a 1\nFROM scratch AS two\nCOPY --from=one /a /b\nFROM two AS three\nRUN fail 1"},"target":"two"}"#;
+
+/// Two stages run the same command on the same tree.
+const EQUAL: &str = r#"{"dockerfile":{"text":"FROM scratch AS a\nRUN put /n 1\nFROM scratch\nRUN put /n 1\nCOPY --from=a /n /m"}}"#;
 
 const ANSWER: &str =
     r#"{"config":{"architecture":"amd64","config":{},"os":"linux","rootfs":{"diff_ids":[],"type":"layers"}},"result":"built","tree":[{"dir":true,"gid":0,"mode":"0755","path":"/","uid":0},{"gid":0,"hex":"6869","mode":"0644","path":"/a","uid":0}]}
@@ -68,7 +74,7 @@ impl Write for FailsOnce {
 fn first_run_prints_hi(rt: HostRuntime) -> Result<(), Fail> {
     let mut input = Counted::new(Cursor::new(FIRST.as_bytes()));
     let mut output = Counted::new(Vec::with_capacity(rt.alloc(), 4096)?);
-    let result = run_build(rt.alloc(), &mut input, &mut output, &Fixture);
+    let result = run_build(rt.alloc(), &rt, &mut input, &mut output, &Fixture);
     assert_eq!(rt; result, Ok(Status::Built));
     assert_eq!(rt; output.into_inner().as_slice(), ANSWER.as_bytes());
     Ok(())
@@ -82,7 +88,7 @@ fn failed_write_is_not_retried(rt: HostRuntime) {
         first: 5,
         has_failed: false,
     });
-    let result = run_build(rt.alloc(), &mut input, &mut output, &Fixture);
+    let result = run_build(rt.alloc(), &rt, &mut input, &mut output, &Fixture);
     assert_eq!(rt; result, Err(BuildFault::Device));
     assert_eq!(rt; output.failures(), 1);
     assert_eq!(rt; output.into_inner().taken.as_slice(), b"{\"con".as_slice());
@@ -92,7 +98,7 @@ fn failed_write_is_not_retried(rt: HostRuntime) {
 fn failed_read_writes_nothing(rt: HostRuntime) -> Result<(), Fail> {
     let mut input = Counted::new(Broken);
     let mut output = Counted::new(Vec::with_capacity(rt.alloc(), 4096)?);
-    let result = run_build(rt.alloc(), &mut input, &mut output, &Fixture);
+    let result = run_build(rt.alloc(), &rt, &mut input, &mut output, &Fixture);
     assert_eq!(rt; result, Err(BuildFault::Device));
     assert_eq!(rt; input.failures(), 1);
     assert!(rt; output.into_inner().is_empty());
@@ -103,18 +109,36 @@ fn failed_read_writes_nothing(rt: HostRuntime) -> Result<(), Fail> {
 fn no_more_is_read_than_one_byte_past_the_limit(rt: HostRuntime) -> Result<(), Fail> {
     let mut input = Counted::new(Blanks { taken: 0 });
     let mut output = Counted::new(Vec::with_capacity(rt.alloc(), 4096)?);
-    let result = run_build(rt.alloc(), &mut input, &mut output, &Fixture);
-    assert_eq!(rt; result, Err(BuildFault::NotYet));
+    let result = run_build(rt.alloc(), &rt, &mut input, &mut output, &Fixture);
+    assert_eq!(rt; result, Ok(Status::Refused));
     assert_eq!(rt; input.into_inner().taken, 67_108_865);
-    assert!(rt; output.into_inner().is_empty());
     Ok(())
+}
+
+/// How many vertices the plan of a bundle has.
+fn plan_size(rt: &HostRuntime, bundle: &str) -> Result<usize, Fail> {
+    let Ok(asked) = ask(rt.alloc(), rt, bundle.as_bytes()) else {
+        return Err(Fail::from("the bundle is refused"));
+    };
+    let plan = plan_of(rt.alloc(), asked.evaluated)?;
+    Ok(plan.graph().len())
 }
 
 #[test]
 fn plan_has_two_vertices(rt: HostRuntime) -> Result<(), Fail> {
-    let plan = plan_of(rt.alloc(), "put /a hi")?;
-    assert_eq!(rt; plan.graph().len(), 2);
-    assert_eq!(rt; plan.target().number(), 1);
+    assert_eq!(rt; plan_size(&rt, FIRST)?, 2);
+    Ok(())
+}
+
+#[test]
+fn unneeded_stage_is_pruned(rt: HostRuntime) -> Result<(), Fail> {
+    assert_eq!(rt; plan_size(&rt, UNNEEDED)?, 3);
+    Ok(())
+}
+
+#[test]
+fn equal_runs_are_one_vertex(rt: HostRuntime) -> Result<(), Fail> {
+    assert_eq!(rt; plan_size(&rt, EQUAL)?, 3);
     Ok(())
 }
 
@@ -134,6 +158,7 @@ fn words_that_are_none_end_the_program(rt: HostRuntime) -> Result<(), Fail> {
         let words = Err(fault);
         let code = run_program(
             rt.alloc(),
+            &rt,
             words,
             &mut input,
             &mut output,

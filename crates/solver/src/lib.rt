@@ -26,4 +26,4 @@ mod sweep;
 pub use answer::Answer;
 pub use running::run;
 pub use solution::Solution;
-pub use sweep::{finish, solve_here};
+pub use sweep::{finish, solve_here, solve_problem};

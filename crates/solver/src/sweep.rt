@@ -37,6 +37,21 @@ pub fn solve_here<C: Exact, E: Executor>(
     ensures answer { IfOk result (IsAnswer (E.out executor.now) plan.now) }
     ensures idle { caches.new.holds ≡ [] }
 {
+    let solution = solve_problem(alloc, plan, executor, caches)?;
+    answer_of(alloc, plan, solution)
+}
+
+/// The same without the configuration, which the plan still has: nothing of it is copied.
+pub fn solve_problem<C, E: Executor>(
+    alloc: Global,
+    plan: &Plan<C>,
+    executor: &E,
+    caches: &mut CacheStore,
+) -> Result<Solution, Memory>
+    requires { caches.old.holds ≡ [] }
+    ensures solution { IfOk result (IsSolution (problem_of (E.out executor.now) plan.now)) }
+    ensures idle { caches.new.holds ≡ [] }
+{
     let lent = mem::replace(caches, CacheStore::new(alloc));
     let mut board = match Board::new(alloc, Job::new(plan, executor), lent) {
         Ok(board) => board,
@@ -48,7 +63,7 @@ pub fn solve_here<C: Exact, E: Executor>(
     };
     let solution = finish(alloc, &mut board);
     *caches = board.into_caches();
-    answer_of(alloc, plan, solution?)
+    solution
 }
 
 /// A solution of a plan's problem, with the plan's configuration.

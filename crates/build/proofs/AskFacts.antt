@@ -1,0 +1,59 @@
+-- What each phase of reading a bundle tells is what the bundle asks for.
+use Rattle.std.proofs.Common.{◌≡◌, inl, inr, ℕ, List, Result, Ok, Err, refl, sym, subst}
+use Rattle.std.specs.FinMap.{get}
+use Rattle.plain.specs.declared.fault.Fault.{Fault}
+use Rattle.plain.specs.declared.fault.Fault.TheVariants.{Because, Memory}
+use Rattle.plain.specs.declared.refusal.Refusal.{Refusal}
+use Rattle.instructions.specs.declared.instruction.Instruction.{Instruction}
+use Rattle.dockerfile.specs.Dockerfile.{IsRead}
+use Rattle.stages.specs.Naming.{names_in}
+use Rattle.stages.specs.Resolved.{resolved, Answers as Resolves}
+use Rattle.stages.specs.Table.{TableValue}
+use Rattle.evaluation.specs.Evaluated.{Answers as Evaluates}
+use Rattle.imageconfig.specs.Reading.{config_in}
+use Rattle.imageconfig.specs.declared.config.Config.{Config}
+use Rattle.bundle.specs.declared.whole.Bundle.{Bundle}
+use Rattle.bundle.specs.Reading.{ReadsBundle}
+use Rattle.build.specs.declared.asking.Asked.{Asked}
+use Rattle.build.specs.PrivateAsking.{IsFileAsked, IsTableAsked}
+use Rattle.build.specs.Telling.{IsAsked}
+
+-- the bytes are no bundle, or its ignore file is bad
+pub bundle_refused : (bytes : List ℕ) (fault : Fault Refusal) → ReadsBundle config_in bytes (Err fault) → IsAsked bytes (Err fault)
+bundle_refused bytes (Because refusal) told = inl (refusal, told, refl)
+bundle_refused bytes Memory told = tt
+
+-- they are a bundle
+pub bundle_asked : (bytes : List ℕ) (bundle : Bundle Config) (result : Result Asked (Fault Refusal)) → ReadsBundle config_in bytes (Ok bundle)
+    → IsFileAsked bundle result → IsAsked bytes result
+bundle_asked bytes bundle (Ok asked) read asks = inr (bundle, read, asks)
+bundle_asked bytes bundle (Err (Because refusal)) read asks = inr (bundle, read, asks)
+bundle_asked bytes bundle (Err Memory) read asks = tt
+
+-- the Dockerfile's text is refused, or a line of it
+pub text_refused : (bundle : Bundle Config) (fault : Fault Refusal) → IsRead bundle.dockerfile (Err fault) → IsFileAsked bundle (Err fault)
+text_refused bundle (Because refusal) told = inl (refusal, told, refl)
+text_refused bundle Memory told = tt
+
+-- it has instructions
+pub text_asked : (bundle : Bundle Config) (is : List Instruction) (result : Result Asked (Fault Refusal)) → IsRead bundle.dockerfile (Ok is)
+    → IsTableAsked bundle (resolved (names_in bundle.images) (get bundle.args) bundle.target is) result → IsFileAsked bundle result
+text_asked bundle is (Ok asked) read asks = inr (is, read, asks)
+text_asked bundle is (Err (Because refusal)) read asks = inr (is, read, asks)
+text_asked bundle is (Err Memory) read asks = tt
+
+-- its stages are refused
+pub stages_refused : (bundle : Bundle Config) (made : Result TableValue Refusal) (fault : Fault Refusal) → Resolves made (Err fault) → IsTableAsked bundle made (Err fault)
+stages_refused bundle made (Because refusal) told = subst (λ t. IsTableAsked bundle t (Err (Because refusal))) (sym told) refl
+stages_refused bundle made Memory told = tt
+
+-- it has a table of stages
+pub stages_asked : (bundle : Bundle Config) (made : Result TableValue Refusal) (table : TableValue) (result : Result Asked (Fault Refusal)) → Resolves made (Ok table)
+    → IsTableAsked bundle (Ok table) result → IsTableAsked bundle made result
+stages_asked bundle made table result told asks = subst (λ t. IsTableAsked bundle t result) (sym told) asks
+
+-- the stages that are needed are refused
+pub evaluation_refused : (bundle : Bundle Config) (table : TableValue) (fault : Fault Refusal)
+    → Evaluates (get bundle.args) bundle.images bundle.context table (Err fault) → IsTableAsked bundle (Ok table) (Err fault)
+evaluation_refused bundle table (Because refusal) told = told
+evaluation_refused bundle table Memory told = tt

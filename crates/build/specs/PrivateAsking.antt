@@ -1,0 +1,22 @@
+-- What the calls answer by which a bundle is asked, step by step: what is asked for, or the refusal; want of memory says nothing.
+use Rattle.std.specs.Prelude.{◌≡◌, List, Result, Ok, Err}
+use Rattle.plain.specs.declared.fault.Fault.{Fault}
+use Rattle.plain.specs.declared.fault.Fault.TheVariants.{Because, Memory}
+use Rattle.plain.specs.declared.refusal.Refusal.{Refusal}
+use Rattle.stages.specs.Table.{TableValue}
+use Rattle.imageconfig.specs.declared.config.Config.{Config}
+use Rattle.bundle.specs.declared.whole.Bundle.{Bundle}
+use Rattle.build.specs.declared.asking.Asked.{Asked}
+use Rattle.build.specs.Meaning.{TableAsks, FileAsks}
+
+-- a bundle is asked
+abbrev pub IsFileAsked : Bundle Config → Result Asked (Fault Refusal) → Type 0
+IsFileAsked bundle (Ok asked) = FileAsks bundle (Ok asked.evaluated)
+IsFileAsked bundle (Err (Because refusal)) = FileAsks bundle (Err refusal)
+IsFileAsked bundle (Err Memory) = Unit {0}
+
+-- the stages of its Dockerfile are asked, or their refusal is told
+abbrev pub IsTableAsked : Bundle Config → Result TableValue Refusal → Result Asked (Fault Refusal) → Type 0
+IsTableAsked bundle table (Ok asked) = TableAsks bundle table (Ok asked.evaluated)
+IsTableAsked bundle table (Err (Because refusal)) = TableAsks bundle table (Err refusal)
+IsTableAsked bundle table (Err Memory) = Unit {0}

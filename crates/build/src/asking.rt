@@ -1,0 +1,105 @@
+ghost use Rattle.std.specs.Prelude.{◌≡◌, [], Ok as OkOf, IfOk};
+ghost use Rattle.std.specs.List.{All};
+ghost use Rattle.std.specs.FinMap.{get as arg_value};
+ghost use Rattle.stages.specs.Naming.{names_in};
+ghost use Rattle.stages.specs.Resolved.{resolved};
+ghost use Rattle.stages.specs.Table.{NamesKnown};
+ghost use Rattle.build.specs.Lowerable.{IsLowerable};
+ghost use Rattle.build.specs.PrivateAsking.{IsFileAsked, IsTableAsked};
+ghost use Rattle.build.specs.Telling.{IsAsked};
+
+use bundle::{Bundle, read_bundle};
+use cachemounts::CacheStore;
+use dockerfile::Dockerfile;
+use evaluation::{Evaluated, evaluate};
+use imageconfig::Config;
+use lines::LineFault;
+use stages::StageTable;
+use std::alloc::Global;
+use std::thread::Threads;
+
+/// What a bundle asks for.
+#[derive(Drop)]
+pub struct Asked {
+    /// The needed stages of its Dockerfile, evaluated.
+    pub evaluated: Evaluated,
+    /// What the caches hold before the build.
+    pub caches: CacheStore,
+}
+
+/// What the bytes of a bundle ask for.
+///
+/// A refusal is told exactly where they are refused: the least by phase, line and number, the phases being the bundle (R20), its ignore file
+/// (R19), the Dockerfile's text (R01, R18), its lines (R02, R03, R08, R18), its instructions (R04, R06 to R10, R16 to R18), its stages (R05, R11 to R13,
+/// R18), and the evaluation of those that the target needs (R06, R10, R14 to R18). `Memory` says nothing of them.
+pub fn ask(
+    alloc: Global,
+    rt: &(impl Threads + Sync),
+    bytes: &[u8],
+) -> Result<Asked, LineFault>
+    ensures asked { IsAsked bytes.now result }
+    ensures lowerable { IfOk result (λ asked. IsLowerable asked.evaluated) }
+    ensures caches { IfOk result (λ asked. asked.caches.holds ≡ []) }
+{
+    match read_bundle(alloc, rt, bytes) {
+        Ok(bundle) => ask_file(alloc, bundle),
+        Err(fault) => Err(fault),
+    }
+}
+
+/// What a bundle asks for.
+fn ask_file(alloc: Global, bundle: Bundle<Config>) -> Result<Asked, LineFault>
+    requires { bundle.caches.holds ≡ [] }
+    ensures asked { IsFileAsked bundle result }
+    ensures lowerable { IfOk result (λ asked. IsLowerable asked.evaluated) }
+    ensures caches { IfOk result (λ asked. asked.caches.holds ≡ []) }
+{
+    match Dockerfile::read(alloc, bundle.dockerfile.as_slice()) {
+        Ok(file) => ask_stages(alloc, bundle, file),
+        Err(fault) => Err(fault),
+    }
+}
+
+/// What the stages of a bundle's Dockerfile ask for.
+fn ask_stages(alloc: Global, bundle: Bundle<Config>, file: Dockerfile) -> Result<Asked, LineFault>
+    requires { bundle.caches.holds ≡ [] }
+    ensures asked { IsTableAsked bundle (resolved (names_in bundle.images) (arg_value bundle.args) bundle.target file) result }
+    ensures lowerable { IfOk result (λ asked. IsLowerable asked.evaluated) }
+    ensures caches { IfOk result (λ asked. asked.caches.holds ≡ []) }
+{
+    match StageTable::resolve(
+        alloc,
+        file,
+        &bundle.images,
+        &bundle.args,
+        bundle.target.as_ref(),
+    ) {
+        Ok(table) => ask_table(alloc, bundle, table),
+        Err(fault) => Err(fault),
+    }
+}
+
+/// What the stages in a table ask for.
+fn ask_table(
+    alloc: Global,
+    bundle: Bundle<Config>,
+    table: StageTable,
+) -> Result<Asked, LineFault>
+    requires idle { bundle.caches.holds ≡ [] }
+    requires known { All (NamesKnown (names_in bundle.images)) table.stages }
+    ensures asked { IsTableAsked bundle (OkOf table) result }
+    ensures lowerable { IfOk result (λ asked. IsLowerable asked.evaluated) }
+    ensures caches { IfOk result (λ asked. asked.caches.holds ≡ []) }
+{
+    let Bundle {
+        images,
+        context,
+        args,
+        caches,
+        ..
+    } = bundle;
+    match evaluate(alloc, table, images, context, &args) {
+        Ok(evaluated) => Ok(Asked { evaluated, caches }),
+        Err(fault) => Err(fault),
+    }
+}
