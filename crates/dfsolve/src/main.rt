@@ -11,12 +11,13 @@ use plain::Fault;
 use program::{NotText, WordsFault, run_program};
 use std::alloc::AllocError;
 use std::process::ExitCode;
+use std::thread::Threads;
 use std::{env, io};
 
 fn main(rt: HostRuntime) -> ExitCode {
     let code = match own_words(&rt) {
-        Ok(words) => run_words(&rt, words.as_slice()),
-        Err(fault) => run(&rt, Err(fault)),
+        Ok(words) => run_words(&rt, &rt, words.as_slice()),
+        Err(fault) => run(&rt, &rt, Err(fault)),
     };
     ExitCode::from(code)
 }
@@ -45,25 +46,29 @@ fn fault_of(error: &io::Error) -> WordsFault {
 }
 
 /// Runs the program on these words.
-fn run_words(rt: &HostRuntime, words: &[String]) -> u8 {
+fn run_words(rt: &HostRuntime, threads: &(impl Threads + Sync), words: &[String]) -> u8 {
     let lent: Result<Vec<&str>, AllocError> = words
         .iter()
         .map(|word| word.as_str())
         .collect(rt.alloc());
     match lent {
-        Ok(lent) => run(rt, Ok(lent.as_slice())),
-        Err(_) => run(rt, Err(Fault::Memory)),
+        Ok(lent) => run(rt, threads, Ok(lent.as_slice())),
+        Err(_) => run(rt, threads, Err(Fault::Memory)),
     }
 }
 
 /// Runs the program on the system's streams.
-fn run<'a>(rt: &HostRuntime, words: Result<&'a [&'a str], WordsFault>) -> u8 {
+fn run<'a>(
+    rt: &HostRuntime,
+    threads: &(impl Threads + Sync),
+    words: Result<&'a [&'a str], WordsFault>,
+) -> u8 {
     let mut input = Counted::new(rt.stdin());
     let mut output = Counted::new(rt.stdout());
     let mut errors = Counted::new(rt.stderr());
     run_program(
         rt.alloc(),
-        rt,
+        threads,
         words,
         &mut input,
         &mut output,

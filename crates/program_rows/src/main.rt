@@ -13,6 +13,7 @@ use program::run_program;
 use std::alloc::Global;
 use std::io;
 use std::io::Cursor;
+use std::thread::Threads;
 
 /// How much room an answer has: a writer in memory that has to grow could be refused.
 const ROOM: usize = 16384;
@@ -33,7 +34,7 @@ fn main(rt: HostRuntime) -> io::Result<()> {
             .split_once(" | ")
             .unwrap_or((case.as_str(), ""));
         println!(rt; "{name}")?;
-        match run_case(&rt, run) {
+        match run_case(rt.alloc(), &rt, run) {
             Ok(ended) => {
                 println!(rt; "    {}", ended.status)?;
                 println!(rt; "    out {}", ended.output)?;
@@ -46,8 +47,11 @@ fn main(rt: HostRuntime) -> io::Result<()> {
 }
 
 /// Runs the program on what stands behind a case's name.
-fn run_case(rt: &HostRuntime, run: &str) -> Result<Ended, Memory> {
-    let alloc = rt.alloc();
+fn run_case(
+    alloc: Global,
+    rt: &(impl Threads + Sync),
+    run: &str,
+) -> Result<Ended, Memory> {
     let (line, bundle) = run.split_once(" | ").unwrap_or((run, ""));
     let words: Vec<&str> = line.split(' ').collect(alloc)?;
     let mut input = Counted::new(Cursor::new(bundle.as_bytes()));
