@@ -44,7 +44,7 @@ abbrev pub FileAsks : Bundle Config → Result Evaluated Refusal → Type 0
 FileAsks bundle asked =
     ((refusal : Refusal) × IsRefused bundle.dockerfile refusal × (asked ≡ Err refusal))
     ⊎ ((is : List Instruction) × AreInstructions bundle.dockerfile is
-        × TableAsks bundle (resolved (names_in bundle.images) (get bundle.args) bundle.target is) asked)
+    × TableAsks bundle (resolved (names_in bundle.images) (get bundle.args) bundle.target is) asked)
 
 -- What the bytes of a bundle ask for: the rows of a Dockerfile's stages, of which those that the target doesn't need are left out, with the
 -- target, its configuration, and the trees that are there before the build. Or why they are refused: the least fault by phase, line and

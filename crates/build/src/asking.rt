@@ -32,11 +32,7 @@ pub struct Asked {
 /// A refusal is told exactly where they are refused: the least by phase, line and number, the phases being the bundle (R20), its ignore file
 /// (R19), the Dockerfile's text (R01, R18), its lines (R02, R03, R08, R18), its instructions (R04, R06 to R10, R16 to R18), its stages (R05, R11 to R13,
 /// R18), and the evaluation of those that the target needs (R06, R10, R14 to R18). `Memory` says nothing of them.
-pub fn ask(
-    alloc: Global,
-    rt: &(impl Threads + Sync),
-    bytes: &[u8],
-) -> Result<Asked, LineFault>
+pub fn ask(alloc: Global, rt: &(impl Threads + Sync), bytes: &[u8]) -> Result<Asked, LineFault>
     ensures asked { IsAsked bytes.now result }
     ensures lowerable { IfOk result (λ asked. IsLowerable asked.evaluated) }
     ensures caches { IfOk result (λ asked. asked.caches.holds ≡ []) }
@@ -80,11 +76,7 @@ fn ask_stages(alloc: Global, bundle: Bundle<Config>, file: Dockerfile) -> Result
 }
 
 /// What the stages in a table ask for.
-fn ask_table(
-    alloc: Global,
-    bundle: Bundle<Config>,
-    table: StageTable,
-) -> Result<Asked, LineFault>
+fn ask_table(alloc: Global, bundle: Bundle<Config>, table: StageTable) -> Result<Asked, LineFault>
     requires idle { bundle.caches.holds ≡ [] }
     requires known { All (NamesKnown (names_in bundle.images)) table.stages }
     ensures asked { IsTableAsked bundle (OkOf table) result }

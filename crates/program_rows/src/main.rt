@@ -47,11 +47,7 @@ fn main(rt: HostRuntime) -> io::Result<()> {
 }
 
 /// Runs the program on what stands behind a case's name.
-fn run_case(
-    alloc: Global,
-    rt: &(impl Threads + Sync),
-    run: &str,
-) -> Result<Ended, Memory> {
+fn run_case(alloc: Global, rt: &(impl Threads + Sync), run: &str) -> Result<Ended, Memory> {
     let (line, bundle) = run.split_once(" | ").unwrap_or((run, ""));
     let words: Vec<&str> = line.split(' ').collect(alloc)?;
     let mut input = Counted::new(Cursor::new(bundle.as_bytes()));

@@ -50,6 +50,9 @@ fn answers_are_compact_text(rt: HostRuntime) -> Result<(), Fail> {
         line: 1,
     };
     let refused = refused_answer(alloc, refusal)?;
-    assert_eq!(rt; refused.as_str(), r#"{"code":"R05","line":1,"result":"refused"}"#);
+    assert_eq!(rt;
+        refused.as_str(),
+        r#"{"code":"R05","line":1,"result":"refused"}"#
+    );
     Ok(())
 }

@@ -10,10 +10,12 @@ use std::test::Fail;
 const FIRST: &str = r#"{"dockerfile":{"text":"FROM scratch\nRUN put /a hi\n"}}"#;
 
 /// The third stage isn't needed.
-const UNNEEDED: &str = r#"{"dockerfile":{"text":"FROM scratch AS one\nRUN put /a 1\nFROM scratch AS two\nCOPY --from=one /a /b\nFROM two AS three\nRUN fail 1"},"target":"two"}"#;
+const UNNEEDED: &str =
+    r#"{"dockerfile":{"text":"FROM scratch AS one\nRUN put /a 1\nFROM scratch AS two\nCOPY --from=one /a /b\nFROM two AS three\nRUN fail 1"},"target":"two"}"#;
 
 /// Two stages run the same command on the same tree.
-const EQUAL: &str = r#"{"dockerfile":{"text":"FROM scratch AS a\nRUN put /n 1\nFROM scratch\nRUN put /n 1\nCOPY --from=a /n /m"}}"#;
+const EQUAL: &str =
+    r#"{"dockerfile":{"text":"FROM scratch AS a\nRUN put /n 1\nFROM scratch\nRUN put /n 1\nCOPY --from=a /n /m"}}"#;
 
 const ANSWER: &str =
     r#"{"config":{"architecture":"amd64","config":{},"os":"linux","rootfs":{"diff_ids":[],"type":"layers"}},"result":"built","tree":[{"dir":true,"gid":0,"mode":"0755","path":"/","uid":0},{"gid":0,"hex":"6869","mode":"0644","path":"/a","uid":0}]}
