@@ -15,7 +15,6 @@ use Rattle.imageconfig.specs.declared.config.Config.{Config}
 use Rattle.bundle.specs.Parts.{parts_within, parts_of}
 use Rattle.bundle.specs.Reading.{ReadsBundle}
 use Rattle.bundle.specs.declared.parts.Parts.{Parts}
-use Rattle.bundle.specs.declared.whole.Bundle.{Bundle}
 use Rattle.plans.specs.Value.{Out}
 use Rattle.build.specs.declared.status.Status.{Status}
 use Rattle.build.specs.declared.told.Told.{Told}
@@ -23,7 +22,7 @@ use Rattle.build.specs.Faults.{of_edge}
 use Rattle.evaluation.specs.declared.evaluated.Evaluated.{Evaluated}
 use Rattle.build.specs.Meaning.{Asks, Answers}
 use Rattle.build.specs.Telling.{TellsBundle}
-use Rattle.build.specs.Ends.{Devices, IsBundle, IsUnwritten, HasAnswered, Ends}
+use Rattle.build.specs.Ends.{Devices, IsBundle, HasAnswered, Ends}
 
 -- what bytes hold
 abbrev held : List ℕ → Option (Parts Config)

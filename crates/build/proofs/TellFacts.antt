@@ -1,5 +1,5 @@
 -- The line that is told of a bundle tells what it asks for.
-use Rattle.std.proofs.Common.{◌≡◌, ℕ, List, Result, Ok, Err, IfOk, refl, sym, subst}
+use Rattle.std.proofs.Common.{◌≡◌, ℕ, List, Result, Ok, Err, IfOk, sym, subst}
 use Rattle.plain.specs.declared.refusal.Refusal.{Refusal}
 use Rattle.plans.specs.Value.{Out}
 use Rattle.evaluation.specs.declared.evaluated.Evaluated.{Evaluated}

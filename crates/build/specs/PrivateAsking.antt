@@ -1,5 +1,5 @@
 -- What the calls answer by which a bundle is asked, step by step: what is asked for, or the refusal; want of memory says nothing.
-use Rattle.std.specs.Prelude.{◌≡◌, List, Result, Ok, Err}
+use Rattle.std.specs.Prelude.{Result, Ok, Err}
 use Rattle.plain.specs.declared.fault.Fault.{Fault}
 use Rattle.plain.specs.declared.fault.Fault.TheVariants.{Because, Memory}
 use Rattle.plain.specs.declared.refusal.Refusal.{Refusal}

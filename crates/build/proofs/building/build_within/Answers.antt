@@ -1,4 +1,4 @@
-use Rattle.std.proofs.Common.{◌≡◌, ◌+◌, refl, sym, ap, ◌∙◌, subst}
+use Rattle.std.proofs.Common.{◌≡◌, ◌+◌, sym, ap, ◌∙◌, subst}
 use Rattle.build.specs.Faults.{of_edge}
 use Rattle.build.specs.Ends.{Devices, devices, Ends}
 use Rattle.build.proofs.BuildingFacts.{read_of, loses_at_most, has_answered, has_begun, err_and}

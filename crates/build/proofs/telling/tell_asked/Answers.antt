@@ -1,5 +1,5 @@
-use Rattle.std.proofs.Common.{Ok, ◌≡◌, ap, subst, IfOk}
-use Rattle.build.specs.Meaning.{Tells, line_of}
+use Rattle.std.proofs.Common.{Ok, ◌≡◌, subst, IfOk}
+use Rattle.build.specs.Meaning.{line_of}
 use Rattle.build.specs.Telling.{status_of, text_of}
 use Rattle.build.proofs.TellFacts.{line_tells}
 use Rattle.build.proofs.telling.tell_asked.Goals as goal
