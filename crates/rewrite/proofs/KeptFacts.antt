@@ -19,13 +19,13 @@ use Rattle.rewrite.specs.PrivateKept.{HasName, AreInside, IsFresh, IsKept, IsNam
 use Rattle.rewrite.specs.PrivateMarks.{is_marked, AreReached}
 use Rattle.rewrite.specs.Pruned.{Names, AreNames, IsRenamed}
 
-names_more : (names more : Names) (olds news : List ℕ) → AreNames names olds news → AreNames (names ++ more) olds news
+pub names_more : (names more : Names) (olds news : List ℕ) → AreNames names olds news → AreNames (names ++ more) olds news
 names_more names more [] [] are = are
 names_more names more [] (n ∷ ns) are = are
 names_more names more (o ∷ os) [] are = are
 names_more names more (o ∷ os) (n ∷ ns) are = (slice_get-kept names more (Some n) o are.0, names_more names more os ns are.1)
 
-renamed_more : (names more : Names) (old new : Vertex) → IsRenamed names old new → IsRenamed (names ++ more) old new
+pub renamed_more : (names more : Names) (old new : Vertex) → IsRenamed names old new → IsRenamed (names ++ more) old new
 renamed_more names more old new is = record { op = is.op; inputs = names_more names more old.inputs new.inputs is.inputs }
 
 pub some_some : (a b : ℕ) → Some (Some a) ≡ Some (Some b) → a ≡ b

@@ -8,9 +8,13 @@ use Rattle.std.proofs.Math.ListN.{length-set}
 use Rattle.std.proofs.lemmas.List.{get_or-set_same, get_or-set_other, get_or_past}
 use Rattle.std.proofs.lemmas.List.Elements.{Contains-push, Contains-push_cases, Contains-append_left, All-contains, All-weaker}
 use Rattle.llb.specs.declared.vertex.Vertex.{Vertex}
-use Rattle.llb.specs.Graph.{AreVertices}
+use Rattle.llb.specs.Graph.{IsAfterInputs}
 use Rattle.llb.specs.Reach.{HasInput, Leads, Reaches}
 use Rattle.rewrite.specs.PrivateMarks.{is_marked, MarksSoFar, AreReached}
+
+-- each vertex stands after its inputs
+abbrev pub AreAfter : List Vertex → Type 0
+AreAfter vertices = (k : ℕ) (vertex : Vertex) → slice_get vertices k ≡ Some vertex → IsAfterInputs k vertex
 
 one_kept : (marks : List Bool) (id k : ℕ) → is_marked marks k ≡ true → is_marked (slice_set marks id true) k ≡ true
 one_kept marks id k is = elim (cases_eq k id) [
@@ -79,14 +83,14 @@ marked_first vertices target none marks at long unmarked lt is from = record {
   ];
 }
 
-input_below : (vertices : List Vertex) (vertex input : ℕ) → AreVertices vertices → HasInput vertices vertex input → input < vertex
-input_below vertices vertex input are has = All-contains (λ i. i < vertex) has.v.inputs input (are.after vertex has.v has.there) has.among
+input_below : (vertices : List Vertex) (vertex input : ℕ) → AreAfter vertices → HasInput vertices vertex input → input < vertex
+input_below vertices vertex input are has = All-contains (λ i. i < vertex) has.v.inputs input (are vertex has.v has.there) has.among
 
 same_vertex : (vertices : List Vertex) (vertex : ℕ) (v u : Vertex) → slice_get vertices vertex ≡ Some v → slice_get vertices vertex ≡ Some u → v ≡ u
 same_vertex vertices vertex v u a b = cc
 
 -- a marked vertex's inputs were marked
-pub marked_step : (vertices : List Vertex) (target at next : ℕ) (v : Vertex) (old new : List Bool) (ids : List ℕ) → AreVertices vertices
+pub marked_step : (vertices : List Vertex) (target at next : ℕ) (v : Vertex) (old new : List Bool) (ids : List ℕ) → AreAfter vertices
     → MarkedFrom vertices target at old → 0 < at → next ≡ at - 1 → slice_get vertices next ≡ Some v → is_marked old next ≡ true → ids ≡ v.inputs
     → MarksSoFar old new ids → MarkedFrom vertices target next new
 marked_step vertices target at next v old new ids are from pos is there marked same so_far = record {
@@ -140,6 +144,6 @@ marked_all vertices target at marks from over = record {
   only = from.only;
 }
 
-pub inputs_inside : (vertices : List Vertex) (at n : ℕ) (v : Vertex) → AreVertices vertices → slice_get vertices at ≡ Some v → at ≤ n
+pub inputs_inside : (vertices : List Vertex) (at n : ℕ) (v : Vertex) → AreAfter vertices → slice_get vertices at ≡ Some v → at ≤ n
     → All (λ i. i < n) v.inputs
-inputs_inside vertices at n v are there le = All-weaker (λ i. i < at) (λ i. i < n) (λ i lt. omega (arith, lt, le)) v.inputs (are.after at v there)
+inputs_inside vertices at n v are there le = All-weaker (λ i. i < at) (λ i. i < n) (λ i lt. omega (arith, lt, le)) v.inputs (are at v there)

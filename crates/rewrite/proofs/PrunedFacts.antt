@@ -26,13 +26,13 @@ use Rattle.rewrite.specs.PrivateMarks.{is_marked, AreReached}
 use Rattle.rewrite.specs.Pruned.{Names, AreNames, IsRenamed, IsPruned, KeepsMeaning}
 
 -- what is reached is marked
-reached_marked : (vertices : List Vertex) (target : ℕ) (marks : List Bool) (path : List ℕ) (from to : ℕ) → AreReached vertices target marks
+pub reached_marked : (vertices : List Vertex) (target : ℕ) (marks : List Bool) (path : List ℕ) (from to : ℕ) → AreReached vertices target marks
     → is_marked marks from ≡ true → Leads vertices from path to → is_marked marks to ≡ true
 reached_marked vertices target marks [] from to are marked leads = ap (is_marked marks) (sym leads) ∙ marked
 reached_marked vertices target marks (next ∷ path) from to are marked leads =
     reached_marked vertices target marks path next to are (are.closed from next marked leads.0) leads.1
 
-marked_within : (marks : List Bool) (k : ℕ) → is_marked marks k ≡ true → k < length marks
+pub marked_within : (marks : List Bool) (k : ℕ) → is_marked marks k ≡ true → k < length marks
 marked_within marks k is = elim (cases_lt k (length marks)) [ inl lt ↦ lt | inr past ↦ absurd (true≢false (sym is ∙ get_or_past marks k false past)) ]
 
 -- the vertices that were kept make a pruned plan
@@ -90,7 +90,7 @@ kept_sources plan graph kept target config sources marks names is parts are id u
     let old = old_of graph marks kept names id u are there in
     subst (HasSource sources) (sym old.3.op) (has old.0 old.1 old.2)
 
-names_among : (names : Names) (olds news : List ℕ) (old : ℕ) → AreNames names olds news → Contains olds old
+pub names_among : (names : Names) (olds news : List ℕ) (old : ℕ) → AreNames names olds news → Contains olds old
     → (new : ℕ) × (slice_get names old ≡ Some (Some new)) × Contains news new
 names_among names [] [] old are h = absurd (contains_nil old h)
 names_among names [] (n ∷ ns) old are h = absurd are
@@ -100,7 +100,13 @@ names_among names (o ∷ os) (n ∷ ns) old are h = elim (contains_cases o old o
   | inr more ↦ (let rest = names_among names os ns old are.1 more in (rest.0, rest.1, contains_there n rest.0 ns rest.2))
 ]
 
-same_name : (names : Names) (k a b : ℕ) → slice_get names k ≡ Some (Some a) → slice_get names k ≡ Some (Some b) → a ≡ b
+-- the first of inputs on their new numbers
+pub names_first : (names : Names) (olds : List ℕ) (first : ℕ) (rest : List ℕ) → AreNames names olds (first ∷ rest)
+    → (old_first : ℕ) × (old_rest : List ℕ) × (olds ≡ old_first ∷ old_rest) × (slice_get names old_first ≡ Some (Some first))
+names_first names [] first rest are = absurd are
+names_first names (o ∷ os) first rest are = (o, os, refl, are.0)
+
+pub same_name : (names : Names) (k a b : ℕ) → slice_get names k ≡ Some (Some a) → slice_get names k ≡ Some (Some b) → a ≡ b
 same_name names k a b first second = (let f : Some (Some a) ≡ Some (Some b) = sym first ∙ second in cc)
 
 -- a path leads on in the pruned plan
@@ -121,7 +127,7 @@ pruned_needs old new is out id lt =
     leads_on old new is path.0 old.target k.0 new.target id path.1 is.last k.1
 
 -- the trees of inputs on their new numbers
-names_trees : (w : World) (names : Names) (old new : List Vertex) (n : ℕ) (olds news : List ℕ)
+pub names_trees : (w : World) (names : Names) (old new : List Vertex) (n : ℕ) (olds news : List ℕ)
     → ((k id : ℕ) → k < n → slice_get names k ≡ Some (Some id) → value_of w.out w.sources new id ≡ value_of w.out w.sources old k)
     → All (λ k. k < n) olds → AreNames names olds news → map (tree_at w new) news ≡ map (tree_at w old) olds
 names_trees w names old new n [] [] same low are = refl
@@ -131,7 +137,7 @@ names_trees w names old new n (o ∷ os) (i ∷ is) same low are =
     ap₂ (λ (t : Option TreeMap) (ts : Trees). t ∷ ts) (ap tree_of (same o i (All-head (λ k. k < n) o os low) are.0))
     (names_trees w names old new n os is same (All-tail (λ k. k < n) o os low) are.1)
 
-there_is : {X : Type 0} (xs : List X) (k : ℕ) → k < length xs → (x : X) × (slice_get xs k ≡ Some x)
+pub there_is : {X : Type 0} (xs : List X) (k : ℕ) → k < length xs → (x : X) × (slice_get xs k ≡ Some x)
 there_is [] k lt = absurd (omega (arith, lt))
 there_is (x ∷ xs) zero lt = (x, refl)
 there_is (x ∷ xs) (suc k) lt = there_is xs k (omega (arith, lt))

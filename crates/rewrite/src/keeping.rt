@@ -24,7 +24,7 @@ pub(crate) fn find_name(names: &[Option<VertexId>], id: VertexId) -> VertexId
 }
 
 /// The new numbers of these vertices.
-fn rename(
+pub(crate) fn rename(
     alloc: Global,
     names: &[Option<VertexId>],
     inputs: &[VertexId],

@@ -1,16 +1,21 @@
-// Plans made smaller: what their targets don't need goes, and what they mean stays.
+// Plans made smaller: what their targets don't need goes, merges that stand first in merges are put into one, and what the plans mean stays.
 //
 // It knows no file and no line of one: the laws say what a pruned plan of a file means.
 //
 // ```
 // let plan = lower_program(alloc, rows, 1, config, sources)?;   // stages 0 and 1, and 1 doesn't name 0
 // let plan = prune(alloc, plan)?;                               // the vertices of stage 1 alone
+// let plan = flatten_links(alloc, plan)?;                       // its COPY --link one after another as one merge
 // ```
 #![tactic(auto)]
 
+mod joining;
 mod keeping;
 pub mod laws;
+mod links;
 mod marks;
 mod pruning;
+mod spelling;
 
+pub use links::flatten_links;
 pub use pruning::prune;

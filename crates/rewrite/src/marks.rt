@@ -9,7 +9,7 @@ use plain::{Items, Memory};
 use std::alloc::Global;
 
 /// Marks these vertices.
-fn mark(marks: &mut Vec<bool>, ids: &[VertexId])
+pub(crate) fn mark(marks: &mut Vec<bool>, ids: &[VertexId])
     requires { All (λ id. id < vec_len marks.old) ids.now }
     ensures { MarksSoFar marks.old.items marks.new.items ids.now }
 {
@@ -19,7 +19,7 @@ fn mark(marks: &mut Vec<bool>, ids: &[VertexId])
 }
 
 /// Marks for so many vertices, of which none is marked.
-fn clear_marks(alloc: Global, len: usize) -> Result<Vec<bool>, Memory>
+pub(crate) fn clear_marks(alloc: Global, len: usize) -> Result<Vec<bool>, Memory>
     ensures long { IfOk result (λ marks. length marks.items ≡ len) }
     ensures none { IfOk result (λ marks. (k : ℕ) → is_marked marks.items k ≡ false) }
 {

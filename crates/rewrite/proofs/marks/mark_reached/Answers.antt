@@ -18,7 +18,7 @@ mark-requires c =
     let there = slice_get_read c.args.vertices.now _ (c.loop-at.at - 1) c.index-vertices-at.result refl at c.index-vertices-at.is in
     let same = c.as_slice.ensures ∙ ap (λ (v : Vertex). v.inputs) (sym c.index-vertices-at.is) in
     subst (All (λ i. i < vec_len c.loop-at.marks)) (sym same)
-    (inputs_inside c.args.vertices.now (c.loop-at.at - 1) (vec_len c.loop-at.marks) c.index-vertices-at.result c.requires.vertices there
+    (inputs_inside c.args.vertices.now (c.loop-at.at - 1) (vec_len c.loop-at.marks) c.index-vertices-at.result c.requires.vertices.after there
     (omega (arith, c.loop-at.invariant.long, c.loop-at.marks.ok.0)))
 
 pub loop-at-preserved-then-index : goal.loop-at-preserved-then-index
@@ -28,7 +28,7 @@ loop-at-preserved-then-index c =
     let there = slice_get_read c.args.vertices.now _ (c.loop-at.at - 1) c.index-vertices-at.result refl at c.index-vertices-at.is in
     let same = c.as_slice.ensures ∙ ap (λ (v : Vertex). v.inputs) (sym c.index-vertices-at.is) in
     let marked = sym (get_or_read c.loop-at.marks.items _ _ in_marks c.index-in-loop-at.ensures false) ∙ c.if-index.true in
-    marked_step _ _ c.loop-at.at _ c.index-vertices-at.result _ _ _ c.requires.vertices c.loop-at.invariant c.loop-at-test.true refl there marked same
+    marked_step _ _ c.loop-at.at _ c.index-vertices-at.result _ _ _ c.requires.vertices.after c.loop-at.invariant c.loop-at-test.true refl there marked same
     c.mark.ensures
 
 pub loop-at-preserved : goal.loop-at-preserved

@@ -1,0 +1,41 @@
+// Puts the links of a plan into one.
+ghost use Rattle.std.specs.Prelude.{IfOk};
+ghost use Rattle.plans.specs.Plan.{problem_of, NeedsAll};
+ghost use Rattle.plans.specs.Value.{Out};
+ghost use Rattle.rewrite.specs.Flat.{IsFlattened, MergesAreFlat};
+ghost use Rattle.rewrite.specs.Pruned.{KeepsMeaning};
+
+use crate::joining::join_all;
+use crate::keeping::{Kept, find_name};
+use crate::spelling::{list_flat_inputs, mark_flat};
+use plain::Memory;
+use plans::Plan;
+use std::alloc::Global;
+
+/// The plan with its links put into one: a merge that is the first input of a merge is replaced by its inputs, and no other merge is. So a
+/// stage with several `COPY --link` one after another is one merge of its base and of what each of them copied.
+///
+/// What the target doesn't reach goes, also a merge that was replaced wherever it stood. Vertices that become equal are one, with the lines
+/// of all of them. The target has the value that it had, and of the vertices that fail those are left, with their lines and causes, that
+/// the target reaches; the configuration and the sources stay. Every plan may be flattened. It takes as many steps as the two plans have
+/// vertices, inputs and lines. After `Memory` the plan is gone.
+pub fn flatten_links<C: Drop>(alloc: Global, plan: Plan<C>) -> Result<Plan<C>, Memory>
+    ensures flattened { IfOk result (IsFlattened plan) }
+    ensures flat { IfOk result (λ flat. MergesAreFlat flat.graph.vertices) }
+    ensures keeps { IfOk result (KeepsMeaning plan) }
+    ensures needed { IfOk result (λ flat. (out : Out) → NeedsAll (problem_of out flat)) }
+{
+    let (graph, target, config, sources) = plan.into_parts();
+    let marks = mark_flat(alloc, graph.vertices(), target)?;
+    let inputs = list_flat_inputs(alloc, graph.vertices(), marks.as_slice())?;
+    let Kept { graph: flat, names } = join_all(
+        alloc,
+        graph,
+        target,
+        marks.as_slice(),
+        inputs.as_slice(),
+    )?;
+    let _known = flat.vertices();
+    let target = find_name(names.as_slice(), target);
+    Ok(Plan::new(flat, target, config, sources))
+}
