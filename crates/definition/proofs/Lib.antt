@@ -1,8 +1,10 @@
 mod AddressFacts
 mod ClashLaws
+mod FormFacts
 mod KeyFacts
 mod OneReadingLaws
 mod PlaceFacts
 mod ReadingFacts
+mod RoundTrip
 mod ShapeFacts
 mod TextFacts

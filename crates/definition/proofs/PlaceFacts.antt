@@ -93,7 +93,7 @@ none_once = record { at = λ place address e. absurd (nowhere place address e) }
     nowhere zero address e = none_some address e
     nowhere (suc n) address e = none_some address e
 
-no_clash : (o : Option ℕ) (n : ℕ) (rest : Option ℕ) → cond (is_some o) (Some n) rest ≡ None → (o ≡ None) × (rest ≡ None)
+pub no_clash : (o : Option ℕ) (n : ℕ) (rest : Option ℕ) → cond (is_some o) (Some n) rest ≡ None → (o ≡ None) × (rest ≡ None)
 no_clash None n rest e = (refl, e)
 no_clash (Some k) n rest e = absurd (true≢false (ap is_some e))
 

@@ -11,8 +11,8 @@ use Rattle.plain.specs.declared.fault.Fault.TheVariants.{Because, Memory}
 use Rattle.plain.specs.Limits.{most_vertices}
 use Rattle.definition.specs.declared.fault.Defect.{Defect}
 use Rattle.definition.specs.declared.fault.Defect.TheVariants.{Malformed, Unknown, Repeated, Clash}
-use Rattle.definition.specs.declared.spelled.Spelled.{Spelled}
-use Rattle.definition.specs.Texts.{op_data}
+use Rattle.operations.specs.declared.spelled.Spelled.{Spelled}
+use Rattle.operations.specs.Texts.{op_data}
 use Rattle.definition.specs.Address.{address_of, addresses_at, addresses_of, vertex_address, place_of}
 use Rattle.definition.specs.PrivateAddresses.{AreOnce}
 use Rattle.definition.proofs.AddressFacts.{address_of-is, length-addresses_after, addresses_after-append}

@@ -7,7 +7,7 @@ use Rattle.serde_json.specs.Written.{compact_text}
 use Rattle.sha2.specs.Sha256.{sha256}
 use Rattle.hex.specs.Hex.{encode_lower}
 use Rattle.llb.specs.declared.vertex.Vertex.{Vertex}
-use Rattle.definition.specs.Texts.{op_data}
+use Rattle.operations.specs.Texts.{op_data}
 
 -- the address of an operation, by its data
 unfoldable pub address_of : Data → List ℕ

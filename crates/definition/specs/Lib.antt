@@ -2,5 +2,3 @@ pub mod Address
 pub mod Definition
 pub mod PrivateAddresses
 pub mod Reading
-pub mod Spelled
-pub mod Texts

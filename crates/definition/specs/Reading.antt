@@ -1,5 +1,5 @@
 -- what reading a definition tells: the graph and its result, or the first fault in the order of the operations (own).
-use Rattle.std.specs.Prelude.{◌≡◌, ℕ, ◌⊎◌, Bool, true, false, Option, Some, None, Result, Ok, Err, List, [], ◌∷◌, ◌++◌, codes, bytes_eq, length, slice_get, is_some, if◌then◌else◌, nat_le, ◌==◌}
+use Rattle.std.specs.Prelude.{map, ◌≡◌, ℕ, ◌⊎◌, Bool, true, false, Option, Some, None, Result, Ok, Err, List, [], ◌∷◌, ◌++◌, codes, bytes_eq, length, slice_get, is_some, if◌then◌else◌, nat_le, ◌==◌}
 use Rattle.std.specs.Option.{option_map, option_and_then}
 use Rattle.serde_json.specs.Data.{Data, Items, no_items, item}
 use Rattle.serde_json.specs.Find.{get, as_str, as_array, as_number, as_u64}
@@ -13,10 +13,10 @@ use Rattle.plain.specs.declared.fault.Fault.TheVariants.{Because, Memory}
 use Rattle.plain.specs.Limits.{most_vertices}
 use Rattle.definition.specs.declared.fault.Defect.{Defect}
 use Rattle.definition.specs.declared.fault.Defect.TheVariants.{Malformed, Unknown, Repeated, Clash}
-use Rattle.definition.specs.declared.spelled.Spelled.{Spelled}
+use Rattle.operations.specs.declared.spelled.Spelled.{Spelled}
 use Rattle.definition.specs.Address.{addresses_of, vertex_address, place_of}
 use Rattle.strict.specs.Strict.{strict, with_first}
-use Rattle.definition.specs.Spelled.{spelled_in, inputs_in}
+use Rattle.operations.specs.Spelled.{spelled_in, inputs_in}
 
 -- the places of some addresses, where each has one
 abbrev pub places_of : List (List ℕ) → List (List ℕ) → Option (List ℕ)
@@ -171,6 +171,10 @@ IsReadAs text (Err (Because (Unknown place))) = IsFault text (Because (Unknown p
 IsReadAs text (Err (Because (Repeated place))) = IsFault text (Because (Repeated place))
 IsReadAs text (Err (Because (Clash place))) = IsFault text (Because (Clash place))
 IsReadAs text (Err Memory) = Unit {0}
+
+-- the graph of some vertices, with no lines behind them
+abbrev pub graph_of : List Vertex → GraphValue
+graph_of vertices = record { vertices = vertices; places = map (λ _. []) vertices }
 
 -- a graph in plain data, for generic code (own)
 abbrev pub graph_code : Coded GraphValue

@@ -8,10 +8,9 @@ ghost use Rattle.definition.specs.Reading.{no_graph, grown, address_place, told_
 
 use crate::address::address_of;
 use crate::addresses::Addresses;
-use crate::operation::op_value;
-use crate::spelled::{Spelled, read_spelled};
 use crate::{DefFault, Defect};
 use llb::{Graph, Vertex, VertexId};
+use operations::{Spelled, op_value, read_spelled};
 use plain::{Exact, Fault, Memory, Text};
 use serde_json::Value;
 use std::alloc::Global;

@@ -1,12 +1,13 @@
 // What is proved of the definitions alone. The functions do nothing: their contracts are laws.
 
-ghost use Rattle.std.specs.Prelude.{◌≡◌, ℕ, List, [], Some, None, Result, slice_get};
+ghost use Rattle.std.specs.Prelude.{◌≡◌, ◌<◌, ℕ, List, [], Some, None, Result, Ok, length, slice_get};
+ghost use Rattle.serde_json.specs.Read.{read};
 ghost use Rattle.plain.specs.declared.fault.Fault.{Fault};
 ghost use Rattle.llb.specs.Graph.{GraphValue, AreVertices};
 ghost use Rattle.llb.specs.declared.vertex.Vertex.{Vertex};
 ghost use Rattle.definition.specs.Address.{addresses_of, vertex_address, clash_after};
-ghost use Rattle.definition.specs.Definition.{AreAlike};
-ghost use Rattle.definition.specs.Reading.{IsReadAs, TellsAnswer};
+ghost use Rattle.definition.specs.Definition.{AreAlike, AreProper, definition_data};
+ghost use Rattle.definition.specs.Reading.{IsReadAs, TellsAnswer, graph_of};
 ghost use Rattle.definition.specs.declared.fault.Defect.{Defect};
 
 /// A clash is told exactly where two different operations have one address: where one is told at a place, the operation there has the
@@ -23,4 +24,11 @@ pub fn clashes_are_of_different_operations()
 pub fn a_text_has_one_reading()
     ensures { (text : List ℕ) (one other : Result (GraphValue × ℕ) (Fault Defect)) → TellsAnswer one → TellsAnswer other
         → IsReadAs text one → IsReadAs text other → one ≡ other }
+{}
+
+/// What was written reads back: every text that spells the definition of a graph's vertices and of their result is read as these. With the law
+/// that a text has one reading it is read as nothing else.
+pub fn what_was_written_reads_back()
+    ensures { (text : List ℕ) (vertices : List Vertex) (wanted : ℕ) → AreVertices vertices → AreProper vertices → wanted < length vertices
+        → clash_after [] vertices ≡ None → read text ≡ Some (definition_data vertices wanted) → IsReadAs text (Ok (graph_of vertices, wanted)) }
 {}

@@ -3,8 +3,8 @@
 // Each operation names its inputs by their addresses, and an address is the SHA-256 of an operation's own text. So a text says the same of a
 // graph wherever it stands. Nothing here knows trees, files or runs.
 //
-// The central definitions are `op_data` in specs/Texts.antt, the text of an operation, `IsWritten` in specs/Definition.antt and `IsReadAs` in
-// specs/Reading.antt, what a text is read as, by cases on what was answered.
+// The central definitions are `IsWritten` in specs/Definition.antt and `IsReadAs` in specs/Reading.antt, what a text is read as, by cases on
+// what was answered. One operation's text is the matter of `operations`.
 //
 // ```
 // let text = write(alloc, &plan)?;             // {"ops":[{"inputs":[],"op":"source","source":"scratch"},..],"version":1}
@@ -17,10 +17,7 @@ mod addresses;
 mod fault;
 mod known;
 pub mod laws;
-mod lists;
-mod operation;
 mod reading;
-mod spelled;
 mod writing;
 
 pub use fault::{DefFault, Defect};

@@ -8,9 +8,9 @@ ghost use Rattle.definition.specs.Reading.{IsReadAs, IsAllRead, IsEnd, parted, p
 ghost use Rattle.strict.specs.Gives.{Gives};
 
 use crate::known::Known;
-use crate::spelled::inputs_in;
 use crate::{DefFault, Defect};
 use llb::{Graph, VertexId};
+use operations::inputs_in;
 use plain::limits::MOST_VERTICES;
 use plain::{Exact, Fault, Text};
 use serde_json::Value;

@@ -1,25 +1,30 @@
-ghost use Rattle.std.specs.Prelude.{◌≡◌, ◌<◌, false, IfOk, map, length};
+ghost use Rattle.std.specs.Prelude.{◌≡◌, ◌<◌, false, Ok, IfOk, map, length};
 ghost use Rattle.serde_json.specs.View.{view};
 ghost use Rattle.serde_json.specs.Written.{has_float};
 ghost use Rattle.definition.specs.Address.{vertex_data};
 ghost use Rattle.llb.specs.Graph.{AreVertices};
-ghost use Rattle.definition.specs.Definition.{IsWritten, whole_data};
+ghost use Rattle.operations.specs.Proper.{IsProper};
+ghost use Rattle.definition.specs.Definition.{IsWritten, end_data, whole_data};
+ghost use Rattle.definition.specs.Reading.{IsReadAs, graph_of};
 
 use crate::address::address_of;
 use crate::addresses::Addresses;
-use crate::operation::{end_value, op_value};
 use crate::{DefFault, Defect};
 use llb::{Vertex, VertexId};
+use operations::op_value;
 use plain::{Fault, Memory, Text};
 use plans::Plan;
-use serde_json::{Value, json};
+use serde_json::{Map, Value, json};
 use std::alloc::Global;
+use strict::{ToJson, put};
 
 /// The definition text of a plan's graph: its operations in their order, and an end that points to the target.
 ///
-/// `Clash` exactly where two different operations have the same address; its place is that of the later one.
+/// `Clash` exactly where two different operations have the same address; its place is that of the later one. What was written reads back:
+/// `read` gives the plan's vertices, with no lines behind them, and its target.
 pub fn write<C>(alloc: Global, plan: &Plan<C>) -> Result<Text, DefFault>
-    ensures { IsWritten plan.now.graph.vertices plan.now.target result }
+    ensures written { IsWritten plan.now.graph.vertices plan.now.target result }
+    ensures back { IfOk result (λ text. IsReadAs text (Ok (graph_of plan.now.graph.vertices, plan.now.target))) }
 {
     write_vertices(alloc, plan.graph().vertices(), plan.target())
 }
@@ -28,7 +33,8 @@ pub fn write<C>(alloc: Global, plan: &Plan<C>) -> Result<Text, DefFault>
 fn write_vertices(alloc: Global, vertices: &[Vertex], wanted: VertexId) -> Result<Text, DefFault>
     requires are { AreVertices vertices.now }
     requires wanted { wanted < length vertices.now }
-    ensures { IsWritten vertices.now wanted result }
+    ensures written { IsWritten vertices.now wanted result }
+    ensures back { IfOk result (λ text. IsReadAs text (Ok (graph_of vertices.now, wanted))) }
 {
     let mut known = Addresses::new(alloc);
     let mut values = Vec::with_capacity(alloc, vertices.len() + 1)?;
@@ -51,10 +57,25 @@ fn write_vertices(alloc: Global, vertices: &[Vertex], wanted: VertexId) -> Resul
 fn vertex_value(alloc: Global, vertex: &Vertex, known: &Addresses) -> Result<Value, Memory>
     ensures data { IfOk result (λ v. view v ≡ vertex_data known.now vertex.now) }
     ensures plain { IfOk result (λ v. has_float (view v) ≡ false) }
+    ensures proper { IfOk result (λ _. IsProper vertex.now.op) }
 {
     let inputs = known.named(alloc, vertex.inputs.as_slice())?;
     let value = op_value(alloc, &vertex.op, inputs.as_slice())?;
     Ok(value)
+}
+
+/// The end of a definition, as JSON.
+#[tactic(auto, unfolding(crate::specs::Definition::end_data))]
+fn end_value(alloc: Global, address: &Text) -> Result<Value, Memory>
+    ensures { IfOk result (λ v. view v ≡ end_data address.now) }
+{
+    let address = address.to_json(alloc)?;
+    let inputs = Value::Array(vec![in alloc; address]?);
+    let kind = Value::String(String::from_str(alloc, "end")?);
+    let mut members = Map::new(alloc);
+    put(alloc, &mut members, "inputs", inputs)?;
+    put(alloc, &mut members, "op", kind)?;
+    Ok(Value::Object(members))
 }
 
 /// A whole definition as JSON, from its operations and its end.

@@ -2,6 +2,7 @@
 // crate is implemented for types of one's own alone.
 
 ghost use Rattle.std.specs.Prelude.{◌≡◌, IfOk};
+ghost use Rattle.std.specs.List.{AllByRecursion};
 ghost use Rattle.std.specs.Option.{option_and_then};
 ghost use Rattle.serde_json.specs.Find.{get};
 ghost use Rattle.serde_json.specs.View.{view, items_view};
@@ -79,14 +80,19 @@ pub(crate) trait Writable {
     // as what a value is written
     ghost written: { Self → Data };
 
+    // what the types of its parts keep
+    ghost proper: { Self → Type 0 };
+
     /// The part as JSON.
     fn write(&self, alloc: Global) -> Result<Value, Memory>
-        ensures { IfOk result (λ v. view v ≡ written self.now) };
+        ensures data { IfOk result (λ v. view v ≡ written self.now) }
+        ensures proper { IfOk result (λ _. proper self.now) };
 }
 
 /// A list of parts as JSON, in their order.
 pub(crate) fn parts_value<T: Writable>(alloc: Global, parts: &[T]) -> Result<Value, Memory>
-    ensures { IfOk result (λ v. view v ≡ list_data T.written parts.now) }
+    ensures data { IfOk result (λ v. view v ≡ list_data T.written parts.now) }
+    ensures proper { IfOk result (λ _. AllByRecursion T.proper parts.now) }
 {
     let mut values = Vec::with_capacity(alloc, parts.len())?;
     for part in parts {

@@ -1,5 +1,5 @@
 -- An operation as JSON (own, after BuildKit's LLB). The keys of each object stand in the order of their bytes.
-use Rattle.std.specs.Prelude.{ℕ, List, [], ◌∷◌, ◌++◌, Option, Some, None, codes}
+use Rattle.std.specs.Prelude.{ℕ, List, ◌∷◌, ◌++◌, Option, Some, None, codes}
 use Rattle.hex.specs.Hex.{encode_lower}
 use Rattle.serde_json.specs.Data.{Data, null, boolean, number, unsigned, string, object, no_members, member}
 use Rattle.paths.specs.Path.{text_of}
@@ -116,8 +116,3 @@ op_data inputs (ExecOp exec) = exec_data inputs exec
 op_data inputs (CopyOp files) = copy_data inputs files
 op_data inputs (MakeDirsOp path) = mkdir_data inputs path
 op_data inputs MergeOp = merge_data inputs
-
--- the end of a definition, which points to the result
-unfoldable pub end_data : List ℕ → Data
-end_data address = object (member (codes "inputs") (list_data string (address ∷ []))
-    (member (codes "op") (string (codes "end")) no_members))

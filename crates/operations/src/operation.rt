@@ -5,7 +5,10 @@ ghost use Rattle.std.specs.String.{string_bytes};
 ghost use Rattle.serde_json.specs.Data.{string};
 ghost use Rattle.serde_json.specs.View.{view};
 ghost use Rattle.llb.specs.declared.op.FileSource.TheVariants.{Pattern, Data as OwnFile};
-ghost use Rattle.definition.specs.Texts.{variable_data, sharing_text, bind_data, cache_data, number_data, uid_data, gid_data, file_source_data, source_text, source_data, exec_data, copy_data, mkdir_data, merge_data, path_data, op_data, end_data};
+ghost use Rattle.hex.specs.Hex.{IsBytes, encode_lower};
+ghost use Rattle.paths.specs.Path.{IsClean};
+ghost use Rattle.operations.specs.Proper.{IsProperVariable, IsProperBind, IsProperCache, IsProperExec, IsProperFileSource, IsProperOwner, IsProperMode, IsProperCopy, IsProper};
+ghost use Rattle.operations.specs.Texts.{variable_data, sharing_text, bind_data, cache_data, number_data, uid_data, gid_data, file_source_data, source_text, source_data, exec_data, copy_data, mkdir_data, merge_data, path_data, op_data};
 
 use crate::lists::{Writable, parts_value};
 use llb::{Bind, CopyFiles, Exec, FileSource, Op, Source};
@@ -19,8 +22,10 @@ use trees::Content;
 
 /// A path by its text.
 fn path_to_json(alloc: Global, path: &Path) -> Result<Value, Memory>
-    ensures { IfOk result (λ v. view v ≡ path_data path.now) }
+    ensures data { IfOk result (λ v. view v ≡ path_data path.now) }
+    ensures clean { IsClean path.now }
 {
+    let _clean = path.components();
     Ok(Value::String(path.text(alloc)?.into_string()))
 }
 
@@ -34,6 +39,8 @@ fn literal(alloc: Global, text: &str) -> Result<Value, Memory>
 impl Writable for Variable {
     ghost written = { variable_data };
 
+    ghost proper = { IsProperVariable };
+
     fn write(&self, alloc: Global) -> Result<Value, Memory> {
         let mut text = String::from_str(alloc, self.name.as_str())?;
         text.push('=')?;
@@ -44,6 +51,8 @@ impl Writable for Variable {
 
 impl Writable for Bind {
     ghost written = { bind_data };
+
+    ghost proper = { IsProperBind };
 
     fn write(&self, alloc: Global) -> Result<Value, Memory> {
         let source = path_to_json(alloc, &self.source)?;
@@ -58,6 +67,8 @@ impl Writable for Bind {
 
 impl Writable for CacheUse {
     ghost written = { cache_data };
+
+    ghost proper = { IsProperCache };
 
     fn write(&self, alloc: Global) -> Result<Value, Memory> {
         let id = self.id.to_json(alloc)?;
@@ -85,6 +96,8 @@ fn sharing_text(sharing: Sharing) -> &'static str
 impl Writable for FileSource {
     ghost written = { file_source_data };
 
+    ghost proper = { IsProperFileSource };
+
     fn write(&self, alloc: Global) -> Result<Value, Memory> {
         match self {
             FileSource::Pattern(text) => pattern_value(alloc, text),
@@ -103,11 +116,20 @@ fn pattern_value(alloc: Global, text: &Text) -> Result<Value, Memory>
     Ok(Value::Object(members))
 }
 
+/// Bytes in hexadecimal.
+fn bytes_to_json(alloc: Global, bytes: &[u8]) -> Result<Value, Memory>
+    ensures data { IfOk result (λ v. view v ≡ string (encode_lower bytes.now)) }
+    ensures bytes { IsBytes bytes.now }
+{
+    Ok(Value::String(hex::encode(alloc, bytes)?))
+}
+
 /// A file of a copy's own, with its bytes in hexadecimal.
 fn own_file_value(alloc: Global, name: &Name, content: &Content) -> Result<Value, Memory>
-    ensures { IfOk result (λ v. view v ≡ file_source_data (OwnFile name.now content.now)) }
+    ensures data { IfOk result (λ v. view v ≡ file_source_data (OwnFile name.now content.now)) }
+    ensures proper { IfOk result (λ _. IsProperFileSource (OwnFile name.now content.now)) }
 {
-    let bytes = Value::String(hex::encode(alloc, content.as_slice())?);
+    let bytes = bytes_to_json(alloc, content.as_slice())?;
     let name = name.as_text().to_json(alloc)?;
     let mut members = Map::new(alloc);
     put(alloc, &mut members, "data", bytes)?;
@@ -148,7 +170,8 @@ fn source_value(alloc: Global, source: &Source, inputs: &[Text]) -> Result<Value
 /// A command.
 #[tactic(auto, unfolding(crate::specs::Texts::exec_data))]
 fn exec_value(alloc: Global, exec: &Exec, inputs: &[Text]) -> Result<Value, Memory>
-    ensures { IfOk result (λ v. view v ≡ exec_data inputs.now exec.now) }
+    ensures data { IfOk result (λ v. view v ≡ exec_data inputs.now exec.now) }
+    ensures proper { IfOk result (λ _. IsProperExec exec.now) }
 {
     let binds = parts_value(alloc, exec.binds.as_slice())?;
     let caches = parts_value(alloc, exec.caches.as_slice())?;
@@ -172,7 +195,8 @@ fn exec_value(alloc: Global, exec: &Exec, inputs: &[Text]) -> Result<Value, Memo
 
 /// The mode of a copy, if it has one.
 fn mode_value(mode: Option<Mode>) -> Value
-    ensures { view result ≡ number_data mode }
+    ensures data { view result ≡ number_data mode }
+    ensures proper { IsProperMode mode }
 {
     match mode {
         Some(mode) => Value::from(u64::from(mode.bits())),
@@ -182,7 +206,8 @@ fn mode_value(mode: Option<Mode>) -> Value
 
 /// The user of a copy, if it has one.
 fn uid_value(owner: Option<Owner>) -> Value
-    ensures { view result ≡ uid_data owner }
+    ensures data { view result ≡ uid_data owner }
+    ensures proper { IsProperOwner owner }
 {
     match owner {
         Some(owner) => Value::from(u64::from(owner.user)),
@@ -203,7 +228,8 @@ fn gid_value(owner: Option<Owner>) -> Value
 /// A copy of files.
 #[tactic(auto, unfolding(crate::specs::Texts::copy_data))]
 fn copy_value(alloc: Global, files: &CopyFiles, inputs: &[Text]) -> Result<Value, Memory>
-    ensures { IfOk result (λ v. view v ≡ copy_data inputs.now files.now) }
+    ensures data { IfOk result (λ v. view v ≡ copy_data inputs.now files.now) }
+    ensures proper { IfOk result (λ _. IsProperCopy files.now) }
 {
     let action = literal(alloc, "copy")?;
     let dest = path_to_json(alloc, &files.dest)?;
@@ -226,7 +252,8 @@ fn copy_value(alloc: Global, files: &CopyFiles, inputs: &[Text]) -> Result<Value
 /// The making of a directory.
 #[tactic(auto, unfolding(crate::specs::Texts::mkdir_data))]
 fn mkdir_value(alloc: Global, path: &Path, inputs: &[Text]) -> Result<Value, Memory>
-    ensures { IfOk result (λ v. view v ≡ mkdir_data inputs.now path.now) }
+    ensures data { IfOk result (λ v. view v ≡ mkdir_data inputs.now path.now) }
+    ensures clean { IfOk result (λ _. IsClean path.now) }
 {
     let action = literal(alloc, "mkdir")?;
     let inputs = list_to_json(alloc, inputs)?;
@@ -254,8 +281,9 @@ fn merge_value(alloc: Global, inputs: &[Text]) -> Result<Value, Memory>
 }
 
 /// An operation as JSON, its inputs being named by these addresses.
-pub(crate) fn op_value(alloc: Global, op: &Op, inputs: &[Text]) -> Result<Value, Memory>
-    ensures { IfOk result (λ v. view v ≡ op_data inputs.now op.now) }
+pub fn op_value(alloc: Global, op: &Op, inputs: &[Text]) -> Result<Value, Memory>
+    ensures data { IfOk result (λ v. view v ≡ op_data inputs.now op.now) }
+    ensures proper { IfOk result (λ _. IsProper op.now) }
 {
     match op {
         Op::Source(source) => source_value(alloc, source, inputs),
@@ -264,18 +292,4 @@ pub(crate) fn op_value(alloc: Global, op: &Op, inputs: &[Text]) -> Result<Value,
         Op::MakeDirs(path) => mkdir_value(alloc, path, inputs),
         Op::Merge => merge_value(alloc, inputs),
     }
-}
-
-/// The end of a definition, as JSON.
-#[tactic(auto, unfolding(crate::specs::Texts::end_data))]
-pub(crate) fn end_value(alloc: Global, address: &Text) -> Result<Value, Memory>
-    ensures { IfOk result (λ v. view v ≡ end_data address.now) }
-{
-    let address = address.to_json(alloc)?;
-    let inputs = Value::Array(vec![in alloc; address]?);
-    let kind = literal(alloc, "end")?;
-    let mut members = Map::new(alloc);
-    put(alloc, &mut members, "inputs", inputs)?;
-    put(alloc, &mut members, "op", kind)?;
-    Ok(Value::Object(members))
 }

@@ -2,7 +2,7 @@ use Rattle.std.proofs.Common.{◌≡◌, ◌++◌, drop}
 use Rattle.std.specs.Option.{option_map}
 use Rattle.serde_json.specs.View.{items_view}
 use Rattle.strict.specs.Strict.{all_in}
-use Rattle.definition.proofs.lists.read_parts.Given as goal
+use Rattle.operations.proofs.lists.read_parts.Given as goal
 
 -- what is read with what is left is all
 abbrev pub invariant-loop-value : goal.invariant-loop-value

@@ -25,7 +25,7 @@ use Rattle.llb.specs.declared.op.Op.{Op}
 use Rattle.llb.specs.declared.op.Op.TheVariants.{Source as SourceOp, Exec as ExecOp, Copy as CopyOp, MakeDirs as MakeDirsOp, Merge as MergeOp}
 use Rattle.llb.specs.WellFormed.{is_well_formed_on}
 use Rattle.strict.specs.Strict.{strict, list_in, path_in, number_in, short_number_in}
-use Rattle.definition.specs.declared.spelled.Spelled.{Spelled}
+use Rattle.operations.specs.declared.spelled.Spelled.{Spelled}
 
 -- a digit of an address: `0` to `9` are 48 to 57, `a` to `f` are 97 to 102
 abbrev pub is_digit : ℕ → Bool

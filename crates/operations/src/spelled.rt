@@ -7,7 +7,7 @@ ghost use Rattle.serde_json.specs.View.{view};
 ghost use Rattle.serde_json.specs.Find.{get};
 ghost use Rattle.strict.specs.Gives.{Gives};
 ghost use Rattle.strict.specs.Strict.{short_number_in};
-ghost use Rattle.definition.specs.Spelled.{is_digit, is_address, inputs_in, variable_of, sharing_of, source_of, source_in, exec_in, or_null, mode_of, mode_in, owner_of, owner_in, options_in, name_of, content_in, pattern_in, own_file_in, copy_in, mkdir_in, file_op_of, file_op_in, merge_in, op_of, spelled_in};
+ghost use Rattle.operations.specs.Spelled.{is_digit, is_address, inputs_in, variable_of, sharing_of, source_of, source_in, exec_in, or_null, mode_of, mode_in, owner_of, owner_in, options_in, name_of, content_in, pattern_in, own_file_in, copy_in, mkdir_in, file_op_of, file_op_in, merge_in, op_of, spelled_in};
 
 use crate::lists::{Readable, part_at, parts_at};
 use hex::FromHexError;
@@ -22,13 +22,13 @@ use trees::{Content, CopyOptions};
 
 /// An operation, with the addresses of its inputs.
 #[derive(Drop)]
-pub(crate) struct Spelled {
-    pub(crate) op: Op,
-    pub(crate) inputs: Items<Text>,
+pub struct Spelled {
+    pub op: Op,
+    pub inputs: Items<Text>,
 }
 
 impl Readable for Variable {
-    ghost use Rattle.definition.specs.Spelled.{variable_in};
+    ghost use Rattle.operations.specs.Spelled.{variable_in};
 
     ghost reading = { variable_in };
 
@@ -56,7 +56,7 @@ fn read_variable(alloc: Global, text: &str) -> Result<Variable, ReadFault>
 }
 
 impl Readable for Bind {
-    ghost use Rattle.definition.specs.Spelled.{bind_in};
+    ghost use Rattle.operations.specs.Spelled.{bind_in};
 
     ghost reading = { bind_in };
 
@@ -75,7 +75,7 @@ impl Readable for Bind {
 impl Readable for Sharing {
     ghost use Rattle.std.specs.Option.{option_and_then};
     ghost use Rattle.serde_json.specs.Find.{as_str};
-    ghost use Rattle.definition.specs.Spelled.{sharing_of};
+    ghost use Rattle.operations.specs.Spelled.{sharing_of};
 
     ghost reading = { λ d. option_and_then sharing_of (as_str d) };
 
@@ -105,7 +105,7 @@ fn sharing_of(text: &str) -> Option<Sharing>
 }
 
 impl Readable for CacheUse {
-    ghost use Rattle.definition.specs.Spelled.{cache_in};
+    ghost use Rattle.operations.specs.Spelled.{cache_in};
 
     ghost reading = { cache_in };
 
@@ -128,7 +128,7 @@ impl Readable for CacheUse {
 impl Readable for Source {
     ghost use Rattle.std.specs.Option.{option_and_then};
     ghost use Rattle.serde_json.specs.Find.{as_str};
-    ghost use Rattle.definition.specs.Spelled.{source_of};
+    ghost use Rattle.operations.specs.Spelled.{source_of};
 
     ghost reading = { λ d. option_and_then source_of (as_str d) };
 
@@ -295,7 +295,7 @@ fn options_in(alloc: Global, value: &Value) -> Result<CopyOptions, ReadFault>
 }
 
 impl Readable for Name {
-    ghost use Rattle.definition.specs.Spelled.{name_in};
+    ghost use Rattle.operations.specs.Spelled.{name_in};
 
     ghost reading = { name_in };
 
@@ -320,7 +320,7 @@ fn name_of(text: Text) -> Result<Name, ReadFault>
 }
 
 impl Readable for Content {
-    ghost use Rattle.definition.specs.Spelled.{content_in};
+    ghost use Rattle.operations.specs.Spelled.{content_in};
 
     ghost reading = { content_in };
 
@@ -338,7 +338,7 @@ impl Readable for Content {
 }
 
 impl Readable for FileSource {
-    ghost use Rattle.definition.specs.Spelled.{file_source_in};
+    ghost use Rattle.operations.specs.Spelled.{file_source_in};
 
     ghost reading = { file_source_in };
 
@@ -465,7 +465,7 @@ fn op_of(alloc: Global, kind: &str, value: &Value) -> Result<Op, ReadFault>
 
 /// The addresses of an operation's inputs.
 #[tactic(auto, unfolding(crate::specs::Spelled::inputs_in))]
-pub(crate) fn inputs_in(alloc: Global, value: &Value) -> Result<Items<Text>, ReadFault>
+pub fn inputs_in(alloc: Global, value: &Value) -> Result<Items<Text>, ReadFault>
     ensures { Gives result (inputs_in (view value.now)) }
 {
     let inputs = list_at::<Text>(alloc, value, "inputs")?;
@@ -505,7 +505,7 @@ fn is_digit(b: u8) -> bool
 
 /// What a value spells.
 #[tactic(auto, unfolding(crate::specs::Spelled::spelled_in))]
-pub(crate) fn read_spelled(alloc: Global, value: &Value) -> Result<Spelled, ReadFault>
+pub fn read_spelled(alloc: Global, value: &Value) -> Result<Spelled, ReadFault>
     ensures { Gives result (spelled_in (view value.now)) }
 {
     let Some(kind) = value.get("op").and_then(Value::as_str) else {

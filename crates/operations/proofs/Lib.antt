@@ -1,0 +1,4 @@
+pub mod DepthFacts
+pub mod OperationLaws
+mod PartFacts
+pub mod PlainFacts

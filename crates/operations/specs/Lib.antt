@@ -1,0 +1,3 @@
+pub mod Proper
+pub mod Spelled
+pub mod Texts
