@@ -5,6 +5,7 @@
 #include <stddef.h>
 #include <stdio.h>
 #include <stdlib.h>
+#include <sys/syscall.h>
 #include <unistd.h>
 
 void *__libc_malloc(size_t size);
@@ -47,4 +48,10 @@ __attribute__((destructor)) static void tell(void) {
     int length = snprintf(text, sizeof text, "%lu\n", asked);
     if (write(file, text, (size_t)length) != length) unlink(name);
     close(file);
+}
+
+// A program that may start threads ends by `_exit`, which runs no destructor.
+void _exit(int status) {
+    tell();
+    for (;;) syscall(SYS_exit_group, status);
 }
