@@ -8,7 +8,8 @@ use plans::{Images, Sources};
 use std::alloc::Global;
 use trees::Tree;
 
-/// The context, and the trees of the images of these names. Trees of other images are dropped.
+/// The context, and the trees of the images of these names. Trees of other images are dropped. A name without an image doesn't come, since
+/// `stages` refuses it.
 pub(crate) fn sources_of(
     alloc: Global,
     context: Tree,

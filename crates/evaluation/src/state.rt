@@ -65,7 +65,8 @@ fn inherited(alloc: Global, variables: Vec<Variable>) -> Result<Scope, Memory>
     Ok(scope)
 }
 
-/// What a stage from a source begins with.
+/// What a stage from a source begins with. No stage is from the context, and `stages` refuses an image that isn't there: both begin with
+/// nothing here, so that the call is total.
 fn begin_source(alloc: Global, images: &Images<Config>, source: &Source) -> Result<State, Memory>
     ensures { IfOk result (λ state. state ≡ source_state images.now source.now) }
 {
@@ -79,7 +80,8 @@ fn begin_source(alloc: Global, images: &Images<Config>, source: &Source) -> Resu
     }
 }
 
-/// What a stage begins with, behind stages that left these states.
+/// What a stage begins with, behind stages that left these states. A stage that a needed one is from is needed and stands before it, so the
+/// cases without a state don't come.
 pub(crate) fn begin(
     alloc: Global,
     images: &Images<Config>,
@@ -98,7 +100,7 @@ pub(crate) fn begin(
     }
 }
 
-/// Says of an image's environment what its type keeps, if a source is one.
+/// Says for the proof what the type of an image's environment keeps, if a source is an image. It changes nothing, and leaves nothing out.
 fn keep_source_names(images: &Images<Config>, source: &Source)
     ensures { IsProperSource images.now source.now }
 {

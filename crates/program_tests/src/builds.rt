@@ -3,9 +3,11 @@ use counted::Counted;
 use executor::Fixture;
 use plain::Fault;
 use program::{NotText, run_program};
+use std::alloc::Global;
 use std::io;
 use std::io::{Cursor, Read, Write};
 use std::test::Fail;
+use std::thread::Threads;
 
 const FIRST: &str = r#"{"dockerfile":{"text":"FROM scratch\nRUN put /a hi\n"}}"#;
 
@@ -118,29 +120,29 @@ fn no_more_is_read_than_one_byte_past_the_limit(rt: HostRuntime) -> Result<(), F
 }
 
 /// How many vertices the plan of a bundle has.
-fn plan_size(rt: &HostRuntime, bundle: &str) -> Result<usize, Fail> {
-    let Ok(asked) = ask(rt.alloc(), rt, bundle.as_bytes()) else {
+fn plan_size(alloc: Global, rt: &(impl Threads + Sync), bundle: &str) -> Result<usize, Fail> {
+    let Ok(asked) = ask(alloc, rt, bundle.as_bytes()) else {
         return Err(Fail::from("the bundle is refused"));
     };
-    let plan = plan_of(rt.alloc(), asked.evaluated)?;
+    let plan = plan_of(alloc, asked.evaluated)?;
     Ok(plan.graph().len())
 }
 
 #[test]
 fn plan_has_two_vertices(rt: HostRuntime) -> Result<(), Fail> {
-    assert_eq!(rt; plan_size(&rt, FIRST)?, 2);
+    assert_eq!(rt; plan_size(rt.alloc(), &rt, FIRST)?, 2);
     Ok(())
 }
 
 #[test]
 fn unneeded_stage_is_pruned(rt: HostRuntime) -> Result<(), Fail> {
-    assert_eq!(rt; plan_size(&rt, UNNEEDED)?, 3);
+    assert_eq!(rt; plan_size(rt.alloc(), &rt, UNNEEDED)?, 3);
     Ok(())
 }
 
 #[test]
 fn equal_runs_are_one_vertex(rt: HostRuntime) -> Result<(), Fail> {
-    assert_eq!(rt; plan_size(&rt, EQUAL)?, 3);
+    assert_eq!(rt; plan_size(rt.alloc(), &rt, EQUAL)?, 3);
     Ok(())
 }
 
