@@ -1,0 +1,29 @@
+ghost use Rattle.drawing.specs.Drawn.{IsDrawn};
+
+use crate::{Clash, DrawFault};
+use definition::laws::clashes_are_of_different_operations;
+use definition::write;
+use plain::{Fault, Text};
+use plans::Plan;
+use rewrite::{flatten_links, prune};
+use std::alloc::Global;
+
+/// The definition text of a plan's graph, with its links put into one and without what its target doesn't reach.
+///
+/// All operations of what it is read as are reached from the result, no merge among them is the first input of a merge, and under every
+/// executor the result has the value of the plan's target, over the plan's sources. Every plan may be drawn. `Clash` exactly where two
+/// different operations of what would be written have the same address.
+pub fn draw<C: Drop>(alloc: Global, plan: Plan<C>) -> Result<Text, DrawFault>
+    ensures { IsDrawn plan result }
+{
+    let flat = flatten_links(alloc, plan)?;
+    let simple = prune(alloc, flat)?;
+    match write(alloc, &simple) {
+        Ok(text) => Ok(text),
+        Err(Fault::Because(_)) => {
+            clashes_are_of_different_operations();
+            Err(Fault::Because(Clash))
+        }
+        Err(Fault::Memory) => Err(Fault::Memory),
+    }
+}
