@@ -8,9 +8,8 @@ use Rattle.llb.specs.Graph.{AreVertices}
 use Rattle.runs.specs.declared.run.RunOutcome.TheVariants.{Exit as Exited}
 use Rattle.plans.specs.Plan.{PlanValue, IsPlan, problem_of, vertex_value, NeedsAll}
 use Rattle.plans.specs.Value.{Out, value_of}
-use Rattle.rewrite.specs.Flat.{IsFlattened, MergesAreFlat}
-use Rattle.rewrite.specs.Pruned.{IsPruned, KeepsMeaning}
-use Rattle.rewrite.proofs.LawFacts.{kept_on, pruned_flat}
+use Rattle.rewrite.specs.Flat.{MergesAreFlat}
+use Rattle.rewrite.specs.Pruned.{KeepsMeaning}
 use Rattle.definition.specs.Address.{addresses_of, clash_after}
 use Rattle.definition.specs.Definition.{AreAlike, IsWritten}
 use Rattle.definition.specs.Reading.{IsReadAs, graph_of}
@@ -24,32 +23,14 @@ value_kept : {C : Type 0} (plan simple : PlanValue C) → KeepsMeaning plan simp
 unfolding vertex_value
 value_kept plan simple keeps out = ap (λ sources. value_of out sources simple.graph.vertices simple.target) (sym keeps.sources) ∙ keeps.last out
 
--- what the flattened plan promises, and the pruned one of it
-pub record Flattens {C : Type 0} (plan flat : PlanValue C) : Type 0 where
-  pub is : IsFlattened plan flat
-  pub links : MergesAreFlat flat.graph.vertices
-  pub keeps : KeepsMeaning plan flat
-
-pub record Prunes {C : Type 0} (flat simple : PlanValue C) : Type 0 where
-  pub is : IsPruned flat simple
-  pub keeps : KeepsMeaning flat simple
-  pub needed : (out : Out) → NeedsAll (problem_of out simple)
-
-simplified : {C : Type 0} (plan flat simple : PlanValue C) → Flattens plan flat → Prunes flat simple → IsSimplified plan simple
-simplified plan flat simple flattens prunes = record { flat = flat; flattened = flattens.is; pruned = prunes.is }
-
-pub drawn : {C : Type 0} (plan flat simple : PlanValue C) (text : List ℕ) → Flattens plan flat → Prunes flat simple
-    → IsWritten simple.graph.vertices simple.target (Ok text) → IsReadAs text (Ok (graph_of simple.graph.vertices, simple.target)) → Draws plan text
-drawn plan flat simple text flattens prunes written read = record {
+pub drawn : {C : Type 0} (plan simple : PlanValue C) (text : List ℕ) → IsSimplified plan simple → MergesAreFlat simple.graph.vertices
+    → KeepsMeaning plan simple → ((out : Out) → NeedsAll (problem_of out simple)) → IsWritten simple.graph.vertices simple.target (Ok text)
+    → IsReadAs text (Ok (graph_of simple.graph.vertices, simple.target)) → Draws plan text
+drawn plan simple text is flat keeps needed written read = record {
   simple = simple;
-  simplified = simplified plan flat simple flattens prunes;
-  defines = record {
-    written = written;
-    read = read;
-    reached = prunes.needed (λ request. Exited 1);
-    flat = pruned_flat flat simple prunes.is flattens.links;
-  };
-  value = value_kept plan simple (kept_on plan flat simple flattens.keeps prunes.keeps);
+  simplified = is;
+  defines = record { written = written; read = read; reached = needed (λ request. Exited 1); flat = flat };
+  value = value_kept plan simple keeps;
 }
 
 -- the law of clashes, as far as it is used
@@ -89,8 +70,8 @@ told_clashes plan simple (Malformed place) told plans is none = absurd none
 told_clashes plan simple (Unknown place) told plans is none = absurd none
 told_clashes plan simple (Repeated place) told plans is none = absurd none
 
-pub clashes : {C : Type 0} (plan flat simple : PlanValue C) (fault : Fault Defect) (defect : Defect) → fault ≡ Because defect → AreTold → IsPlan simple
-    → Flattens plan flat → Prunes flat simple → IsWritten simple.graph.vertices simple.target (Err fault) → Clashes plan
-clashes plan flat simple fault defect because told plans flattens prunes written =
-    told_clashes plan simple defect told plans (simplified plan flat simple flattens prunes)
+pub clashes : {C : Type 0} (plan simple : PlanValue C) (fault : Fault Defect) (defect : Defect) → fault ≡ Because defect → AreTold → IsPlan simple
+    → IsSimplified plan simple → IsWritten simple.graph.vertices simple.target (Err fault) → Clashes plan
+clashes plan simple fault defect because told plans is written =
+    told_clashes plan simple defect told plans is
     (subst (λ (f : Fault Defect). IsWritten simple.graph.vertices simple.target (Err f)) because written)

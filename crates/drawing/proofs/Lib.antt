@@ -1,1 +1,2 @@
 mod DrawFacts
+mod SimpleFacts

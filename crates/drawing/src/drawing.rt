@@ -1,9 +1,14 @@
-ghost use Rattle.drawing.specs.Drawn.{IsDrawn};
+ghost use Rattle.std.specs.Prelude.{IfOk};
+ghost use Rattle.plans.specs.Plan.{problem_of, NeedsAll};
+ghost use Rattle.plans.specs.Value.{Out};
+ghost use Rattle.rewrite.specs.Flat.{MergesAreFlat};
+ghost use Rattle.rewrite.specs.Pruned.{KeepsMeaning};
+ghost use Rattle.drawing.specs.Drawn.{IsDrawn, IsSimplified};
 
 use crate::{Clash, DrawFault};
 use definition::laws::clashes_are_of_different_operations;
 use definition::write;
-use plain::{Fault, Text};
+use plain::{Fault, Memory, Text};
 use plans::Plan;
 use rewrite::{flatten_links, prune};
 use std::alloc::Global;
@@ -16,8 +21,7 @@ use std::alloc::Global;
 pub fn draw<C: Drop>(alloc: Global, plan: Plan<C>) -> Result<Text, DrawFault>
     ensures { IsDrawn plan result }
 {
-    let flat = flatten_links(alloc, plan)?;
-    let simple = prune(alloc, flat)?;
+    let simple = simplify(alloc, plan)?;
     match write(alloc, &simple) {
         Ok(text) => Ok(text),
         Err(Fault::Because(_)) => {
@@ -26,4 +30,16 @@ pub fn draw<C: Drop>(alloc: Global, plan: Plan<C>) -> Result<Text, DrawFault>
         }
         Err(Fault::Memory) => Err(Fault::Memory),
     }
+}
+
+/// The plan that is drawn.
+#[tactic(auto, using(crate::proofs::SimpleFacts::simplified, crate::proofs::SimpleFacts::flat_on, crate::proofs::SimpleFacts::means_on))]
+fn simplify<C: Drop>(alloc: Global, plan: Plan<C>) -> Result<Plan<C>, Memory>
+    ensures simplified { IfOk result (IsSimplified plan) }
+    ensures flat { IfOk result (λ simple. MergesAreFlat simple.graph.vertices) }
+    ensures keeps { IfOk result (KeepsMeaning plan) }
+    ensures needed { IfOk result (λ simple. (out : Out) → NeedsAll (problem_of out simple)) }
+{
+    let flat = flatten_links(alloc, plan)?;
+    prune(alloc, flat)
 }

@@ -5,19 +5,12 @@ use Rattle.drawing.proofs.drawing.draw.Goals as goal
 
 pub returns-in-Ok : goal.returns-in-Ok
 returns-in-Ok g c =
-    let flat = c.in_ok-flat.ensures in
     let simple = c.in_ok-simple.ensures in
-    drawn c.args.plan c.in_ok-flat.flat c.in_ok-simple.simple c.in-Ok.text
-    (record { is = flat.flattened; links = flat.flat; keeps = flat.keeps })
-    (record { is = simple.pruned; keeps = simple.keeps; needed = simple.needed })
-    c.in-Ok.ensures.written c.in-Ok.ensures.back
+    drawn c.args.plan c.in_ok-simple.simple c.in-Ok.text simple.simplified simple.flat simple.keeps simple.needed c.in-Ok.ensures.written
+    c.in-Ok.ensures.back
 
 pub returns-in-Err-Because : goal.returns-in-Err-Because
 returns-in-Err-Because g c =
-    let flat = c.in_ok-flat.ensures in
-    let simple = c.in_ok-simple.ensures in
     let plans : IsPlan c.in_ok-simple.simple = subst (λ (p : PlanValue g.row.C.Denot). IsPlan p) c.simple.view_is c.simple.invariant in
-    clashes c.args.plan c.in_ok-flat.flat c.in_ok-simple.simple c.in-Err-Because.field-0 c.in-Err-Because.field-0-0 c.in-Err-Because.field-0-is
-    c.clashes_are_of_different_operations.ensures.told plans (record { is = flat.flattened; links = flat.flat; keeps = flat.keeps })
-    (record { is = simple.pruned; keeps = simple.keeps; needed = simple.needed })
-    c.in-Err-Because.ensures.written
+    clashes c.args.plan c.in_ok-simple.simple c.in-Err-Because.field-0 c.in-Err-Because.field-0-0 c.in-Err-Because.field-0-is
+    c.clashes_are_of_different_operations.ensures.told plans c.in_ok-simple.ensures.simplified c.in-Err-Because.ensures.written
