@@ -1,0 +1,63 @@
+use Rattle.std.proofs.Common.{◌≡◌, rules, refl, sym, ap, ◌∙◌, subst}
+use Rattle.rolls.specs.Rolls.{knower, of_worker, seated}
+use Rattle.rolls.proofs.Moves.{spares, joins_as, learns_as, cuts_as, beside, learnt, known}
+use Rattle.rolls.proofs.roll.Roll.agree.Goals as goal
+
+pub split_seat-spare-requires : goal.split_seat-spare-requires
+split_seat-spare-requires g c = (search rules, search rules, spares _ _)
+
+pub join_seat-requires : goal.join_seat-requires
+join_seat-requires g c =
+    let i = c.self.invariant in
+    let j = c.slip.invariant in
+    let a = c.split_seat-spare.ensures in
+    let r = c.replace-mine.ensures.value in (
+      a.0 ∙ (i.2 ∙ sym i.0),
+      ap (λ s. s.table_id) r ∙ (j.0 ∙ sym i.0),
+      ap (λ s. s.me.1) r ∙ ap (λ m. m.1) j.1,
+      search rules,
+      joins_as _ _ _ _ _ _ _ (ap (λ m. m.0) (a.2 ∙ i.3)) (ap (λ s. s.me.0) r ∙ ap (λ m. m.0) j.1),
+    )
+
+pub load-requires : goal.load-requires
+load-requires g c =
+    let i = c.self.invariant in
+    let j = c.slip.invariant in
+    let a = c.split_seat-spare.ensures in
+    let r = c.replace-mine.ensures.value in
+    let b = c.join_seat.ensures in
+    (b.0 ∙ (a.0 ∙ (i.2 ∙ sym i.0)), search rules, learns_as _ _ _ _ (beside _ _ _ _ _ _ (a.2 ∙ i.3) (ap (λ s. s.me) r ∙ j.1) b.2) refl)
+
+pub split_seat-requires : goal.split_seat-requires
+split_seat-requires g c =
+    let i = c.self.invariant in
+    let j = c.slip.invariant in
+    let a = c.split_seat-spare.ensures in
+    let r = c.replace-mine.ensures.value in
+    let b = c.join_seat.ensures in
+    let w = c.load.ensures in
+    let told = learnt c.join_seat.new.seat.me c.load.new.seat.me (seated c.self.inside.keeper.me.0.all c.slip.inside.seat.me.0.worker c.slip.inside.seat.me.0.mine) c.load.result c.self.inside.table.shared.table_id.slots (beside _ _ _ _ _ _ (a.2 ∙ i.3) (ap (λ s. s.me) r ∙ j.1) b.2) w.2 in
+    (w.0 ∙ (b.0 ∙ (a.0 ∙ (i.2 ∙ sym i.0))), search rules, cuts_as _ _ _ _ _ (ap (λ m. m.0) told.0))
+
+pub invariant_of-self : goal.invariant_of-self
+invariant_of-self g c =
+    let i = c.self.invariant in
+    let j = c.slip.invariant in
+    let a = c.split_seat-spare.ensures in
+    let r = c.replace-mine.ensures.value in
+    let b = c.join_seat.ensures in
+    let w = c.load.ensures in
+    let told = learnt c.join_seat.new.seat.me c.load.new.seat.me (seated c.self.inside.keeper.me.0.all c.slip.inside.seat.me.0.worker c.slip.inside.seat.me.0.mine) c.load.result c.self.inside.table.shared.table_id.slots (beside _ _ _ _ _ _ (a.2 ∙ i.3) (ap (λ s. s.me) r ∙ j.1) b.2) w.2 in
+    let d = c.split_seat.ensures in
+    (i.0, i.1, d.0 ∙ (w.0 ∙ (b.0 ∙ (a.0 ∙ i.2))), known _ _ (d.2 ∙ ap (λ x. (knower x.0.all, x.1)) told.0))
+
+pub returns-clause-agrees : goal.returns-clause-agrees
+returns-clause-agrees g c =
+    let i = c.self.invariant in
+    let j = c.slip.invariant in
+    let a = c.split_seat-spare.ensures in
+    let r = c.replace-mine.ensures.value in
+    let b = c.join_seat.ensures in
+    let w = c.load.ensures in
+    let told = learnt c.join_seat.new.seat.me c.load.new.seat.me (seated c.self.inside.keeper.me.0.all c.slip.inside.seat.me.0.worker c.slip.inside.seat.me.0.mine) c.load.result c.self.inside.table.shared.table_id.slots (beside _ _ _ _ _ _ (a.2 ∙ i.3) (ap (λ s. s.me) r ∙ j.1) b.2) w.2 in
+    subst (λ s. s.mine ≡ of_worker s.worker c.args.self.now) c.slip.view_is (subst (λ l. c.slip.inside.seat.me.0.mine ≡ of_worker c.slip.inside.seat.me.0.worker l) c.self.view_is (told.1 refl))
