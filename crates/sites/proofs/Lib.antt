@@ -1,0 +1,3 @@
+mod BookLemmas
+mod TallyLemmas
+pub mod Crosses

@@ -1,0 +1,18 @@
+use Rattle.std.proofs.Common.{sym, ap, ◌∙◌, subst}
+use Rattle.board.specs.Board.{BoardValue, board_problem}
+use Rattle.sites.specs.Seats.{AreAll, AreSeatsOf, AreTallies}
+use Rattle.sites.proofs.TallyLemmas.{tallies, cleared-settled}
+use Rattle.sites.proofs.site.Site.close.Goals as goal
+
+pub returns-clause-tallies : goal.returns-clause-tallies
+returns-clause-tallies g c = λ all.
+    let seats = c.args.seats.now in
+    let held = c.agree_all.new.self in
+    let board = c.into_board-board.result in
+    let known = c.complete.ensures in
+    let are = subst (λ (b : BoardValue _). AreSeatsOf b.run seats) (sym c.agree_all.ensures.same.0) c.agree_all.ensures.agrees in
+    let given = subst (λ n. AreAll n seats) (sym c.self.view_is) all in
+    let told = tallies g.J.Case.problem held.run c.self.inside.giver seats known.problem known.replay are known.none given in
+    let kept = cleared-settled (board_problem g.E.Executor.out board) board.run c.abandon_all.new.self.run c.abandon_all.ensures.run in
+    let same = kept ∙ ap (λ (b : BoardValue _). b.run.state.settled) (c.into_board-board.ensures.board ∙ known.same.0) in
+    subst (λ settled. AreTallies settled seats) (sym same) told

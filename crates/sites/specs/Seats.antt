@@ -1,0 +1,88 @@
+-- What a seat says of its worker, and how a site's book ties it to the board.
+use Rattle.std.specs.Prelude.{◌≡◌, ℕ, ◌<◌, ◌==◌, List, [], ◌∷◌, ◌++◌, if◌then◌else◌, length, Option, Some, None, is_some, slice_index_or, refl}
+use Rattle.std.specs.List.{fold, count_by, sum_by}
+use Rattle.std.specs.Coded.{Coded, code_by, coded×, coded_ℕ, coded_list, coded_option}
+use Rattle.trees.specs.Cause.{TreeOrCause}
+use Rattle.rolls.specs.declared.note.Note.{Note}
+use Rattle.rolls.specs.declared.note.Note.TheVariants as note
+use Rattle.rolls.specs.Rolls.{of_worker}
+use Rattle.board.specs.Claim.{ClaimValue, claim_out}
+use Rattle.board.specs.Legal.{vertex_out}
+use Rattle.board.specs.Play.{Run, claim_of, value_at, vertex_of}
+use Rattle.board.specs.contracts.claim.ClaimOut as claim_row
+use Rattle.board.specs.declared.claim.ClaimOut.{ClaimOut}
+use Rattle.board.specs.declared.event.Happened.{Happened}
+use Rattle.board.specs.declared.event.Happened.TheVariants.{Claimed, Settled, Abandoned}
+
+-- a worker, the claim that it has out, if any, and the vertices that it has settled, in order (own)
+pub record SeatValue : Type 0 where
+  pub worker : ℕ
+  pub out : Option ClaimOut
+  pub tally : List ℕ
+
+-- a seat in plain data, for generic code (own)
+abbrev pub seat_code : Coded SeatValue
+seat_code =
+    code_by (ℕ × (Option ClaimOut × List ℕ))
+    (coded× coded_ℕ (coded× (coded_option claim_row.the_row.coded) (coded_list coded_ℕ)))
+    (λ s. (s.worker, (s.out, s.tally)))
+    (λ t. record { worker = t.0; out = t.1.0; tally = t.1.1 })
+    (λ _. refl)
+
+-- a claim is the one that a seat has out (own)
+abbrev pub IsMine : SeatValue → ClaimValue → Type 0
+IsMine seat claim = seat.out ≡ Some (claim_out claim)
+
+-- the vertices that a worker has settled, in order (own)
+abbrev pub tally_of : ℕ → List Happened → List ℕ
+tally_of worker [] = []
+tally_of worker (Claimed by vertex ∷ history) = tally_of worker history
+tally_of worker (Settled by vertex given ∷ history) = if by == worker then vertex ∷ tally_of worker history else tally_of worker history
+tally_of worker (Abandoned by vertex ∷ history) = tally_of worker history
+
+-- a seat says what a board has of its worker: the claim that it has out, with the vertex that it has out by the history, and the vertices that it has
+-- settled (own)
+pub record IsSeatOf (run : Run) (seat : SeatValue) : Type 0 where
+  pub claim : seat.out ≡ claim_of seat.worker run.state.claims
+  pub vertex : vertex_of seat.out ≡ vertex_out run.history seat.worker
+  pub tally : seat.tally ≡ tally_of seat.worker run.history
+
+-- each of these seats says what the board has of its worker (own)
+abbrev pub AreSeatsOf : Run → List SeatValue → Type 0
+AreSeatsOf run seats = (k : ℕ) (default : SeatValue) → k < length seats → IsSeatOf run (slice_index_or seats k default)
+
+-- these are all seats that were given, of which there are so many: each worker has one (own)
+abbrev pub AreAll : ℕ → List SeatValue → Type 0
+AreAll given seats = (worker : ℕ) → worker < given → count_by (λ seat. worker == seat.worker) seats ≡ 1
+
+-- how often a number is in a list (own)
+abbrev pub times : ℕ → List ℕ → ℕ
+times number numbers = count_by (λ other. other == number) numbers
+
+-- in these seats' tallies together each settled vertex is once, and no other vertex is (own)
+abbrev pub AreTallies : List (Option TreeOrCause) → List SeatValue → Type 0
+AreTallies settled seats = (vertex : ℕ) → sum_by (λ seat. times vertex seat.tally) seats ≡ (if is_some (value_at settled vertex) then 1 else 0)
+
+-- what a worker has: the claim that is out, and its tally (own)
+pub record Hand : Type 0 where
+  pub out : Option ClaimOut
+  pub tally : List ℕ
+
+-- a worker's hand before it has done anything (own)
+abbrev pub empty_hand : Hand
+empty_hand = record { out = None; tally = [] }
+
+-- a worker's hand after one note more (own)
+abbrev pub after_note : ℕ → Hand → Note → Hand
+after_note worker hand (note.Claimed vertex at) = record { out = Some (record { worker = worker; vertex = vertex; at = at }); tally = hand.tally }
+after_note worker hand (note.Settled vertex) = record { out = None; tally = hand.tally ++ vertex ∷ [] }
+after_note worker hand note.Abandoned = record { out = None; tally = hand.tally }
+
+-- a worker's hand after its notes (own)
+abbrev pub hand_of : ℕ → List Note → Hand
+hand_of worker notes = fold (after_note worker) empty_hand notes
+
+-- the notes on a roll are true of a board: they leave in each worker's hand the claim that it has out, and the vertices that it has settled (own)
+pub record IsBook (roll : List (ℕ × Note)) (run : Run) : Type 0 where
+  pub out : (worker : ℕ) → (hand_of worker (of_worker worker roll)).out ≡ claim_of worker run.state.claims
+  pub tally : (worker : ℕ) → (hand_of worker (of_worker worker roll)).tally ≡ tally_of worker run.history

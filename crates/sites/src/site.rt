@@ -1,0 +1,106 @@
+ghost use Rattle.std.specs.Prelude.{◌≡◌, ◌<◌, ◌+◌, [], None};
+ghost use Rattle.board.specs.Board.{board_problem};
+ghost use Rattle.sites.specs.Seats.{SeatValue, AreAll, AreTallies};
+
+use crate::{Case, Held, Seat};
+use board::Board;
+use executor::Executor;
+use rolls::{Giver, Opened, Room};
+use std::alloc::Global;
+use std::marker::{Model, PhantomData};
+use std::sync::{Mutex, MutexGuard, Wait};
+
+/// What the workers of a site share: the lock. A `Site` itself can't be lent to several threads, since it gives seats.
+#[derive(Drop)]
+pub struct Desk<'a, E: Executor, J: Case + Room> {
+    held: Mutex<Held<'a, E, J>>,
+}
+
+impl<'a, E: Executor, J: Case + Room> Desk<'a, E, J> {
+    /// Waits for the lock. What is then known of the board is what its type says.
+    pub fn lock<R: Wait>(&self, rt: &R) -> MutexGuard<'_, Held<'a, E, J>> {
+        self.held.lock(rt)
+    }
+}
+
+/// A board under a lock, and the right to give seats at it. Contracts see how many seats were given.
+#[derive(Drop)]
+pub struct Site<'a, E: Executor, J: Case + Room> {
+    desk: Desk<'a, E, J>,
+    giver: Giver<J>,
+}
+
+impl<'a, E: Executor, J: Case + Room> Model for Site<'a, E, J> {
+    ghost use Rattle.std.specs.Prelude.{ℕ};
+    ghost use Rattle.std.specs.Coded.{coded_ℕ};
+
+    ghost Value = { ℕ };
+
+    ghost coded = { coded_ℕ };
+
+    ghost view = { λ s. s.giver };
+}
+
+impl<'a, E: Executor, J: Case + Room> Site<'a, E, J> {
+    /// The site of a board on which nothing has happened, with a roll on which nothing stands, which gave no seat yet. Board and roll have to be those that
+    /// the site's type names.
+    pub fn new(board: Board<'a, E>, opened: Opened) -> Site<'a, E, J>
+        requires problem { board_problem E.out board ≡ J.problem }
+        requires room { opened.table.shared.table_id ≡ J.table }
+        requires begun { board.run.history ≡ [] }
+        ensures { result ≡ 0 }
+    {
+        let _known = board.history();
+        let (roll, giver) = opened.named::<J>();
+        let held = Held {
+            board,
+            roll,
+            of: PhantomData,
+        };
+        Site {
+            desk: Desk {
+                held: Mutex::new(held),
+            },
+            giver,
+        }
+    }
+
+    /// A seat for one worker more, under the next number. There are seats for 64. It takes no memory.
+    pub fn seat(&mut self, alloc: Global) -> Seat<J>
+        requires { self.old < 64 }
+        ensures seat { result ≡ record { worker = self.old; out = None; tally = [] } }
+        ensures given { self.new ≡ self.old + 1 }
+    {
+        let worker = self.giver.given();
+        let slip = self.desk.held.get_mut().slip(&mut self.giver);
+        Seat::new(alloc, worker, slip)
+    }
+
+    /// What threads share of it.
+    pub fn desk(&self) -> &Desk<'a, E, J> {
+        &self.desk
+    }
+
+    /// Waits for the lock. What is then known of the board is what its type says.
+    pub fn lock<R: Wait>(&self, rt: &R) -> MutexGuard<'_, Held<'a, E, J>> {
+        self.desk.lock(rt)
+    }
+
+    /// Ends the site and gives its board, on which every claim that was still out is abandoned. Where these are all seats that were given, their tallies are
+    /// the settled vertices, each once. The seats stay as they are. It takes no memory.
+    pub fn close(self, seats: &mut [Seat<J>]) -> Board<'a, E>
+        ensures problem { board_problem E.out result ≡ J.problem }
+        ensures claims { result.run.state.claims ≡ [] }
+        ensures tallies { AreAll self.entry seats.old → AreTallies result.run.state.settled seats.old }
+        ensures seats { seats.new ≡ seats.old }
+    {
+        let Site { desk, mut giver } = self;
+        let Desk { held } = desk;
+        let mut held = held.into_inner();
+        held.agree_all(seats);
+        held.complete(&mut giver);
+        let mut board = held.into_board();
+        board.abandon_all();
+        board
+    }
+}
