@@ -18,12 +18,14 @@
 #![tactic(auto)]
 
 mod answer;
+mod gate;
 pub mod laws;
 mod running;
 mod solution;
 mod sweep;
 
 pub use answer::Answer;
-pub use running::run;
+pub use gate::{Gate, OpenGate};
+pub use running::{run, run_gated};
 pub use solution::Solution;
 pub use sweep::{finish, solve_here, solve_problem};

@@ -5,9 +5,10 @@ ghost use Rattle.board.specs.Claim.{IsClaim, IsResult, IsGivenBack};
 ghost use Rattle.board.specs.Job.{job_problem};
 ghost use Rattle.board.specs.Problem.{IsProblem};
 
+use crate::Gate;
 use board::{Claim, Job};
 use executor::Executor;
-use llb::{Vertex, VertexId};
+use llb::{Op, Vertex, VertexId};
 use plain::Memory;
 use std::alloc::Global;
 use trees::Tree;
@@ -32,6 +33,33 @@ pub fn run<E: Executor>(alloc: Global, job: &Job<E>, claim: &Claim) -> Result<Ra
         inputs.as_slice(),
         claim.caches(),
     )
+}
+
+/// The result of a claim as `run` gives it, with a gate asked before and after where the vertex of the claim is a command.
+pub fn run_gated<E: Executor, G: Gate>(
+    alloc: Global,
+    job: &Job<E>,
+    gate: &G,
+    claim: &Claim,
+) -> Result<Ran, Memory>
+    requires { IsClaim (job_problem E.out job.now) claim.now }
+    ensures value { IfOk result (λ ran. IsResult (job_problem E.out job.now) claim.now ran.value) }
+    ensures given { IfOk result (λ ran. IsGivenBack (job_problem E.out job.now) claim.now ran.given.items) }
+    ensures left { IfOk result (λ ran. (vertex : VertexValue) → slice_get job.now.graph.vertices claim.now.vertex ≡ Some vertex
+        → IsLeftBy (E.leaves job.now.executor) vertex.op claim.now.inputs claim.now.caches ran.given.items) }
+{
+    if !is_command(vertex_at(job, claim.vertex())) {
+        return run(alloc, job, claim);
+    }
+    gate.enter(claim.worker(), claim.vertex());
+    let ran = run(alloc, job, claim);
+    gate.leave(claim.worker(), claim.vertex());
+    ran
+}
+
+/// Whether a vertex is a command, which an executor runs.
+fn is_command(vertex: &Vertex) -> bool {
+    matches!(vertex.op, Op::Exec(_))
 }
 
 /// A vertex of a job.

@@ -10,9 +10,9 @@ ghost use Rattle.plans.specs.Value.{Out};
 ghost use Rattle.solver.specs.Answer.{IsAnswer};
 ghost use Rattle.solver.specs.Solution.{IsSolution, IsBuilt};
 
-use crate::running::run;
+use crate::running::run_gated;
 use crate::solution::solution_of;
-use crate::{Answer, Solution};
+use crate::{Answer, Gate, OpenGate, Solution};
 use board::{Board, Job, NoBoard, Refused};
 use cachemounts::CacheStore;
 use executor::Executor;
@@ -61,7 +61,7 @@ pub fn solve_problem<C, E: Executor>(
             return Err(Memory);
         }
     };
-    let solution = finish(alloc, &mut board);
+    let solution = finish(alloc, &OpenGate, &mut board);
     *caches = board.into_caches();
     solution
 }
@@ -85,9 +85,13 @@ fn answer_of<C: Exact>(
 }
 
 /// The solution of a board: what is left of its job is claimed, run and settled, one vertex at a time, until no vertex is ready. What is settled
-/// isn't run again: where that is the target with a tree, the solution is built with this tree, whatever else has failed. No claim
-/// may be out (`Board::is_idle` tests that), and whatever the result, none is afterwards. It always returns.
-pub fn finish<E: Executor>(alloc: Global, board: &mut Board<E>) -> Result<Solution, Memory>
+/// isn't run again: where that is the target with a tree, the solution is built with this tree, whatever else has failed. The gate is asked around
+/// the run of each command. No claim may be out (`Board::is_idle` tests that), and whatever the result, none is afterwards. It always returns.
+pub fn finish<E: Executor, G: Gate>(
+    alloc: Global,
+    gate: &G,
+    board: &mut Board<E>,
+) -> Result<Solution, Memory>
     requires { board.old.run.state.claims ≡ [] }
     ensures solution { IfOk result (IsSolution (board_problem E.out board.old)) }
     ensures settled { (tree : TreeMap) → value_at board.old.run.state.settled board.old.job.target ≡ Some (Ok tree)
@@ -95,12 +99,12 @@ pub fn finish<E: Executor>(alloc: Global, board: &mut Board<E>) -> Result<Soluti
     ensures idle { board.new.run.state.claims ≡ [] }
     ensures job { board.new.job ≡ board.old.job }
 {
-    while turn(alloc, board)? {}
+    while turn(alloc, gate, board)? {}
     solution_of(alloc, board)
 }
 
 /// Claims, runs and settles the least ready vertex. It answers whether there was one.
-fn turn<E: Executor>(alloc: Global, board: &mut Board<E>) -> Result<bool, Memory>
+fn turn<E: Executor, G: Gate>(alloc: Global, gate: &G, board: &mut Board<E>) -> Result<bool, Memory>
     requires { board.old.run.state.claims ≡ [] }
     ensures job { board.new.job ≡ board.old.job }
     ensures idle { board.new.run.state.claims ≡ [] }
@@ -114,7 +118,7 @@ fn turn<E: Executor>(alloc: Global, board: &mut Board<E>) -> Result<bool, Memory
     let Some(claim) = claimed else {
         return Ok(false);
     };
-    let Ran { value, given } = match run(alloc, board.job(), &claim) {
+    let Ran { value, given } = match run_gated(alloc, board.job(), gate, &claim) {
         Ok(ran) => ran,
         Err(memory) => {
             board.abandon(claim);

@@ -1,0 +1,89 @@
+ghost use Rattle.std.specs.Prelude.{◌≡◌, ◌<◌, ◌≤◌, [], IfOk};
+ghost use Rattle.plans.specs.Plan.{problem_of};
+ghost use Rattle.board.specs.Board.{board_problem};
+ghost use Rattle.board.specs.Job.{job_problem};
+ghost use Rattle.solver.specs.Solution.{IsSolution};
+
+use crate::working::{Tools, work_all};
+use board::{Board, Job, NoBoard};
+use cachemounts::CacheStore;
+use executor::Executor;
+use plain::{Memory, growth};
+use plans::Plan;
+use rolls::{Opened, Room};
+use sites::{Case, Site};
+use solver::{Gate, Solution, finish};
+use std::alloc::Global;
+use std::marker::Brand;
+use std::mem;
+use std::sync::{Condvar, Wait};
+use std::thread::Threads;
+
+/// The solution of a plan's problem under an executor, by this many workers, with a store of caches of which no lease is out
+/// (`CacheStore::is_idle` tests that). The gate is asked around the run of each command: by the workers from 0 on, and by the caller's thread, which
+/// does what they have left, as worker 64. A thread that can't be started is no fault: its work is done by the others. It may never return. If it does, no lease
+/// is out, whatever the result, and the store holds what the build left in it.
+pub fn solve<C, E: Executor, G: Gate, R: Threads + Wait + Sync>(
+    alloc: Global,
+    rt: &R,
+    plan: &Plan<C>,
+    executor: &E,
+    workers: u32,
+    gate: &G,
+    caches: &mut CacheStore,
+) -> Result<Solution, Memory>
+    requires workers { (0 < workers) × (workers ≤ 64) }
+    requires idle { caches.old.holds ≡ [] }
+    ensures solution { IfOk result (IsSolution (problem_of (E.out executor.now) plan.now)) }
+    ensures idle { caches.new.holds ≡ [] }
+{
+    let opened = Opened::new(alloc)?;
+    let lent = mem::replace(caches, CacheStore::new(alloc));
+    let board = match Board::new(alloc, Job::new(plan, executor), lent) {
+        Ok(board) => board,
+        Err(refused) => {
+            let NoBoard { caches: back } = refused;
+            *caches = back;
+            return Err(Memory);
+        }
+    };
+    let job = Job::new(plan, executor);
+    let tools = Tools {
+        alloc,
+        job: &job,
+        gate,
+        bell: Condvar::new(),
+    };
+    let mut board = worked::<E, G, Brand, R>(rt, &tools, workers, board, opened);
+    let solution = finish(alloc, gate, &mut board);
+    *caches = board.into_caches();
+    solution
+}
+
+/// A new board after the work of so many workers, with no claim out. Where there is no memory for their seats, nobody works.
+fn worked<'a, E: Executor, G: Gate, J: Case + Room + Send + Sync, R: Threads + Wait + Sync>(
+    rt: &R,
+    tools: &Tools<'a, E, G>,
+    workers: u32,
+    board: Board<'a, E>,
+    opened: Opened,
+) -> Board<'a, E>
+    requires job { job_problem E.out tools.now.job.now ≡ J.problem }
+    requires problem { board_problem E.out board ≡ J.problem }
+    requires room { opened.table.shared.table_id ≡ J.table }
+    requires begun { board.run.history ≡ [] }
+    requires claims { board.run.state.claims ≡ [] }
+    requires workers { workers ≤ 64 }
+    ensures problem { board_problem E.out result ≡ J.problem }
+    ensures claims { result.run.state.claims ≡ [] }
+{
+    let Ok(mut seats) = Vec::with_capacity(tools.alloc, workers as usize) else {
+        return board;
+    };
+    let mut site = Site::<E, J>::new(board, opened);
+    for _ in 0..workers {
+        growth::add(&mut seats, site.seat(tools.alloc));
+    }
+    work_all(rt, site.desk(), tools, seats.as_mut_slice());
+    site.close(seats.as_mut_slice())
+}
