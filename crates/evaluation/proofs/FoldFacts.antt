@@ -5,9 +5,11 @@ use Rattle.plain.specs.declared.fault.Fault.{Fault}
 use Rattle.plain.specs.declared.fault.Fault.TheVariants.{Because, Memory}
 use Rattle.plain.specs.declared.refusal.Code.{Code}
 use Rattle.plain.specs.declared.refusal.Refusal.{Refusal}
-use Rattle.evaluation.specs.Refusals.{unless_due, one_more, all_from, Answers}
+use Rattle.imageconfig.specs.Stage.{unless_due}
+use Rattle.stages.specs.Resolved.{Answers}
+use Rattle.evaluation.specs.Refusals.{one_more, all_from}
 
-refused_stays : {X P : Type 0} (step : P → X → Result P Refusal) (refusal : Refusal) (xs : List X) → all_from step (Err refusal) xs ≡ Err refusal
+pub refused_stays : {X P : Type 0} (step : P → X → Result P Refusal) (refusal : Refusal) (xs : List X) → all_from step (Err refusal) xs ≡ Err refusal
 refused_stays step refusal [] = refl
 refused_stays step refusal (x ∷ xs) = refused_stays step refusal xs
 

@@ -36,7 +36,7 @@ use Rattle.actions.specs.Run.{is_bind, run_action}
 use Rattle.evaluation.specs.Images.{ImageNames, with_origin, with_origins, many_due}
 use Rattle.evaluation.specs.Instruction.{after, action_in, due, first_of, dir_in}
 use Rattle.evaluation.specs.PrivateNames.{HasNames}
-use Rattle.evaluation.specs.Refusals.{unless_due}
+use Rattle.imageconfig.specs.Stage.{unless_due}
 use Rattle.evaluation.specs.Stages.{step_of, with_instruction, next_instruction, instructions_from}
 use Rattle.evaluation.specs.declared.stage.Progress.{Progress}
 use Rattle.evaluation.specs.declared.state.State.{State}

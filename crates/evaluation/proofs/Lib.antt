@@ -1,4 +1,8 @@
+mod ConfigurationFacts
+mod ExistFacts
 mod FoldFacts
+mod JudgedFacts
+mod NeededFacts
 mod ImageFacts
 mod InstructionFacts
 mod LineFacts

@@ -19,7 +19,9 @@ use Rattle.evaluation.specs.Evaluated.{no_stage}
 use Rattle.evaluation.specs.Images.{ImageNames, with_origin, many_due}
 use Rattle.evaluation.specs.PrivateStage.{AreNext}
 use Rattle.evaluation.specs.PrivateWalk.{AreFew, AreNamed, begun_with, IsEnded, IsWalk, IsStageAdded, IsNextStage, AreStages}
-use Rattle.evaluation.specs.Refusals.{unless_due, Answers, many_refused}
+use Rattle.imageconfig.specs.Stage.{unless_due}
+use Rattle.stages.specs.Resolved.{Answers}
+use Rattle.evaluation.specs.Refusals.{many_refused}
 use Rattle.evaluation.specs.Stages.{instructions_from, with_ended, with_none, stage_from, next_stage, stages_from}
 use Rattle.evaluation.specs.declared.stage.Progress.{Progress}
 use Rattle.evaluation.specs.declared.state.State.{State}

@@ -73,11 +73,11 @@ inner_lines (r ∷ rs) are =
 
 -- what a needed stage names is needed
 
-leads_more : (stages : List ResolvedStage) (from : ℕ) (path : List ℕ) (stage to : ℕ) → Leads stages from path stage → Refers stages stage to → Leads stages from (path ++ to ∷ []) to
+pub leads_more : (stages : List ResolvedStage) (from : ℕ) (path : List ℕ) (stage to : ℕ) → Leads stages from path stage → Refers stages stage to → Leads stages from (path ++ to ∷ []) to
 leads_more stages from [] stage to leads refers = (subst (λ n. Refers stages n to) (sym leads) refers, refl)
 leads_more stages from (next ∷ path) stage to leads refers = (leads.0, leads_more stages next path stage to leads.1 refers)
 
-named_marked : (stages : List ResolvedStage) (target : ℕ) (needed : List Bool) (number : ℕ) (stage : ResolvedStage) → AreNeeded stages target needed → slice_get stages number ≡ Some stage
+pub named_marked : (stages : List ResolvedStage) (target : ℕ) (needed : List Bool) (number : ℕ) (stage : ResolvedStage) → AreNeeded stages target needed → slice_get stages number ≡ Some stage
     → is_marked needed number ≡ true → (to : ℕ) → Contains (stage_origins stage) (StageOf to) → is_marked needed to ≡ true
 named_marked stages target needed number stage are there marked to named =
     let path = (are.just number).0 marked in

@@ -1,6 +1,8 @@
+pub mod Configuration
 pub mod Evaluated
 pub mod Images
 pub mod Instruction
+pub mod NeededLines
 pub mod PrivateInstruction
 pub mod PrivateMaking
 pub mod PrivateNames

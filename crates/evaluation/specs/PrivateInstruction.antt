@@ -1,5 +1,5 @@
 -- Parts of what an instruction does.
-use Rattle.std.specs.Prelude.{ℕ, Bool, false, List, ◌++◌, Option, Some, None}
+use Rattle.std.specs.Prelude.{ℕ, Bool, List, ◌++◌, Option, Some, None}
 use Rattle.plain.specs.declared.fault.Fault.{Fault}
 use Rattle.plain.specs.declared.fault.Fault.TheVariants.{Because, Memory}
 use Rattle.plain.specs.declared.refusal.Code.{Code}
@@ -13,7 +13,7 @@ use Rattle.instructions.specs.declared.instruction.InstructionKind.TheVariants.{
 use Rattle.scopes.specs.Scope.{value_in, kept}
 use Rattle.scopes.specs.Evaluate.{Values, env_line, arg_texts}
 use Rattle.stages.specs.Due.{argument_due}
-use Rattle.imageconfig.specs.Steps.{changed}
+use Rattle.imageconfig.specs.Steps.{changed, nothing_due}
 use Rattle.imageconfig.specs.Steps as config
 use Rattle.actions.specs.Copy.{copy_action, copy_due}
 use Rattle.actions.specs.Run.{run_action, run_due}
@@ -70,9 +70,6 @@ acted s (Cmd command) origins = None
 acted s (Entrypoint command) origins = None
 acted s (Run mounts command) origins = Some (run_action s.scope (dir_in s) s.config.user s.config.shell mounts command origins)
 acted s (Copy sources destination flags) origins = Some (copy_action s.scope (dir_in s) sources destination flags (first_of origins))
-
-abbrev pub nothing_due : Code → Bool
-nothing_due code = false
 
 -- the codes that are due for that
 abbrev pub acted_due : State → InstructionKind → Code → Bool

@@ -10,7 +10,9 @@ use Rattle.scopes.specs.Evaluate.{Values}
 use Rattle.stages.specs.declared.stage.ResolvedInstruction.{ResolvedInstruction}
 use Rattle.evaluation.specs.Images.{ImageNames, many_due}
 use Rattle.evaluation.specs.Instruction.{done, due}
-use Rattle.evaluation.specs.Refusals.{unless_due, Answers, Tells}
+use Rattle.imageconfig.specs.Stage.{unless_due}
+use Rattle.stages.specs.Resolved.{Answers}
+use Rattle.evaluation.specs.Refusals.{Tells}
 use Rattle.evaluation.specs.Stages.{step_of, next_instruction, instructions_from}
 use Rattle.evaluation.specs.declared.instruction.Done.{Done}
 use Rattle.evaluation.specs.declared.stage.Progress.{Progress}

@@ -11,7 +11,8 @@ use Rattle.stages.specs.declared.stage.ResolvedStage.{ResolvedStage}
 use Rattle.imageconfig.specs.declared.config.Config.{Config}
 use Rattle.evaluation.specs.Evaluated.{no_stage}
 use Rattle.evaluation.specs.Images.{ImageNames, with_origin, many_due}
-use Rattle.evaluation.specs.Refusals.{unless_due, Answers}
+use Rattle.imageconfig.specs.Stage.{unless_due}
+use Rattle.stages.specs.Resolved.{Answers}
 use Rattle.evaluation.specs.Stages.{instructions_from, stage_from, next_stage, stages_from}
 use Rattle.evaluation.specs.State.{start}
 use Rattle.evaluation.specs.declared.stage.Progress.{Progress}

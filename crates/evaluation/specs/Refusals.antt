@@ -1,16 +1,11 @@
 -- Lines one after another, up to the first for which a code is due.
-use Rattle.std.specs.Prelude.{◌≡◌, ℕ, Bool, List, [], ◌∷◌, Option, Some, None, Result, Ok, Err}
+use Rattle.std.specs.Prelude.{◌≡◌, ℕ, Bool, List, [], ◌∷◌, Some, None, Result, Ok, Err}
 use Rattle.plain.specs.declared.fault.Fault.{Fault}
 use Rattle.plain.specs.declared.fault.Fault.TheVariants.{Because, Memory}
 use Rattle.plain.specs.declared.refusal.Code.{Code}
 use Rattle.plain.specs.declared.refusal.Code.TheVariants.{R18}
 use Rattle.plain.specs.declared.refusal.Refusal.{Refusal}
 use Rattle.instructions.specs.Least.{least}
-
--- a line for which a code is due is refused
-abbrev pub unless_due : {X : Type 0} → Option Code → ℕ → Result X Refusal → Result X Refusal
-unless_due None line rest = rest
-unless_due (Some code) line rest = Err (record { code = code; line = line })
 
 -- a step behind what there is so far; once something is refused, nothing behind it counts
 abbrev pub one_more : {X P : Type 0} → (P → X → Result P Refusal) → Result P Refusal → X → Result P Refusal
@@ -21,12 +16,6 @@ one_more step (Err refusal) x = Err refusal
 abbrev pub all_from : {X P : Type 0} → (P → X → Result P Refusal) → Result P Refusal → List X → Result P Refusal
 all_from step so_far [] = so_far
 all_from step so_far (x ∷ xs) = all_from step (one_more step so_far x) xs
-
--- what a call answers for a result: the result itself; want of memory says nothing of it
-abbrev pub Answers : {X : Type 0} → Result X Refusal → Result X (Fault Refusal) → Type 0
-Answers result (Ok x) = result ≡ Ok x
-Answers result (Err (Because refusal)) = result ≡ Err refusal
-Answers result (Err Memory) = Unit {0}
 
 -- what evaluating a line answers: what is made of it where no code is due, else the least code with the line; want of memory says nothing
 abbrev pub Tells : {X : Type 0} → X → (Code → Bool) → ℕ → Result X (Fault Refusal) → Type 0

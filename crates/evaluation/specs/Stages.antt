@@ -12,7 +12,8 @@ use Rattle.stages.specs.declared.stage.ResolvedStage.{ResolvedStage}
 use Rattle.imageconfig.specs.declared.config.Config.{Config}
 use Rattle.evaluation.specs.Images.{with_origin, with_origins, many_due}
 use Rattle.evaluation.specs.Instruction.{after, action_in, due}
-use Rattle.evaluation.specs.Refusals.{unless_due, all_from}
+use Rattle.imageconfig.specs.Stage.{unless_due}
+use Rattle.evaluation.specs.Refusals.{all_from}
 use Rattle.evaluation.specs.State.{start}
 use Rattle.evaluation.specs.declared.stage.Progress.{Progress}
 use Rattle.evaluation.specs.declared.walk.Walk.{Walk}

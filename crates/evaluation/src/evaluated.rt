@@ -11,10 +11,11 @@ ghost use Rattle.evaluation.specs.Evaluated.{Answers, config_at, config_of};
 ghost use Rattle.evaluation.specs.Images.{AreSources};
 ghost use Rattle.evaluation.specs.PrivateMaking.{MakesWith, Makes, AnswersWhole};
 
+use crate::given::Given;
 use crate::names::NamedImages;
 use crate::sources::sources_of;
 use crate::state::{State, keep_names};
-use crate::walk::{Walk, with_stages};
+use crate::walk::{Walk, evaluate_stages};
 use actions::laws::{copies_are_well_formed, runs_are_well_formed};
 use imageconfig::Config;
 use lines::LineFault;
@@ -50,8 +51,11 @@ fn state_at(states: Vec<Option<State>>, number: u32) -> Option<State>
     let mut states = states;
     let number = number as usize;
     if number < states.len() {
-        states.swap_remove(number)
+        let state = states.swap_remove(number);
+        drop(states);
+        state
     } else {
+        drop(states);
         None
     }
 }
@@ -62,7 +66,8 @@ fn config_of(alloc: Global, state: Option<State>) -> Result<Config, Memory>
 {
     match state {
         Some(state) => {
-            let State { scope: _, config } = state;
+            let State { scope, config } = state;
+            drop(scope);
             Ok(config)
         }
         None => Config::plain(alloc),
@@ -88,7 +93,11 @@ fn named_sources(
 {
     match names.into_items(alloc) {
         Ok(names) => sources_of(alloc, context, images, names.into_vec()),
-        Err(memory) => Err(memory),
+        Err(memory) => {
+            drop(images);
+            drop(context);
+            Err(memory)
+        }
     }
 }
 
@@ -111,7 +120,11 @@ fn make_with(
             config,
             sources,
         }),
-        Err(_) => Err(Fault::Memory),
+        Err(_) => {
+            drop(rows);
+            drop(config);
+            Err(Fault::Memory)
+        }
     }
 }
 
@@ -132,7 +145,13 @@ fn make(
     } = walk;
     match config_at(alloc, states.into_vec(), target) {
         Ok(config) => make_with(alloc, rows, names, config, images, context, target),
-        Err(_) => Err(Fault::Memory),
+        Err(_) => {
+            drop(rows);
+            drop(names);
+            drop(images);
+            drop(context);
+            Err(Fault::Memory)
+        }
     }
 }
 
@@ -156,9 +175,18 @@ fn evaluate_needed(
     names_fit_environments();
     let (outer, stages, target) = table.into_parts();
     keep_names(&images, stages.as_slice());
-    match with_stages(alloc, args, &outer, &images, needed, stages.into_vec()) {
+    let given = Given {
+        args,
+        outer: &outer,
+        images: &images,
+    };
+    match evaluate_stages(alloc, &given, needed, stages.into_vec()) {
         Ok(walk) => make(alloc, walk, images, context, target),
-        Err(fault) => Err(fault),
+        Err(fault) => {
+            drop(images);
+            drop(context);
+            Err(fault)
+        }
     }
 }
 
@@ -188,6 +216,11 @@ pub fn evaluate(
 {
     match table.needed(alloc) {
         Ok(needed) => evaluate_needed(alloc, table, images, context, args, needed.as_slice()),
-        Err(_) => Err(Fault::Memory),
+        Err(_) => {
+            drop(table);
+            drop(images);
+            drop(context);
+            Err(Fault::Memory)
+        }
     }
 }

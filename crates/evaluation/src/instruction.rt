@@ -12,6 +12,7 @@ ghost use Rattle.evaluation.specs.Refusals.{Tells};
 ghost use Rattle.evaluation.specs.PrivateInstruction.{configured, variables_set, left_due, acted, acted_due, finished, with_line};
 ghost use Rattle.evaluation.specs.PrivateStage.{IsDone};
 
+use crate::given::Given;
 use crate::state::State;
 use actions::{Surroundings, copy_action, run_action};
 use expand::Word;
@@ -23,7 +24,6 @@ use lines::LineFault;
 use llb::Source;
 use plain::{Fault, Items, Refusal};
 use rows::{Action, Origin};
-use scopes::{Args, Scope};
 use std::alloc::Global;
 use words::TextFault;
 
@@ -47,18 +47,23 @@ fn with_line(fault: TextFault, line: u32) -> LineFault
 /// An ARG.
 fn declare(
     alloc: Global,
-    args: &Args,
-    outer: &Scope,
+    given: &Given,
     state: State,
     line: u32,
     arguments: &[Argument],
 ) -> Result<State, LineFault>
-    ensures { Tells (after (arg_value args.now) (value_in outer.now) state (spelled.Arg arguments.now)) (due (arg_value args.now) state (spelled.Arg arguments.now)) line result }
+    ensures { Tells (after (arg_value given.now.args.now) (value_in given.now.outer.now) state (spelled.Arg arguments.now)) (due (arg_value given.now.args.now) state (spelled.Arg arguments.now)) line result }
 {
-    let State { mut scope, config } = state;
-    match scope.declare(alloc, arguments, args, outer) {
-        Ok(()) => Ok(State { scope, config }),
-        Err(fault) => Err(with_line(fault, line)),
+    let mut state = state;
+    match state
+        .scope
+        .declare(alloc, arguments, given.args, given.outer)
+    {
+        Ok(()) => Ok(state),
+        Err(fault) => {
+            drop(state);
+            Err(with_line(fault, line))
+        }
     }
 }
 
@@ -73,14 +78,20 @@ fn set_variables(
     requires kind { instruction.now.kind ≡ spelled.Env assignments.now }
     ensures { Tells (variables_set state assignments.now) (config_due (value_in state.scope) state.config (spelled.Env assignments.now)) instruction.now.line result }
 {
-    let State {
-        mut scope,
-        mut config,
-    } = state;
-    config.apply(alloc, instruction, &scope)?;
-    match scope.set_env(alloc, assignments) {
-        Ok(()) => Ok(State { scope, config }),
-        Err(fault) => Err(with_line(fault, instruction.line)),
+    let mut state = state;
+    match state.config.apply(alloc, instruction, &state.scope) {
+        Ok(()) => {}
+        Err(fault) => {
+            drop(state);
+            return Err(fault);
+        }
+    }
+    match state.scope.set_env(alloc, assignments) {
+        Ok(()) => Ok(state),
+        Err(fault) => {
+            drop(state);
+            Err(with_line(fault, instruction.line))
+        }
     }
 }
 
@@ -89,9 +100,14 @@ fn configure(alloc: Global, state: State, instruction: &Instruction) -> Result<S
     requires { IsInstruction instruction.now.kind }
     ensures { Tells (configured state instruction.now.kind) (config_due (value_in state.scope) state.config instruction.now.kind) instruction.now.line result }
 {
-    let State { scope, mut config } = state;
-    config.apply(alloc, instruction, &scope)?;
-    Ok(State { scope, config })
+    let mut state = state;
+    match state.config.apply(alloc, instruction, &state.scope) {
+        Ok(()) => Ok(state),
+        Err(fault) => {
+            drop(state);
+            Err(fault)
+        }
+    }
 }
 
 /// The first origin of a line; the context where it names none.
@@ -189,24 +205,16 @@ fn act(
 /// What an instruction leaves to those after it; a RUN and a COPY leave what they found.
 fn leave(
     alloc: Global,
-    args: &Args,
-    outer: &Scope,
+    given: &Given,
     state: State,
     instruction: &Instruction,
 ) -> Result<State, LineFault>
     requires { IsInstruction instruction.now.kind }
-    ensures { Tells (after (arg_value args.now) (value_in outer.now) state instruction.now.kind) (left_due (arg_value args.now) state instruction.now.kind) instruction.now.line result }
+    ensures { Tells (after (arg_value given.now.args.now) (value_in given.now.outer.now) state instruction.now.kind) (left_due (arg_value given.now.args.now) state instruction.now.kind) instruction.now.line result }
 {
     match &instruction.kind {
         InstructionKind::Arg { arguments } => {
-            declare(
-                alloc,
-                args,
-                outer,
-                state,
-                instruction.line,
-                arguments.as_slice(),
-            )
+            declare(alloc, given, state, instruction.line, arguments.as_slice())
         }
         InstructionKind::Env { assignments } => {
             set_variables(alloc, state, instruction, assignments.as_slice())
@@ -238,24 +246,30 @@ fn finish(
     let Instruction { line, kind } = instruction;
     match act(alloc, &state, kind, origins) {
         Ok(action) => Ok(Done { state, action }),
-        Err(fault) => Err(with_line(fault, line)),
+        Err(fault) => {
+            drop(state);
+            Err(with_line(fault, line))
+        }
     }
 }
 
 /// An instruction of a stage: what it leaves and does, or the least code that is due for it, with its line.
 pub(crate) fn evaluate_instruction(
     alloc: Global,
-    args: &Args,
-    outer: &Scope,
+    given: &Given,
     state: State,
     instruction: Instruction,
     origins: Items<Origin>,
 ) -> Result<Done, LineFault>
     requires { IsInstruction instruction.kind }
-    ensures { IsDone (arg_value args.now) (value_in outer.now) state instruction.kind origins instruction.line result }
+    ensures { IsDone (arg_value given.now.args.now) (value_in given.now.outer.now) state instruction.kind origins instruction.line result }
 {
-    match leave(alloc, args, outer, state, &instruction) {
+    match leave(alloc, given, state, &instruction) {
         Ok(state) => finish(alloc, state, instruction, origins),
-        Err(fault) => Err(fault),
+        Err(fault) => {
+            drop(instruction);
+            drop(origins);
+            Err(fault)
+        }
     }
 }

@@ -8,6 +8,8 @@
 // under what was set before it, up to the first line for which a code is due (specs/Refusals.antt). A stage that the target doesn't need is
 // left out: nothing of it is evaluated, and nothing is refused.
 //
+// Heavy values are dropped by name where a function ends early: the prover then meets a call, and doesn't walk the value at each end.
+//
 // ```
 // let made = evaluate(alloc, table, images, context, &args)?;
 // made.rows                              // a row for each stage, `None` for one that isn't needed
@@ -15,7 +17,9 @@
 #![tactic(auto)]
 
 mod evaluated;
+mod given;
 mod instruction;
+pub mod laws;
 mod names;
 mod sources;
 mod stage;

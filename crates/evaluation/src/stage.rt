@@ -1,4 +1,4 @@
-ghost use Rattle.std.specs.Prelude.{OnOk, IfOk, ◌≡◌, ◌++◌};
+ghost use Rattle.std.specs.Prelude.{IfOk, ◌≡◌, ◌++◌};
 ghost use Rattle.std.specs.List.{All};
 ghost use Rattle.std.specs.FinMap.{get as arg_value};
 ghost use Rattle.instructions.specs.Instruction.{IsInstruction};
@@ -9,13 +9,13 @@ ghost use Rattle.evaluation.specs.Refusals.{many_refused};
 ghost use Rattle.evaluation.specs.Stages.{step_of};
 ghost use Rattle.evaluation.specs.PrivateStage.{put_to, IsPut, IsStepped, IsNext, AreNext};
 
+use crate::given::Given;
 use crate::instruction::{Done, evaluate_instruction};
 use crate::names::NamedImages;
 use crate::state::State;
 use lines::LineFault;
 use plain::{Code, Fault, Items, Memory, Refusal};
 use rows::{Action, Origin, Step};
-use scopes::{Args, Scope};
 use stages::ResolvedInstruction;
 use std::alloc::Global;
 
@@ -38,21 +38,24 @@ pub(crate) fn many_images(line: u32) -> LineFault
 }
 
 /// A stage's steps, with that of a line that does something to the tree.
-fn with_step(steps: Items<Step>, line: u32, action: Option<Action>) -> Result<Items<Step>, Memory>
+fn push_step(steps: Items<Step>, line: u32, action: Option<Action>) -> Result<Items<Step>, Memory>
     ensures { IfOk result (λ more. more ≡ steps ++ step_of line action) }
 {
     let mut steps = steps;
     match action {
         Some(action) => match steps.push(Step { line, action }) {
             Ok(()) => Ok(steps),
-            Err(memory) => Err(memory),
+            Err(memory) => {
+                drop(steps);
+                Err(memory)
+            }
         },
         None => Ok(steps),
     }
 }
 
 /// A stage of these steps, with what an instruction left and did.
-fn put_done(
+fn advance(
     steps: Items<Step>,
     names: NamedImages,
     line: u32,
@@ -61,18 +64,22 @@ fn put_done(
     ensures { IfOk result (λ progress. progress ≡ put_to steps names line done) }
 {
     let Done { state, action } = done;
-    match with_step(steps, line, action) {
+    match push_step(steps, line, action) {
         Ok(steps) => Ok(Progress {
             state,
             steps,
             names,
         }),
-        Err(memory) => Err(memory),
+        Err(memory) => {
+            drop(state);
+            drop(names);
+            Err(memory)
+        }
     }
 }
 
 /// The same, unless the line goes past the limit of images.
-fn put_unless_many(
+fn advance_unless_many(
     steps: Items<Step>,
     names: NamedImages,
     line: u32,
@@ -81,27 +88,37 @@ fn put_unless_many(
     ensures { IsPut steps names line done result }
 {
     if names.are_many() {
+        drop(steps);
+        drop(names);
+        drop(done);
         return Err(many_images(line));
     }
-    match put_done(steps, names, line, done) {
+    match advance(steps, names, line, done) {
         Ok(progress) => Ok(progress),
         Err(_) => Err(Fault::Memory),
     }
 }
 
 /// The images that were named so far, and those that a line names.
-fn with_names(alloc: Global, names: NamedImages, origins: &[Origin]) -> Result<NamedImages, Memory>
+fn name_images(alloc: Global, names: NamedImages, origins: &[Origin]) -> Result<NamedImages, Memory>
     ensures { IfOk result (λ more. more ≡ with_origins names origins.now) }
 {
     let mut names = names;
     match names.add_origins(alloc, origins) {
         Ok(()) => Ok(names),
-        Err(memory) => Err(memory),
+        Err(memory) => {
+            drop(names);
+            Err(memory)
+        }
     }
 }
 
 /// A stage so far, with the images that a line names.
-fn name_origins(alloc: Global, progress: Progress, origins: &[Origin]) -> Result<Progress, Memory>
+fn name_line_images(
+    alloc: Global,
+    progress: Progress,
+    origins: &[Origin],
+) -> Result<Progress, Memory>
     ensures { IfOk result (λ more. more ≡ record { state = progress.state; steps = progress.steps; names = with_origins progress.names origins.now }) }
 {
     let Progress {
@@ -109,26 +126,29 @@ fn name_origins(alloc: Global, progress: Progress, origins: &[Origin]) -> Result
         steps,
         names,
     } = progress;
-    match with_names(alloc, names, origins) {
+    match name_images(alloc, names, origins) {
         Ok(names) => Ok(Progress {
             state,
             steps,
             names,
         }),
-        Err(memory) => Err(memory),
+        Err(memory) => {
+            drop(state);
+            drop(steps);
+            Err(memory)
+        }
     }
 }
 
 /// An instruction behind what its stage is so far, with the images that it names.
-fn put_instruction(
+fn evaluate_named(
     alloc: Global,
-    args: &Args,
-    outer: &Scope,
+    given: &Given,
     progress: Progress,
     resolved: ResolvedInstruction,
 ) -> Result<Progress, LineFault>
     requires { IsInstruction resolved.instruction.kind }
-    ensures { IsStepped (arg_value args.now) (value_in outer.now) progress.state resolved.instruction.kind resolved.origins resolved.instruction.line progress.steps progress.names result }
+    ensures { IsStepped (arg_value given.now.args.now) (value_in given.now.outer.now) progress.state resolved.instruction.kind resolved.origins resolved.instruction.line progress.steps progress.names result }
 {
     let Progress {
         state,
@@ -140,43 +160,48 @@ fn put_instruction(
         origins,
     } = resolved;
     let line = instruction.line;
-    match evaluate_instruction(alloc, args, outer, state, instruction, origins) {
-        Ok(done) => put_unless_many(steps, names, line, done),
-        Err(fault) => Err(fault),
+    match evaluate_instruction(alloc, given, state, instruction, origins) {
+        Ok(done) => advance_unless_many(steps, names, line, done),
+        Err(fault) => {
+            drop(steps);
+            drop(names);
+            Err(fault)
+        }
     }
 }
 
 /// A stage with one instruction more.
-fn with_instruction(
+fn evaluate_next(
     alloc: Global,
-    args: &Args,
-    outer: &Scope,
+    given: &Given,
     progress: Progress,
     resolved: ResolvedInstruction,
 ) -> Result<Progress, LineFault>
     requires { IsInstruction resolved.instruction.kind }
-    ensures { IsNext (arg_value args.now) (value_in outer.now) progress resolved result }
+    ensures { IsNext (arg_value given.now.args.now) (value_in given.now.outer.now) progress resolved result }
 {
-    match name_origins(alloc, progress, resolved.origins.as_slice()) {
-        Ok(progress) => put_instruction(alloc, args, outer, progress, resolved),
-        Err(_) => Err(Fault::Memory),
+    match name_line_images(alloc, progress, resolved.origins.as_slice()) {
+        Ok(progress) => evaluate_named(alloc, given, progress, resolved),
+        Err(_) => {
+            drop(resolved);
+            Err(Fault::Memory)
+        }
     }
 }
 
 /// The instructions of a stage one after another, up to the first that is refused.
-pub(crate) fn with_instructions(
+pub(crate) fn evaluate_instructions(
     alloc: Global,
-    args: &Args,
-    outer: &Scope,
+    given: &Given,
     progress: Progress,
     instructions: Vec<ResolvedInstruction>,
 ) -> Result<Progress, LineFault>
     requires { All (λ (r : Resolved). IsInstruction r.instruction.kind) instructions.items }
-    ensures { AreNext (arg_value args.now) (value_in outer.now) progress instructions.items result }
+    ensures { AreNext (arg_value given.now.args.now) (value_in given.now.outer.now) progress instructions.items result }
 {
     let mut progress = progress;
     for resolved in instructions {
-        match with_instruction(alloc, args, outer, progress, resolved) {
+        match evaluate_next(alloc, given, progress, resolved) {
             Ok(more) => progress = more,
             Err(fault) => return Err(fault),
         }

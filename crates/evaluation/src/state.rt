@@ -39,8 +39,13 @@ impl State {
     {
         let variables = config.env.variables(alloc)?;
         let scope = inherited(alloc, variables.into_vec())?;
-        let config = config.child(alloc)?;
-        Ok(State { scope, config })
+        match config.child(alloc) {
+            Ok(config) => Ok(State { scope, config }),
+            Err(memory) => {
+                drop(scope);
+                Err(memory)
+            }
+        }
     }
 
     /// What a stage from a stage that leaves this begins with.
@@ -48,8 +53,13 @@ impl State {
         ensures { IfOk result (λ state. state ≡ stage_state self.now) }
     {
         let scope = self.scope.copy(alloc)?;
-        let config = self.config.child(alloc)?;
-        Ok(State { scope, config })
+        match self.config.child(alloc) {
+            Ok(config) => Ok(State { scope, config }),
+            Err(memory) => {
+                drop(scope);
+                Err(memory)
+            }
+        }
     }
 }
 

@@ -10,15 +10,15 @@ ghost use Rattle.evaluation.specs.PrivateNames.{AreWhole};
 ghost use Rattle.evaluation.specs.PrivateStage.{AreNext};
 ghost use Rattle.evaluation.specs.PrivateWalk.{AreFew, AreNamed, begun_with, IsEnded, IsWalk, IsStageAdded, IsNextStage, AreStages};
 
+use crate::given::Given;
 use crate::names::NamedImages;
-use crate::stage::{Progress, many_images, with_instructions};
+use crate::stage::{Progress, evaluate_instructions, many_images};
 use crate::state::{State, begin};
 use imageconfig::Config;
 use lines::LineFault;
 use plain::{Fault, Items, Memory};
 use plans::Images;
 use rows::{Origin, Stage, Step};
-use scopes::{Args, Scope};
 use stages::{ResolvedInstruction, ResolvedStage};
 use std::alloc::Global;
 
@@ -31,17 +31,18 @@ pub struct Walk {
 }
 
 /// The names, unless they are more than one build may name.
-fn unless_many(names: NamedImages, line: u32) -> Result<NamedImages, LineFault>
+fn refuse_many(names: NamedImages, line: u32) -> Result<NamedImages, LineFault>
     ensures { AreFew names line result }
 {
     if names.are_many() {
+        drop(names);
         return Err(many_images(line));
     }
     Ok(names)
 }
 
 /// The names with that of the image that a FROM names.
-fn with_base(
+fn name_base(
     alloc: Global,
     names: NamedImages,
     base: &Origin,
@@ -51,8 +52,11 @@ fn with_base(
 {
     let mut names = names;
     match names.add_origin(alloc, base) {
-        Ok(()) => unless_many(names, line),
-        Err(_) => Err(Fault::Memory),
+        Ok(()) => refuse_many(names, line),
+        Err(_) => {
+            drop(names);
+            Err(Fault::Memory)
+        }
     }
 }
 
@@ -72,36 +76,38 @@ fn begin_stage(
             steps: Items::new(alloc),
             names,
         }),
-        Err(memory) => Err(memory),
+        Err(memory) => {
+            drop(names);
+            Err(memory)
+        }
     }
 }
 
 /// What a stage's instructions leave and do, behind stages that left these states, with its FROM's image among the names.
 fn evaluate_begun(
     alloc: Global,
-    args: &Args,
-    outer: &Scope,
-    images: &Images<Config>,
+    given: &Given,
     states: &[Option<State>],
     names: NamedImages,
     base: &Origin,
     instructions: Vec<ResolvedInstruction>,
 ) -> Result<Progress, LineFault>
     requires { All (λ (r : Resolved). IsInstruction r.instruction.kind) instructions.items }
-    ensures { AreNext (arg_value args.now) (value_in outer.now) (begun_with images.now states.now base.now names) instructions.items result }
+    ensures { AreNext (arg_value given.now.args.now) (value_in given.now.outer.now) (begun_with given.now.images.now states.now base.now names) instructions.items result }
 {
-    match begin_stage(alloc, images, states, names, base) {
-        Ok(progress) => with_instructions(alloc, args, outer, progress, instructions),
-        Err(_) => Err(Fault::Memory),
+    match begin_stage(alloc, given.images, states, names, base) {
+        Ok(progress) => evaluate_instructions(alloc, given, progress, instructions),
+        Err(_) => {
+            drop(instructions);
+            Err(Fault::Memory)
+        }
     }
 }
 
 /// What a stage's instructions leave and do, behind stages that left these states.
 fn evaluate_stage(
     alloc: Global,
-    args: &Args,
-    outer: &Scope,
-    images: &Images<Config>,
+    given: &Given,
     states: &[Option<State>],
     names: NamedImages,
     line: u32,
@@ -109,27 +115,19 @@ fn evaluate_stage(
     instructions: Vec<ResolvedInstruction>,
 ) -> Result<Progress, LineFault>
     requires { All (λ (r : Resolved). IsInstruction r.instruction.kind) instructions.items }
-    ensures { IsEnded (arg_value args.now) (value_in outer.now) images.now states.now names line base.now instructions.items result }
+    ensures { IsEnded (arg_value given.now.args.now) (value_in given.now.outer.now) given.now.images.now states.now names line base.now instructions.items result }
 {
-    match with_base(alloc, names, base, line) {
-        Ok(names) => {
-            evaluate_begun(
-                alloc,
-                args,
-                outer,
-                images,
-                states,
-                names,
-                base,
-                instructions,
-            )
+    match name_base(alloc, names, base, line) {
+        Ok(names) => evaluate_begun(alloc, given, states, names, base, instructions),
+        Err(fault) => {
+            drop(instructions);
+            Err(fault)
         }
-        Err(fault) => Err(fault),
     }
 }
 
 /// The rows so far, with that of a stage.
-fn with_row(
+fn push_row(
     rows: Items<Option<Stage>>,
     line: u32,
     base: Origin,
@@ -140,23 +138,29 @@ fn with_row(
     let mut rows = rows;
     match rows.push(Some(Stage { line, base, steps })) {
         Ok(()) => Ok(rows),
-        Err(memory) => Err(memory),
+        Err(memory) => {
+            drop(rows);
+            Err(memory)
+        }
     }
 }
 
 /// What the stages so far leave, and what one more leaves.
-fn with_state(states: Items<Option<State>>, state: State) -> Result<Items<Option<State>>, Memory>
+fn push_state(states: Items<Option<State>>, state: State) -> Result<Items<Option<State>>, Memory>
     ensures { IfOk result (λ more. more ≡ states ++ SomeOf state ∷ []) }
 {
     let mut states = states;
     match states.push(Some(state)) {
         Ok(()) => Ok(states),
-        Err(memory) => Err(memory),
+        Err(memory) => {
+            drop(states);
+            Err(memory)
+        }
     }
 }
 
 /// The stages so far, with these rows, and with what one more leaves.
-fn put_state(
+fn end_walk(
     rows: Items<Option<Stage>>,
     states: Items<Option<State>>,
     state: State,
@@ -164,18 +168,22 @@ fn put_state(
 ) -> Result<Walk, LineFault>
     ensures { IsWalk rows (states ++ SomeOf state ∷ []) names result }
 {
-    match with_state(states, state) {
+    match push_state(states, state) {
         Ok(states) => Ok(Walk {
             rows,
             states,
             names,
         }),
-        Err(_) => Err(Fault::Memory),
+        Err(_) => {
+            drop(rows);
+            drop(names);
+            Err(Fault::Memory)
+        }
     }
 }
 
 /// The stages so far, with one more that ends so; the names so far are its own.
-fn put_stage(
+fn end_stage(
     rows: Items<Option<Stage>>,
     states: Items<Option<State>>,
     line: u32,
@@ -189,23 +197,26 @@ fn put_stage(
         steps,
         names,
     } = progress;
-    match with_row(rows, line, base, steps) {
-        Ok(rows) => put_state(rows, states, state, names),
-        Err(_) => Err(Fault::Memory),
+    match push_row(rows, line, base, steps) {
+        Ok(rows) => end_walk(rows, states, state, names),
+        Err(_) => {
+            drop(states);
+            drop(state);
+            drop(names);
+            Err(Fault::Memory)
+        }
     }
 }
 
 /// The stages so far, with one more that is needed.
-fn add_needed(
+fn evaluate_needed_stage(
     alloc: Global,
-    args: &Args,
-    outer: &Scope,
-    images: &Images<Config>,
+    given: &Given,
     walk: Walk,
     stage: ResolvedStage,
 ) -> Result<Walk, LineFault>
     requires { AreWhole stage }
-    ensures { IsStageAdded (arg_value args.now) (value_in outer.now) images.now walk stage result }
+    ensures { IsStageAdded (arg_value given.now.args.now) (value_in given.now.outer.now) given.now.images.now walk stage result }
 {
     let Walk {
         rows,
@@ -219,36 +230,42 @@ fn add_needed(
     } = stage;
     match evaluate_stage(
         alloc,
-        args,
-        outer,
-        images,
+        given,
         states.as_slice(),
         names,
         line,
         &base,
         instructions.into_vec(),
     ) {
-        Ok(progress) => put_stage(rows, states, line, base, progress),
-        Err(fault) => Err(fault),
+        Ok(progress) => end_stage(rows, states, line, base, progress),
+        Err(fault) => {
+            drop(rows);
+            drop(states);
+            drop(base);
+            Err(fault)
+        }
     }
 }
 
 /// The stages so far, with one more that is left out.
-fn with_none(walk: Walk) -> Result<Walk, Memory>
+fn skip_stage(walk: Walk) -> Result<Walk, Memory>
     ensures { IfOk result (λ more. more ≡ with_none walk) }
 {
-    let Walk {
-        mut rows,
-        mut states,
-        names,
-    } = walk;
-    rows.push(None)?;
-    states.push(None)?;
-    Ok(Walk {
-        rows,
-        states,
-        names,
-    })
+    let mut walk = walk;
+    match walk.rows.push(None) {
+        Ok(()) => {}
+        Err(memory) => {
+            drop(walk);
+            return Err(memory);
+        }
+    }
+    match walk.states.push(None) {
+        Ok(()) => Ok(walk),
+        Err(memory) => {
+            drop(walk);
+            Err(memory)
+        }
+    }
 }
 
 /// Whether a stage is marked.
@@ -262,38 +279,35 @@ fn is_marked(marks: &[bool], stage: usize) -> bool
 }
 
 /// The stages so far, with one more, which is evaluated where it is needed.
-fn add_stage(
+fn evaluate_next_stage(
     alloc: Global,
-    args: &Args,
-    outer: &Scope,
-    images: &Images<Config>,
+    given: &Given,
     needed: &[bool],
     walk: Walk,
     stage: ResolvedStage,
 ) -> Result<Walk, LineFault>
     requires { AreWhole stage }
-    ensures { IsNextStage (arg_value args.now) (value_in outer.now) images.now needed.now walk stage result }
+    ensures { IsNextStage (arg_value given.now.args.now) (value_in given.now.outer.now) given.now.images.now needed.now walk stage result }
 {
     if is_marked(needed, walk.rows.len()) {
-        return add_needed(alloc, args, outer, images, walk, stage);
+        return evaluate_needed_stage(alloc, given, walk, stage);
     }
-    match with_none(walk) {
+    drop(stage);
+    match skip_stage(walk) {
         Ok(more) => Ok(more),
         Err(_) => Err(Fault::Memory),
     }
 }
 
 /// The needed stages one after another, up to the first line that is refused.
-pub(crate) fn with_stages(
+pub(crate) fn evaluate_stages(
     alloc: Global,
-    args: &Args,
-    outer: &Scope,
-    images: &Images<Config>,
+    given: &Given,
     needed: &[bool],
     stages: Vec<ResolvedStage>,
 ) -> Result<Walk, LineFault>
     requires { All AreWhole stages.items }
-    ensures { AreStages (arg_value args.now) (value_in outer.now) images.now needed.now stages.items result }
+    ensures { AreStages (arg_value given.now.args.now) (value_in given.now.outer.now) given.now.images.now needed.now stages.items result }
 {
     let mut walk = Walk {
         rows: Items::new(alloc),
@@ -301,7 +315,7 @@ pub(crate) fn with_stages(
         names: NamedImages::new(alloc),
     };
     for stage in stages {
-        match add_stage(alloc, args, outer, images, needed, walk, stage) {
+        match evaluate_next_stage(alloc, given, needed, walk, stage) {
             Ok(more) => walk = more,
             Err(fault) => return Err(fault),
         }

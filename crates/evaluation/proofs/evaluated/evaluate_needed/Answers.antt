@@ -4,8 +4,8 @@ use Rattle.evaluation.proofs.EvaluatedFacts.{all_whole, answers_told, answers_ma
 use Rattle.evaluation.proofs.WholeFacts.{answers_whole, whole_none}
 use Rattle.evaluation.proofs.evaluated.evaluate_needed.Goals as goal
 
-pub with_stages-requires : goal.with_stages-requires
-with_stages-requires c = all_whole c.args.table _ c.into_parts-outer.ensures.whole (c.into_vec.ensures ∙ c.into_parts-outer.ensures.stages)
+pub evaluate_stages-requires : goal.evaluate_stages-requires
+evaluate_stages-requires c = all_whole c.args.table _ c.into_parts-outer.ensures.whole (c.into_vec.ensures ∙ c.into_parts-outer.ensures.stages)
 
 pub returns-in-Ok-clause-answers : goal.returns-in-Ok-clause-answers
 returns-in-Ok-clause-answers c =
@@ -27,10 +27,10 @@ returns-in-Ok-clause-whole c =
     c.into_parts-outer.ensures.whole (c.into_vec.ensures ∙ c.into_parts-outer.ensures.stages) (c.as_slice.ensures ∙ c.into_parts-outer.ensures.stages) c.into_parts-outer.ensures.target c.requires
     c.keep_names.ensures c.in-Ok.ensures c.make.ensures
 
-pub returns-in-Err-clause-answers : goal.returns-in-Err-clause-answers
-returns-in-Err-clause-answers c =
+pub returns-clause-answers : goal.returns-clause-answers
+returns-clause-answers c =
     answers_told (get c.args.args.now) c.args.images c.args.context c.args.table _ _ _ c.in-Err.fault
     c.into_parts-outer.ensures.outer (c.into_vec.ensures ∙ c.into_parts-outer.ensures.stages) c.requires c.in-Err.ensures
 
-pub returns-in-Err-clause-whole : goal.returns-in-Err-clause-whole
-returns-in-Err-clause-whole c = whole_none _ _ _
+pub returns-clause-whole : goal.returns-clause-whole
+returns-clause-whole c = whole_none _ _ _

@@ -8,7 +8,7 @@ use Rattle.evaluation.proofs.instruction.declare.Goals as goal
 
 pub returns-in-Err : goal.returns-in-Err
 returns-in-Err c =
-    let args = get c.args.args.now in
+    let args = get c.args.given.now.args.now in
     let scope = c.args.state.scope in
-    line_told (after args (value_in c.args.outer.now) c.args.state (Arg c.args.arguments.now)) (due args c.args.state (Arg c.args.arguments.now)) c.args.line c.in-Err.fault _ c.with_line.ensures
-    (long_told scope (arg_line (value_in scope) args (value_in c.args.outer.now) c.args.arguments.now) c.declare.new.self (arg_texts (value_in scope) args c.args.arguments.now) c.in-Err.fault c.in-Err.ensures)
+    line_told (after args (value_in c.args.given.now.outer.now) c.args.state (Arg c.args.arguments.now)) (due args c.args.state (Arg c.args.arguments.now)) c.args.line c.in-Err.fault _ c.with_line.ensures
+    (long_told scope (arg_line (value_in scope) args (value_in c.args.given.now.outer.now) c.args.arguments.now) c.declare.new.self (arg_texts (value_in scope) args c.args.arguments.now) c.in-Err.fault c.in-Err.ensures)

@@ -15,5 +15,5 @@ returns-in-Env c =
     let told =
     subst (λ (as_now : List Assignment). Tells (variables_set c.args.state as_now) (due (value_in c.args.state.scope) c.args.state.config (Env as_now)) c.args.instruction.now.line c.set_variables.result)
     c.as_slice-in-Env.ensures c.set_variables.ensures in
-    subst (λ (kind : InstructionKind). Tells (after (get c.args.args.now) (value_in c.args.outer.now) c.args.state kind) (left_due (get c.args.args.now) c.args.state kind) c.args.instruction.now.line c.set_variables.result)
+    subst (λ (kind : InstructionKind). Tells (after (get c.args.given.now.args.now) (value_in c.args.given.now.outer.now) c.args.state kind) (left_due (get c.args.given.now.args.now) c.args.state kind) c.args.instruction.now.line c.set_variables.result)
     (sym c.in-Env.is) told

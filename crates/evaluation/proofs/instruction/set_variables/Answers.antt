@@ -6,8 +6,8 @@ use Rattle.evaluation.specs.PrivateInstruction.{variables_set}
 use Rattle.evaluation.proofs.LineFacts.{line_told, long_told}
 use Rattle.evaluation.proofs.instruction.set_variables.Goals as goal
 
-pub returns-in-Err : goal.returns-in-Err
-returns-in-Err c =
+pub returns-in-Err-set_env : goal.returns-in-Err-set_env
+returns-in-Err-set_env c =
     let scope = c.args.state.scope in
-    line_told (variables_set c.args.state c.args.assignments.now) (due (value_in scope) c.args.state.config (Env c.args.assignments.now)) c.args.instruction.now.line c.in-Err.fault _ c.with_line.ensures
-    (long_told scope (env_line (value_in scope) c.args.assignments.now) c.set_env.new.self (env_texts (value_in scope) c.args.assignments.now) c.in-Err.fault c.in-Err.ensures)
+    line_told (variables_set c.args.state c.args.assignments.now) (due (value_in scope) c.args.state.config (Env c.args.assignments.now)) c.args.instruction.now.line c.in-Err-set_env.fault _ c.with_line.ensures
+    (long_told scope (env_line (value_in scope) c.args.assignments.now) c.set_env.new.self (env_texts (value_in scope) c.args.assignments.now) c.in-Err-set_env.fault c.in-Err-set_env.ensures)

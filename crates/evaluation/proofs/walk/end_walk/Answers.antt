@@ -1,5 +1,5 @@
 use Rattle.evaluation.proofs.WalkFacts.{walk_put, walk_none}
-use Rattle.evaluation.proofs.walk.put_state.Goals as goal
+use Rattle.evaluation.proofs.walk.end_walk.Goals as goal
 
 pub returns-in-Ok : goal.returns-in-Ok
 returns-in-Ok c = walk_put _ _ c.in-Ok.states _ c.in-Ok.ensures

@@ -1,6 +1,6 @@
 use Rattle.std.proofs.Common.{sym, ◌∙◌}
 use Rattle.evaluation.proofs.StepFacts.{put_many, put_done, put_none}
-use Rattle.evaluation.proofs.stage.put_unless_many.Goals as goal
+use Rattle.evaluation.proofs.stage.advance_unless_many.Goals as goal
 
 pub returns-then-are_many : goal.returns-then-are_many
 returns-then-are_many c = put_many _ _ _ _ _ c.many_images.ensures (sym c.are_many.ensures ∙ c.if-are_many.true)

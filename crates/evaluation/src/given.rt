@@ -1,0 +1,14 @@
+use imageconfig::Config;
+use plans::Images;
+use scopes::{Args, Scope};
+
+/// What is the same for all stages of a file.
+#[derive(Clone, Copy)]
+pub(crate) struct Given<'a> {
+    /// The build arguments.
+    pub(crate) args: &'a Args,
+    /// The scope of the ARGs before the first FROM.
+    pub(crate) outer: &'a Scope,
+    /// The images that there are.
+    pub(crate) images: &'a Images<Config>,
+}

@@ -1,0 +1,59 @@
+// What is proved of the definitions alone. The functions do nothing: their contracts are laws.
+
+ghost use Rattle.std.specs.Prelude.{◌≡◌, ◌⊎◌, ℕ, List, Bool, false, Ok, Err};
+ghost use Rattle.std.specs.List.{All};
+ghost use Rattle.plain.specs.declared.fault.Fault.TheVariants.{Because};
+ghost use Rattle.plain.specs.declared.refusal.Code.{Code};
+ghost use Rattle.plain.specs.declared.refusal.Refusal.{Refusal};
+ghost use Rattle.trees.specs.TreeMap.{TreeMap};
+ghost use Rattle.plans.specs.Images.{ImagesValue};
+ghost use Rattle.scopes.specs.Evaluate.{Values};
+ghost use Rattle.stages.specs.Needed.{AreNeeded};
+ghost use Rattle.stages.specs.Table.{TableValue, IsTable};
+ghost use Rattle.stages.specs.declared.stage.ResolvedInstruction.{ResolvedInstruction};
+ghost use Rattle.stages.specs.declared.stage.ResolvedStage.{ResolvedStage};
+ghost use Rattle.imageconfig.specs.Stage.{stage_config};
+ghost use Rattle.imageconfig.specs.declared.config.Config.{Config};
+ghost use Rattle.evaluation.specs.Configuration.{in_scope};
+ghost use Rattle.evaluation.specs.Evaluated.{evaluated, Answers};
+ghost use Rattle.evaluation.specs.NeededLines.{JudgedLine, needed_lines, IsLeastRefusal, SameWhereMarked};
+ghost use Rattle.evaluation.specs.Stages.{instructions_from};
+ghost use Rattle.evaluation.specs.declared.evaluated.Evaluated.{Evaluated};
+ghost use Rattle.evaluation.specs.declared.stage.Progress.{Progress};
+ghost use Rattle.evaluation.specs.declared.walk.Walk.{Walk};
+
+/// Each table has an evaluation or a refusal.
+pub fn every_table_is_evaluated_or_refused()
+    ensures { (args : Values) (images : ImagesValue Config) (context : TreeMap) (table : TableValue) → IsTable table
+        → ((made : Evaluated) × Answers args images context table (Ok made)) ⊎ ((refusal : Refusal) × Answers args images context table (Err (Because refusal))) }
+{}
+
+/// Of all codes that are due for lines of needed stages, each line judged where it stands, the least is told: by line, and on a line by
+/// code. A table is evaluated only where none is due.
+pub fn the_least_refusal_is_told()
+    ensures refused { (args : Values) (images : ImagesValue Config) (needed : List Bool) (table : TableValue) (refusal : Refusal) → IsTable table
+        → evaluated args images needed table ≡ Err refusal → IsLeastRefusal (needed_lines args images needed table) refusal }
+    ensures evaluated { (args : Values) (images : ImagesValue Config) (needed : List Bool) (table : TableValue) (walk : Walk)
+        → evaluated args images needed table ≡ Ok walk → All (λ (j : JudgedLine). (code : Code) → j.codes code ≡ false) (needed_lines args images needed table) }
+{
+    instructions::laws::the_least_code_is_told();
+}
+
+/// What a stage says that isn't needed changes nothing: where all needed stages of a file are the same, the same are needed, and they are
+/// evaluated to the same rows, scopes, configurations and images, or refused alike.
+pub fn stages_that_are_not_needed_change_nothing()
+    ensures needed { (stages others : List ResolvedStage) (target : ℕ) (needed : List Bool) → AreNeeded stages target needed
+        → SameWhereMarked needed stages others → AreNeeded others target needed }
+    ensures evaluated { (args : Values) (images : ImagesValue Config) (needed : List Bool) (table other : TableValue) → table.outer ≡ other.outer
+        → SameWhereMarked needed table.stages other.stages → evaluated args images needed table ≡ evaluated args images needed other }
+{
+    instructions::laws::the_least_code_is_told();
+}
+
+/// The configuration that the instructions of a stage leave is what their lines make of the one before them, one line after another, each
+/// under the values of names before it.
+pub fn a_configuration_is_what_the_lines_make()
+    ensures { (args outer : Values) (instructions : List ResolvedInstruction) (first last : Progress)
+        → instructions_from args outer (Ok first) instructions ≡ Ok last
+        → stage_config first.state.config (in_scope args outer first.state instructions) ≡ Ok last.state.config }
+{}
