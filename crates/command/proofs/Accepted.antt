@@ -15,11 +15,13 @@ use Rattle.clap.specs.Values.{IsSignedIn}
 use Rattle.clap.specs.Walk.{answers_to, finished, nothing_held, settled, walk, walk_from}
 use Rattle.clap.specs.declared.builder.value_parser.ValueParser.TheVariants as vp
 use Rattle.clap.proofs.ValueTestLemmas.{accepts-Accepts}
-use Rattle.command.specs.CommandLine.{least_workers, served_workers, whole_command}
+use Rattle.plain.specs.Limits.{most_workers}
+use Rattle.command.specs.CommandLine.{least_workers, whole_command}
 use Rattle.command.specs.Tasks.{IsTaskOf, IsWorkers}
 use Rattle.command.specs.declared.task.Task.{Task}
-use Rattle.command.specs.declared.task.Task.TheVariants.{Build}
+use Rattle.command.specs.declared.task.Task.TheVariants.{Build, Graph, Pack}
 use Rattle.command.proofs.BuildWalk.{leaf, leaf_ok}
+use Rattle.command.proofs.PackWalk.{folder_ok, leaf as pack_leaf}
 use Rattle.command.proofs.Kept.{or_else-left, or_else-right, some_kind}
 use Rattle.command.proofs.Rows.{HasFine, one_of-fine}
 use Rattle.command.proofs.TopWalk.{NotHelp, app, names, top_ok}
@@ -28,7 +30,7 @@ use Rattle.command.proofs.TopWalk.{NotHelp, app, names, top_ok}
 record NumberAt (text : Text) : Type 0 where
   numeral : IsNumeral 10 (without_leading_plus text)
   least : least_workers ≤ digits_value 10 (without_leading_plus text)
-  most : digits_value 10 (without_leading_plus text) ≤ served_workers
+  most : digits_value 10 (without_leading_plus text) ≤ most_workers
 
 without_minus-kept : (text : Text) → starts_with_minus text ≡ false → without_minus text ≡ text
 without_minus-kept [] e = refl
@@ -38,7 +40,7 @@ without_minus-kept (c ∷ text) e = go (c == 45) e
     go true bad = absurd (true≢false bad)
     go false ok = refl
 
-number_at : (text : Text) (b : Bool) → starts_with_minus text ≡ b → IsSignedIn (pos least_workers) (pos served_workers) text
+number_at : (text : Text) (b : Bool) → starts_with_minus text ≡ b → IsSignedIn (pos least_workers) (pos most_workers) text
     → NumberAt (without_minus text)
 number_at text true minus passed = let low = rw minus at passed.2 in absurd (omega (arith, ints))
 number_at text false minus passed =
@@ -49,7 +51,7 @@ number_at text false minus passed =
 
 workers_of : (rows : List Row) → HasFine rows → (n : ℕ) × IsWorkers rows n
 workers_of rows has =
-    let signed = accepts-Accepts false (vp.Signed (pos least_workers) (pos served_workers)) has.fine.text has.fine.passes in
+    let signed = accepts-Accepts false (vp.Signed (pos least_workers) (pos most_workers)) has.fine.text has.fine.passes in
     let number = number_at has.fine.text (starts_with_minus has.fine.text) refl signed in (
       digits_value 10 (without_leading_plus (without_minus has.fine.text)),
       record {
@@ -62,31 +64,42 @@ workers_of rows has =
       },
     )
 
--- `help` as clap builds it
+-- `graph` and `help` as clap builds them
+abbrev graph_leaf : Shape
+graph_leaf = slice_index_or app.subs 1 (new_shape [])
+
 abbrev help_leaf : Shape
-help_leaf = slice_index_or app.subs 1 (new_shape [])
+help_leaf = slice_index_or app.subs 3 (new_shape [])
 
 or_false : (b : Bool) → (b || false) ≡ true → b ≡ true
 or_false true e = refl
 or_false false e = e
 
-met_at : (p : Text × List Text) (x y : Bool) → answers_to p.0 (label_of help_leaf) ≡ y → NotHelp (Some p)
-    → is_some (option_map (λ s. rows_at s p.1) (cond x (Some leaf) (cond y (Some help_leaf) None))) ≡ true
-    → option_map_or (λ s. level_fault s [] nothing_held p.1 false []) (cond x (Some leaf) (cond y (Some help_leaf) None)) [] ≡ []
-    → (task : Task) × IsTaskOf (option_map (λ s. rows_at s p.1) (cond x (Some leaf) (cond y (Some help_leaf) None))) task
-met_at p true y help not_help some e =
+-- the command that a name leads to, by which it answers to
+abbrev leads : Bool → Bool → Bool → Bool → Option Shape
+leads x y p z = cond x (Some leaf) (cond y (Some graph_leaf) (cond p (Some pack_leaf) (cond z (Some help_leaf) None)))
+
+met_at : (p : Text × List Text) (x y k z : Bool) → answers_to p.0 (label_of help_leaf) ≡ z → NotHelp (Some p)
+    → is_some (option_map (λ s. rows_at s p.1) (leads x y k z)) ≡ true
+    → option_map_or (λ s. level_fault s [] nothing_held p.1 false []) (leads x y k z) [] ≡ []
+    → (task : Task) × IsTaskOf (option_map (λ s. rows_at s p.1) (leads x y k z)) task
+met_at p true y k z help not_help some e =
     let found = workers_of _ (leaf_ok p.1 e) in
     (Build found.0, (refl, found.1))
-met_at p false true help not_help some e =
+met_at p false true k z help not_help some e = (Graph, refl)
+met_at p false false true z help not_help some e =
+    let found = folder_ok p.1 e in
+    (Pack found.0, (refl, found.1))
+met_at p false false false true help not_help some e =
     let same = (bytes_eq-Decides (codes "help") p.0).0 (or_false _ help) in
     absurd (true≢false (sym ((bytes_eq-Decides p.0 (codes "help")).1 (sym same)) ∙ not_help))
-met_at p false false help not_help some e = absurd (true≢false (sym some))
+met_at p false false false false help not_help some e = absurd (true≢false (sym some))
 
 stopped_at : (stop : Option (Text × List Text)) → NotHelp stop → is_some (entered app stop) ≡ true → entered_fault app stop ≡ []
     → (task : Task) × IsTaskOf (entered app stop) task
 stopped_at None not_help some e = absurd (true≢false (sym some))
 stopped_at (Some p) not_help some e =
-    met_at p (answers_to p.0 (label_of leaf)) (answers_to p.0 (label_of help_leaf)) refl not_help some e
+    met_at p (answers_to p.0 (label_of leaf)) (answers_to p.0 (label_of graph_leaf)) (answers_to p.0 (label_of pack_leaf)) (answers_to p.0 (label_of help_leaf)) refl not_help some e
 
 -- a subcommand is wanted
 has_command : (has : Bool) (rows : List Row) → check_fault app.top rows has ≡ [] → has ≡ true

@@ -10,7 +10,8 @@ use Rattle.clap.specs.Walk.{Held, Outcome, Step, Waiting, Walk, after_flag, afte
 use Rattle.clap.specs.declared.builder.value_parser.ValueParser.TheVariants as vp
 use Rattle.clap.specs.declared.error.kind.ErrorKind.TheVariants as kind
 use Rattle.clap.specs.declared.parser.matches.ValueSource.TheVariants.{CommandLine, DefaultValue}
-use Rattle.command.specs.CommandLine.{least_workers, served_workers, whole_command}
+use Rattle.plain.specs.Limits.{most_workers}
+use Rattle.command.specs.CommandLine.{default_workers, least_workers, whole_command}
 use Rattle.command.proofs.Kept.{or_else-left, or_else-right, passed, some_kind}
 use Rattle.command.proofs.Rows.{Fine, Fine-with_values, Fine-without, HasFine, HasFine-with_values, has_fine, is_worker_text}
 
@@ -41,7 +42,7 @@ use_workers again [] rows e fine = absurd (some_kind _ _ (or_else-left (range_ki
 use_workers again (v ∷ vs) rows e fine =
     let set = or_else-right (range_kinds 1 1 (length (v ∷ vs))) (set_fault again workers (v ∷ vs) rows) e in
     let all = or_else-right (repeat_fault again workers.id rows) (values_fault workers (v ∷ vs)) set in
-    let parser = vp.Signed (pos least_workers) (pos served_workers) in
+    let parser = vp.Signed (pos least_workers) (pos most_workers) in
     let one = or_else-left (value_kinds false parser v) (values_kinds false parser vs) all in
     Fine-with_values CommandLine v vs (without (codes "workers") rows) (passed (is_worker_text v) _ _ one) (Fine-without rows fine)
 
@@ -192,7 +193,7 @@ with_default_ok rows fine = go (has_row (codes "workers") rows) refl
   where
     go : (b : Bool) → has_row (codes "workers") rows ≡ b → HasFine (with_default rows workers)
     go true has = rw has (has_fine rows fine has)
-    go false not = rw not (HasFine-with_values DefaultValue (codes "1") [] rows refl fine)
+    go false not = rw not (HasFine-with_values DefaultValue default_workers [] rows refl fine)
 
 -- help has no default value
 HasFine-help : (rows : List Row) → HasFine rows → HasFine (with_default rows help)

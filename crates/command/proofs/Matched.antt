@@ -1,15 +1,16 @@
 -- From what clap's getters answer to the task that the matches hold.
-use Rattle.std.proofs.Common.{◌≡◌, ◌≤◌, ℕ, List, Option, Some, None, Result, Ok, Err, refl, sym, ◌∙◌, subst, codes, arith}
+use Rattle.std.proofs.Common.{◌≡◌, ◌≤◌, ℕ, List, Option, Some, None, Result, Ok, Err, refl, sym, ap, ◌∙◌, subst, codes, arith, bytes_eq, true≢false}
 use Rattle.std.specs.Prelude.{IfNone, Box, option_map}
 use Rattle.std.specs.Box.{box_value}
 use Rattle.std.specs.Str.Parse.{ParsesUnsigned}
-use Rattle.clap.specs.Words.{ReadsOne, Row, Text, one_of, subcommand_rows}
+use Rattle.clap.specs.Words.{ReadsOne, Row, Text, first_of, one_of, subcommand_rows}
 use Rattle.clap.specs.declared.parser.matches.ArgMatches.TheViews.{out-SubCommand}
 use Rattle.clap.specs.declared.parser.matches.SubCommand.{SubCommand}
-use Rattle.command.specs.CommandLine.{least_workers, served_workers}
+use Rattle.plain.specs.Limits.{most_workers}
+use Rattle.command.specs.CommandLine.{least_workers}
 use Rattle.command.specs.Tasks.{IsTaskOf, IsWorkers}
 use Rattle.command.specs.declared.task.Task.{Task}
-use Rattle.command.specs.declared.task.Task.TheVariants.{Build}
+use Rattle.command.specs.declared.task.Task.TheVariants.{Build, Graph, Pack}
 
 pub if_none : {T : Type 0} (answer : Option T) (P : Type 0) → P → IfNone answer P
 if_none None P p = p
@@ -25,7 +26,7 @@ found_whole (Some b) name rows e f = cc
 -- the number that was read is that of the option's text
 pub read_some : (E : Type 0) (G : List ℕ → Result ℕ E → Type 0) → ((u : List ℕ) (x : Result ℕ E) → G u x → ParsesUnsigned 8 10 u x)
     → (rows : List Row) (one : Option Text) (w : ℕ) → one ≡ one_of (codes "workers") rows → (one ≡ None → Some w ≡ None)
-    → ((t : Text) → one ≡ Some t → ReadsOne G t (Some w)) → least_workers ≤ w → w ≤ served_workers → IsWorkers rows w
+    → ((t : Text) → one ≡ Some t → ReadsOne G t (Some w)) → least_workers ≤ w → w ≤ most_workers → IsWorkers rows w
 read_some E G only rows None w is none value least most = let bad : Some w ≡ None = none refl in cc
 read_some E G only rows (Some t) w is none value least most =
     let parsed = only t (Ok w) (value t refl) in
@@ -42,14 +43,23 @@ read_none E G only rows one is value n h =
 -- where the number that was read isn't within the range, no other is
 pub read_out : (E : Type 0) (G : List ℕ → Result ℕ E → Type 0) → ((u : List ℕ) (x : Result ℕ E) → G u x → ParsesUnsigned 8 10 u x)
     → (rows : List Row) (one : Option Text) (w : ℕ) → one ≡ one_of (codes "workers") rows
-    → ((t : Text) → one ≡ Some t → ReadsOne G t (Some w)) → (least_workers ≤ w → w ≤ served_workers → ⊥)
+    → ((t : Text) → one ≡ Some t → ReadsOne G t (Some w)) → (least_workers ≤ w → w ≤ most_workers → ⊥)
     → (n : ℕ) → IsWorkers rows n → ⊥
 read_out E G only rows one w is value out n h =
     let parsed = only h.text (Ok w) (value h.text (is ∙ h.given)) in
     let same : n ≡ w = h.is ∙ sym parsed.1 in
-    out (subst (λ k. least_workers ≤ k) same h.least) (subst (λ k. k ≤ served_workers) same h.most)
+    out (subst (λ k. least_workers ≤ k) same h.least) (subst (λ k. k ≤ most_workers) same h.most)
 
 -- without a number of workers there is no task
-pub no_task : (o : Option (Text × List Row)) (name : Text) (rows : List Row) → o ≡ Some (name, rows)
+pub no_task : (o : Option (Text × List Row)) (name : Text) (rows : List Row) → o ≡ Some (name, rows) → name ≡ codes "build"
     → ((n : ℕ) → IsWorkers rows n → ⊥) → (task : Task) → IsTaskOf o task → ⊥
-no_task o name rows is none (Build n) h = none n (subst (λ found. IsTaskOf found (Build n)) is h).1
+no_task o name rows is build none (Build n) h = none n (subst (λ found. IsTaskOf found (Build n)) is h).1
+no_task o name rows is build none Graph h = let graph : name ≡ codes "graph" = subst (λ found. IsTaskOf found Graph) is h in absurd (true≢false (ap (λ t. bytes_eq t (codes "build")) (sym build ∙ graph)))
+no_task o name rows is build none (Pack folder) h = let pack : name ≡ codes "pack" = (subst (λ found. IsTaskOf found (Pack folder)) is h).0 in absurd (true≢false (ap (λ t. bytes_eq t (codes "build")) (sym build ∙ pack)))
+
+-- nor without a folder
+pub no_folder : (o : Option (Text × List Row)) (name : Text) (rows : List Row) → o ≡ Some (name, rows) → name ≡ codes "pack"
+    → first_of (codes "DIR") rows ≡ None → (task : Task) → IsTaskOf o task → ⊥
+no_folder o name rows is pack none (Build n) h = let build : name ≡ codes "build" = (subst (λ found. IsTaskOf found (Build n)) is h).0 in absurd (true≢false (ap (λ t. bytes_eq t (codes "pack")) (sym pack ∙ build)))
+no_folder o name rows is pack none Graph h = let graph : name ≡ codes "graph" = subst (λ found. IsTaskOf found Graph) is h in absurd (true≢false (ap (λ t. bytes_eq t (codes "pack")) (sym pack ∙ graph)))
+no_folder o name rows is pack none (Pack folder) h = let some : first_of (codes "DIR") rows ≡ Some folder = (subst (λ found. IsTaskOf found (Pack folder)) is h).1 in let bad : None ≡ Some folder = sym none ∙ some in cc

@@ -6,10 +6,11 @@ use Rattle.clap.specs.Walk.{has_row, more_values, row_text, stronger, with_value
 use Rattle.clap.specs.Lexer.{without_minus}
 use Rattle.clap.specs.declared.builder.value_parser.Reading.TheVariants.{WithoutMinus}
 use Rattle.clap.specs.declared.parser.matches.ValueSource.{ValueSource}
-use Rattle.command.specs.CommandLine.{least_workers, served_workers}
+use Rattle.plain.specs.Limits.{most_workers}
+use Rattle.command.specs.CommandLine.{least_workers}
 
 abbrev pub is_worker_text : Text → Bool
-is_worker_text = is_signed_in (pos least_workers) (pos served_workers)
+is_worker_text = is_signed_in (pos least_workers) (pos most_workers)
 
 -- the first value of the row is a number of workers
 pub record IsFine (row : Row) : Type 0 where

@@ -1,5 +1,6 @@
 -- The words that the program takes, as a command of the crate `clap` (own).
 use Rattle.std.specs.Prelude.{ℕ, [], ◌∷◌, Some, true, codes, pos}
+use Rattle.plain.specs.Limits.{most_workers}
 use Rattle.clap.specs.Words.{App, Rule, Text, new_app, new_rule, with_rule, with_subcommand}
 use Rattle.clap.specs.Simple.{on_top}
 use Rattle.clap.specs.declared.builder.value_parser.ValueParser.TheVariants as vp
@@ -8,20 +9,16 @@ use Rattle.clap.specs.declared.builder.value_parser.ValueParser.TheVariants as v
 abbrev pub least_workers : ℕ
 least_workers = 1
 
--- the greatest number of workers that the program takes so far (own)
-abbrev pub served_workers : ℕ
-served_workers = 1
-
 -- the number of workers of a build whose words give none, as it would be written (own)
 abbrev pub default_workers : Text
-default_workers = codes "1"
+default_workers = codes "4"
 
 -- `--workers N` (own)
 abbrev pub workers_option : Rule
 workers_option = record (new_rule (codes "workers")) {
   long = Some (codes "workers");
   value_names = 1;
-  parser = Some (vp.Signed (pos least_workers) (pos served_workers));
+  parser = Some (vp.Signed (pos least_workers) (pos most_workers));
   defaults = default_workers ∷ [];
 }
 
@@ -29,7 +26,25 @@ workers_option = record (new_rule (codes "workers")) {
 abbrev pub build_command : App
 build_command = with_rule (new_app (codes "build")) workers_option
 
--- `dfsolve COMMAND`, where a command has to be given, and the program has a version to tell (own)
+-- `graph` (own)
+abbrev pub graph_command : App
+graph_command = new_app (codes "graph")
+
+-- DIR, which has to be given (own)
+abbrev pub folder_argument : Rule
+folder_argument = record (new_rule (codes "DIR")) { required = true }
+
+-- `pack DIR` (own)
+abbrev pub pack_command : App
+pack_command = with_rule (new_app (codes "pack")) folder_argument
+
+-- `dfsolve COMMAND` of the commands that read a bundle; a command has to be given, and the program has a version to tell (own)
+abbrev pub bundle_command : App
+bundle_command =
+    with_subcommand
+    (with_subcommand (on_top (λ top. record top { subcommand_required = true; has_version = true }) (new_app (codes "dfsolve"))) build_command.top)
+    graph_command.top
+
+-- `dfsolve COMMAND` (own)
 abbrev pub whole_command : App
-whole_command =
-    with_subcommand (on_top (λ top. record top { subcommand_required = true; has_version = true }) (new_app (codes "dfsolve"))) build_command.top
+whole_command = with_subcommand bundle_command pack_command.top

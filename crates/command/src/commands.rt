@@ -1,19 +1,20 @@
 ghost use Rattle.std.specs.Prelude.{◌≡◌, IfOk, false};
 ghost use Rattle.clap.specs.Words.{app_of, rule_of};
 ghost use Rattle.clap.specs.declared.builder.command.Command.TheViews.{out-Command};
-ghost use Rattle.command.specs.CommandLine.{build_command, whole_command, workers_option};
+ghost use Rattle.command.specs.CommandLine.{build_command, bundle_command, folder_argument, graph_command, pack_command, whole_command, workers_option};
 
 use clap::{Arg, Command, value_parser};
+use plain::limits::MOST_WORKERS;
 use std::alloc::{AllocError, Global};
 
 /// The least number of workers of a build.
 pub const LEAST_WORKERS: u8 = 1;
 
-/// The greatest number of workers that the program takes so far. The rules allow more.
-pub const SERVED_WORKERS: u8 = 1;
-
 /// The number of workers of a build whose words give none.
-const DEFAULT_WORKERS: &str = "1";
+const DEFAULT_WORKERS: &str = "4";
+
+/// The folder of `pack`, as it is called in help.
+pub const FOLDER: &str = "DIR";
 
 /// The version of the program, which `--version` prints behind its name.
 const VERSION: &str = "0.1.0";
@@ -22,12 +23,23 @@ const VERSION: &str = "0.1.0";
 pub fn whole_command<'a>(alloc: Global) -> Result<Command<'a>, AllocError>
     ensures { IfOk result (λ command. app_of command ≡ whole_command) }
 {
+    let bundle = bundle_command(alloc)?;
+    let pack = pack_command(alloc)?;
+    bundle.subcommand(pack)
+}
+
+/// `dfsolve COMMAND`, but for `pack`.
+fn bundle_command<'a>(alloc: Global) -> Result<Command<'a>, AllocError>
+    ensures { IfOk result (λ command. app_of command ≡ bundle_command) }
+{
     let build = build_command(alloc)?;
+    let graph = graph_command(alloc)?;
     Command::new(alloc, "dfsolve")
         .version(VERSION)
         .about("Compiles a Dockerfile and solves it")
         .subcommand_required(true)
-        .subcommand(build)
+        .subcommand(build)?
+        .subcommand(graph)
 }
 
 /// `build [--workers N]`.
@@ -40,6 +52,36 @@ fn build_command<'a>(alloc: Global) -> Result<Command<'a>, AllocError>
         .arg(workers_option(alloc))
 }
 
+/// `graph`.
+fn graph_command<'a>(alloc: Global) -> Result<Command<'a>, AllocError>
+    ensures app { IfOk result (λ command. app_of command ≡ graph_command) }
+    ensures local { IfOk result (λ command. (out-Command command).has_globals ≡ false) }
+{
+    Ok(Command::new(alloc, "graph").about(
+        "Prints the graph of the bundle on standard input, by content addresses",
+    ))
+}
+
+/// `pack DIR`.
+fn pack_command<'a>(alloc: Global) -> Result<Command<'a>, AllocError>
+    ensures app { IfOk result (λ command. app_of command ≡ pack_command) }
+    ensures local { IfOk result (λ command. (out-Command command).has_globals ≡ false) }
+{
+    Command::new(alloc, "pack")
+        .about("Prints the bundle of a folder")
+        .arg(folder_argument(alloc))
+}
+
+/// `DIR`.
+fn folder_argument<'a>(alloc: Global) -> Arg<'a>
+    ensures rule { rule_of result ≡ folder_argument }
+    ensures local { result.global ≡ false }
+{
+    Arg::new(alloc, FOLDER)
+        .help("The folder, with a file Dockerfile in it")
+        .required(true)
+}
+
 /// `--workers N`.
 fn workers_option<'a>(alloc: Global) -> Arg<'a>
     ensures rule { rule_of result ≡ workers_option }
@@ -49,6 +91,6 @@ fn workers_option<'a>(alloc: Global) -> Arg<'a>
         .long("workers")
         .value_name("N")
         .help("How many workers solve it")
-        .value_parser(value_parser!(u8).range(i64::from(LEAST_WORKERS)..=i64::from(SERVED_WORKERS)))
+        .value_parser(value_parser!(u8).range(i64::from(LEAST_WORKERS)..=i64::from(MOST_WORKERS)))
         .default_value(DEFAULT_WORKERS)
 }

@@ -9,7 +9,7 @@
 //
 // ```
 // match read_command(alloc, ["dfsolve", "build"].as_slice()) {
-//     Ok(task) => ..,                    // Task::Build(1)
+//     Ok(task) => ..,                    // Task::Build(4)
 //     Err(error) => error.print(rt)?,
 // }
 // ```

@@ -18,4 +18,4 @@ returns-then-workers-lt-LEAST_WORKERS-clause-none c =
 pub returns-clause-some : goal.returns-clause-some
 returns-clause-some c =
     read_some _ (λ bs r. ParsesUnsigned 8 10 bs r × ExplainsUnsignedError 10 bs r × HasUnsignedDigitsIfOk bs r) (λ u x g. g.0) _ _ c.in_ok-workers.workers (one_text-rows (found_of c.args.matches.now) (codes "workers")) c.in_ok-workers.ensures.none
-    c.in_ok-workers.ensures.value c.if-workers-lt-LEAST_WORKERS.false c.if-workers-gt-SERVED_WORKERS.false
+    c.in_ok-workers.ensures.value c.if-workers-lt-LEAST_WORKERS.false c.if-workers-gt-MOST_WORKERS.false

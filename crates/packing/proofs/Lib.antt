@@ -1,0 +1,2 @@
+pub mod EndFacts
+pub mod PlainFacts

@@ -1,0 +1,5 @@
+use Rattle.packing.proofs.PlainFacts.{plain_changed}
+use Rattle.packing.proofs.folder.Folder.add_file.Goals as goal
+
+pub invariant_of-self : goal.invariant_of-self
+invariant_of-self c = plain_changed _ _ _ _ _ c.self.invariant c.file.ensures c.put.ensures

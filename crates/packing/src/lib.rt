@@ -1,0 +1,20 @@
+// A folder of the machine as a bundle: its Dockerfile and all that lies in it.
+//
+// It is the one crate that reads folders. What the machine gives is in no contract: the walk is thin, and all that it finds goes into a
+// `Folder`, of which contracts say what bundle it is. Nothing is built here.
+//
+// Its central definitions are `packed_of` (specs/Packed.antt), the text of the bundle of a folder's tree, and `Packs` (specs/Ends.antt), how
+// packing what was found ends.
+//
+// ```
+// let status = run_pack(&rt, alloc, "examples/folder", &mut output)?;   // Built, and the bundle with an LF is written
+// ```
+#![tactic(auto)]
+
+mod fault;
+mod folder;
+mod packing;
+mod walking;
+
+pub use fault::PackFault;
+pub use packing::{Status, run_pack};

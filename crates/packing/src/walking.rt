@@ -1,0 +1,123 @@
+// What lies in a folder of the machine. No contract says what the machine gives: each call is safe and returns, and ends the walk where
+// something can't be packed.
+ghost use Rattle.std.specs.Prelude.{IfErr, IfOk, IfSome};
+ghost use Rattle.packing.specs.Packed.{IsPlain};
+ghost use Rattle.packing.specs.Ends.{IsBefore};
+
+use crate::PackFault;
+use crate::folder::{DOCKERFILE, Folder};
+use paths::Path;
+use plain::Bytes;
+use std::alloc::Global;
+use std::fs;
+use std::fs::DirEntry;
+use std::io::ErrorKind;
+use std::rt::Files;
+
+/// The machine's name of a path in a folder.
+fn place_of(alloc: Global, folder: &str, path: &Path) -> Result<String, PackFault>
+    ensures { IfErr result IsBefore }
+{
+    let mut place = String::from_str(alloc, folder)?;
+    place.push_str(path.text(alloc)?.as_str())?;
+    Ok(place)
+}
+
+/// All files and directories of a folder, if it has a file `Dockerfile`, which is asked first.
+pub(crate) fn find_folder<R: Files + AllocGlobal + Clone + Drop>(
+    rt: &R,
+    alloc: Global,
+    folder: &str,
+) -> Result<Option<Folder>, PackFault>
+    ensures before { IfErr result IsBefore }
+    ensures plain { IfOk result (λ found. IfSome found IsPlain) }
+{
+    if !has_dockerfile(rt, alloc, folder)? {
+        return Ok(None);
+    }
+    let found = read_folder(rt, alloc, folder)?;
+    Ok(Some(found))
+}
+
+/// Whether there is a file `Dockerfile` in a folder; a link is none.
+fn has_dockerfile<R: Files>(rt: &R, alloc: Global, folder: &str) -> Result<bool, PackFault>
+    ensures { IfErr result IsBefore }
+{
+    // The empty text names no folder, and `/Dockerfile` is another one's.
+    if folder.is_empty() {
+        return Ok(false);
+    }
+    let mut place = String::from_str(alloc, folder)?;
+    place.push('/')?;
+    place.push_str(DOCKERFILE)?;
+    match fs::symlink_metadata(rt, place.as_str()) {
+        Ok(found) => Ok(found.is_file()),
+        Err(error) if error.kind() == ErrorKind::OutOfMemory => Err(PackFault::Memory),
+        Err(_) => Ok(false),
+    }
+}
+
+/// All files and directories of a folder. The folder itself may be a link; none is followed in it.
+fn read_folder<R: Files + AllocGlobal + Clone + Drop>(
+    rt: &R,
+    alloc: Global,
+    folder: &str,
+) -> Result<Folder, PackFault>
+    ensures { IfErr result IsBefore }
+{
+    let mut found = Folder::new(alloc);
+    let mut left = Vec::new(alloc);
+    left.push(Path::root(alloc))?;
+    // There are fewer directories than that; what isn't read by then is no folder.
+    for _ in 0..u64::MAX {
+        let Some(path) = left.pop() else {
+            return Ok(found);
+        };
+        read_names(rt, alloc, folder, &path, &mut found, &mut left)?;
+    }
+    Err(PackFault::Ended)
+}
+
+/// Adds what lies in one directory of a folder, and lists the directories among it.
+fn read_names<R: Files + AllocGlobal + Clone + Drop>(
+    rt: &R,
+    alloc: Global,
+    folder: &str,
+    path: &Path,
+    found: &mut Folder,
+    left: &mut Vec<Path>,
+) -> Result<(), PackFault>
+    ensures { IfErr result IsBefore }
+{
+    let place = place_of(alloc, folder, path)?;
+    for row in fs::read_dir(rt, place.as_str())? {
+        read_row(rt, alloc, &row?, path, found, left)?;
+    }
+    Ok(())
+}
+
+/// Adds one file or directory that lies in the directory of this path.
+fn read_row<R: Files + AllocGlobal>(
+    rt: &R,
+    alloc: Global,
+    row: &DirEntry<R>,
+    path: &Path,
+    found: &mut Folder,
+    left: &mut Vec<Path>,
+) -> Result<(), PackFault>
+    ensures { IfErr result IsBefore }
+{
+    let kind = row.file_type()?;
+    let path = path.join(alloc, row.file_name())?;
+    if kind.is_dir() {
+        found.add_directory(alloc, &path)?;
+        left.push(path)?;
+        return Ok(());
+    }
+    if !kind.is_file() {
+        return Err(PackFault::Ended);
+    }
+    let bytes = fs::read(rt, row.path())?;
+    found.add_file(alloc, &path, Bytes::from_vec(bytes))?;
+    Ok(())
+}
