@@ -1,5 +1,5 @@
 -- What each phase of reading a bundle tells is what the bundle asks for.
-use Rattle.std.proofs.Common.{inl, inr, ℕ, List, Result, Ok, Err, refl, sym, subst}
+use Rattle.std.proofs.Common.{◌≡◌, inl, inr, ℕ, List, Result, Ok, Err, refl, sym, subst, IfOk}
 use Rattle.std.specs.FinMap.{get}
 use Rattle.plain.specs.declared.fault.Fault.{Fault}
 use Rattle.plain.specs.declared.fault.Fault.TheVariants.{Because, Memory}
@@ -16,7 +16,7 @@ use Rattle.bundle.specs.declared.whole.Bundle.{Bundle}
 use Rattle.bundle.specs.Reading.{ReadsBundle}
 use Rattle.build.specs.declared.asking.Asked.{Asked}
 use Rattle.build.specs.PrivateAsking.{IsFileAsked, IsTableAsked}
-use Rattle.build.specs.Telling.{IsAsked}
+use Rattle.build.specs.Telling.{IsAsked, HasStoreOf}
 
 -- the bytes are no bundle, or its ignore file is bad
 pub bundle_refused : (bytes : List ℕ) (fault : Fault Refusal) → ReadsBundle config_in bytes (Err fault) → IsAsked bytes (Err fault)
@@ -29,6 +29,12 @@ pub bundle_asked : (bytes : List ℕ) (bundle : Bundle Config) (result : Result 
 bundle_asked bytes bundle (Ok asked) read asks = inr (bundle, read, asks)
 bundle_asked bytes bundle (Err (Because refusal)) read asks = inr (bundle, read, asks)
 bundle_asked bytes bundle (Err Memory) read asks = tt
+
+-- the caches are the bundle's
+pub bundle_stored : (bytes : List ℕ) (bundle : Bundle Config) (result : Result Asked (Fault Refusal)) → ReadsBundle config_in bytes (Ok bundle)
+    → IfOk result (λ asked. asked.caches ≡ bundle.caches) → IfOk result (λ asked. HasStoreOf bytes asked.caches)
+bundle_stored bytes bundle (Ok asked) read same = (bundle, read, same)
+bundle_stored bytes bundle (Err fault) read same = tt
 
 -- the Dockerfile's text is refused, or a line of it
 pub text_refused : (bundle : Bundle Config) (fault : Fault Refusal) → IsRead bundle.dockerfile (Err fault) → IsFileAsked bundle (Err fault)

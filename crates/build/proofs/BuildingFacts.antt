@@ -18,11 +18,15 @@ use Rattle.bundle.specs.declared.parts.Parts.{Parts}
 use Rattle.plans.specs.Value.{Out}
 use Rattle.build.specs.declared.status.Status.{Status}
 use Rattle.build.specs.declared.told.Told.{Told}
+use Rattle.build.specs.declared.status.BuildFault.{BuildFault}
+use Rattle.build.specs.declared.status.BuildFault.TheVariants.{Memory, Device as FailedDevice, Clash}
 use Rattle.build.specs.Faults.{of_edge}
 use Rattle.evaluation.specs.declared.evaluated.Evaluated.{Evaluated}
-use Rattle.build.specs.Meaning.{Asks, Answers}
+use Rattle.build.specs.Meaning.{Asks, Answers, line_of}
+use Rattle.build.specs.Graph.{GraphAnswers, GraphClashes}
+use Rattle.build.specs.PrivateShowing.{IsShown}
 use Rattle.build.specs.Telling.{TellsBundle}
-use Rattle.build.specs.Ends.{Devices, IsBundle, HasAnswered, Ends}
+use Rattle.build.specs.Ends.{Devices, IsBundle, Answering, AnswersUnder, HasAnswered, EndsBy, Ends, GraphEnds}
 
 -- what bytes hold
 abbrev held : List ℕ → Option (Parts Config)
@@ -77,36 +81,89 @@ answers : (bytes bundle : List ℕ) (out : Out) (status : Status) (text : List �
 answers bytes bundle out status text same a =
     record { asked = a.asked; asks = asks bytes bundle a.asked same a.asks; tells = a.tells }
 
+graph_answers : (bytes bundle : List ℕ) (status : Status) (text : List ℕ) → held bytes ≡ held bundle
+    → GraphAnswers bytes status text → GraphAnswers bundle status text
+graph_answers bytes bundle status text same a =
+    record { asked = a.asked; asks = asks bytes bundle a.asked same a.asks; shows = a.shows }
+
+-- what is told of bytes that hold the same is told of them
+abbrev Moves : Answering → Type 0
+Moves Said = (bytes bundle : List ℕ) (status : Status) (text : List ℕ) → held bytes ≡ held bundle → Said bytes status text → Said bundle status text
+
+-- a line is an answer, and LF
+abbrev IsLine : Answering → List ℕ → Told → Type 0
+IsLine Said bytes told = (text : List ℕ) × Said bytes told.status text × (told.line ≡ line_of text)
+
 -- the line was written
-pub has_answered : (out : Out) (old new : Devices) (bytes line : List ℕ) (told : Told)
-    → IsReadOf old.left bytes → TellsBundle bytes out told → line ≡ told.line → Appends old.written new.written line
-    → new.failed_reads ≡ old.failed_reads → new.failed_writes ≡ old.failed_writes → HasAnswered out old new told.status
-has_answered out old new bytes line told read tells is written reads writes = record {
+answered : (Said : Answering) → Moves Said → (old new : Devices) (bytes line : List ℕ) (told : Told)
+    → IsReadOf old.left bytes → IsLine Said bytes told → line ≡ told.line → Appends old.written new.written line
+    → new.failed_reads ≡ old.failed_reads → new.failed_writes ≡ old.failed_writes → HasAnswered Said old new told.status
+answered Said moves old new bytes line told read tells is written reads writes = record {
   bundle = read.bundle;
   is = read.is;
   text = tells.0;
-  answers = answers bytes read.bundle out told.status tells.0 read.same tells.1;
+  answers = moves bytes read.bundle told.status tells.0 read.same tells.1;
   written = subst (Appends old.written new.written) (is ∙ tells.2) written;
   failed_reads = reads;
   failed_writes = writes;
 }
 
+pub has_answered : (out : Out) (old new : Devices) (bytes line : List ℕ) (told : Told)
+    → IsReadOf old.left bytes → TellsBundle bytes out told → line ≡ told.line → Appends old.written new.written line
+    → new.failed_reads ≡ old.failed_reads → new.failed_writes ≡ old.failed_writes → HasAnswered (AnswersUnder out) old new told.status
+has_answered out old new bytes line told read tells is written reads writes =
+    answered (AnswersUnder out) (λ bytes bundle status text same a. answers bytes bundle out status text same a) old new bytes line told read tells is written reads writes
+
 -- a write failed
-pub has_begun : (out : Out) (old new : Devices) (bytes line : List ℕ) (told : Told) (fault : Fault Device)
-    → IsReadOf old.left bytes → TellsBundle bytes out told → line ≡ told.line → AppendsBeginning old.written new.written line
+begun : (Said : Answering) (Collides : List ℕ → Type 0) → Moves Said → (old new : Devices) (bytes line : List ℕ) (told : Told) (fault : Fault Device)
+    → IsReadOf old.left bytes → IsLine Said bytes told → line ≡ told.line → AppendsBeginning old.written new.written line
     → new.failed_reads ≡ old.failed_reads → CountsFault {T = Unit {0}} old.failed_writes new.failed_writes (Err fault) → IsDevice fault
-    → Ends out old new (Err (of_edge fault))
-has_begun out old new bytes line told edge.Memory read tells is written reads writes device = absurd device
-has_begun out old new bytes line told (edge.Because failed) read tells is written reads writes device = inr (record {
+    → EndsBy Said Collides old new (Err (of_edge fault))
+begun Said Collides moves old new bytes line told edge.Memory read tells is written reads writes device = absurd device
+begun Said Collides moves old new bytes line told (edge.Because failed) read tells is written reads writes device = inr (record {
   bundle = read.bundle;
   is = read.is;
   status = told.status;
   text = tells.0;
-  answers = answers bytes read.bundle out told.status tells.0 read.same tells.1;
+  answers = moves bytes read.bundle told.status tells.0 read.same tells.1;
   written = subst (AppendsBeginning old.written new.written) (is ∙ tells.2) written;
   failed_reads = reads;
   failed_writes = writes;
 })
+
+pub has_begun : (out : Out) (old new : Devices) (bytes line : List ℕ) (told : Told) (fault : Fault Device)
+    → IsReadOf old.left bytes → TellsBundle bytes out told → line ≡ told.line → AppendsBeginning old.written new.written line
+    → new.failed_reads ≡ old.failed_reads → CountsFault {T = Unit {0}} old.failed_writes new.failed_writes (Err fault) → IsDevice fault
+    → Ends out old new (Err (of_edge fault))
+has_begun out old new bytes line told fault read tells is written reads writes device =
+    begun (AnswersUnder out) (λ bundle. ⊥) (λ bytes bundle status text same a. answers bytes bundle out status text same a) old new bytes line told fault read tells is written reads writes device
+
+-- the same of a graph
+pub graph_answered : (old new : Devices) (bytes line : List ℕ) (told : Told)
+    → IsReadOf old.left bytes → IsShown bytes (Ok told) → line ≡ told.line → Appends old.written new.written line
+    → new.failed_reads ≡ old.failed_reads → new.failed_writes ≡ old.failed_writes → HasAnswered GraphAnswers old new told.status
+graph_answered old new bytes line told read tells is written reads writes = answered GraphAnswers graph_answers old new bytes line told read tells is written reads writes
+
+pub graph_begun : (old new : Devices) (bytes line : List ℕ) (told : Told) (fault : Fault Device)
+    → IsReadOf old.left bytes → IsShown bytes (Ok told) → line ≡ told.line → AppendsBeginning old.written new.written line
+    → new.failed_reads ≡ old.failed_reads → CountsFault {T = Unit {0}} old.failed_writes new.failed_writes (Err fault) → IsDevice fault
+    → GraphEnds old new (Err (of_edge fault))
+graph_begun old new bytes line told fault read tells is written reads writes device =
+    begun GraphAnswers GraphClashes graph_answers old new bytes line told fault read tells is written reads writes device
+
+-- nothing was told of a bundle, and nothing was written
+pub graph_faulted : (old new : Devices) (bytes : List ℕ) (fault : BuildFault)
+    → IsReadOf old.left bytes → IsShown bytes (Err fault) → new.written ≡ old.written → new.failed_reads ≡ old.failed_reads → new.failed_writes ≡ old.failed_writes
+    → GraphEnds old new (Err fault)
+graph_faulted old new bytes Memory read told written reads writes = (record { written = written; failed_writes = writes }, reads)
+graph_faulted old new bytes FailedDevice read told written reads writes = absurd told
+graph_faulted old new bytes Clash read told written reads writes = record {
+  bundle = read.bundle;
+  is = read.is;
+  clash = record { made = told.made; asks = asks bytes read.bundle (Ok told.made) read.same told.asks; plan = told.plan; means = told.means; stands = told.stands; clashes = told.clashes };
+  unwritten = record { written = written; failed_writes = writes };
+  failed_reads = reads;
+}
 
 pub err_and : {T E : Type 0} (r : Result T E) (e : E) → IsErrAnd r (λ f. f ≡ e) → r ≡ Err e
 err_and (Ok x) e h = absurd h

@@ -2,4 +2,5 @@ mod AnswerFacts
 mod AskFacts
 mod BuildingFacts
 mod PlanFacts
+mod ShowFacts
 mod TellFacts

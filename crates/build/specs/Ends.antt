@@ -5,8 +5,9 @@ use Rattle.counted.specs.Edges.{AppendsBeginning}
 use Rattle.plans.specs.Value.{Out}
 use Rattle.build.specs.declared.status.Status.{Status}
 use Rattle.build.specs.declared.status.BuildFault.{BuildFault}
-use Rattle.build.specs.declared.status.BuildFault.TheVariants.{Memory, Device}
+use Rattle.build.specs.declared.status.BuildFault.TheVariants.{Memory, Device, Clash}
 use Rattle.build.specs.Meaning.{Answers, line_of}
+use Rattle.build.specs.Graph.{GraphAnswers, GraphClashes}
 
 -- A reader and a writer: the bytes that are left to be read and those that were written, where they are known, and how many calls
 -- of each failed. Those in memory (std's `Cursor` and `Vec<u8>`) tell their bytes. Of standard input and output std says only how many
@@ -32,30 +33,55 @@ pub record IsUnwritten (old new : Devices) : Type 0 where
   pub written : new.written ≡ old.written
   pub failed_writes : new.failed_writes ≡ old.failed_writes
 
+-- what a call may answer: which statuses and texts are answers to a bundle of these bytes
+abbrev pub Answering : Type 1
+Answering = List ℕ → Status → List ℕ → Type 0
+
 -- an answer to the bundle was written, with the LF that ends it, and no call failed
-pub record HasAnswered (out : Out) (old new : Devices) (status : Status) : Type 0 where
+pub record HasAnswered (Said : Answering) (old new : Devices) (status : Status) : Type 0 where
   pub bundle : List ℕ
   pub is : IsBundle old.left bundle
   pub text : List ℕ
-  pub answers : Answers bundle out status text
+  pub answers : Said bundle status text
   pub written : Appends old.written new.written (line_of text)
   pub failed_reads : new.failed_reads ≡ old.failed_reads
   pub failed_writes : new.failed_writes ≡ old.failed_writes
 
 -- a write failed, and a beginning of an answer to the bundle, with its LF, was written
-pub record HasBegun (out : Out) (old new : Devices) : Type 0 where
+pub record HasBegun (Said : Answering) (old new : Devices) : Type 0 where
   pub bundle : List ℕ
   pub is : IsBundle old.left bundle
   pub status : Status
   pub text : List ℕ
-  pub answers : Answers bundle out status text
+  pub answers : Said bundle status text
   pub written : AppendsBeginning old.written new.written (line_of text)
   pub failed_reads : new.failed_reads ≡ old.failed_reads
   pub failed_writes : new.failed_writes ≡ old.failed_writes + 1
 
--- How a build ends, by its result: an answer was written; there was no memory, and nothing was written; a read failed, and nothing was
--- written, or a write failed.
+-- no answer was written, since two different operations of what would have been drawn have one address
+pub record HasClashed (Collides : List ℕ → Type 0) (old new : Devices) : Type 0 where
+  pub bundle : List ℕ
+  pub is : IsBundle old.left bundle
+  pub clash : Collides bundle
+  pub unwritten : IsUnwritten old new
+  pub failed_reads : new.failed_reads ≡ old.failed_reads
+
+-- How a call that reads a bundle and writes one answer ends, by its result: an answer was written; there was no memory, and nothing was
+-- written; a read failed, and nothing was written, or a write failed; or two operations clash, and nothing was written.
+abbrev pub EndsBy : Answering → (List ℕ → Type 0) → Devices → Devices → Result Status BuildFault → Type 0
+EndsBy Said Collides old new (Ok status) = HasAnswered Said old new status
+EndsBy Said Collides old new (Err Memory) = IsUnwritten old new × (new.failed_reads ≡ old.failed_reads)
+EndsBy Said Collides old new (Err Device) = (IsUnwritten old new × (new.failed_reads ≡ old.failed_reads + 1)) ⊎ HasBegun Said old new
+EndsBy Said Collides old new (Err Clash) = HasClashed Collides old new
+
+-- the answers to a bundle under an executor
+abbrev pub AnswersUnder : Out → Answering
+AnswersUnder out bundle status text = Answers bundle out status text
+
+-- how a build ends: it never clashes
 abbrev pub Ends : Out → Devices → Devices → Result Status BuildFault → Type 0
-Ends out old new (Ok status) = HasAnswered out old new status
-Ends out old new (Err Memory) = IsUnwritten old new × (new.failed_reads ≡ old.failed_reads)
-Ends out old new (Err Device) = (IsUnwritten old new × (new.failed_reads ≡ old.failed_reads + 1)) ⊎ HasBegun out old new
+Ends out old new result = EndsBy (AnswersUnder out) (λ bundle. ⊥) old new result
+
+-- how drawing the graph of what a bundle asks for ends
+abbrev pub GraphEnds : Devices → Devices → Result Status BuildFault → Type 0
+GraphEnds old new result = EndsBy GraphAnswers GraphClashes old new result

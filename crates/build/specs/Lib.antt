@@ -1,7 +1,9 @@
 pub mod Ends
 pub mod Faults
+pub mod Graph
 pub mod Lowerable
 pub mod Meaning
 pub mod Messages
 pub mod PrivateAsking
+pub mod PrivateShowing
 pub mod Telling

@@ -6,9 +6,13 @@ use Rattle.plain.specs.declared.fault.Fault.TheVariants.{Because, Memory}
 use Rattle.plain.specs.declared.refusal.Refusal.{Refusal}
 use Rattle.plans.specs.Value.{Out}
 use Rattle.evaluation.specs.declared.evaluated.Evaluated.{Evaluated}
+use Rattle.imageconfig.specs.Reading.{config_in}
 use Rattle.imageconfig.specs.Writing.{config_data}
 use Rattle.imageconfig.specs.declared.config.Config.{Config}
 use Rattle.bundle.specs.Answer.{built_text, failed_text}
+use Rattle.bundle.specs.declared.whole.Bundle.{Bundle}
+use Rattle.bundle.specs.Reading.{ReadsBundle}
+use Rattle.cachemounts.specs.StoreValue.{StoreValue}
 use Rattle.solver.specs.declared.solution.Solution.{Solution}
 use Rattle.solver.specs.declared.solution.Solution.TheVariants as solution
 use Rattle.build.specs.declared.status.Status.{Status}
@@ -22,6 +26,10 @@ abbrev pub IsAsked : List ℕ → Result Asked (Fault Refusal) → Type 0
 IsAsked bytes (Ok asked) = Asks bytes (Ok asked.evaluated)
 IsAsked bytes (Err (Because refusal)) = Asks bytes (Err refusal)
 IsAsked bytes (Err Memory) = Unit {0}
+
+-- a store of caches holds what a bundle of these bytes says that the caches hold
+abbrev pub HasStoreOf : List ℕ → StoreValue → Type 0
+HasStoreOf bytes store = (bundle : Bundle Config) × ReadsBundle config_in bytes (Ok bundle) × (store ≡ bundle.caches)
 
 -- the status that tells a solution
 abbrev pub status_of : Solution → Status

@@ -6,7 +6,7 @@ ghost use Rattle.stages.specs.Resolved.{resolved};
 ghost use Rattle.stages.specs.Table.{NamesKnown};
 ghost use Rattle.build.specs.Lowerable.{IsLowerable};
 ghost use Rattle.build.specs.PrivateAsking.{IsFileAsked, IsTableAsked};
-ghost use Rattle.build.specs.Telling.{IsAsked};
+ghost use Rattle.build.specs.Telling.{IsAsked, HasStoreOf};
 
 use bundle::{Bundle, read_bundle};
 use cachemounts::CacheStore;
@@ -36,6 +36,7 @@ pub fn ask(alloc: Global, rt: &(impl Threads + Sync), bytes: &[u8]) -> Result<As
     ensures asked { IsAsked bytes.now result }
     ensures lowerable { IfOk result (λ asked. IsLowerable asked.evaluated) }
     ensures caches { IfOk result (λ asked. asked.caches.holds ≡ []) }
+    ensures store { IfOk result (λ asked. HasStoreOf bytes.now asked.caches) }
 {
     match read_bundle(alloc, rt, bytes) {
         Ok(bundle) => ask_file(alloc, bundle),
@@ -48,6 +49,7 @@ fn ask_file(alloc: Global, bundle: Bundle<Config>) -> Result<Asked, LineFault>
     requires { bundle.caches.holds ≡ [] }
     ensures asked { IsFileAsked bundle result }
     ensures lowerable { IfOk result (λ asked. IsLowerable asked.evaluated) }
+    ensures store { IfOk result (λ asked. asked.caches ≡ bundle.caches) }
     ensures caches { IfOk result (λ asked. asked.caches.holds ≡ []) }
 {
     match Dockerfile::read(alloc, bundle.dockerfile.as_slice()) {
@@ -61,6 +63,7 @@ fn ask_stages(alloc: Global, bundle: Bundle<Config>, file: Dockerfile) -> Result
     requires { bundle.caches.holds ≡ [] }
     ensures asked { IsTableAsked bundle (resolved (names_in bundle.images) (arg_value bundle.args) bundle.target file) result }
     ensures lowerable { IfOk result (λ asked. IsLowerable asked.evaluated) }
+    ensures store { IfOk result (λ asked. asked.caches ≡ bundle.caches) }
     ensures caches { IfOk result (λ asked. asked.caches.holds ≡ []) }
 {
     match StageTable::resolve(
@@ -81,6 +84,7 @@ fn ask_table(alloc: Global, bundle: Bundle<Config>, table: StageTable) -> Result
     requires known { All (NamesKnown (names_in bundle.images)) table.stages }
     ensures asked { IsTableAsked bundle (OkOf table) result }
     ensures lowerable { IfOk result (λ asked. IsLowerable asked.evaluated) }
+    ensures store { IfOk result (λ asked. asked.caches ≡ bundle.caches) }
     ensures caches { IfOk result (λ asked. asked.caches.holds ≡ []) }
 {
     let Bundle {

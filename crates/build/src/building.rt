@@ -1,6 +1,6 @@
-ghost use Rattle.std.specs.Prelude.{◌≡◌, ◌<◌, ◌+◌};
+ghost use Rattle.std.specs.Prelude.{◌≡◌, ◌<◌, ◌≤◌, ◌+◌};
 ghost use Rattle.counted.specs.Edges.{LosesBeginning};
-ghost use Rattle.plain.specs.Limits.{most_bundle_bytes};
+ghost use Rattle.plain.specs.Limits.{most_bundle_bytes, most_workers};
 ghost use Rattle.build.specs.Ends.{Ends, devices};
 
 use crate::telling::tell_bundle;
@@ -8,14 +8,18 @@ use crate::{BuildFault, Status};
 use counted::{CountedRead, CountedWrite, read_all, write_all};
 use executor::Executor;
 use plain::limits::MOST_BUNDLE_BYTES;
+use solver::Gate;
 use std::alloc::Global;
+use std::sync::Wait;
 use std::thread::Threads;
 
 /// Reads a bundle, builds it and writes one answer: a line of JSON with the LF that ends it.
 ///
 /// Nothing was written after `Memory`. After `Device` a read failed, and nothing was written, or a write failed, and a beginning of an answer was
 /// written. A call that failed isn't tried again. No more than one byte past the limit of bundles is read. The context is filtered in several
-/// threads, and all else is done in the caller's.
+/// threads, the graph is solved by this many workers, 1 to 64, each in a thread of its own, and all else is done in the caller's. The gate is asked
+/// around the run of each command. Nothing of what is said below knows a worker: whatever number there is, and in whatever order they come, the answer
+/// is one that running the target's stages instruction by instruction gives. Nothing says that a call with threads returns.
 ///
 /// All this is said where the reader and the writer tell their bytes, as those in memory do (`Cursor`, `Vec<u8>`). Of standard
 /// input and output the standard library says how many bytes a call takes at most, and not which bytes those are; there the
@@ -23,13 +27,16 @@ use std::thread::Threads;
 ///
 /// The counts of failed calls are machine numbers, so a caller has to know that there is room for one more in each.
 #[tactic(auto, unfolding(plain::specs::Limits::most_bundle_bytes))]
-pub fn run_build<R: CountedRead, W: CountedWrite, E: Executor>(
+pub fn run_build<R: CountedRead, W: CountedWrite, E: Executor, G: Gate>(
     alloc: Global,
-    rt: &(impl Threads + Sync),
+    rt: &(impl Threads + Wait + Sync),
     input: &mut R,
     output: &mut W,
     executor: &E,
+    workers: u32,
+    gate: &G,
 ) -> Result<Status, BuildFault>
+    requires workers { (0 < workers) × (workers ≤ most_workers) }
     requires reads { R.failures input.old < u64.MAX }
     requires writes { W.failures output.old < u64.MAX }
     ensures ends { Ends (E.out executor.now)
@@ -38,18 +45,30 @@ pub fn run_build<R: CountedRead, W: CountedWrite, E: Executor>(
         result }
     ensures taken { LosesBeginning (most_bundle_bytes + 1) (R.remaining input.old) (R.remaining input.new) }
 {
-    build_within(alloc, rt, MOST_BUNDLE_BYTES, input, output, executor)
+    build_within(
+        alloc,
+        rt,
+        MOST_BUNDLE_BYTES,
+        input,
+        output,
+        executor,
+        workers,
+        gate,
+    )
 }
 
 /// The same, the limit of bundles being a value and no number that is written out.
-fn build_within<R: CountedRead, W: CountedWrite, E: Executor>(
+fn build_within<R: CountedRead, W: CountedWrite, E: Executor, G: Gate>(
     alloc: Global,
-    rt: &(impl Threads + Sync),
+    rt: &(impl Threads + Wait + Sync),
     most: usize,
     input: &mut R,
     output: &mut W,
     executor: &E,
+    workers: u32,
+    gate: &G,
 ) -> Result<Status, BuildFault>
+    requires workers { (0 < workers) × (workers ≤ most_workers) }
     requires limit { most ≡ most_bundle_bytes }
     requires room { most < usize.MAX }
     requires reads { R.failures input.old < u64.MAX }
@@ -61,7 +80,7 @@ fn build_within<R: CountedRead, W: CountedWrite, E: Executor>(
     ensures taken { LosesBeginning (most + 1) (R.remaining input.old) (R.remaining input.new) }
 {
     let bytes = read_all(alloc, input, most + 1)?;
-    let told = tell_bundle(alloc, rt, bytes.as_slice(), executor)?;
+    let told = tell_bundle(alloc, rt, bytes.as_slice(), executor, workers, gate)?;
     write_all(output, told.line.as_str().as_bytes())?;
     Ok(told.status)
 }

@@ -3,13 +3,15 @@
 // `run_build` reads a bundle, makes its plan, solves it and writes one answer. It knows no command line and prints nothing else.
 // The crate is no solver and runs no command: the solver decides whose turn a vertex is, and the executor is the caller's.
 //
+// `run_graph` writes the plan's graph in place of solving it: `specs/Graph.antt` says which texts are one.
+//
 // The central definitions are in `specs/Meaning.antt`: `Asks`, what a bundle's bytes ask for or why they are refused, and `Answers`, which texts
 // tell what that gives under an executor. It runs the stages' instructions one after another and knows no graph.
 //
 // ```
 // let mut input = Counted::new(rt.stdin());
 // let mut output = Counted::new(rt.stdout());
-// let ended = run_build(alloc, &rt, &mut input, &mut output, &Fixture);
+// let ended = run_build(alloc, &rt, &mut input, &mut output, &Fixture, 4, &OpenGate);
 // let code = status_code(ended);
 // ```
 #![tactic(auto)]
@@ -17,8 +19,10 @@
 mod asking;
 mod building;
 mod code;
+mod graphing;
 pub mod laws;
 mod planning;
+mod showing;
 mod status;
 mod telling;
 mod told;
@@ -26,5 +30,6 @@ mod told;
 pub use asking::{Asked, ask};
 pub use building::run_build;
 pub use code::status_code;
+pub use graphing::run_graph;
 pub use planning::plan_of;
 pub use status::{BuildFault, Status};

@@ -6,7 +6,7 @@ use std::fmt;
 /// What an answer that was written says.
 #[derive(Clone, Copy, Debug, PartialEq, Eq)]
 pub enum Status {
-    /// The target's tree and configuration.
+    /// The target's tree and configuration, or its graph.
     Built,
     /// An instruction that failed, with its cause.
     Failed,
@@ -14,13 +14,15 @@ pub enum Status {
     Refused,
 }
 
-/// Why a build wrote no whole answer.
+/// Why a build, or a graph's drawing, wrote no whole answer.
 #[derive(Clone, Copy, Debug, PartialEq, Eq)]
 pub enum BuildFault {
     /// There was no memory. Nothing was written.
     Memory,
     /// A read or a write failed. Nothing was written, or a beginning of the answer.
     Device,
+    /// Two different operations of a graph have the same address, so it has no definition. Nothing was written. Only a graph's drawing tells it.
+    Clash,
 }
 
 impl fmt::Display for BuildFault {
@@ -33,6 +35,7 @@ impl fmt::Display for BuildFault {
         match self {
             BuildFault::Memory => write!(f, "out of memory"),
             BuildFault::Device => write!(f, "device failed"),
+            BuildFault::Clash => write!(f, "address clash"),
         }
     }
 }

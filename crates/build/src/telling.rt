@@ -1,4 +1,5 @@
-ghost use Rattle.std.specs.Prelude.{◌≡◌, [], IfOk, Ok as OkOf};
+ghost use Rattle.std.specs.Prelude.{◌≡◌, ◌<◌, ◌≤◌, [], IfOk, Ok as OkOf};
+ghost use Rattle.plain.specs.Limits.{most_workers};
 ghost use Rattle.build.specs.Lowerable.{IsLowerable};
 ghost use Rattle.build.specs.Meaning.{line_of};
 ghost use Rattle.build.specs.Telling.{status_of, text_of, TellsAsked, TellsBundle};
@@ -10,21 +11,26 @@ use bundle::{built_answer, failed_answer, refused_answer};
 use executor::Executor;
 use imageconfig::Config;
 use plain::{Fault, Memory, Text};
-use solver::{Solution, solve_problem};
+use solver::{Gate, Solution};
 use std::alloc::Global;
+use std::sync::Wait;
 use std::thread::Threads;
+use workers::solve;
 
 /// What a build tells of a bundle's bytes.
-pub(crate) fn tell_bundle<E: Executor>(
+pub(crate) fn tell_bundle<E: Executor, G: Gate>(
     alloc: Global,
-    rt: &(impl Threads + Sync),
+    rt: &(impl Threads + Wait + Sync),
     bytes: &[u8],
     executor: &E,
+    workers: u32,
+    gate: &G,
 ) -> Result<Told, Memory>
+    requires workers { (0 < workers) × (workers ≤ most_workers) }
     ensures { IfOk result (TellsBundle bytes.now (E.out executor.now)) }
 {
     match ask(alloc, rt, bytes) {
-        Ok(asked) => tell_asked(alloc, asked, executor),
+        Ok(asked) => tell_asked(alloc, rt, asked, executor, workers, gate),
         Err(Fault::Because(refusal)) => {
             let text = refused_answer(alloc, refusal)?;
             line_of(Status::Refused, text)
@@ -34,7 +40,15 @@ pub(crate) fn tell_bundle<E: Executor>(
 }
 
 /// What a build tells of what a bundle asks for.
-fn tell_asked<E: Executor>(alloc: Global, asked: Asked, executor: &E) -> Result<Told, Memory>
+fn tell_asked<E: Executor, G: Gate>(
+    alloc: Global,
+    rt: &(impl Threads + Wait + Sync),
+    asked: Asked,
+    executor: &E,
+    workers: u32,
+    gate: &G,
+) -> Result<Told, Memory>
+    requires workers { (0 < workers) × (workers ≤ most_workers) }
     requires lowerable { IsLowerable asked.evaluated }
     requires idle { asked.caches.holds ≡ [] }
     ensures { IfOk result (TellsAsked (E.out executor.now) (OkOf asked.evaluated)) }
@@ -44,7 +58,7 @@ fn tell_asked<E: Executor>(alloc: Global, asked: Asked, executor: &E) -> Result<
         mut caches,
     } = asked;
     let plan = plan_of(alloc, evaluated)?;
-    let solution = solve_problem(alloc, &plan, executor, &mut caches)?;
+    let solution = solve(alloc, rt, &plan, executor, workers, gate, &mut caches)?;
     tell_solution(alloc, plan.config(), &solution)
 }
 
@@ -72,7 +86,7 @@ fn tell_solution(alloc: Global, config: &Config, solution: &Solution) -> Result<
 }
 
 /// A text as a line.
-fn line_of(status: Status, text: Text) -> Result<Told, Memory>
+pub(crate) fn line_of(status: Status, text: Text) -> Result<Told, Memory>
     ensures status { IfOk result (λ told. told.status ≡ status) }
     ensures line { IfOk result (λ told. told.line ≡ line_of text) }
 {

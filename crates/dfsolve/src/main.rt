@@ -11,6 +11,7 @@ use plain::Fault;
 use program::{NotText, WordsFault, run_program};
 use std::alloc::AllocError;
 use std::process::ExitCode;
+use std::sync::Wait;
 use std::thread::Threads;
 use std::{env, io};
 
@@ -46,7 +47,7 @@ fn fault_of(error: &io::Error) -> WordsFault {
 }
 
 /// Runs the program on these words.
-fn run_words(rt: &HostRuntime, threads: &(impl Threads + Sync), words: &[String]) -> u8 {
+fn run_words(rt: &HostRuntime, threads: &(impl Threads + Wait + Sync), words: &[String]) -> u8 {
     let lent: Result<Vec<&str>, AllocError> = words
         .iter()
         .map(|word| word.as_str())
@@ -60,7 +61,7 @@ fn run_words(rt: &HostRuntime, threads: &(impl Threads + Sync), words: &[String]
 /// Runs the program on the system's streams.
 fn run<'a>(
     rt: &HostRuntime,
-    threads: &(impl Threads + Sync),
+    threads: &(impl Threads + Wait + Sync),
     words: Result<&'a [&'a str], WordsFault>,
 ) -> u8 {
     let mut input = Counted::new(rt.stdin());
@@ -69,6 +70,7 @@ fn run<'a>(
     run_program(
         rt.alloc(),
         threads,
+        rt,
         words,
         &mut input,
         &mut output,

@@ -9,12 +9,17 @@ use Rattle.clap.specs.declared.error.kind.ErrorKind.TheVariants.{DisplayHelp, Di
 use Rattle.command.specs.CommandLine.{whole_command}
 use Rattle.command.specs.Tasks.{IsTaskOf}
 use Rattle.command.specs.declared.task.Task.{Task}
+use Rattle.command.specs.declared.task.Task.TheVariants.{Build, Graph, Pack}
 use Rattle.plans.specs.Value.{Out}
 use Rattle.build.specs.declared.status.Status.{Status}
 use Rattle.build.specs.declared.status.BuildFault.{BuildFault}
-use Rattle.build.specs.Ends.{Devices, Ends}
+use Rattle.build.specs.Ends.{Devices, Ends, GraphEnds}
 use Rattle.build.specs.Faults.{exit_status}
 use Rattle.build.specs.Messages.{fault_text}
+use Rattle.packing.specs.Ends.{PacksFolder, fault_text as pack_fault_text}
+use Rattle.packing.specs.declared.fault.PackFault.{PackFault}
+use Rattle.packing.specs.declared.packing.Status.{Status as PackStatus}
+use Rattle.packing.specs.declared.packing.Status.TheVariants.{Built as Packed, Refused as Unpacked}
 use Rattle.program.specs.declared.arguments.NotText.{NotText}
 use Rattle.program.specs.Saying.{Stream, Says}
 
@@ -39,12 +44,43 @@ abbrev pub SaysEnd : Result Status BuildFault → Stream → Stream → Type 0
 SaysEnd (Ok status) old new = new ≡ old
 SaysEnd (Err fault) old new = Says (line_of (fault_text fault)) old new
 
--- a build was run, and the program ends with its status
-pub record Builds (out : Out) (old new : Streams) (status : ℕ) : Type 0 where
+-- a call that ends so was made, and the program ends with its status
+pub record Calls (EndsSo : Devices → Devices → Result Status BuildFault → Type 0) (old new : Streams) (status : ℕ) : Type 0 where
   pub ended : Result Status BuildFault
-  pub ends : Ends out old.devices new.devices ended
+  pub ends : EndsSo old.devices new.devices ended
   pub says : SaysEnd ended old.errors new.errors
   pub is : status ≡ exit_status ended
+
+-- nothing was read
+pub record IsUnread (old new : Streams) : Type 0 where
+  pub left : new.devices.left ≡ old.devices.left
+  pub failed_reads : new.devices.failed_reads ≡ old.devices.failed_reads
+
+-- what is said on the stream for errors of how packing ended: nothing where a bundle was written, else why there is none
+abbrev pub SaysPack : Result PackStatus PackFault → Stream → Stream → Type 0
+SaysPack (Ok Packed) old new = new ≡ old
+SaysPack (Ok Unpacked) old new = Says (line_of (codes "no Dockerfile")) old new
+SaysPack (Err fault) old new = Says (line_of (pack_fault_text fault)) old new
+
+-- the exit status after packing
+abbrev pub pack_status : Result PackStatus PackFault → ℕ
+pack_status (Ok Packed) = 0
+pack_status (Ok Unpacked) = 2
+pack_status (Err fault) = 3
+
+-- a folder was packed, of which nothing is known, and the program ends with its status
+pub record Packs (old new : Streams) (status : ℕ) : Type 0 where
+  pub ended : Result PackStatus PackFault
+  pub unread : IsUnread old new
+  pub packs : PacksFolder old.devices.written old.devices.failed_writes new.devices.written new.devices.failed_writes ended
+  pub says : SaysPack ended old.errors new.errors
+  pub is : status ≡ pack_status ended
+
+-- a task was done: a build was run, a graph was drawn, or a folder was packed
+abbrev pub Does : Out → Task → Streams → Streams → ℕ → Type 0
+Does out (Build workers) old new status = Calls (Ends out) old new status
+Does out Graph old new status = Calls GraphEnds old new status
+Does out (Pack folder) old new status = Packs old new status
 
 -- what clap says where answers are written, and not as a fault
 abbrev pub IsHelp : ErrorKind → Type 0
@@ -75,11 +111,6 @@ IsRefused kind output new_output errors new_errors status =
     WantsMemory output new_output errors new_errors status
     ⊎ ((kind ≢ OutOfMemory) × SaysKind kind output new_output errors new_errors × (status ≡ 2))
 
--- nothing was read
-pub record IsUnread (old new : Streams) : Type 0 where
-  pub left : new.devices.left ≡ old.devices.left
-  pub failed_reads : new.devices.failed_reads ≡ old.devices.failed_reads
-
 -- what was said on the two writers, nothing being read
 abbrev pub OnWriters : (Stream → Stream → Stream → Stream → ℕ → Type 0) → Streams → Streams → ℕ → Type 0
 OnWriters Said old new status = IsUnread old new × Said (output_of old) (output_of new) old.errors new.errors status
@@ -101,7 +132,7 @@ pub record Performs (out : Out) (words : List (List ℕ)) (old new : Streams) (s
   pub task : Task
   pub spelled : IsTaskOf (subcommand_of whole_command words) task
   pub faultless : fault_of whole_command words ≡ []
-  pub builds : Builds out old new status
+  pub does : Does out task old new status
 
 -- What the program does with the words of a command line, the program's name first, or where there are none: it does the task that
 -- they spell; or it says what is wrong with them, or help; or there was no memory to read them.

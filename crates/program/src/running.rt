@@ -4,20 +4,26 @@ ghost use Rattle.clap.specs.Words.{fault_of};
 ghost use Rattle.clap.specs.Kinds.{HasKind};
 ghost use Rattle.command.specs.CommandLine.{whole_command};
 ghost use Rattle.build.specs.Ends.{devices};
-ghost use Rattle.program.specs.Runs.{Runs, streams, texts_in, line_of, IsRefused};
+ghost use Rattle.build.specs.Faults.{exit_status};
+ghost use Rattle.program.specs.Runs.{Runs, streams, texts_in, line_of, pack_status, IsRefused, SaysEnd, SaysPack};
 ghost use Rattle.build.specs.Messages.{fault_text};
+ghost use Rattle.packing.specs.Ends.{fault_text as pack_fault_text};
 ghost use Rattle.program.specs.Saying.{stream};
 
 use crate::saying::say;
 use crate::{NotText, WordsFault};
-use build::{BuildFault, run_build, status_code};
+use build::{BuildFault, Status, run_build, run_graph, status_code};
 use clap::Error;
 use clap::error::ErrorKind;
 use command::{Task, read_command};
 use counted::{CountedRead, CountedWrite};
 use executor::Executor;
+use packing::{PackFault, run_pack};
 use plain::Fault;
+use solver::OpenGate;
 use std::alloc::Global;
+use std::rt::Files;
+use std::sync::Wait;
 use std::thread::Threads;
 
 /// The status after a bad command line, and after help.
@@ -26,16 +32,31 @@ const BAD_COMMAND: u8 = 2;
 /// The status after want of memory.
 const NO_MEMORY: u8 = 3;
 
+/// The status where the folder to be packed has no Dockerfile.
+const NO_DOCKERFILE: u8 = 2;
+
+/// The status where a folder was not packed whole.
+const NO_BUNDLE: u8 = 3;
+
 /// What is said where there was no memory.
 const NO_MEMORY_LINE: &str = "out of memory\n";
 
 /// Does what the words of a command line ask for, and gives the status to end with.
 ///
 /// The first word is the program's name. Where the system gave no words, it is handed why. The context of a build is filtered in several
-/// threads, and all else is done in the caller's.
-pub fn run_program<'a, R: CountedRead, W: CountedWrite, S: CountedWrite, E: Executor>(
+/// threads, its graph is solved by as many workers as the words say, and all else is done in the caller's. `files` is what a folder is read
+/// from that is to be packed.
+pub fn run_program<
+    'a,
+    F: Files + AllocGlobal + Clone + Drop,
+    R: CountedRead,
+    W: CountedWrite,
+    S: CountedWrite,
+    E: Executor,
+>(
     alloc: Global,
-    rt: &(impl Threads + Sync),
+    rt: &(impl Threads + Wait + Sync),
+    files: &F,
     words: Result<&'a [&'a str], WordsFault>,
     input: &mut R,
     output: &mut W,
@@ -65,15 +86,51 @@ pub fn run_program<'a, R: CountedRead, W: CountedWrite, S: CountedWrite, E: Exec
         }
     };
     match read_command(alloc, words) {
-        // The number of workers is 1: `read_command` takes no other yet.
-        Ok(Task::Build(_)) => {
-            let ended = run_build(alloc, rt, input, output, executor);
-            if let Err(fault) = &ended {
-                say(errors, fault_line(*fault));
-            }
-            status_code(ended)
+        Ok(Task::Build(workers)) => {
+            let workers = u32::from(workers);
+            let ended = run_build(alloc, rt, input, output, executor, workers, &OpenGate);
+            finish(errors, ended)
+        }
+        Ok(Task::Graph) => {
+            let ended = run_graph(alloc, rt, input, output);
+            finish(errors, ended)
+        }
+        Ok(Task::Pack(folder)) => {
+            let ended = run_pack(files, alloc, folder.as_str(), output);
+            finish_pack(errors, ended)
         }
         Err(error) => refuse_words(alloc, output, errors, &error),
+    }
+}
+
+/// Says why there is no whole answer, where there is none, and gives the status to end with.
+fn finish<S: CountedWrite>(errors: &mut S, ended: Result<Status, BuildFault>) -> u8
+    requires says { S.failures errors.old < u64.MAX }
+    ensures says { SaysEnd ended (stream (S.contents errors.old) (S.failures errors.old)) (stream (S.contents errors.new) (S.failures errors.new)) }
+    ensures is { result ≡ exit_status ended }
+{
+    if let Err(fault) = &ended {
+        say(errors, fault_line(*fault));
+    }
+    status_code(ended)
+}
+
+/// Says why there is no whole bundle, where there is none, and gives the status to end with.
+fn finish_pack<S: CountedWrite>(errors: &mut S, ended: Result<packing::Status, PackFault>) -> u8
+    requires says { S.failures errors.old < u64.MAX }
+    ensures says { SaysPack ended (stream (S.contents errors.old) (S.failures errors.old)) (stream (S.contents errors.new) (S.failures errors.new)) }
+    ensures is { result ≡ pack_status ended }
+{
+    match ended {
+        Ok(packing::Status::Built) => 0,
+        Ok(packing::Status::Refused) => {
+            say(errors, "no Dockerfile\n");
+            NO_DOCKERFILE
+        }
+        Err(fault) => {
+            say(errors, pack_fault_line(fault));
+            NO_BUNDLE
+        }
     }
 }
 
@@ -119,5 +176,17 @@ fn fault_line(fault: BuildFault) -> &'static str
     match fault {
         BuildFault::Memory => NO_MEMORY_LINE,
         BuildFault::Device => "device failed\n",
+        BuildFault::Clash => "address clash\n",
+    }
+}
+
+/// Why packing wrote no whole bundle, as a line.
+fn pack_fault_line(fault: PackFault) -> &'static str
+    ensures { result.now ≡ line_of (pack_fault_text fault) }
+{
+    match fault {
+        PackFault::Memory => NO_MEMORY_LINE,
+        PackFault::Device => "device failed\n",
+        PackFault::Ended => "cannot pack\n",
     }
 }

@@ -1,0 +1,57 @@
+ghost use Rattle.build.specs.Lowerable.{IsLowerable};
+ghost use Rattle.build.specs.PrivateShowing.{IsFileShown, IsShown};
+
+use crate::asking::{Asked, ask};
+use crate::telling::line_of;
+use crate::told::Told;
+use crate::{BuildFault, Status};
+use bundle::refused_answer;
+use drawing::{Clash, draw};
+use evaluation::Evaluated;
+use lowering::lower_program;
+use plain::Fault;
+use std::alloc::Global;
+use std::thread::Threads;
+
+/// What is shown of a bundle's bytes: the graph of what they ask for, or their refusal.
+pub(crate) fn show_bundle(
+    alloc: Global,
+    rt: &(impl Threads + Sync),
+    bytes: &[u8],
+) -> Result<Told, BuildFault>
+    ensures { IsShown bytes.now result }
+{
+    match ask(alloc, rt, bytes) {
+        Ok(asked) => {
+            let Asked {
+                evaluated,
+                caches: _,
+            } = asked;
+            show_file(alloc, evaluated)
+        }
+        Err(Fault::Because(refusal)) => {
+            let text = refused_answer(alloc, refusal)?;
+            Ok(line_of(Status::Refused, text)?)
+        }
+        Err(Fault::Memory) => Err(BuildFault::Memory),
+    }
+}
+
+/// The graph of a file's needed stages.
+fn show_file(alloc: Global, evaluated: Evaluated) -> Result<Told, BuildFault>
+    requires { IsLowerable evaluated }
+    ensures { IsFileShown evaluated result }
+{
+    let Evaluated {
+        rows,
+        target,
+        config,
+        sources,
+    } = evaluated;
+    let plan = lower_program(alloc, rows, target, config, sources)?;
+    match draw(alloc, plan) {
+        Ok(text) => Ok(line_of(Status::Built, text)?),
+        Err(Fault::Because(Clash)) => Err(BuildFault::Clash),
+        Err(Fault::Memory) => Err(BuildFault::Memory),
+    }
+}
