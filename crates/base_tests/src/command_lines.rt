@@ -1,5 +1,6 @@
 use clap::error::ErrorKind;
 use command::{Task, read_command};
+use plain::Text;
 use std::alloc::Global;
 use std::test::Fail;
 
@@ -11,16 +12,36 @@ fn words(alloc: Global, line: &str) -> Result<Vec<&str>, Fail> {
 #[test]
 fn words_that_build(rt: HostRuntime) -> Result<(), Fail> {
     // The first word is passed over, whatever it is, and a number may have a sign and zeros.
-    for line in [
-        "dfsolve build",
-        "dfsolve build --workers 1",
-        "build build",
-        "/usr/bin/dfsolve build --workers=+01",
+    for (line, workers) in [
+        ("dfsolve build", 4),
+        ("dfsolve build --workers 1", 1),
+        ("build build", 4),
+        ("/usr/bin/dfsolve build --workers=+01", 1),
+        ("dfsolve build --workers=64", 64),
     ] {
         let words = words(rt.alloc(), line)?;
         let task = read_command(rt.alloc(), words.as_slice())?;
-        assert_eq!(rt; task, Task::Build(1), "at {line}");
+        assert_eq!(rt; task, Task::Build(workers), "at {line}");
     }
+    Ok(())
+}
+
+#[test]
+fn words_that_draw_and_pack(rt: HostRuntime) -> Result<(), Fail> {
+    for (line, folder) in [
+        ("dfsolve pack .", "."),
+        ("dfsolve pack a/b", "a/b"),
+        ("dfsolve pack -- -a", "-a"),
+        ("dfsolve pack pack", "pack"),
+        ("dfsolve pack ", ""),
+    ] {
+        let words = words(rt.alloc(), line)?;
+        let task = read_command(rt.alloc(), words.as_slice())?;
+        let wanted = Task::Pack(Text::from_str(rt.alloc(), folder)?);
+        assert_eq!(rt; task, wanted, "at {line}");
+    }
+    let words = words(rt.alloc(), "dfsolve graph")?;
+    assert_eq!(rt; read_command(rt.alloc(), words.as_slice())?, Task::Graph);
     Ok(())
 }
 
@@ -34,7 +55,7 @@ fn words_that_do_not(rt: HostRuntime) -> Result<(), Fail> {
         ("dfsolve build more", ErrorKind::UnknownArgument),
         ("dfsolve build --worker 1", ErrorKind::UnknownArgument),
         ("dfsolve build --version", ErrorKind::UnknownArgument),
-        ("dfsolve build --workers 2", ErrorKind::ValueValidation),
+        ("dfsolve build --workers 65", ErrorKind::ValueValidation),
         ("dfsolve build --workers 0", ErrorKind::ValueValidation),
         ("dfsolve build --workers 257", ErrorKind::ValueValidation),
         ("dfsolve build --workers=x", ErrorKind::ValueValidation),
@@ -43,7 +64,12 @@ fn words_that_do_not(rt: HostRuntime) -> Result<(), Fail> {
             "dfsolve build --workers=1 --workers=1",
             ErrorKind::ArgumentConflict,
         ),
+        ("dfsolve pack", ErrorKind::MissingRequiredArgument),
+        ("dfsolve pack a b", ErrorKind::UnknownArgument),
+        ("dfsolve pack --workers 1 a", ErrorKind::UnknownArgument),
+        ("dfsolve graph a", ErrorKind::UnknownArgument),
         ("dfsolve help", ErrorKind::DisplayHelp),
+        ("dfsolve pack -h", ErrorKind::DisplayHelp),
         ("dfsolve build -h", ErrorKind::DisplayHelp),
         ("dfsolve -V", ErrorKind::DisplayVersion),
     ] {

@@ -3,7 +3,7 @@
 // in them is written `¶`.
 //
 // The cases are data: `stdin` has them, and `stdout` what the rules say of each. Names that begin with `example_` are the bundles and the
-// packed folder of `examples/`, and those that begin with `bundle_` are about the bundle itself.
+// packed folder of `examples/`, those that begin with `bundle_` are about the bundle itself, and those with `pack_` pack the folders of `data/`.
 #![tactic(auto)]
 
 use counted::Counted;
@@ -13,6 +13,8 @@ use program::run_program;
 use std::alloc::Global;
 use std::io;
 use std::io::Cursor;
+use std::rt::Files;
+use std::sync::Wait;
 use std::thread::Threads;
 
 /// How much room an answer has: a writer in memory that has to grow could be refused.
@@ -34,7 +36,7 @@ fn main(rt: HostRuntime) -> io::Result<()> {
             .split_once(" | ")
             .unwrap_or((case.as_str(), ""));
         println!(rt; "{name}")?;
-        match run_case(rt.alloc(), &rt, run) {
+        match run_case(rt.alloc(), &rt, &rt, run) {
             Ok(ended) => {
                 println!(rt; "    {}", ended.status)?;
                 println!(rt; "    out {}", ended.output)?;
@@ -47,7 +49,12 @@ fn main(rt: HostRuntime) -> io::Result<()> {
 }
 
 /// Runs the program on what stands behind a case's name.
-fn run_case(alloc: Global, rt: &(impl Threads + Sync), run: &str) -> Result<Ended, Memory> {
+fn run_case<F: Files + AllocGlobal + Clone + Drop>(
+    alloc: Global,
+    rt: &(impl Threads + Wait + Sync),
+    files: &F,
+    run: &str,
+) -> Result<Ended, Memory> {
     let (line, bundle) = run.split_once(" | ").unwrap_or((run, ""));
     let words: Vec<&str> = line.split(' ').collect(alloc)?;
     let mut input = Counted::new(Cursor::new(bundle.as_bytes()));
@@ -57,6 +64,7 @@ fn run_case(alloc: Global, rt: &(impl Threads + Sync), run: &str) -> Result<Ende
     let status = run_program(
         alloc,
         rt,
+        files,
         words,
         &mut input,
         &mut output,

@@ -1,8 +1,9 @@
-use build::{BuildFault, Status, ask, plan_of, run_build};
+use build::{BuildFault, Status, ask, plan_of, run_build, run_graph};
 use counted::Counted;
 use executor::Fixture;
 use plain::Fault;
 use program::{NotText, run_program};
+use solver::OpenGate;
 use std::alloc::Global;
 use std::io;
 use std::io::{Cursor, Read, Write};
@@ -21,6 +22,19 @@ const EQUAL: &str =
 
 const ANSWER: &str =
     r#"{"config":{"architecture":"amd64","config":{},"os":"linux","rootfs":{"diff_ids":[],"type":"layers"}},"result":"built","tree":[{"dir":true,"gid":0,"mode":"0755","path":"/","uid":0},{"gid":0,"hex":"6869","mode":"0644","path":"/a","uid":0}]}
+"#;
+
+/// The graph of the first build, its addresses computed by another program.
+const GRAPH: &str =
+    r#"{"ops":[{"inputs":[],"op":"source","source":"scratch"},{"binds":[],"caches":[],"dir":"/","env":[],"inputs":["sha256:76552e79413bf55d0c5d1deb6d66827a826db17e8dac7a4d75392760fd22987b"],"op":"exec","user":"","words":["/bin/sh","-c","put /a hi"]},{"inputs":["sha256:64900545bdba95a5dd127c7fa202375bbae70f2fb126a69abb15707c76b3b732"],"op":"end"}],"version":1}
+"#;
+
+/// A build that fails.
+const FAILING: &str = r#"{"dockerfile":{"text":"FROM scratch\nRUN fail 1\n"}}"#;
+
+/// Its graph, its addresses computed by another program.
+const FAILING_GRAPH: &str =
+    r#"{"ops":[{"inputs":[],"op":"source","source":"scratch"},{"binds":[],"caches":[],"dir":"/","env":[],"inputs":["sha256:76552e79413bf55d0c5d1deb6d66827a826db17e8dac7a4d75392760fd22987b"],"op":"exec","user":"","words":["/bin/sh","-c","fail 1"]},{"inputs":["sha256:21f004bc2ee7d269ffaf74623a91f977d9de6db932bde4a1d0e5bc77d9f676a4"],"op":"end"}],"version":1}
 "#;
 
 /// Gives blanks without an end.
@@ -78,9 +92,48 @@ impl Write for FailsOnce {
 fn first_run_prints_hi(rt: HostRuntime) -> Result<(), Fail> {
     let mut input = Counted::new(Cursor::new(FIRST.as_bytes()));
     let mut output = Counted::new(Vec::with_capacity(rt.alloc(), 4096)?);
-    let result = run_build(rt.alloc(), &rt, &mut input, &mut output, &Fixture);
+    let result = run_build(
+        rt.alloc(),
+        &rt,
+        &mut input,
+        &mut output,
+        &Fixture,
+        4,
+        &OpenGate,
+    );
     assert_eq!(rt; result, Ok(Status::Built));
     assert_eq!(rt; output.into_inner().as_slice(), ANSWER.as_bytes());
+    Ok(())
+}
+
+#[test]
+fn first_run_is_drawn(rt: HostRuntime) -> Result<(), Fail> {
+    let mut input = Counted::new(Cursor::new(FIRST.as_bytes()));
+    let mut output = Counted::new(Vec::with_capacity(rt.alloc(), 4096)?);
+    let result = run_graph(rt.alloc(), &rt, &mut input, &mut output);
+    assert_eq!(rt; result, Ok(Status::Built));
+    assert_eq!(rt; output.into_inner().as_slice(), GRAPH.as_bytes());
+    Ok(())
+}
+
+#[test]
+fn failing_build_is_drawn(rt: HostRuntime) -> Result<(), Fail> {
+    let mut input = Counted::new(Cursor::new(FAILING.as_bytes()));
+    let mut output = Counted::new(Vec::with_capacity(rt.alloc(), 4096)?);
+    let result = run_graph(rt.alloc(), &rt, &mut input, &mut output);
+    assert_eq!(rt; result, Ok(Status::Built));
+    assert_eq!(rt; output.into_inner().as_slice(), FAILING_GRAPH.as_bytes());
+    Ok(())
+}
+
+#[test]
+fn empty_text_is_not_drawn(rt: HostRuntime) -> Result<(), Fail> {
+    let mut input = Counted::new(Cursor::new(br#"{"dockerfile":{"text":""}}"#.as_slice()));
+    let mut output = Counted::new(Vec::with_capacity(rt.alloc(), 4096)?);
+    let result = run_graph(rt.alloc(), &rt, &mut input, &mut output);
+    assert_eq!(rt; result, Ok(Status::Refused));
+    let refused = br#"{"code":"R05","line":1,"result":"refused"}"#.as_slice();
+    assert!(rt; output.into_inner().as_slice().starts_with(refused));
     Ok(())
 }
 
@@ -92,7 +145,15 @@ fn failed_write_is_not_retried(rt: HostRuntime) {
         first: 5,
         has_failed: false,
     });
-    let result = run_build(rt.alloc(), &rt, &mut input, &mut output, &Fixture);
+    let result = run_build(
+        rt.alloc(),
+        &rt,
+        &mut input,
+        &mut output,
+        &Fixture,
+        4,
+        &OpenGate,
+    );
     assert_eq!(rt; result, Err(BuildFault::Device));
     assert_eq!(rt; output.failures(), 1);
     assert_eq!(rt; output.into_inner().taken.as_slice(), b"{\"con".as_slice());
@@ -102,7 +163,15 @@ fn failed_write_is_not_retried(rt: HostRuntime) {
 fn failed_read_writes_nothing(rt: HostRuntime) -> Result<(), Fail> {
     let mut input = Counted::new(Broken);
     let mut output = Counted::new(Vec::with_capacity(rt.alloc(), 4096)?);
-    let result = run_build(rt.alloc(), &rt, &mut input, &mut output, &Fixture);
+    let result = run_build(
+        rt.alloc(),
+        &rt,
+        &mut input,
+        &mut output,
+        &Fixture,
+        4,
+        &OpenGate,
+    );
     assert_eq!(rt; result, Err(BuildFault::Device));
     assert_eq!(rt; input.failures(), 1);
     assert!(rt; output.into_inner().is_empty());
@@ -113,7 +182,15 @@ fn failed_read_writes_nothing(rt: HostRuntime) -> Result<(), Fail> {
 fn no_more_is_read_than_one_byte_past_the_limit(rt: HostRuntime) -> Result<(), Fail> {
     let mut input = Counted::new(Blanks { taken: 0 });
     let mut output = Counted::new(Vec::with_capacity(rt.alloc(), 4096)?);
-    let result = run_build(rt.alloc(), &rt, &mut input, &mut output, &Fixture);
+    let result = run_build(
+        rt.alloc(),
+        &rt,
+        &mut input,
+        &mut output,
+        &Fixture,
+        4,
+        &OpenGate,
+    );
     assert_eq!(rt; result, Ok(Status::Refused));
     assert_eq!(rt; input.into_inner().taken, 67_108_865);
     Ok(())
@@ -162,6 +239,7 @@ fn words_that_are_none_end_the_program(rt: HostRuntime) -> Result<(), Fail> {
         let words = Err(fault);
         let code = run_program(
             rt.alloc(),
+            &rt,
             &rt,
             words,
             &mut input,

@@ -4,7 +4,7 @@ use cachemounts::CacheStore;
 use executor::{Executor, Fixture};
 use plain::Memory;
 use plans::Plan;
-use solver::{Answer, Solution, finish, run, solve_here};
+use solver::{Answer, OpenGate, Solution, finish, run, solve_here};
 use std::alloc::Global;
 use std::process::Abort;
 use std::test::Fail;
@@ -162,7 +162,7 @@ fn settled_crosswise<E: Executor>(
     settled?;
     assert!(rt; board.is_idle());
     let mut text = String::new(alloc);
-    if let Solution::Built(tree) = finish(alloc, &mut board)? {
+    if let Solution::Built(tree) = finish(alloc, &OpenGate, &mut board)? {
         write_tree(alloc, &mut text, &tree)?;
     }
     assert!(rt; board.into_caches().is_idle());

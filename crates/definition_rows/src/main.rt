@@ -1,0 +1,125 @@
+// Reads definitions, one a line: a name, ` | `, and the text of a definition; or `many N`, a definition of N operations that is too long for a
+// line of a table. It answers the name and, behind a colon, the fault and its place; or how many vertices were read, which one the result
+// is, and whether the graph is written as the text stood.
+//
+// The cases are data: `stdin` has them, and `stdout` what the rules say of each. The addresses in them were computed by another program.
+#![tactic(auto)]
+
+use definition::{Defect, read, write};
+use llb::{Graph, VertexId};
+use plain::{Fault, Memory, Text};
+use plans::{Plan, Sources};
+use std::alloc::Global;
+use std::io;
+use trees::Tree;
+
+/// The text of an operation that stands alone, and its address.
+const SCRATCH: &str = r#"{"inputs":[],"op":"source","source":"scratch"}"#;
+
+const SCRATCH_ADDRESS: &str =
+    "sha256:76552e79413bf55d0c5d1deb6d66827a826db17e8dac7a4d75392760fd22987b";
+
+fn main(rt: HostRuntime) -> io::Result<()> {
+    for line in rt.lines(rt.alloc()) {
+        let case = line?;
+        let (name, text) = case
+            .as_str()
+            .split_once(" | ")
+            .unwrap_or((case.as_str(), ""));
+        match answer(rt.alloc(), text) {
+            Ok(answer) => println!(rt; "{name}: {answer}")?,
+            Err(Memory) => println!(rt; "{name}: out of memory")?,
+        }
+    }
+    Ok(())
+}
+
+/// The answer to a case.
+fn answer(alloc: Global, case: &str) -> Result<String, Memory> {
+    match case {
+        "many 16384" => answer_to_text(alloc, many(alloc, 16_384)?.as_str()),
+        "many 16385" => answer_to_text(alloc, many(alloc, 16_385)?.as_str()),
+        _ => answer_to_text(alloc, case),
+    }
+}
+
+/// What reading a text answers.
+fn answer_to_text(alloc: Global, text: &str) -> Result<String, Memory> {
+    match read(alloc, text) {
+        Ok((graph, target)) => answer_to_graph(alloc, graph, target, text),
+        Err(Fault::Because(defect)) => defect_text(alloc, defect),
+        Err(Fault::Memory) => Err(Memory),
+    }
+}
+
+/// A defect, with its place.
+fn defect_text(alloc: Global, defect: Defect) -> Result<String, Memory> {
+    let (kind, place) = match defect {
+        Defect::Malformed(place) => ("Malformed", place),
+        Defect::Unknown(place) => ("Unknown", place),
+        Defect::Repeated(place) => ("Repeated", place),
+        Defect::Clash(place) => ("Clash", place),
+    };
+    Ok(format!(in alloc; "{kind} {place}")?)
+}
+
+/// What was read from a text, and whether it is written so.
+fn answer_to_graph(
+    alloc: Global,
+    graph: Graph,
+    target: VertexId,
+    text: &str,
+) -> Result<String, Memory> {
+    let count = graph.len();
+    let words = if is_written_as(alloc, graph, target, text)? {
+        "as it stood"
+    } else {
+        "in other words"
+    };
+    let result = target.number();
+    Ok(format!(in alloc; "{count} vertices, result {result}, {words}")?)
+}
+
+/// Whether a graph and its result are written as this text.
+fn is_written_as(
+    alloc: Global,
+    graph: Graph,
+    target: VertexId,
+    text: &str,
+) -> Result<bool, Memory> {
+    let sources = sources(alloc)?;
+    if target.index() >= graph.len() || !sources.suffice(&graph) {
+        return Ok(false);
+    }
+    match write(alloc, &Plan::new(graph, target, (), sources)) {
+        Ok(written) => Ok(written.as_str() == text),
+        Err(Fault::Because(_)) => Ok(false),
+        Err(Fault::Memory) => Err(Memory),
+    }
+}
+
+/// The trees of the sources that the table names.
+fn sources(alloc: Global) -> Result<Sources, Memory> {
+    let mut sources = Sources::new(alloc, Tree::empty(alloc));
+    for name in ["a", "context", "Scratch", "image:a"] {
+        sources.add_image(Text::from_str(alloc, name)?, Tree::empty(alloc))?;
+    }
+    Ok(sources)
+}
+
+/// The definition of so many operations: the empty tree, which is the result, and directories in it.
+fn many(alloc: Global, count: u32) -> Result<String, Memory> {
+    let mut text = String::from_str(alloc, "{\"ops\":[")?;
+    text.push_str(SCRATCH)?;
+    for number in 1..count {
+        text.push_str(",{\"action\":\"mkdir\",\"inputs\":[\"")?;
+        text.push_str(SCRATCH_ADDRESS)?;
+        text.push_str("\"],\"op\":\"file\",\"path\":\"/")?;
+        text.push_str(format!(in alloc; "{number}")?.as_str())?;
+        text.push_str("\"}")?;
+    }
+    text.push_str(",{\"inputs\":[\"")?;
+    text.push_str(SCRATCH_ADDRESS)?;
+    text.push_str("\"],\"op\":\"end\"}],\"version\":1}")?;
+    Ok(text)
+}

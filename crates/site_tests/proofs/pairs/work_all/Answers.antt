@@ -1,0 +1,16 @@
+use denote.Param.{param}
+use denote.Ref.{NamedLft}
+use denote.Param.Send.{IsSync, sendable}
+use Rattle.sites.specs.contracts.site.Desk as Desk
+use Rattle.sites.proofs.Crosses.{desk_sync}
+use Rattle.site_tests.specs.contracts.pairs.Tools as Tools
+use Rattle.site_tests.proofs.Crosses.{tools_sync}
+use Rattle.site_tests.proofs.pairs.work_all.Goals as goal
+
+-- each entry of the search is a function, since it doesn't open a record
+pub for_each_mut-requires-sync-F : goal.for_each_mut-requires-sync-F
+for_each_mut-requires-sync-F g c κs within =
+    let b = c.type_bounds in
+    let tools : (κ : NamedLft) → IsSync (Tools.the_row κ (param 0 g.row.E) g.E.Executor) = λ κ. tools_sync κ (param 0 g.row.E) g.E.Executor b.sync-E in
+    let desk : (κ : NamedLft) → IsSync (Desk.the_row κ (param 0 g.row.E) (param 1 g.row.J) g.E.Executor g.J.Case g.J.Room) = λ κ. desk_sync κ (param 0 g.row.E) (param 1 g.row.J) g.E.Executor g.J.Case g.J.Room b.sync-E b.send-J in
+    search (tools, desk, sendable) depth 30

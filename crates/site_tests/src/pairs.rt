@@ -1,0 +1,166 @@
+ghost use Rattle.std.specs.Prelude.{◌≡◌, []};
+ghost use Rattle.board.specs.Board.{board_problem};
+ghost use Rattle.board.specs.Job.{job_problem};
+
+use board::{Board, Job, NoBoard, Refused};
+use cachemounts::CacheStore;
+use executor::{Executor, Fixture};
+use llb::Graph;
+use plain::Memory;
+use plans::Plan;
+use rolls::{Opened, Room};
+use samples::{add, op_of, plan_of};
+use sites::{Case, Desk, Seat, Site};
+use solver::run;
+use std::alloc::Global;
+use std::marker::Brand;
+use std::sync::Wait;
+use std::test::Fail;
+use std::thread;
+use std::thread::Threads;
+use trees::Tree;
+use vertexrun::Ran;
+
+/// How often a worker looks for a vertex before it leaves.
+const TURNS: u32 = 1_000;
+
+/// What the workers share beside the desk.
+#[derive(Drop)]
+pub struct Tools<'a, E: Executor> {
+    pub alloc: Global,
+    pub job: &'a Job<'a, E>,
+}
+
+/// A worker's turns: a claim under the lock, a run outside of it, a settle under it. For want of memory the claim is given up.
+fn work<E: Executor, J: Case + Room, R: Wait>(
+    rt: &R,
+    desk: &Desk<E, J>,
+    tools: &Tools<E>,
+    seat: &mut Seat<J>,
+)
+    requires { job_problem E.out tools.now.job.now ≡ J.problem }
+{
+    for _ in 0..TURNS {
+        turn(rt, desk, tools, seat);
+    }
+}
+
+fn turn<E: Executor, J: Case + Room, R: Wait>(
+    rt: &R,
+    desk: &Desk<E, J>,
+    tools: &Tools<E>,
+    seat: &mut Seat<J>,
+)
+    requires { job_problem E.out tools.now.job.now ≡ J.problem }
+{
+    let claimed = desk.lock(rt).claim(tools.alloc, seat);
+    let Ok(Some(claim)) = claimed else {
+        thread::yield_now();
+        return;
+    };
+    let Ok(ran) = run(tools.alloc, tools.job, &claim) else {
+        desk.lock(rt).abandon(seat, claim);
+        return;
+    };
+    let Ran { value, given } = ran;
+    let mut held = desk.lock(rt);
+    if let Err(refused) = held.settle(tools.alloc, seat, claim, value, given) {
+        let Refused {
+            claim,
+            value: _,
+            given: _,
+        } = refused;
+        held.abandon(seat, claim);
+    }
+}
+
+/// The work of each seat, in a thread of its own.
+fn work_all<E: Executor, J: Case + Room + Send + Sync, R: Threads + Wait + Sync>(
+    rt: &R,
+    desk: &Desk<E, J>,
+    tools: &Tools<E>,
+    seats: &mut [Seat<J>],
+)
+    requires { job_problem E.out tools.now.job.now ≡ J.problem }
+{
+    thread::for_each_mut(
+        rt,
+        seats,
+        2,
+        &|_, seat: &mut Seat<J>|
+            requires { job_problem E.out tools.now.job.now ≡ J.problem }
+        { work(rt, desk, tools, seat) },
+    );
+}
+
+/// The tallies of two workers of a board, one after the other; none for want of memory.
+fn tallies_of_two<E: Executor, J: Case + Room + Send + Sync, R: Threads + Wait + Sync>(
+    rt: &R,
+    tools: &Tools<E>,
+    board: Board<E>,
+    opened: Opened,
+) -> Result<Vec<u32>, Memory>
+    requires job { job_problem E.out tools.now.job.now ≡ J.problem }
+    requires problem { board_problem E.out board ≡ J.problem }
+    requires room { opened.table.shared.table_id ≡ J.table }
+    requires begun { board.run.history ≡ [] }
+{
+    let mut site = Site::<E, J>::new(board, opened);
+    let mut seats = [site.seat(tools.alloc), site.seat(tools.alloc)];
+    work_all(rt, site.desk(), tools, &mut seats);
+    let board = site.close(&mut seats);
+    let mut tallies = Vec::new(tools.alloc);
+    for seat in &seats {
+        for vertex in seat.tally() {
+            tallies.push(vertex.number())?;
+        }
+    }
+    Ok(tallies)
+}
+
+/// The same, on a new board of a plan.
+fn solve_by_two<E: Executor, R: Threads + Wait + Sync>(
+    rt: &R,
+    alloc: Global,
+    plan: &Plan<()>,
+    executor: &E,
+) -> Result<Vec<u32>, Memory> {
+    let opened = Opened::new(alloc)?;
+    let job = Job::new(plan, executor);
+    let board = match Board::new(alloc, Job::new(plan, executor), CacheStore::new(alloc)) {
+        Ok(board) => board,
+        Err(refused) => {
+            let NoBoard { caches: _ } = refused;
+            return Err(Memory);
+        }
+    };
+    let tools = Tools { alloc, job: &job };
+    tallies_of_two::<E, Brand, R>(rt, &tools, board, opened)
+}
+
+/// A plan whose target, the last of five vertices, needs them all.
+fn five_vertices(alloc: Global) -> Result<Option<Plan<()>>, Memory> {
+    let mut graph = Graph::new(alloc);
+    for (line, inputs) in [
+        ("scratch", [].as_slice()),
+        ("run put /a 1", [0].as_slice()),
+        ("run put /b 2", [0].as_slice()),
+        ("run put /c 3", [2].as_slice()),
+        ("merge", [1, 3].as_slice()),
+    ] {
+        add(alloc, &mut graph, op_of(alloc, line)?, inputs, None)?;
+    }
+    Ok(plan_of(alloc, graph, 4, Tree::empty(alloc)))
+}
+
+#[test]
+fn two_workers_cut_the_settled_vertices(rt: HostRuntime) -> Result<(), Fail> {
+    let alloc = rt.alloc();
+    let Some(plan) = five_vertices(alloc)? else {
+        return Err(Memory.into());
+    };
+    let mut tallies = solve_by_two(&rt, alloc, &plan, &Fixture)?;
+    tallies.sort()?;
+    assert_eq!(rt; tallies.as_slice(), [0, 1, 2, 3, 4].as_slice());
+    Ok(())
+}
