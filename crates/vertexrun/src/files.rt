@@ -1,7 +1,10 @@
 ghost use Rattle.std.specs.Prelude.{◌≡◌, Some, IfOk, IsSome, map};
 ghost use Rattle.std.specs.List.{filter};
+ghost use Rattle.std.specs.FinMap.{entries};
 ghost use Rattle.trees.specs.Cause.{TreeOrCause as TreeOrCauseValue, GivesTree};
 ghost use Rattle.trees.specs.Make.{made};
+ghost use Rattle.trees.specs.Rows.{lent_rows};
+ghost use Rattle.trees.specs.TreeMap.{TreeMap};
 ghost use Rattle.trees.specs.Over.{merged};
 ghost use Rattle.globs.specs.Glob.{matches};
 ghost use Rattle.plans.specs.Files.{matches_in, source_in, sources_in};
@@ -82,7 +85,7 @@ fn settle_dirs(alloc: Global, path: &Path, tree: &Tree) -> Result<TreeOrCause, M
     }
 }
 
-/// The sources of a copy, each looked up in the tree that is copied from.
+/// The sources of a copy, each looked up in the tree that is copied from, which is listed once for all of them.
 fn find_sources(
     alloc: Global,
     from: &Tree,
@@ -90,21 +93,26 @@ fn find_sources(
 ) -> Result<Vec<CopySource>, Memory>
     ensures { IfOk result (λ found. found.items ≡ sources_in from.now sources.now) }
 {
+    let rows = from.entries(alloc)?;
     let mut found = Vec::with_capacity(alloc, sources.len())?;
     for source in sources {
-        found.push(find_source(alloc, from, source)?)?;
+        found.push(find_source(alloc, rows.as_slice(), source)?)?;
     }
     Ok(found)
 }
 
-/// A source, looked up in the tree that is copied from.
-fn find_source(alloc: Global, from: &Tree, source: &FileSource) -> Result<CopySource, Memory>
-    ensures { IfOk result (λ found. found ≡ source_in from.now source.now) }
+/// A source, looked up in the rows of the tree that is copied from.
+fn find_source(
+    alloc: Global,
+    rows: &[(Path, &Entry)],
+    source: &FileSource,
+) -> Result<CopySource, Memory>
+    ensures { (tree : TreeMap) → lent_rows rows.now ≡ entries tree → IfOk result (λ found. found ≡ source_in tree source.now) }
 {
     match source {
         FileSource::Pattern(text) => Ok(CopySource::Found(find_matches(
             alloc,
-            from,
+            rows,
             text.as_str(),
         )?)),
         FileSource::Data(name, content) => {
@@ -115,28 +123,29 @@ fn find_source(alloc: Global, from: &Tree, source: &FileSource) -> Result<CopySo
     }
 }
 
-/// The paths of a tree to which a pattern relates, in path order; none where it is malformed.
-fn find_matches(alloc: Global, tree: &Tree, pattern: &str) -> Result<Items<Path>, Memory>
-    ensures { IfOk result (λ paths. paths ≡ matches_in tree.now pattern.now) }
+/// Those of a tree's rows' paths to which a pattern relates, in path order; none where it is malformed.
+fn find_matches(
+    alloc: Global,
+    rows: &[(Path, &Entry)],
+    pattern: &str,
+) -> Result<Items<Path>, Memory>
+    ensures { (tree : TreeMap) → lent_rows rows.now ≡ entries tree → IfOk result (λ paths. paths ≡ matches_in tree pattern.now) }
 {
     match Glob::read(alloc, pattern) {
-        Ok(glob) => {
-            let rows = tree.entries(alloc)?;
-            Ok(Items::from_vec(matching(alloc, &glob, rows)?))
-        }
+        Ok(glob) => Ok(Items::from_vec(matching(alloc, &glob, rows)?)),
         Err(Fault::Because(_)) => Ok(Items::new(alloc)),
         Err(Fault::Memory) => Err(Memory),
     }
 }
 
 /// Those of the rows' paths that a pattern matches.
-fn matching(alloc: Global, glob: &Glob, rows: Vec<(Path, &Entry)>) -> Result<Vec<Path>, Memory>
-    ensures { IfOk result (λ paths. paths.items ≡ map (λ row. row.0) (filter (λ row. matches glob.now row.0) rows.entry.items)) }
+fn matching(alloc: Global, glob: &Glob, rows: &[(Path, &Entry)]) -> Result<Vec<Path>, Memory>
+    ensures { IfOk result (λ paths. paths.items ≡ map (λ row. row.0) (filter (λ row. matches glob.now row.0) rows.now)) }
 {
     let mut paths = Vec::new(alloc);
     for (path, _) in rows {
-        if glob.matches(&path) {
-            paths.push(path)?;
+        if glob.matches(path) {
+            paths.push(path.copy(alloc)?)?;
         }
     }
     Ok(paths)
