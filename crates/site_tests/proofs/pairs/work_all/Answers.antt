@@ -1,11 +1,20 @@
 use denote.Param.{param}
+use denote.RattleType.{RattleType}
 use denote.Ref.{NamedLft}
-use denote.Param.Send.{IsSync, sendable}
+use denote.Param.Send.{IsSync, AllSync, sendable}
+use denote.Struct.Declared.{fields}
+use Rattle.executor.specs.declared.executor.Executor.{Ghosts}
+use Rattle.std.proofs.Crossing as any
 use Rattle.sites.specs.contracts.site.Desk as Desk
-use Rattle.sites.proofs.Crosses.{desk_sync}
+use Rattle.sites.proofs.Crosses.{desk_sync, job_sync}
 use Rattle.site_tests.specs.contracts.pairs.Tools as Tools
-use Rattle.site_tests.proofs.Crosses.{tools_sync}
 use Rattle.site_tests.proofs.pairs.work_all.Goals as goal
+
+-- what the two workers share may be lent to several threads. (It stands here, since a file of its own would be read where the tests aren't there.)
+tools_sync : (κ : NamedLft) (E : RattleType) (g : Ghosts E.Denot) → IsSync E → IsSync (Tools.the_row κ E g)
+tools_sync κ E g e =
+    let all : AllSync (fields (Tools.the_type κ E g)) = (search (sendable, any.crosses) depth 20, (search (job_sync κ E g e, sendable) depth 20, tt)) in
+    search (all, sendable) depth 20
 
 -- each entry of the search is a function, since it doesn't open a record
 pub for_each_mut-requires-sync-F : goal.for_each_mut-requires-sync-F
