@@ -86,17 +86,28 @@ impl Graph {
     {
         let hash = hash_of(&vertex);
         if let Some(at) = self.find(hash, &vertex) {
+            drop(vertex);
             places::add_lines(alloc, &mut self.places, at, lines)?;
             return Ok(VertexId::new(at as u32));
         }
         let at = self.vertices.len();
         if at == MOST_VERTICES {
+            drop(vertex);
             return Err(Fault::Because(Full));
         }
-        let lines = Items::from_vec(Vec::from_slice(alloc, lines)?);
-        self.vertices.reserve(1)?;
-        self.places.reserve(1)?;
-        self.index.enter(alloc, hash, at as u32)?;
+        let Ok(lines) = Vec::from_slice(alloc, lines) else {
+            drop(vertex);
+            return Err(Fault::Memory);
+        };
+        let lines = Items::from_vec(lines);
+        let (Ok(()), Ok(())) = (self.vertices.reserve(1), self.places.reserve(1)) else {
+            drop(vertex);
+            return Err(Fault::Memory);
+        };
+        let Ok(()) = self.index.enter(alloc, hash, at as u32) else {
+            drop(vertex);
+            return Err(Fault::Memory);
+        };
         self.places.push(lines).unwrap();
         self.vertices.push(vertex).unwrap();
         Ok(VertexId::new(at as u32))

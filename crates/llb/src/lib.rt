@@ -13,6 +13,7 @@
 // ```
 #![tactic(auto)]
 
+mod copying;
 mod fault;
 mod graph;
 mod hash;

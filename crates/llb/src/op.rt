@@ -1,3 +1,4 @@
+use crate::copying::with_copy;
 use paths::{Name, Path};
 use plain::{Exact, Items, Memory, Text, Variable};
 use runs::CacheUse;
@@ -51,7 +52,7 @@ impl Exact for Bind {
 
     fn copy(&self, alloc: Global) -> Result<Bind, Memory> {
         let source = self.source.copy(alloc)?;
-        let target = self.target.copy(alloc)?;
+        let (source, target) = with_copy(alloc, source, &self.target)?;
         Ok(Bind {
             rw: self.rw,
             source,
@@ -89,12 +90,13 @@ impl Exact for Exec {
     }
 
     fn copy(&self, alloc: Global) -> Result<Exec, Memory> {
-        let binds = self.binds.copy(alloc)?;
-        let caches = self.caches.copy(alloc)?;
-        let dir = self.dir.copy(alloc)?;
-        let env = self.env.copy(alloc)?;
-        let user = self.user.copy(alloc)?;
-        let words = self.words.copy(alloc)?;
+        let copied = self.binds.copy(alloc)?;
+        let copied = with_copy(alloc, copied, &self.caches)?;
+        let copied = with_copy(alloc, copied, &self.dir)?;
+        let copied = with_copy(alloc, copied, &self.env)?;
+        let copied = with_copy(alloc, copied, &self.user)?;
+        let copied = with_copy(alloc, copied, &self.words)?;
+        let (((((binds, caches), dir), env), user), words) = copied;
         Ok(Exec {
             binds,
             caches,
@@ -132,7 +134,7 @@ impl Exact for FileSource {
             FileSource::Pattern(text) => Ok(FileSource::Pattern(text.copy(alloc)?)),
             FileSource::Data(name, content) => {
                 let name = name.copy(alloc)?;
-                let content = content.copy(alloc)?;
+                let (name, content) = with_copy(alloc, name, content)?;
                 Ok(FileSource::Data(name, content))
             }
         }
@@ -160,7 +162,7 @@ impl Exact for CopyFiles {
 
     fn copy(&self, alloc: Global) -> Result<CopyFiles, Memory> {
         let sources = self.sources.copy(alloc)?;
-        let dest = self.dest.copy(alloc)?;
+        let (sources, dest) = with_copy(alloc, sources, &self.dest)?;
         Ok(CopyFiles {
             sources,
             dest,

@@ -2,6 +2,7 @@ ghost use Rattle.std.specs.Prelude.{◌≡◌, IfOk};
 ghost use Rattle.llb.specs.WellFormed.{is_well_formed};
 
 use crate::Op;
+use crate::copying::with_copy;
 use plain::{Exact, Items, Memory};
 use std::alloc::Global;
 use std::marker::Model;
@@ -100,7 +101,7 @@ impl Exact for Vertex {
 
     fn copy(&self, alloc: Global) -> Result<Vertex, Memory> {
         let op = self.op.copy(alloc)?;
-        let inputs = self.inputs.copy(alloc)?;
+        let (op, inputs) = with_copy(alloc, op, &self.inputs)?;
         Ok(Vertex { op, inputs })
     }
 }

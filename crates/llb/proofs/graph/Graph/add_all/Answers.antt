@@ -12,9 +12,9 @@ invariant_of-self-in-Some c =
     let stood = subst (λ g. slice_get g.vertices c.in-Some.at ≡ Some c.args.vertex) (sym c.self.view_is) c.in-Some.ensures.found in
     (found_keeps _ _ _ c.args.vertex c.args.lines.now c.in-Some.at c.self.invariant.0 stood c.requires.lines c.in_ok-add_lines.ensures.ok, c.self.invariant.1)
 
-pub invariant_of-self-in_err-enter : goal.invariant_of-self-in_err-enter
-invariant_of-self-in_err-enter c =
-    rw (c.reserve.ensures.items, c.reserve-2.ensures.items) (c.self.invariant.0, keeps_indexed _ _ _ c.self.invariant.1 c.in_err-enter.ensures.err)
+pub invariant_of-self-in_default-enter : goal.invariant_of-self-in_default-enter
+invariant_of-self-in_default-enter c =
+    rw (c.reserve.ensures.items, c.reserve-2.ensures.items) (c.self.invariant.0, keeps_indexed _ _ _ c.self.invariant.1 c.in_default-enter.ensures.err)
 
 pub invariant_of-self-2 : goal.invariant_of-self-2
 invariant_of-self-2 c =
@@ -26,6 +26,6 @@ invariant_of-self-2 c =
     let room : length c.self.inside.vertices.items < most_vertices = omega (arith, c.len-at.ensures, c.if-at-eq-MOST_VERTICES.false) in
     let is_graph = append_keeps _ _ _ _ c.args.vertex c.args.lines.now c.self.invariant.0 after c.requires.well_formed c.requires.lines fresh room vertices places in
     let number : c.len-at.result ≡ length c.self.inside.vertices.items = search rules in
-    let under_hash = subst (λ hash. Enters c.self.inside.index c.enter.new.self hash c.len-at.result) c.hash_of-hash.ensures c.in_ok-enter.ensures.ok in
+    let under_hash = subst (λ hash. Enters c.self.inside.index c.enter.new.self hash c.len-at.result) c.hash_of-hash.ensures c.in-Ok-enter.ensures.ok in
     let entered = subst (Enters c.self.inside.index c.enter.new.self (hash_of c.args.vertex)) number under_hash in
     (is_graph, rw vertices (append_indexed _ _ _ c.args.vertex c.self.invariant.1 entered))
