@@ -85,6 +85,7 @@ impl Graph {
         ensures err { OnErr result (self.new ≡ self.old) }
     {
         let hash = hash_of(&vertex);
+        // A vertex that isn't added is let go by name: let go at the end of the function, the proof would walk all its parts at each end.
         if let Some(at) = self.find(hash, &vertex) {
             drop(vertex);
             places::add_lines(alloc, &mut self.places, at, lines)?;
