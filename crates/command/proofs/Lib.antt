@@ -2,6 +2,7 @@ pub mod Accepted
 pub mod BuildWalk
 pub mod Folders
 pub mod Kept
+pub mod LeafWalk
 pub mod Matched
 pub mod PackWalk
 pub mod Rows

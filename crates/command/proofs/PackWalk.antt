@@ -1,18 +1,16 @@
 -- What clap's parse makes of the words after `pack`, where it finds no fault in them.
-use Rattle.std.proofs.Common.{◌≡◌, ◌∙◌, ◌&&◌, ◌||◌, ◌==◌, ℕ, Bool, zero, suc, true, false, not, cond, List, [], ◌∷◌, Option, Some, None, refl, sym, subst, codes, find, fold, bytes_eq, slice_get, slice_index_or, is_some, length, drop, encode_utf8, chars}
-use Rattle.std.specs.Option.{option_map_or}
+use Rattle.std.proofs.Common.{◌≡◌, ◌∙◌, ◌||◌, Bool, true, false, not, cond, List, [], ◌∷◌, Some, refl, sym, subst, codes, slice_index_or}
 use Rattle.clap.specs.Words.{Row, Rule, Shape, Text, first_of, new_rule}
 use Rattle.clap.specs.Simple.{built, new_shape}
-use Rattle.clap.specs.Kinds.{check_kinds, or_else, range_kinds}
-use Rattle.clap.specs.Lexer.{long_of, short_of}
-use Rattle.clap.specs.Faults.{bundle_fault, bundle_step_fault, check_fault, defaults_fault, flag_word_fault, flags_fault, level_fault, long_fault, option_fault, positional_fault, react_fault, set_fault, settle_fault, short_fault, step_fault, stray_fault, turn_fault, use_fault, walk_fault, word_fault}
+use Rattle.clap.specs.Kinds.{check_kinds, range_kinds}
+use Rattle.clap.specs.Faults.{level_fault, set_fault, use_fault}
 use Rattle.clap.specs.Takes.{is_given}
-use Rattle.clap.specs.Walk.{Held, Outcome, Step, Waiting, Walk, after_flag, after_step, arg_by_id, arg_by_long, attached_value, bundle, bundle_met, bundle_step, done, finished, has_long, has_row, has_short, idle, is_pending, long_met, long_or_other, next, nothing_held, option, option_met, option_word, plain, plain_word, positional, reacted, refused, settled, settled_rows, short_met, short_or_plain, subcommand, to_positional, trailing, used, used_by_id, value, waits, walk, walk_from, walked, walked_from, with_default, without, word_met}
-use Rattle.clap.specs.declared.error.kind.ErrorKind.TheVariants as kind
+use Rattle.clap.specs.Walk.{finished, has_row, nothing_held, settled, used, walk, with_default, without}
 use Rattle.clap.specs.declared.parser.matches.ValueSource.TheVariants.{CommandLine}
 use Rattle.command.specs.CommandLine.{whole_command}
-use Rattle.command.proofs.Kept.{or_else-left, or_else-right, some_kind}
+use Rattle.command.proofs.Kept.{or_else-left, some_kind}
 use Rattle.command.proofs.Folders.{Filled, Filled-with_values, Filled-without, given_folder}
+use Rattle.command.proofs.LeafWalk.{leaf_holds}
 
 -- `pack` as clap builds it: it takes DIR and `--help`
 abbrev pub leaf : Shape
@@ -24,176 +22,10 @@ folder = slice_index_or leaf.rules 0 (new_rule [])
 abbrev help : Rule
 help = slice_index_or leaf.rules 1 (new_rule [])
 
--- an option that is looked for is one of the two, or there is none
-by_rule : (P : Option Rule → Type 0) → P None → P (Some folder) → P (Some help) → (p : Rule → Bool) → P (find p leaf.rules)
-by_rule P none first second p = go (p folder) (p help)
-  where
-    go : (a b : Bool) → P (cond a (Some folder) (cond b (Some help) None))
-    go true b = first
-    go false true = second
-    go false false = none
-
--- ---- one use of an option
-
 use_folder : (again : Bool) (values : List Text) (rows : List Row) → use_fault again folder values rows ≡ [] → Filled rows
     → Filled (used folder values rows)
 use_folder again [] rows e filled = absurd (some_kind _ _ (or_else-left (range_kinds 1 1 0) (set_fault again folder [] rows) e))
 use_folder again (v ∷ vs) rows e filled = Filled-with_values _ CommandLine v vs (without (codes "DIR") rows) (Filled-without rows filled)
-
-use_help : (again : Bool) (values : List Text) (rows : List Row) → use_fault again help values rows ≡ [] → ⊥
-use_help again values rows e = some_kind _ _ (or_else-right (range_kinds 0 0 (length values)) (kind.DisplayHelp ∷ []) e)
-
-settle_ok : (again : Bool) (pending : Option (Text × List Text)) (rows : List Row)
-    → option_map_or (λ p. option_map_or (λ a. use_fault again a p.1 rows) (arg_by_id leaf.rules p.0) []) pending [] ≡ [] → Filled rows
-    → Filled (settled_rows leaf.rules pending rows)
-settle_ok again None rows e filled = filled
-settle_ok again (Some p) rows e filled =
-    by_rule (λ o. option_map_or (λ a. use_fault again a p.1 rows) o [] ≡ [] → Filled rows → Filled (used_by_id o p.1 rows))
-    (λ _ f. f) (λ d f. use_folder again p.1 rows d f) (λ d f. absurd (use_help again p.1 rows d)) (λ a. bytes_eq a.id p.0) e filled
-
-react_ok : (again : Bool) (values : List Text) (h : Held) → react_fault leaf.rules again folder values h ≡ [] → Filled h.rows
-    → Filled (reacted leaf.rules folder values h).rows
-react_ok again values h e filled =
-    let before = settle_fault leaf.rules again h in
-    let one = use_fault again folder values (settled leaf.rules h).rows in
-    use_folder again values (settled leaf.rules h).rows (or_else-right before one e)
-    (settle_ok again h.pending h.rows (or_else-left before one e) filled)
-
-react_help : (again : Bool) (values : List Text) (h : Held) → react_fault leaf.rules again help values h ≡ [] → ⊥
-react_help again values h e =
-    use_help again values (settled leaf.rules h).rows
-    (or_else-right (settle_fault leaf.rules again h) (use_fault again help values (settled leaf.rules h).rows) e)
-
-option_ok : (again : Bool) (v : Option Text) (h : Held) → option_fault leaf.rules again folder v h ≡ [] → Filled h.rows
-    → Filled (option_met leaf.rules folder v h).0.rows
-option_ok again (Some text) h e filled = react_ok again (text ∷ []) h e filled
-option_ok again None h e filled = settle_ok again h.pending h.rows e filled
-
--- ---- one word
-
-long_help : (again : Bool) (v : Option Text) (h : Held) → long_fault leaf.rules again (Some help) v h ≡ [] → ⊥
-long_help again (Some text) h e = some_kind _ _ e
-long_help again None h e = react_help again [] h e
-
-long_ok : (again : Bool) (v : Option Text) (h : Held) (p : Rule → Bool) → long_fault leaf.rules again (find p leaf.rules) v h ≡ []
-    → Filled h.rows → Filled (long_met leaf.rules (find p leaf.rules) v h).0.rows
-long_ok again v h p e filled =
-    by_rule (λ o. long_fault leaf.rules again o v h ≡ [] → Filled h.rows → Filled (long_met leaf.rules o v h).0.rows)
-    (λ d f. f) (λ d f. option_ok again v h d f) (λ d f. absurd (long_help again v h d)) p e filled
-
-step_ok : (again : Bool) (k : ℕ) (h : Held)
-    → ((flags : Text) (skip : ℕ) (so_far : Outcome) → flags_fault leaf.rules again k flags skip h ≡ [] → Filled h.rows
-    → Filled (bundle_met leaf.rules k flags skip so_far h).0.rows)
-    → (o : Option ℕ) (flags : Text) (skip : ℕ) (so_far : Outcome)
-    → bundle_step_fault leaf.rules again o flags skip h (flags_fault leaf.rules again k) ≡ [] → Filled h.rows
-    → Filled (bundle_step leaf.rules o flags skip so_far h (bundle_met leaf.rules k)).0.rows
-step_ok again k h later None flags skip so_far e filled = filled
-step_ok again k h later (Some x) flags zero so_far e filled =
-    let rest = drop (length (encode_utf8 x)) flags in
-    by_rule (λ o. short_fault leaf.rules again o rest h (flags_fault leaf.rules again k rest 0) ≡ [] → Filled h.rows
-    → Filled (short_met leaf.rules o rest h (bundle_met leaf.rules k rest 0 done)).0.rows)
-    (λ d f. f) (λ d f. option_ok again (attached_value rest) h d f)
-    (λ d f. absurd (react_help again [] h (or_else-left (react_fault leaf.rules again help [] h) (flags_fault leaf.rules again k rest 0 (reacted leaf.rules help [] h)) d)))
-    (λ a. not (is_some a.index) && has_short a x) e filled
-step_ok again k h later (Some x) flags (suc skip) so_far e filled = later (drop (length (encode_utf8 x)) flags) skip so_far e filled
-
-bundle_ok : (again : Bool) (k : ℕ) (flags : Text) (skip : ℕ) (so_far : Outcome) (h : Held) → flags_fault leaf.rules again k flags skip h ≡ []
-    → Filled h.rows → Filled (bundle_met leaf.rules k flags skip so_far h).0.rows
-unfolding flags_fault bundle_met
-bundle_ok again zero flags skip so_far h e filled = filled
-bundle_ok again (suc k) flags skip so_far h e filled =
-    step_ok again k h (λ f s o. bundle_ok again k f s o h) (slice_get (chars flags) 0) flags skip so_far e filled
-
-option_word_ok : (o : Option Rule) (id word : Text) (h : Held) → Filled h.rows → Filled (option_word o id word h).0.rows
-option_word_ok None id word h filled = filled
-option_word_ok (Some a) id word h filled = filled
-
-plain_ok : (waiting : Waiting) (word : Text) (h : Held) → Filled h.rows → Filled (plain_word leaf.rules waiting word h).0.rows
-plain_ok idle word h filled = filled
-plain_ok (option id) word h filled = option_word_ok (arg_by_id leaf.rules id) id word h filled
-plain_ok positional word h filled = filled
-
-after_ok : (waiting : Waiting) (word : Text) (h : Held) (o : Outcome) → Filled h.rows → Filled (after_flag leaf.rules waiting word h o).0.rows
-after_ok waiting word h done filled = filled
-after_ok waiting word h (waits id) filled = filled
-after_ok waiting word h plain filled = plain_ok waiting word h filled
-after_ok waiting word h refused filled = plain_ok waiting word h filled
-
-short_ok : (again : Bool) (waiting : Waiting) (word : Text) (h : Held) (o : Option Text)
-    → option_map_or (λ flags. bundle_fault leaf.rules again flags h) o [] ≡ [] → Filled h.rows
-    → Filled (short_or_plain leaf.rules waiting word o h).0.rows
-short_ok again waiting word h (Some flags) e filled =
-    let met = bundle leaf.rules flags h in
-    after_ok waiting word met.0 met.1 (bundle_ok again (length flags) flags h.skip plain (record h { skip = 0 }) e filled)
-short_ok again waiting word h None e filled = plain_ok waiting word h filled
-
-flag_ok : (again : Bool) (waiting : Waiting) (word : Text) (h : Held) (o : Option (Text × Option Text))
-    → flag_word_fault leaf.rules again o word h ≡ [] → Filled h.rows → Filled (long_or_other leaf.rules waiting word o h).0.rows
-flag_ok again waiting word h (Some p) e filled =
-    let met = long_met leaf.rules (arg_by_long leaf.rules p.0) p.1 h in
-    after_ok waiting word met.0 met.1 (long_ok again p.1 h (λ a. not (is_some a.index) && has_long a p.0) e filled)
-flag_ok again waiting word h None e filled = short_ok again waiting word h (short_of word) e filled
-
-other_ok : (b : Bool) (waiting : Waiting) (position : ℕ) (word : Text) (h : Held)
-    → cond b [] (flag_word_fault leaf.rules false (long_of word) word h) ≡ [] → Filled h.rows
-    → Filled (cond b (h, trailing position) (long_or_other leaf.rules waiting word (long_of word) h)).0.rows
-other_ok true waiting position word h e filled = filled
-other_ok false waiting position word h e filled = flag_ok false waiting word h (long_of word) e filled
-
-word_ok : (is_trailing : Bool) (waiting : Waiting) (position : ℕ) (word : Text) (h : Held)
-    → word_fault leaf [] is_trailing waiting word h ≡ [] → Filled h.rows
-    → Filled (word_met leaf.rules [] is_trailing waiting position word h).0.rows
-word_ok true waiting position word h e filled = filled
-word_ok false idle position word h e filled = other_ok (bytes_eq word (45 ∷ 45 ∷ [])) idle position word h e filled
-word_ok false (option id) position word h e filled = other_ok (bytes_eq word (45 ∷ 45 ∷ [])) (option id) position word h e filled
-word_ok false positional position word h e filled = other_ok (bytes_eq word (45 ∷ 45 ∷ [])) positional position word h e filled
-
--- ---- all words
-
-positional_ok : (again : Bool) (b : Bool) (h : Held) → cond (b && false) [] (settle_fault leaf.rules again h) ≡ [] → Filled h.rows
-    → Filled (cond (b && false) h (settled leaf.rules h)).rows
-positional_ok again true h e filled = settle_ok again h.pending h.rows e filled
-positional_ok again false h e filled = settle_ok again h.pending h.rows e filled
-
-value_ok : (w : Walk) (word : Text) (h : Held) → Filled h.rows → (p : Rule → Bool)
-    → option_map_or (λ a. positional_fault leaf.rules false a h) (find p leaf.rules) (stray_fault leaf) ≡ []
-    → Filled (to_positional leaf.rules (find p leaf.rules) word w h).held.rows
-value_ok w word h filled p e =
-    by_rule (λ o. option_map_or (λ a. positional_fault leaf.rules false a h) o (stray_fault leaf) ≡ [] → Filled (to_positional leaf.rules o word w h).held.rows)
-    (λ d. absurd (some_kind _ _ d)) (λ d. positional_ok false (is_pending folder h.pending) h d filled)
-    (λ d. positional_ok false (is_pending help h.pending) h d filled) p e
-
-after_step_ok : (w : Walk) (word : Text) (h : Held) (step : Step) → Filled h.rows → step_fault leaf w.position h step ≡ []
-    → Filled (after_step leaf.rules word w h step).held.rows
-after_step_ok w word h (next waiting) filled e = filled
-after_step_ok w word h (trailing position) filled e = filled
-after_step_ok w word h (subcommand name) filled e = filled
-after_step_ok w word h value filled e = value_ok w word h filled (λ a. option_map_or (λ k. k == w.position) a.index false) e
-
-turn_from : (w : Walk) (word : Text) (stop : Option (Text × List Text))
-    → (let met = word_met leaf.rules [] w.is_trailing w.waiting w.position word w.held in
-    cond (is_some stop) [] (or_else (word_fault leaf [] w.is_trailing w.waiting word w.held) (step_fault leaf w.position met.0 met.1))) ≡ []
-    → Filled w.held.rows → Filled (walked_from leaf.rules [] stop w word).held.rows
-turn_from w word (Some p) e filled = filled
-turn_from w word None e filled =
-    let met = word_met leaf.rules [] w.is_trailing w.waiting w.position word w.held in
-    let first = word_fault leaf [] w.is_trailing w.waiting word w.held in
-    let then = step_fault leaf w.position met.0 met.1 in
-    after_step_ok w word met.0 met.1 (word_ok w.is_trailing w.waiting w.position word w.held (or_else-left first then e) filled)
-    (or_else-right first then e)
-
-turn_ok : (w : Walk) (word : Text) → turn_fault leaf [] w word ≡ [] → Filled w.held.rows → Filled (walked leaf.rules [] w word).held.rows
-unfolding walked
-turn_ok w word e filled = turn_from w word w.stopped e filled
-
-walk_ok : (words : List Text) (w : Walk) → walk_fault leaf [] w words ≡ [] → Filled w.held.rows
-    → Filled (fold (walked leaf.rules []) w words).held.rows
-unfolding walk_fault
-walk_ok [] w e filled = filled
-walk_ok (word ∷ words) w e filled =
-    let turn = turn_fault leaf [] w word in
-    let later = walk_fault leaf [] (walked leaf.rules [] w word) words in
-    walk_ok words (walked leaf.rules [] w word) (or_else-right turn later e) (turn_ok w word (or_else-left turn later e) filled)
 
 either_same : (b : Bool) (rows : List Row) → cond b rows rows ≡ rows
 either_same true rows = refl
@@ -212,14 +44,6 @@ pub folder_ok : (words : List Text) → level_fault leaf [] nothing_held words f
     → (text : Text) × (first_of (codes "DIR") (finished leaf.rules (walk leaf.rules [] nothing_held words).held) ≡ Some text)
 folder_ok words e =
     let end = (walk leaf.rules [] nothing_held words).held in
-    let walking = walk_fault leaf [] (walk_from nothing_held) words in
-    let settling = settle_fault leaf.rules false end in
-    let filling = defaults_fault (settled leaf.rules end).rows leaf.rules in
-    let checking = check_fault leaf (finished leaf.rules end) false in
-    let after = or_else settling (or_else filling checking) in
-    let walked_filled = walk_ok words (walk_from nothing_held) (or_else-left walking after e) tt in
-    let rest = or_else-right walking after e in
-    let settled_filled = settle_ok false end.pending end.rows (or_else-left settling (or_else filling checking) rest) walked_filled in
-    let checked = or_else-right filling checking (or_else-right settling (or_else filling checking) rest) in
-    given_folder (finished leaf.rules end) (subst Filled (sym (no_defaults (settled leaf.rules end).rows)) settled_filled)
-    (was_given (is_given (codes "DIR") (finished leaf.rules end)) checked)
+    let held = leaf_holds leaf folder Filled use_folder words tt e in
+    given_folder (finished leaf.rules end) (subst Filled (sym (no_defaults (settled leaf.rules end).rows)) held.0)
+    (was_given (is_given (codes "DIR") (finished leaf.rules end)) held.1)

@@ -71,7 +71,8 @@ impl Config {
         copied_config(alloc, self)
     }
 
-    /// What a stage begins with whose base has this configuration: the base's Cmd isn't the stage's own.
+    /// What a stage begins with whose base has this configuration: the base's Cmd isn't the stage's own. A base that is a stage is a base like
+    /// any other: the Cmd that it set itself counts as the base's in the stage behind it.
     pub fn child(&self, alloc: Global) -> Result<Config, Memory>
         ensures { IfOk result (λ child. child ≡ child_of self.now) }
     {
@@ -91,6 +92,9 @@ impl Config {
     }
 
     /// Applies an instruction, whose words have their values under the scope before its line. FROM, ARG, RUN and COPY change nothing.
+    ///
+    /// ENTRYPOINT unsets a Cmd that came from the base, and keeps one that the stage set itself. An empty list unsets: `CMD []` leaves no Cmd,
+    /// and `ENTRYPOINT []` no Entrypoint. The texts of VOLUME are keys as they stand once expanded: none is cleaned as a path.
     ///
     /// R06 where a USER, a WORKDIR, a STOPSIGNAL or a VOLUME has an empty text, R10 where a label has an empty key, R16 where an EXPOSE has
     /// what is no port, R18 where a text has more than 1,048,576 bytes or a WORKDIR leads past a limit of paths: the least of them, with

@@ -1,4 +1,5 @@
 ghost use Rattle.std.specs.Prelude.{◌≡◌, ◌<◌, ◌+◌, [], None};
+ghost use Rattle.plain.specs.Limits.{most_workers};
 ghost use Rattle.board.specs.Board.{board_problem};
 ghost use Rattle.sites.specs.Seats.{SeatValue, AreAll, AreTallies};
 
@@ -65,9 +66,9 @@ impl<'a, E: Executor, J: Case + Room> Site<'a, E, J> {
         }
     }
 
-    /// A seat for one worker more, under the next number. There are seats for 64. It takes no memory.
+    /// A seat for one worker more, under the next number. There are seats for as many as a build may have. It takes no memory.
     pub fn seat(&mut self, alloc: Global) -> Seat<J>
-        requires { self.old < 64 }
+        requires { self.old < most_workers }
         ensures seat { result ≡ record { worker = self.old; out = None; tally = [] } }
         ensures given { self.new ≡ self.old + 1 }
     {

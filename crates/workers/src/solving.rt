@@ -1,4 +1,5 @@
 ghost use Rattle.std.specs.Prelude.{◌≡◌, ◌<◌, ◌≤◌, [], IfOk};
+ghost use Rattle.plain.specs.Limits.{most_workers};
 ghost use Rattle.plans.specs.Plan.{problem_of};
 ghost use Rattle.board.specs.Board.{board_problem};
 ghost use Rattle.board.specs.Job.{job_problem};
@@ -32,7 +33,7 @@ pub fn solve<C, E: Executor, G: Gate, R: Threads + Wait + Sync>(
     gate: &G,
     caches: &mut CacheStore,
 ) -> Result<Solution, Memory>
-    requires workers { (0 < workers) × (workers ≤ 64) }
+    requires workers { (0 < workers) × (workers ≤ most_workers) }
     requires idle { caches.old.holds ≡ [] }
     ensures solution { IfOk result (IsSolution (problem_of (E.out executor.now) plan.now)) }
     ensures idle { caches.new.holds ≡ [] }
@@ -73,7 +74,7 @@ fn worked<'a, E: Executor, G: Gate, J: Case + Room + Send + Sync, R: Threads + W
     requires room { opened.table.shared.table_id ≡ J.table }
     requires begun { board.run.history ≡ [] }
     requires claims { board.run.state.claims ≡ [] }
-    requires workers { workers ≤ 64 }
+    requires workers { workers ≤ most_workers }
     ensures problem { board_problem E.out result ≡ J.problem }
     ensures claims { result.run.state.claims ≡ [] }
 {

@@ -6,6 +6,7 @@ ghost use Rattle.sites.specs.Seats.{IsMine};
 use board::{Claim, Job, Refused};
 use executor::Executor;
 use plain::Memory;
+use plain::limits::MOST_WORKERS;
 use rolls::Room;
 use sites::{Case, Desk, Held, Seat};
 use solver::{Gate, run_gated};
@@ -14,9 +15,6 @@ use std::sync::{Condvar, Wait};
 use std::thread;
 use std::thread::Threads;
 use vertexrun::Ran;
-
-/// The most workers, and so the most threads.
-const MOST_WORKERS: usize = 64;
 
 /// What the workers of a site share beside its desk.
 #[derive(Drop)]
@@ -40,7 +38,7 @@ pub(crate) fn work_all<
     thread::for_each_mut(
         rt,
         seats,
-        MOST_WORKERS,
+        MOST_WORKERS as usize,
         &|_, seat: &mut Seat<J>|
             requires { job_problem E.out tools.now.job.now ≡ J.problem }
         { work(rt, desk, tools, seat) },
