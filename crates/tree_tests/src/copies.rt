@@ -155,7 +155,7 @@ fn too_deep_copy_fails(rt: HostRuntime) -> Result<(), Fail> {
 #[test]
 fn a_heredoc_is_a_file(rt: HostRuntime) -> Result<(), Fail> {
     let name = Name::new(Text::from_str(rt.alloc(), "E")?).ok_or("a name")?;
-    let content = Content::new(Bytes::from_slice(rt.alloc(), "hi".as_bytes())?);
+    let content = Content::new(rt.alloc(), Bytes::from_slice(rt.alloc(), "hi".as_bytes())?)?;
     let sources = [CopySource::Data(name, content)];
     let empty = Tree::empty(rt.alloc());
     let text = after(

@@ -19,7 +19,8 @@ pub fn put(
 ) -> Result<(), Fail> {
     let path = path(alloc, name)?;
     let bytes = Bytes::from_slice(alloc, content.as_bytes())?;
-    Ok(tree.put(alloc, &path, Entry::File(meta, Content::new(bytes)))?)
+    let content = Content::new(alloc, bytes)?;
+    Ok(tree.put(alloc, &path, Entry::File(meta, content))?)
 }
 
 /// The tree of these files, each 0644 and 0:0, which are named by their paths with blanks between. Each holds its own name.

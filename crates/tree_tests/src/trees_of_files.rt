@@ -46,7 +46,7 @@ fn a_directory_is_made(rt: HostRuntime) -> Result<(), Fail> {
 #[test]
 fn a_path_is_taken_away(rt: HostRuntime) -> Result<(), Fail> {
     let mut tree = tree(rt.alloc(), "/a/b/c /a/d")?;
-    tree.remove(&path(rt.alloc(), "/a/b")?)?;
+    tree.remove(rt.alloc(), &path(rt.alloc(), "/a/b")?)?;
     assert_eq!(rt;
         listing(rt.alloc(), &tree)?.as_str(),
         "/ 755 0:0; /a 755 0:0; /a/d 644 0:0/a/d; "

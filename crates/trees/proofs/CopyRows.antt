@@ -14,7 +14,7 @@ use Rattle.trees.specs.declared.copy.Change.{Change}
 use Rattle.trees.specs.declared.copy.Change.TheVariants.{Place, Make}
 use Rattle.paths.specs.Order.{name_cmp}
 use Rattle.trees.specs.TreeMap.{TreeMap, IsTree, is_directory}
-use Rattle.trees.specs.PrivateNode.{NodeValue, map_of, below_name, IsBelow}
+use Rattle.trees.specs.PrivateNode.{NodeValue, map_of, joined, below_name, IsBelow}
 use Rattle.trees.specs.declared.entry.Entry.TheVariants.{Directory, File}
 use Rattle.trees.proofs.SubtreeLaws.{same-below, entries_below-IsBelow, below-IsTree}
 use Rattle.trees.proofs.TreeSteps.{own-entry}
@@ -23,7 +23,7 @@ use Rattle.trees.specs.Subtree.{map_below}
 use Rattle.paths.proofs.FrontLaws.{both_first, both_second}
 use Rattle.trees.proofs.NodeLaws.{get-map_of_root}
 use Rattle.trees.proofs.NodeSteps.{node_of}
-use Rattle.trees.proofs.RowLists.{rows_of, entries-node}
+use Rattle.trees.proofs.RowLists.{rows_of, entries-node, entries-kids, no-entries}
 
 abbrev pub Rows : Type 0
 Rows = List (List (List ℕ) × Entry)
@@ -78,11 +78,19 @@ items-step o at below own name kid entry its rest before middle after all so_far
     ∙ ap (λ is. before ++ is) (sym (placements-append o at (below_name name (entries (map_of kid))) (rows_of rest)) ∙ ap (λ ks. placements o at (rows_of ks)) (sym next))
     ∙ so_far
 
--- all changes of a node
-pub items-all : (o : CopyOptions) (at : List (List ℕ)) (value : NodeValue) (top : Entry) (kids its : List (List ℕ × NodeValue)) (old changes : List Change) → node_of top kids ≡ value → IsStrictlySortedBy name_cmp (keys_of kids) → its ≡ kids
-    → changes ++ placements o at (rows_of []) ≡ old ++ placements o at (rows_of its) → changes ≡ old ++ placements o at (drop 1 (entries (map_of value)))
-items-all o at value top kids its old changes is ordered lent done =
-    sym (append-nil changes) ∙ done ∙ (λ i. old ++ placements o at (rows_of (lent i))) ∙ ap (λ rows. old ++ placements o at (drop 1 rows)) (sym (entries-node value top kids is ordered))
+-- all changes below a node
+pub items-all : (o : CopyOptions) (at : List (List ℕ)) (kids its : List (List ℕ × NodeValue)) (old changes : List Change) → IsStrictlySortedBy name_cmp (keys_of kids) → its ≡ kids
+    → changes ++ placements o at (rows_of []) ≡ old ++ placements o at (rows_of its) → changes ≡ old ++ placements o at (entries (joined kids))
+items-all o at kids its old changes ordered lent done =
+    sym (append-nil changes) ∙ done ∙ (λ i. old ++ placements o at (rows_of (lent i))) ∙ ap (λ rows. old ++ placements o at rows) (sym (entries-kids kids ordered))
+
+pub items-none : (o : CopyOptions) (at : List (List ℕ)) (kids : List (List ℕ × NodeValue)) (old : List Change) → [] ≡ kids → old ≡ old ++ placements o at (entries (joined kids))
+items-none o at kids old none = sym (append-nil old) ∙ (λ i. old ++ placements o at (sym no-entries i)) ∙ (λ i. old ++ placements o at (entries (joined (none i))))
+
+-- they are the node's but for its own entry
+pub items-node : (o : CopyOptions) (at : List (List ℕ)) (value : NodeValue) (top : Entry) (kids : List (List ℕ × NodeValue)) (old changes : List Change) → node_of top kids ≡ value
+    → changes ≡ old ++ placements o at (entries (joined kids)) → changes ≡ old ++ placements o at (drop 1 (entries (map_of value)))
+items-node o at value top kids old changes is done = done ∙ ap (λ rows. old ++ placements o at (drop 1 rows)) (sym (entries-node value top kids is))
 
 -- ---- the changes of one match
 

@@ -14,10 +14,10 @@ use Rattle.trees.specs.declared.entry.Entry.{Entry}
 use Rattle.trees.specs.declared.cause.Cause.TheVariants.{F1}
 use Rattle.paths.specs.Order.{name_cmp}
 use Rattle.trees.specs.TreeMap.{TreeMap, IsTree}
-use Rattle.trees.specs.PrivateNode.{NodeValue, map_of}
+use Rattle.trees.specs.PrivateNode.{NodeValue, map_of, joined}
 use Rattle.paths.proofs.FrontLaws.{name_same}
 use Rattle.trees.specs.Remove.{without, remove_cause, removed}
-use Rattle.trees.specs.PrivateNode.{IsCut}
+use Rattle.trees.specs.PrivateNode.{IsCut, AreCut}
 use Rattle.trees.proofs.CauseLaws.{tree_or-none}
 use Rattle.trees.proofs.RemoveLaws.{under-cons, without-from_cut, without-IsTree}
 use Rattle.trees.proofs.NodeLaws.{get-map_of_root, get-map_of_cons, get-joined, lookup-find}
@@ -74,23 +74,29 @@ one_name : (tie under : Bool) (now old : Option Entry) → (tie ≡ true → now
 one_name true under now old h = h refl
 one_name false under now old h = refl
 
-module _ (value : NodeValue) (top : Entry) (old_kids kids : List (List ℕ × NodeValue)) (path : List (List ℕ)) (name : List ℕ) (kid found : Option NodeValue)
-    (is : node_of top old_kids ≡ value) (more : 1 ≤ length path) (first : name ≡ get_or path 0 name) (has : found ≡ lookup (is_at (name_cmp name)) old_kids) (changed : AreKids old_kids kids name kid) where
-  under : (d : List ℕ) (ds : List (List ℕ)) → at_kid (find name_cmp d old_kids) ds ≡ get (map_of value) (d ∷ ds)
-  under d ds = sym (get-joined old_kids d ds) ∙ sym (get-map_of_cons (node_of top old_kids) d ds) ∙ (λ i. get (map_of (is i)) (d ∷ ds))
+-- a child in which a path was cut, or none, is among children in which it was cut
+pub cut-kid : (old_kids kids : List (List ℕ × NodeValue)) (name : List ℕ) (rest : List (List ℕ)) (kid found : Option NodeValue) → found ≡ lookup (is_at (name_cmp name)) old_kids → AreKids old_kids kids name kid → IsCut (at_kid found) (at_kid kid) rest → AreCut (joined old_kids) (joined kids) name rest
+cut-kid old_kids kids name rest kid found has changed h =
+    record {
+      at = λ d ds.
+          get-joined kids d ds
+          ∙ ap (λ o. at_kid o ds) (changed.at d)
+          ∙ pulled (eq_by_cmp name_cmp d name) (λ v. get (map_of v) ds) kid (find name_cmp d old_kids)
+          ∙ one_name (eq_by_cmp name_cmp d name) (is_at_or_under ds rest) (at_kid kid ds) (at_kid (find name_cmp d old_kids) ds)
+          (λ tie. h.at ds ∙ ap (λ o. cond (is_at_or_under ds rest) None (at_kid o ds)) (has ∙ lookup-find name old_kids ∙ ap (λ c. find name_cmp c old_kids) (sym (name_same d name tie))))
+          ∙ (λ i. cond (sym (under-cons d name ds rest) i) None (sym (get-joined old_kids d ds) i));
+    }
 
-  cut_at : (rest : List (List ℕ)) → IsCut (at_kid found) (at_kid kid) rest → (q : List (List ℕ)) → get (map_of (node_of top kids)) q ≡ cond (is_at_or_under q (name ∷ rest)) None (get (map_of value) q)
-  cut_at rest h [] = get-map_of_root (node_of top kids) ∙ sym ((λ i. get (map_of (sym is i)) []) ∙ get-map_of_root (node_of top old_kids))
-  cut_at rest h (d ∷ ds) =
-      get-map_of_cons (node_of top kids) d ds ∙ get-joined kids d ds
-      ∙ ap (λ o. at_kid o ds) (changed.at d)
-      ∙ pulled (eq_by_cmp name_cmp d name) (λ v. get (map_of v) ds) kid (find name_cmp d old_kids)
-      ∙ one_name (eq_by_cmp name_cmp d name) (is_at_or_under ds rest) (at_kid kid ds) (at_kid (find name_cmp d old_kids) ds)
-      (λ tie. h.at ds ∙ ap (λ o. cond (is_at_or_under ds rest) None (at_kid o ds)) (has ∙ lookup-find name old_kids ∙ ap (λ c. find name_cmp c old_kids) (sym (name_same d name tie))))
-      ∙ (λ i. cond (sym (under-cons d name ds rest) i) None (under d ds i))
-
-  pub cut-step : IsCut (at_kid found) (at_kid kid) (take (length path - 1) (drop 1 path)) → IsCut (get (map_of value)) (get (map_of (node_of top kids))) path
-  cut-step h = record { at = λ q. cut_at (take (length path - 1) (drop 1 path)) h q ∙ (λ i. cond (is_at_or_under q (sym (path-parts path name more first) i)) None (get (map_of value) q)) }
+-- and children in which a path was cut make a node in which it was cut
+pub cut-step : (value : NodeValue) (top : Entry) (old_kids kids : List (List ℕ × NodeValue)) (path : List (List ℕ)) (name : List ℕ) → node_of top old_kids ≡ value → 1 ≤ length path → name ≡ get_or path 0 name → AreCut (joined old_kids) (joined kids) name (take (length path - 1) (drop 1 path))
+    → IsCut (get (map_of value)) (get (map_of (node_of top kids))) path
+cut-step value top old_kids kids path name is more first h = record { at = λ q. cut_at q ∙ (λ i. cond (is_at_or_under q (sym (path-parts path name more first) i)) None (get (map_of value) q)) }
+  where
+    cut_at : (q : List (List ℕ)) → get (map_of (node_of top kids)) q ≡ cond (is_at_or_under q (name ∷ take (length path - 1) (drop 1 path))) None (get (map_of value) q)
+    cut_at [] = get-map_of_root (node_of top kids) ∙ sym ((λ i. get (map_of (sym is i)) []) ∙ get-map_of_root (node_of top old_kids))
+    cut_at (d ∷ ds) =
+        get-map_of_cons (node_of top kids) d ds ∙ h.at d ds
+        ∙ ap (cond (is_at_or_under (d ∷ ds) (name ∷ take (length path - 1) (drop 1 path))) None) (sym (get-map_of_cons (node_of top old_kids) d ds) ∙ (λ i. get (map_of (is i)) (d ∷ ds)))
 
 -- the tree's call
 

@@ -1,6 +1,6 @@
 -- The children of a node as the list of their names and maps, in the order of the names.
-use Rattle.std.specs.Prelude.{◌≡◌, ℕ, Bool, true, false, ◌&&◌, cond, T, Option, Some, None, ◌↔◌, List, [], ◌∷◌, ◌++◌, map, is_some, option_and_then, option_map}
-use Rattle.std.proofs.Common.{sym, ap, refl, ◌∙◌, subst, true≢false, append_assoc, unwrap_or}
+use Rattle.std.specs.Prelude.{◌≡◌, ℕ, Bool, true, false, ◌&&◌, cond, T, IsTrue, Option, Some, None, ◌↔◌, List, [], ◌∷◌, ◌++◌, map, is_some, length, option_and_then, option_map}
+use Rattle.std.proofs.Common.{sym, ap, refl, ◌∙◌, subst, true≢false, append_assoc, unwrap_or, arith}
 use Rattle.std.specs.Ordering.{eq_by_cmp, is_lt, ordering_reverse, match_ordering}
 use Rattle.std.specs.declared.cmp.Ordering.{Ordering}
 use Rattle.std.specs.declared.cmp.Ordering.TheVariants.{Less, Equal, Greater}
@@ -9,14 +9,14 @@ use Rattle.std.specs.List.{AllByRecursion}
 use Rattle.std.specs.List.Sorted.{IsStrictlySortedBy}
 use Rattle.std.specs.Map.{keys_of}
 use Rattle.std.specs.BTreeMap.{insert_entry}
-use Rattle.std.specs.FinMap.{get, find, insert, slice_cmp-IsAntisymmetric, nat_cmp-IsAntisymmetric}
+use Rattle.std.specs.FinMap.{get, get-empty, find, insert, slice_cmp-IsAntisymmetric, nat_cmp-IsAntisymmetric}
 use Rattle.std.specs.FinMap.Entries.{is_sorted, below_all, same_entries}
 use Rattle.trees.specs.declared.entry.Entry.{Entry}
-use Rattle.paths.specs.Order.{name_cmp}
+use Rattle.paths.specs.Order.{name_cmp, path_cmp}
 use Rattle.trees.specs.TreeMap.{TreeMap}
 use Rattle.trees.specs.PrivateNode.{NodeValue, map_of, joined}
 use Rattle.trees.proofs.TreeLaws.{same_tree}
-use Rattle.paths.proofs.FrontLaws.{both_hold, both_first, both_second}
+use Rattle.paths.proofs.FrontLaws.{both_hold, both_first, both_second, name_itself}
 use Rattle.trees.proofs.NodeSteps.{node_of}
 use Rattle.trees.proofs.NodeLaws.{get-map_of_root, get-map_of_cons, get-joined, get-joined_root}
 
@@ -94,12 +94,11 @@ sorted-from_keys (k ∷ ks) h = both_hold _ _ (below-from_all k.0 ks h.0) (sorte
 own-same : (a b : Entry) → Some a ≡ Some b → a ≡ b
 own-same a b e = ap (λ o. unwrap_or o a) e
 
--- nodes with the same entry stand for the same map where their children are the same
-pub node-same : (v w : NodeValue) (top top' : Entry) (kids others : List (List ℕ × NodeValue)) → node_of top kids ≡ v → node_of top' others ≡ w → top ≡ top' → IsStrictlySortedBy name_cmp (keys_of kids) → IsStrictlySortedBy name_cmp (keys_of others)
-    → (map_of v ≡ map_of w) ↔ (kid_maps kids ≡ kid_maps others)
-node-same v w top top' kids others v-is w-is tops s t = (
-  λ same. same-from_joined kids others (sorted-from_keys kids s) (sorted-from_keys others t) (same_tree _ _ (λ q. below_same q ((λ i. map_of (v-is i)) ∙ same ∙ (λ i. map_of (sym w-is i))))),
-  λ maps. (λ i. map_of (sym v-is i)) ∙ (λ i. insert (joined-from_same kids others maps i) [] (tops i)) ∙ (λ i. map_of (w-is i)),
+-- nodes with the same entry stand for the same map where the same stands below them
+node-same : (v w : NodeValue) (top top' : Entry) (kids others : List (List ℕ × NodeValue)) → node_of top kids ≡ v → node_of top' others ≡ w → top ≡ top' → (map_of v ≡ map_of w) ↔ (joined kids ≡ joined others)
+node-same v w top top' kids others v-is w-is tops = (
+  λ same. same_tree _ _ (λ q. below_same q ((λ i. map_of (v-is i)) ∙ same ∙ (λ i. map_of (sym w-is i)))),
+  λ below. (λ i. map_of (sym v-is i)) ∙ (λ i. insert (below i) [] (tops i)) ∙ (λ i. map_of (w-is i)),
 )
   where
     below_same : (q : List (List ℕ)) → map_of (node_of top kids) ≡ map_of (node_of top' others) → get (joined kids) q ≡ get (joined others) q
@@ -107,9 +106,33 @@ node-same v w top top' kids others v-is w-is tops s t = (
     below_same (c ∷ cs) same = sym (get-map_of_cons (node_of top kids) c cs) ∙ ap (λ m. get m (c ∷ cs)) same ∙ get-map_of_cons (node_of top' others) c cs
 
 -- and with different entries they stand for different maps
-pub node-apart : (v w : NodeValue) (top top' : Entry) (kids others : List (List ℕ × NodeValue)) → node_of top kids ≡ v → node_of top' others ≡ w → map_of v ≡ map_of w → top ≡ top'
+node-apart : (v w : NodeValue) (top top' : Entry) (kids others : List (List ℕ × NodeValue)) → node_of top kids ≡ v → node_of top' others ≡ w → map_of v ≡ map_of w → top ≡ top'
 node-apart v w top top' kids others v-is w-is same =
     own-same top top' (sym (get-map_of_root (node_of top kids)) ∙ (λ i. get (map_of (v-is i)) []) ∙ ap (λ m. get m []) same ∙ (λ i. get (map_of (sym w-is i)) []) ∙ get-map_of_root (node_of top' others))
+
+-- what two comparisons say of two nodes
+pub same-both : (v w : NodeValue) (top top' : Entry) (kids others : List (List ℕ × NodeValue)) (told : Bool) → node_of top kids ≡ v → node_of top' others ≡ w → top ≡ top' → IsTrue told ↔ (joined kids ≡ joined others) → IsTrue told ↔ (map_of v ≡ map_of w)
+same-both v w top top' kids others told v-is w-is tops says =
+    let h = node-same v w top top' kids others v-is w-is tops in (λ t. h.1 (says.0 t), λ e. says.1 (h.0 e))
+
+pub same-not : (v w : NodeValue) (top top' : Entry) (kids others : List (List ℕ × NodeValue)) (told : Bool) → node_of top kids ≡ v → node_of top' others ≡ w → told ≡ false → IsTrue told ↔ (top ≡ top') → (map_of v ≡ map_of w) → ⊥
+same-not v w top top' kids others told v-is w-is not_told says e = true≢false (sym (says.1 (node-apart v w top top' kids others v-is w-is e)) ∙ not_told)
+
+-- children of nothing below them are none
+pub no-kids : (kids : List (List ℕ × NodeValue)) → joined [] ≡ joined kids → kids ≡ []
+no-kids [] e = refl
+no-kids (k ∷ ks) e =
+    absurd (true≢false (sym (ap is_some (sym (get-empty path_cmp (k.0 ∷ [])) ∙ ap (λ m. get m (k.0 ∷ [])) e ∙ get-joined (k ∷ ks) k.0 [] ∙ (λ i. option_and_then (λ v. get (map_of v) []) (cond (tie i) (Some k.1) (find name_cmp k.0 ks))) ∙ get-map_of_root k.1))))
+  where
+    tie : eq_by_cmp name_cmp k.0 k.0 ≡ true
+    tie = name_itself k.0
+
+pub same-none : (kids : List (List ℕ × NodeValue)) (told : Bool) → IsTrue told ↔ (length kids ≡ 0) → IsTrue told ↔ (joined [] ≡ joined kids)
+same-none kids told says = (λ t. ap joined (sym (empty kids (says.0 t))), λ e. says.1 (ap length (no-kids kids e)))
+  where
+    empty : (ks : List (List ℕ × NodeValue)) → length ks ≡ 0 → ks ≡ []
+    empty [] e = refl
+    empty (k ∷ ks) e = absurd (omega arith)
 
 -- ---- one child more
 
@@ -144,8 +167,9 @@ pub heads-same : (a b : List ℕ) (m n : TreeMap) (xs ys : List (List ℕ × Tre
 heads-same a b m n xs ys p q = (λ e. cc, λ e i. (p i, q i) ∷ e i)
 
 -- the start of a comparison, its and js being the children as they were lent
-pub same-start : (v w : NodeValue) (top top' : Entry) (kids others its js : List (List ℕ × NodeValue)) → node_of top kids ≡ v → node_of top' others ≡ w → top ≡ top' → IsStrictlySortedBy name_cmp (keys_of kids) → IsStrictlySortedBy name_cmp (keys_of others) → its ≡ kids → js ≡ others
-    → (map_of v ≡ map_of w) ↔ (kid_maps its ≡ kid_maps js)
-same-start v w top top' kids others its js v-is w-is tops s t lent other_lent =
-    let h = node-same v w top top' kids others v-is w-is tops s t in
-    (λ e. ap kid_maps lent ∙ h.0 e ∙ ap kid_maps (sym other_lent), λ e. h.1 (ap kid_maps (sym lent) ∙ e ∙ ap kid_maps other_lent))
+pub same-start : (kids others its js : List (List ℕ × NodeValue)) → IsStrictlySortedBy name_cmp (keys_of kids) → IsStrictlySortedBy name_cmp (keys_of others) → its ≡ kids → js ≡ others
+    → (joined kids ≡ joined others) ↔ (kid_maps its ≡ kid_maps js)
+same-start kids others its js s t lent other_lent = (
+  λ e. ap kid_maps lent ∙ same-from_joined kids others (sorted-from_keys kids s) (sorted-from_keys others t) e ∙ ap kid_maps (sym other_lent),
+  λ e. joined-from_same kids others (ap kid_maps (sym lent) ∙ e ∙ ap kid_maps other_lent),
+)

@@ -34,7 +34,7 @@ find-below_name k c cs [] = sym (no_entry (eq_by_cmp name_cmp c k))
 find-below_name k c cs (row ∷ rows) =
     (λ i. cond (path_eq-cons c k cs row.0 i) (Some row.1) (find-below_name k c cs rows i)) ∙ nested (eq_by_cmp name_cmp c k) (eq_by_cmp path_cmp cs row.0) (Some row.1) (find path_cmp cs rows) None
 
-find-below_name_root : (k : List ℕ) (rows : List (List (List ℕ) × Entry)) → find path_cmp [] (below_name k rows) ≡ None
+pub find-below_name_root : (k : List ℕ) (rows : List (List (List ℕ) × Entry)) → find path_cmp [] (below_name k rows) ≡ None
 find-below_name_root k [] = refl
 find-below_name_root k (row ∷ rows) = find-below_name_root k rows
 

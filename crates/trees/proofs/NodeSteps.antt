@@ -9,7 +9,7 @@ use Rattle.std.specs.Ordering.{eq_by_cmp}
 use Rattle.std.specs.Option.{option_or}
 use Rattle.std.specs.Cmp.{eq_by_cmp_equiv}
 use Rattle.std.specs.Cmp.Lexicographic.{nat_list_cmp_total}
-use Rattle.std.specs.FinMap.{get, find, empty, get-empty}
+use Rattle.std.specs.FinMap.{get, insert, find, empty, get-empty}
 use Rattle.paths.specs.Order.{path_cmp}
 use Rattle.trees.specs.declared.meta.Meta.{Meta}
 use Rattle.trees.specs.declared.entry.Entry.TheVariants.{Directory, File}
@@ -17,17 +17,17 @@ use Rattle.trees.specs.declared.entry.Entry.{Entry}
 use Rattle.paths.specs.Order.{name_cmp}
 use Rattle.paths.specs.Fronts.{is_front}
 use Rattle.trees.specs.TreeMap.{is_blocked, is_file, is_directory}
-use Rattle.trees.specs.PrivateNode.{NodeValue, map_of, joined, height_of, IsPlanted}
+use Rattle.trees.specs.PrivateNode.{NodeValue, map_of, joined, height_of, IsPlanted, ArePlanted}
 use Rattle.trees.specs.Put.{planted}
 use Rattle.trees.specs.PrivateNode.{IsBelow}
 use Rattle.paths.proofs.FrontLaws.{name_same, path_eq-cons}
 use Rattle.trees.proofs.WayLaws.{is_blocked-cons, open-from_fronts}
 use Rattle.trees.proofs.TreeLaws.{same_tree}
-use Rattle.trees.proofs.NodeLaws.{get-map_of_root, get-map_of_cons, get-joined, lookup-find}
+use Rattle.trees.proofs.NodeLaws.{get-map_of_root, get-map_of_cons, get-joined, get-joined_root, lookup-find}
 
 -- the value of a node with this entry and these children
 abbrev pub node_of : Entry → List (List ℕ × NodeValue) → NodeValue
-node_of top kids = record { top = top; below = joined kids; height = height_of kids }
+node_of top kids = record { top = top; below = joined kids; height = height_of kids + 1 }
 
 whole_rest : {A : Type 0} (x : A) (xs : List A) → take (length (x ∷ xs) - 1) (drop 1 (x ∷ xs)) ≡ xs
 whole_rest x xs = grind (arith, common_steps)
@@ -166,48 +166,59 @@ module _ (old_kids kids : List (List ℕ × NodeValue)) (name : List ℕ) (rest 
       (λ tie. changed_tree.at ds ∙ ap (λ o. cond (eq_by_cmp path_cmp ds rest) (Some entry) (option_or (at_kid o ds) (cond (is_front ds rest) (Some (Directory parent)) None))) (sym (ap (λ c. find name_cmp c old_kids) (name_same d name tie) ∙ has)))
       ∙ (λ i. cond (sym (path_eq-cons d name ds rest) i) (Some entry) (option_or (sym (get-joined old_kids d ds) i) (cond (is_front (d ∷ ds) (name ∷ rest)) (Some (Directory parent)) None)))
 
+-- a child in which an entry was put is one of children in which it was put
+pub plant-kid : (old_kids kids : List (List ℕ × NodeValue)) (name : List ℕ) (rest : List (List ℕ)) (parent : Meta) (entry : Entry) (kid : NodeValue) (found : Option NodeValue) → found ≡ lookup (is_at (name_cmp name)) old_kids → IsKid old_kids kids name kid → IsPlanted (at_kid found) (map_of kid) rest parent entry
+    → ArePlanted (joined old_kids) (joined kids) name rest parent entry
+plant-kid old_kids kids name rest parent entry kid found has changed changed_tree =
+    record { at = kids-planted old_kids kids name rest parent entry kid found (sym (has ∙ lookup-find name old_kids)) changed changed_tree }
+
+-- and one that stands for the same map leaves what stands below the node
+pub keep-kid : (old_kids kids : List (List ℕ × NodeValue)) (name : List ℕ) (kid before : NodeValue) → Some before ≡ lookup (is_at (name_cmp name)) old_kids → IsKid old_kids kids name kid → map_of kid ≡ map_of before → joined kids ≡ joined old_kids
+keep-kid old_kids kids name kid before has changed same = same_tree _ _ at
+  where
+    at : (q : List (List ℕ)) → get (joined kids) q ≡ get (joined old_kids) q
+    at [] = get-joined_root kids ∙ sym (get-joined_root old_kids)
+    at (d ∷ ds) =
+        get-joined kids d ds
+        ∙ ap (λ o. at_kid o ds) (find_changed old_kids kids name kid changed d)
+        ∙ kept_kid (eq_by_cmp name_cmp d name) (λ v. get (map_of v) ds) kid (find name_cmp d old_kids)
+        (λ tie. ap (λ m. get m ds) same ∙ sym (ap (λ o. at_kid o ds) (ap (λ c. find name_cmp c old_kids) (name_same d name tie) ∙ sym (has ∙ lookup-find name old_kids))))
+        ∙ sym (get-joined old_kids d ds)
+
 kept_top : (o d : Option Entry) (top : Entry) → o ≡ Some top → Some top ≡ option_or o d
 kept_top o d top e = sym (ap (λ x. option_or x d) e)
 
--- a child in which an entry was put makes a node in which it was put
-module _ (value : NodeValue) (top : Entry) (old_kids kids : List (List ℕ × NodeValue)) (path : List (List ℕ)) (name : List ℕ) (parent : Meta) (entry : Entry) (kid : NodeValue) (found : Option NodeValue)
-    (is : node_of top old_kids ≡ value) (more : 1 ≤ length path) (first : name ≡ get_or path 0 name) (has : found ≡ lookup (is_at (name_cmp name)) old_kids) (changed : IsKid old_kids kids name kid) where
-  here : find name_cmp name old_kids ≡ found
-  here = sym (has ∙ lookup-find name old_kids)
-
+-- children in which an entry was put make a node in which it was put
+module _ (value : NodeValue) (top : Entry) (old_kids kids : List (List ℕ × NodeValue)) (path : List (List ℕ)) (name : List ℕ) (parent : Meta) (entry : Entry)
+    (is : node_of top old_kids ≡ value) (more : 1 ≤ length path) (first : name ≡ get_or path 0 name) where
   under : (d : List ℕ) (ds : List (List ℕ)) → get (joined old_kids) (d ∷ ds) ≡ get (map_of value) (d ∷ ds)
   under d ds = sym (get-map_of_cons (node_of top old_kids) d ds) ∙ (λ i. get (map_of (is i)) (d ∷ ds))
 
   own : get (map_of value) [] ≡ Some top
   own = (λ i. get (map_of (sym is i)) []) ∙ get-map_of_root (node_of top old_kids)
 
-  step_at : (rest : List (List ℕ)) → IsPlanted (at_kid found) (map_of kid) rest parent entry → (q : List (List ℕ)) → get (map_of (node_of top kids)) q ≡ planted (get (map_of value)) (name ∷ rest) parent entry q
-  step_at rest changed_tree [] = get-map_of_root (node_of top kids) ∙ kept_top (get (map_of value) []) (Some (Directory parent)) top own
-  step_at rest changed_tree (d ∷ ds) =
+  step_at : (rest : List (List ℕ)) → ArePlanted (joined old_kids) (joined kids) name rest parent entry → (q : List (List ℕ)) → get (map_of (node_of top kids)) q ≡ planted (get (map_of value)) (name ∷ rest) parent entry q
+  step_at rest changed [] = get-map_of_root (node_of top kids) ∙ kept_top (get (map_of value) []) (Some (Directory parent)) top own
+  step_at rest changed (d ∷ ds) =
       get-map_of_cons (node_of top kids) d ds
-      ∙ kids-planted old_kids kids name rest parent entry kid found here changed changed_tree d ds
+      ∙ changed.at d ds
       ∙ ap (λ o. cond (eq_by_cmp path_cmp (d ∷ ds) (name ∷ rest)) (Some entry) (option_or o (cond (is_front (d ∷ ds) (name ∷ rest)) (Some (Directory parent)) None))) (under d ds)
 
-  pub plant-step : IsPlanted (at_kid found) (map_of kid) (take (length path - 1) (drop 1 path)) parent entry → IsPlanted (get (map_of value)) (map_of (node_of top kids)) path parent entry
-  plant-step changed_tree = record { at = λ q. step_at (take (length path - 1) (drop 1 path)) changed_tree q ∙ (λ i. planted (get (map_of value)) (sym (path-parts path name more first) i) parent entry q) }
+  pub plant-step : ArePlanted (joined old_kids) (joined kids) name (take (length path - 1) (drop 1 path)) parent entry → IsPlanted (get (map_of value)) (map_of (node_of top kids)) path parent entry
+  plant-step changed = record { at = λ q. step_at (take (length path - 1) (drop 1 path)) changed q ∙ (λ i. planted (get (map_of value)) (sym (path-parts path name more first) i) parent entry q) }
 
-  kept_at : (before : NodeValue) → found ≡ Some before → map_of kid ≡ map_of before → (q : List (List ℕ)) → get (map_of (node_of top kids)) q ≡ get (map_of value) q
-  kept_at before was same [] = get-map_of_root (node_of top kids) ∙ sym own
-  kept_at before was same (d ∷ ds) =
-      get-map_of_cons (node_of top kids) d ds ∙ get-joined kids d ds
-      ∙ ap (λ o. at_kid o ds) (find_changed old_kids kids name kid changed d)
-      ∙ kept_kid (eq_by_cmp name_cmp d name) (λ v. get (map_of v) ds) kid (find name_cmp d old_kids)
-      (λ tie. ap (λ m. get m ds) same ∙ sym (ap (λ o. at_kid o ds) (ap (λ c. find name_cmp c old_kids) (name_same d name tie) ∙ here ∙ was)))
-      ∙ sym (get-joined old_kids d ds) ∙ under d ds
+-- a node whose children stand for the same stands for the same
+pub keep-step : (value : NodeValue) (top : Entry) (old_kids kids : List (List ℕ × NodeValue)) → node_of top old_kids ≡ value → joined kids ≡ joined old_kids → map_of (node_of top kids) ≡ map_of value
+keep-step value top old_kids kids is same = (λ i. insert (same i) [] top) ∙ ap map_of is
 
-  -- and one that stands for the same map makes one that does
-  pub keep-step : (before : NodeValue) → found ≡ Some before → map_of kid ≡ map_of before → map_of (node_of top kids) ≡ map_of value
-  keep-step before was same = same_tree _ _ (kept_at before was same)
+-- one child more than none
+pub single : (name : List ℕ) (kid : NodeValue) → IsKid [] ((name, kid) ∷ []) name kid
+single name kid = record { at = λ q. ap (λ b. cond b (Some kid) None) ((eq_by_cmp_equiv nat_list_cmp_total).symm q name) }
 
-pub chain-step : (none kids : List (List ℕ × NodeValue)) (path : List (List ℕ)) (name : List ℕ) (parent : Meta) (entry : Entry) (kid : NodeValue) → 1 ≤ length path → name ≡ get_or path 0 name → none ≡ [] → IsKid none kids name kid
+pub chain-step : (kids : List (List ℕ × NodeValue)) (path : List (List ℕ)) (name : List ℕ) (parent : Meta) (entry : Entry) (kid : NodeValue) → 1 ≤ length path → name ≡ get_or path 0 name → kids ≡ (name, kid) ∷ []
     → IsPlanted (λ _. None) (map_of kid) (take (length path - 1) (drop 1 path)) parent entry → IsPlanted (λ _. None) (map_of (node_of (Directory parent) kids)) path parent entry
-chain-step none kids path name parent entry kid more first empty' changed changed_tree =
-    record { at = λ q. chain_at kids name (take (length path - 1) (drop 1 path)) parent entry kid (subst (λ (o : List (List ℕ × NodeValue)). IsKid o kids name kid) empty' changed) changed_tree q ∙ (λ i. planted (λ _. None) (sym (path-parts path name more first) i) parent entry q) }
+chain-step kids path name parent entry kid more first one changed_tree =
+    record { at = λ q. chain_at kids name (take (length path - 1) (drop 1 path)) parent entry kid (subst (λ (l : List (List ℕ × NodeValue)). IsKid [] l name kid) (sym one) (single name kid)) changed_tree q ∙ (λ i. planted (λ _. None) (sym (path-parts path name more first) i) parent entry q) }
   where
     chain_at : (kids : List (List ℕ × NodeValue)) (name : List ℕ) (rest : List (List ℕ)) (parent : Meta) (entry : Entry) (kid : NodeValue) → IsKid [] kids name kid → IsPlanted (λ _. None) (map_of kid) rest parent entry
         → (q : List (List ℕ)) → get (map_of (node_of (Directory parent) kids)) q ≡ planted (λ _. None) (name ∷ rest) parent entry q
@@ -217,7 +228,7 @@ chain-step none kids path name parent entry kid more first empty' changed change
         ∙ kids-planted [] kids name rest parent entry kid None refl changed changed_tree d ds
         ∙ ap (λ o. cond (eq_by_cmp path_cmp (d ∷ ds) (name ∷ rest)) (Some entry) (option_or o (cond (is_front (d ∷ ds) (name ∷ rest)) (Some (Directory parent)) None))) (get-empty path_cmp (d ∷ ds))
 
--- a child is less high than its node
+-- a child is less high than the folder
 pub kid-lower : (kids : List (List ℕ × NodeValue)) (name : List ℕ) (kid : NodeValue) → lookup (is_at (name_cmp name)) kids ≡ Some kid → kid.height + 1 ≤ height_of kids
 kid-lower [] name kid has = absurd (none-some kid has)
 kid-lower (k ∷ ks) name kid has = by_name (is_at (name_cmp name) k.0) k.1 (lookup (is_at (name_cmp name)) ks) (height_of ks) kid has (kid-lower ks name kid)
@@ -225,11 +236,6 @@ kid-lower (k ∷ ks) name kid has = by_name (is_at (name_cmp name) k.0) k.1 (loo
     by_name : (b : Bool) (v : NodeValue) (r : Option NodeValue) (h : ℕ) (kid : NodeValue) → cond b (Some v) r ≡ Some kid → (r ≡ Some kid → kid.height + 1 ≤ h) → kid.height + 1 ≤ max (v.height + 1) h
     by_name true v r h kid e rest = let same : v.height ≡ kid.height = ap (λ n. n.height) (same_Some v kid e) in omega arith
     by_name false v r h kid e rest = let low : kid.height + 1 ≤ h = rest e in omega arith
-
-pub kid-falls : (value : NodeValue) (top : Entry) (kids : List (List ℕ × NodeValue)) (name : List ℕ) (kid : NodeValue) → node_of top kids ≡ value → lookup (is_at (name_cmp name)) kids ≡ Some kid → kid.height < value.height
-kid-falls value top kids name kid is has =
-    let low : kid.height + 1 ≤ height_of kids = kid-lower kids name kid has in
-    let same : height_of kids ≡ value.height = ap (λ n. n.height) is in omega arith
 
 -- ---- the node at a path
 

@@ -13,7 +13,7 @@ use Rattle.trees.specs.declared.entry.Entry.{Entry}
 use Rattle.trees.specs.declared.entry.Entry.TheVariants.{Directory, File}
 use Rattle.paths.specs.Order.{name_cmp}
 use Rattle.trees.specs.TreeMap.{TreeMap, is_blocked, is_file, is_directory}
-use Rattle.trees.specs.PrivateNode.{NodeValue, map_of}
+use Rattle.trees.specs.PrivateNode.{NodeValue, map_of, laid_kid, AreLaid}
 use Rattle.trees.specs.Over.{over}
 use Rattle.paths.proofs.FrontLaws.{name_same}
 use Rattle.trees.proofs.WayLaws.{is_blocked-cons}
@@ -48,15 +48,8 @@ over-file lower upper not_dir = same_tree _ _ at
         ∙ ap (λ b. option_or (get (map_of upper) (c ∷ cs)) (cond b None (get lower (c ∷ cs)))) (is_blocked-cons (get (map_of upper)) c cs ∙ (λ i. file i || is_blocked (λ p. get (map_of upper) (c ∷ p)) cs))
         ∙ or_nothing (get (map_of upper) (c ∷ cs))
 
--- the map of a child of two nodes laid over each other
-abbrev pub laid_kid : Option NodeValue → Option NodeValue → Option TreeMap
-laid_kid None None = None
-laid_kid None (Some upper) = Some (map_of upper)
-laid_kid (Some lower) None = Some (map_of lower)
-laid_kid (Some lower) (Some upper) = Some (over (map_of lower) (map_of upper))
-
 -- children that stand, with those that are still to be laid over them, for what these do
-pub record AreLaid (old upper new rest : List (List ℕ × NodeValue)) : Type 0 where
+pub record AreLaying (old upper new rest : List (List ℕ × NodeValue)) : Type 0 where
   pub at : (c : List ℕ) → laid_kid (find name_cmp c new) (find name_cmp c rest) ≡ laid_kid (find name_cmp c old) (find name_cmp c upper)
   pub ordered : IsStrictlySortedBy name_cmp (keys_of rest)
 
@@ -79,7 +72,7 @@ both None (Some u) cs = sym (or_nothing (get (map_of u) cs)) ∙ (λ i. option_o
 both (Some l) (Some u) cs = get-over (map_of l) (map_of u) cs
 
 -- once nothing is left, the node stands for the two laid over each other
-pub laid-all : (low up : NodeValue) (top top' : Entry) (old upper new : List (List ℕ × NodeValue)) → node_of top old ≡ low → node_of top' upper ≡ up → is_directory (Some top') ≡ true → AreLaid old upper new []
+pub laid-all : (low up : NodeValue) (top top' : Entry) (old upper new : List (List ℕ × NodeValue)) → node_of top old ≡ low → node_of top' upper ≡ up → is_directory (Some top') ≡ true → AreLaid old upper new
     → map_of (node_of top' new) ≡ over (map_of low) (map_of up)
 laid-all low up top top' old upper new low-is up-is dir changed_tree = same_tree _ _ at
   where
@@ -115,8 +108,8 @@ by_tie true kid' kid k r same none = (λ i. laid_kid (Some kid') (none refl i)) 
 by_tie false kid' kid k r same none = refl
 
 -- a step: of the upper children the first is laid over the lower one of its name, if there is one
-pub changed_tree-more : (old upper now its rest new : List (List ℕ × NodeValue)) (name : List ℕ) (kid kid' : NodeValue) (below : Option NodeValue) → AreLaid old upper now its → its ≡ (name, kid) ∷ rest
-    → below ≡ lookup (is_at (name_cmp name)) now → IsKid now new name kid' → laid_kid (Some kid') None ≡ laid_kid below (Some kid) → AreLaid old upper new rest
+pub changed_tree-more : (old upper now its rest new : List (List ℕ × NodeValue)) (name : List ℕ) (kid kid' : NodeValue) (below : Option NodeValue) → AreLaying old upper now its → its ≡ (name, kid) ∷ rest
+    → below ≡ lookup (is_at (name_cmp name)) now → IsKid now new name kid' → laid_kid (Some kid') None ≡ laid_kid below (Some kid) → AreLaying old upper new rest
 unfolding IsStrictlySortedBy
 changed_tree-more old upper now its rest new name kid kid' below changed_tree next found changed done =
     let sorted : IsStrictlySortedBy name_cmp (keys_of ((name, kid) ∷ rest)) = subst (λ (l : List (List ℕ × NodeValue)). IsStrictlySortedBy name_cmp (keys_of l)) next changed_tree.ordered in
@@ -132,17 +125,31 @@ changed_tree-more old upper now its rest new name kid kid' below changed_tree ne
     }
 
 -- nothing is laid yet, its being the upper children as they were lent
-pub laid-start : (old upper its : List (List ℕ × NodeValue)) → its ≡ upper → IsStrictlySortedBy name_cmp (keys_of upper) → AreLaid old its old its
+pub laid-start : (old upper its : List (List ℕ × NodeValue)) → its ≡ upper → IsStrictlySortedBy name_cmp (keys_of upper) → AreLaying old its old its
 laid-start old upper its lent ordered = record { at = λ c. refl; ordered = subst (λ (l : List (List ℕ × NodeValue)). IsStrictlySortedBy name_cmp (keys_of l)) (sym lent) ordered }
 
 -- what the test for a directory said of the upper node
 pub told_file : (up : NodeValue) (top : Entry) (kids : List (List ℕ × NodeValue)) (told : Bool) → node_of top kids ≡ up → told ≡ is_directory (Some top) → told ≡ false → is_directory (Some up.top) ≡ false
 told_file up top kids told is said held = (λ i. is_directory (Some (sym is i).top)) ∙ sym said ∙ held
 
--- the end of a lay, its being the upper children as they were lent, and rest those that are left
-pub laid-end : (low up : NodeValue) (top mid final top' : Entry) (old upper its new rest : List (List ℕ × NodeValue)) (told : Bool) → node_of top old ≡ low → node_of top' upper ≡ up → told ≡ is_directory (Some top') → told ≡ true
-    → AreLaid old its new rest → rest ≡ [] → its ≡ upper → final ≡ mid → mid ≡ top' → map_of (node_of final new) ≡ over (map_of low) (map_of up)
-laid-end low up top mid final top' old upper its new rest told low-is up-is said held changed_tree none lent same own =
-    (λ i. map_of (node_of ((same ∙ own) i) new))
-    ∙ laid-all low up top top' old upper new low-is up-is (sym said ∙ held)
-    (subst (λ (l : List (List ℕ × NodeValue)). AreLaid old l new []) lent (subst (λ (l : List (List ℕ × NodeValue)). AreLaid old its new l) none changed_tree))
+-- all are laid, its being the upper children as they were lent, and rest those that are left
+pub laid-done : (old upper its new rest : List (List ℕ × NodeValue)) → AreLaying old its new rest → rest ≡ [] → its ≡ upper → AreLaid old upper new
+laid-done old upper its new rest laying none lent =
+    record { at = λ c. (λ i. laid_kid (find name_cmp c new) (find name_cmp c (sym none i))) ∙ laying.at c ∙ (λ i. laid_kid (find name_cmp c old) (find name_cmp c (lent i))) }
+
+-- no children laid over others leave them, and laid over none are what stands
+pub laid-none : (old upper : List (List ℕ × NodeValue)) → [] ≡ upper → AreLaid old upper old
+laid-none old upper none = record { at = λ c. (λ i. laid_kid (find name_cmp c old) (find name_cmp c (none i))) }
+
+pub laid-first : (old upper new : List (List ℕ × NodeValue)) → [] ≡ old → new ≡ upper → AreLaid old upper new
+laid-first old upper new none same = record { at = λ c. (λ i. laid_kid (find name_cmp c (same i)) None) ∙ by (find name_cmp c upper) ∙ (λ i. laid_kid (find name_cmp c (none i)) (find name_cmp c upper)) }
+  where
+    by : (o : Option NodeValue) → laid_kid o None ≡ laid_kid None o
+    by None = refl
+    by (Some v) = refl
+
+-- a directory laid over a node, own being the entry that this one then has
+pub laid-end : (low up : NodeValue) (top own top' : Entry) (old upper new : List (List ℕ × NodeValue)) (told : Bool) → node_of top old ≡ low → node_of top' upper ≡ up → told ≡ is_directory (Some top') → told ≡ true
+    → own ≡ top' → AreLaid old upper new → map_of (node_of own new) ≡ over (map_of low) (map_of up)
+laid-end low up top own top' old upper new told low-is up-is said held same laid =
+    (λ i. map_of (node_of (same i) new)) ∙ laid-all low up top top' old upper new low-is up-is (sym said ∙ held) laid

@@ -17,11 +17,11 @@ use Rattle.paths.specs.Order.{path_cmp}
 use Rattle.paths.specs.Path.{IsClean}
 use Rattle.trees.specs.declared.entry.Entry.{Entry}
 use Rattle.paths.specs.Order.{name_cmp}
-use Rattle.trees.specs.PrivateNode.{NodeValue, map_of, below_name}
+use Rattle.trees.specs.PrivateNode.{NodeValue, map_of, joined, below_name}
 use Rattle.trees.specs.Rows.{lent_rows}
 use Rattle.trees.specs.PrivateNode.{rows_under}
 use Rattle.paths.proofs.FrontLaws.{both_hold, both_first, both_second, name_same}
-use Rattle.trees.proofs.NodeLaws.{get-map_of_root, get-map_of_cons, get-joined, find-below_name, lookup-find}
+use Rattle.trees.proofs.NodeLaws.{get-map_of_root, get-map_of_cons, get-joined, get-joined_root, find-below_name, find-below_name_root, lookup-find}
 use Rattle.trees.proofs.NodeSteps.{node_of, at_kid}
 use Rattle.trees.proofs.KidLists.{sorted-from_keys}
 
@@ -106,24 +106,33 @@ sorted-rows [] s = refl
 sorted-rows (k ∷ ks) s =
     sorted-append k.0 (entries (map_of k.1)) (rows_of ks) (sorted-child k.0 (entries (map_of k.1)) ∙ is-true _ (entries_sorted (map_of k.1))) (sorted-rows ks (both_second (below_all name_cmp k.0 ks) _ s)) (λ p. below-rows k.0 p ks (both_first _ _ s))
 
-root-first : (ks : List (List ℕ × NodeValue)) → below_all path_cmp [] (rows_of ks) ≡ true
-root-first [] = refl
-root-first (k ∷ ks) = below-append [] (below_name k.0 (entries (map_of k.1))) (rows_of ks) (above k.0 (entries (map_of k.1))) (root-first ks)
+-- the entries below a node are those of its children
+pub entries-kids : (kids : List (List ℕ × NodeValue)) → IsStrictlySortedBy name_cmp (keys_of kids) → entries (joined kids) ≡ rows_of kids
+entries-kids kids ordered = same_entries path_cmp path_cmp_total path_cmp-IsAntisymmetric (entries (joined kids)) (rows_of kids) (entries_sorted (joined kids)) (holds _ (sorted-rows kids (sorted-from_keys kids ordered))) found
   where
-    above : (c : List ℕ) (rows : List (List (List ℕ) × Entry)) → below_all path_cmp [] (below_name c rows) ≡ true
-    above c [] = refl
-    above c (row ∷ rows) = above c rows
+    none : (ks : List (List ℕ × NodeValue)) → find path_cmp [] (rows_of ks) ≡ None
+    none [] = refl
+    none (k ∷ ks) = find-joined_lists [] (below_name k.0 (entries (map_of k.1))) (rows_of ks) ∙ (λ i. option_or (find-below_name_root k.0 (entries (map_of k.1)) i) (none ks i))
 
--- the entries of a node are its own and those of its children
-pub entries-node : (value : NodeValue) (top : Entry) (kids : List (List ℕ × NodeValue)) → node_of top kids ≡ value → IsStrictlySortedBy name_cmp (keys_of kids) → entries (map_of value) ≡ ([], top) ∷ rows_of kids
-entries-node value top kids is ordered =
+    found : (q : List (List ℕ)) → find path_cmp q (entries (joined kids)) ≡ find path_cmp q (rows_of kids)
+    found [] = sym (get-entries (joined kids) []) ∙ get-joined_root kids ∙ sym (none kids)
+    found (c ∷ cs) = sym (get-entries (joined kids) (c ∷ cs)) ∙ get-joined kids c cs ∙ sym (find-rows kids (sorted-from_keys kids ordered) c cs)
+
+root-first : (rows : List (List (List ℕ) × Entry)) → find path_cmp [] rows ≡ None → below_all path_cmp [] rows ≡ true
+root-first [] h = refl
+root-first (([], e) ∷ rows) h = absurd (true≢false (ap is_some h))
+root-first ((c ∷ cs, e) ∷ rows) h = root-first rows h
+
+-- the entries of a node are its own and those below it
+pub entries-node : (value : NodeValue) (top : Entry) (kids : List (List ℕ × NodeValue)) → node_of top kids ≡ value → entries (map_of value) ≡ ([], top) ∷ entries (joined kids)
+entries-node value top kids is =
     ap (λ v. entries (map_of v)) (sym is)
-    ∙ same_entries path_cmp path_cmp_total path_cmp-IsAntisymmetric (entries (map_of (node_of top kids))) (([], top) ∷ rows_of kids) (entries_sorted (map_of (node_of top kids)))
-    (holds _ (both_hold _ _ (root-first kids) (sorted-rows kids (sorted-from_keys kids ordered)))) found
+    ∙ same_entries path_cmp path_cmp_total path_cmp-IsAntisymmetric (entries (map_of (node_of top kids))) (([], top) ∷ entries (joined kids)) (entries_sorted (map_of (node_of top kids)))
+    (holds _ (both_hold _ _ (root-first (entries (joined kids)) (sym (get-entries (joined kids) []) ∙ get-joined_root kids)) (is-true _ (entries_sorted (joined kids))))) found
   where
-    found : (q : List (List ℕ)) → find path_cmp q (entries (map_of (node_of top kids))) ≡ find path_cmp q (([], top) ∷ rows_of kids)
+    found : (q : List (List ℕ)) → find path_cmp q (entries (map_of (node_of top kids))) ≡ find path_cmp q (([], top) ∷ entries (joined kids))
     found [] = sym (get-entries (map_of (node_of top kids)) []) ∙ get-map_of_root (node_of top kids)
-    found (c ∷ cs) = sym (get-entries (map_of (node_of top kids)) (c ∷ cs)) ∙ get-map_of_cons (node_of top kids) c cs ∙ get-joined kids c cs ∙ sym (find-rows kids (sorted-from_keys kids ordered) c cs)
+    found (c ∷ cs) = sym (get-entries (map_of (node_of top kids)) (c ∷ cs)) ∙ get-map_of_cons (node_of top kids) c cs ∙ get-entries (joined kids) (c ∷ cs)
 
 -- ---- the steps of the code
 
@@ -132,20 +141,24 @@ not_true true e = sym e
 not_true false e = refl
 
 -- what stands below a name is what its child has
-pub kid-there : (value : NodeValue) (top : Entry) (kids : List (List ℕ × NodeValue)) (name : List ℕ) (kid : NodeValue) → node_of top kids ≡ value → lookup (is_at (name_cmp name)) kids ≡ Some kid → (q : List (List ℕ)) → get (map_of value) (name ∷ q) ≡ get (map_of kid) q
-kid-there value top kids name kid is has q =
-    (λ i. get (map_of (sym is i)) (name ∷ q)) ∙ get-map_of_cons (node_of top kids) name q ∙ get-joined kids name q ∙ ap (λ o. at_kid o q) (sym (lookup-find name kids) ∙ has)
+pub kid-there : (kids : List (List ℕ × NodeValue)) (name : List ℕ) (kid : NodeValue) → lookup (is_at (name_cmp name)) kids ≡ Some kid → (q : List (List ℕ)) → get (joined kids) (name ∷ q) ≡ get (map_of kid) q
+kid-there kids name kid has q = get-joined kids name q ∙ ap (λ o. at_kid o q) (sym (lookup-find name kids) ∙ has)
 
--- so the path of each child is clean where the paths of the node are
-pub child-clean : (value : NodeValue) (top : Entry) (kids : List (List ℕ × NodeValue)) (name : List ℕ) (kid : NodeValue) (at : List (List ℕ)) → node_of top kids ≡ value → lookup (is_at (name_cmp name)) kids ≡ Some kid
-    → ((q : List (List ℕ)) → is_some (get (map_of value) q) ≡ true → IsClean (at ++ q)) → IsClean (at ++ name ∷ [])
-child-clean value top kids name kid at is has clean = clean (name ∷ []) (ap is_some (kid-there value top kids name kid is has [] ∙ get-map_of_root kid))
+-- so the path of each child is clean where the paths below the node are
+pub child-clean : (kids : List (List ℕ × NodeValue)) (name : List ℕ) (kid : NodeValue) (at : List (List ℕ)) → lookup (is_at (name_cmp name)) kids ≡ Some kid
+    → ((q : List (List ℕ)) → is_some (get (joined kids) q) ≡ true → IsClean (at ++ q)) → IsClean (at ++ name ∷ [])
+child-clean kids name kid at has clean = clean (name ∷ []) (ap is_some (kid-there kids name kid has [] ∙ get-map_of_root kid))
 
 -- and all paths below it
-pub below-clean : (value : NodeValue) (top : Entry) (kids : List (List ℕ × NodeValue)) (name : List ℕ) (kid : NodeValue) (at below : List (List ℕ)) → node_of top kids ≡ value → lookup (is_at (name_cmp name)) kids ≡ Some kid → below ≡ at ++ name ∷ []
-    → ((q : List (List ℕ)) → is_some (get (map_of value) q) ≡ true → IsClean (at ++ q)) → (q : List (List ℕ)) → is_some (get (map_of kid) q) ≡ true → IsClean (below ++ q)
-below-clean value top kids name kid at below is has same clean q s =
-    subst IsClean (sym (append_assoc at (name ∷ []) q) ∙ ap (λ x. x ++ q) (sym same)) (clean (name ∷ q) (ap is_some (kid-there value top kids name kid is has q) ∙ s))
+pub below-clean : (kids : List (List ℕ × NodeValue)) (name : List ℕ) (kid : NodeValue) (at below : List (List ℕ)) → lookup (is_at (name_cmp name)) kids ≡ Some kid → below ≡ at ++ name ∷ []
+    → ((q : List (List ℕ)) → is_some (get (joined kids) q) ≡ true → IsClean (at ++ q)) → (q : List (List ℕ)) → is_some (get (map_of kid) q) ≡ true → IsClean (below ++ q)
+below-clean kids name kid at below has same clean q s =
+    subst IsClean (sym (append_assoc at (name ∷ []) q) ∙ ap (λ x. x ++ q) (sym same)) (clean (name ∷ q) (ap is_some (kid-there kids name kid has q) ∙ s))
+
+-- what is clean at and below a node is so below it
+pub kids-clean : {P : List (List ℕ) → Type 0} (value : NodeValue) (top : Entry) (kids : List (List ℕ × NodeValue)) → node_of top kids ≡ value → ((q : List (List ℕ)) → is_some (get (map_of value) q) ≡ true → P q) → (q : List (List ℕ)) → is_some (get (joined kids) q) ≡ true → P q
+kids-clean value top kids is clean [] s = absurd (true≢false (sym s ∙ ap is_some (get-joined_root kids)))
+kids-clean value top kids is clean (c ∷ cs) s = clean (c ∷ cs) ((λ i. is_some (get (map_of (sym is i)) (c ∷ cs))) ∙ ap is_some (get-map_of_cons (node_of top kids) c cs) ∙ s)
 
 rows_under-append : (at : List (List ℕ)) (xs ys : List (List (List ℕ) × Entry)) → rows_under at (xs ++ ys) ≡ rows_under at xs ++ rows_under at ys
 rows_under-append at [] ys = refl
@@ -167,16 +180,30 @@ lent_rows-append : (xs ys : List (List (List ℕ) × Bor Entry)) → lent_rows (
 lent_rows-append [] ys = refl
 lent_rows-append (x ∷ xs) ys = ap (λ r. (x.0, x.1.now) ∷ r) (lent_rows-append xs ys)
 
--- all rows of a node
-pub rows-all : (value : NodeValue) (top : Entry) (kids its : List (List ℕ × NodeValue)) (at own : List (List ℕ)) (entry : Bor Entry) (old first : List (List (List ℕ) × Bor Entry)) (rows : List (List (List ℕ) × Entry)) → node_of top kids ≡ value → IsStrictlySortedBy name_cmp (keys_of kids)
-    → entry.now ≡ top → own ≡ at → first ≡ old ++ (own, entry) ∷ [] → its ≡ kids → rows ++ rows_under at (rows_of []) ≡ lent_rows first ++ rows_under at (rows_of its) → rows ≡ lent_rows old ++ rows_under at (entries (map_of value))
-rows-all value top kids its at own entry old first rows is ordered e o f lent done =
-    sym (append-nil rows) ∙ done
-    ∙ (λ i. lent_rows (f i) ++ rows_under at (rows_of (lent i)))
-    ∙ ap (λ r. r ++ rows_under at (rows_of kids)) (lent_rows-append old ((own, entry) ∷ []))
-    ∙ append_assoc (lent_rows old) ((own, entry.now) ∷ []) (rows_under at (rows_of kids))
-    ∙ (λ i. lent_rows old ++ ((o ∙ sym (append-nil at)) i, e i) ∷ rows_under at (rows_of kids))
-    ∙ ap (λ r. lent_rows old ++ rows_under at r) (sym (entries-node value top kids is ordered))
+-- all rows below a node
+pub rows-all : (kids its : List (List ℕ × NodeValue)) (at : List (List ℕ)) (old rows : List (List (List ℕ) × Entry)) → IsStrictlySortedBy name_cmp (keys_of kids) → its ≡ kids → rows ++ rows_under at (rows_of []) ≡ old ++ rows_under at (rows_of its)
+    → rows ≡ old ++ rows_under at (entries (joined kids))
+rows-all kids its at old rows ordered lent done =
+    sym (append-nil rows) ∙ done ∙ (λ i. old ++ rows_under at (rows_of (lent i))) ∙ ap (λ r. old ++ rows_under at r) (sym (entries-kids kids ordered))
+
+-- below a node without children are none
+pub no-entries : entries (joined []) ≡ []
+unfolding IsStrictlySortedBy
+no-entries = entries-kids [] tt
+
+pub rows-none : (kids : List (List ℕ × NodeValue)) (at : List (List ℕ)) (old : List (List (List ℕ) × Entry)) → [] ≡ kids → old ≡ old ++ rows_under at (entries (joined kids))
+rows-none kids at old none = sym (append-nil old) ∙ (λ i. old ++ rows_under at (sym no-entries i)) ∙ (λ i. old ++ rows_under at (entries (joined (none i))))
+
+-- and with the node's own before them
+pub rows-node : (value : NodeValue) (top : Entry) (kids : List (List ℕ × NodeValue)) (at own : List (List ℕ)) (entry : Bor Entry) (old first : List (List (List ℕ) × Bor Entry)) (rows : List (List (List ℕ) × Entry)) → node_of top kids ≡ value
+    → entry.now ≡ top → own ≡ at → first ≡ old ++ (own, entry) ∷ [] → rows ≡ lent_rows first ++ rows_under at (entries (joined kids)) → rows ≡ lent_rows old ++ rows_under at (entries (map_of value))
+rows-node value top kids at own entry old first rows is e o f done =
+    done
+    ∙ (λ i. lent_rows (f i) ++ rows_under at (entries (joined kids)))
+    ∙ ap (λ r. r ++ rows_under at (entries (joined kids))) (lent_rows-append old ((own, entry) ∷ []))
+    ∙ append_assoc (lent_rows old) ((own, entry.now) ∷ []) (rows_under at (entries (joined kids)))
+    ∙ (λ i. lent_rows old ++ ((o ∙ sym (append-nil at)) i, e i) ∷ rows_under at (entries (joined kids)))
+    ∙ ap (λ r. lent_rows old ++ rows_under at r) (sym (entries-node value top kids is))
 
 pub rows_under-root : (rows : List (List (List ℕ) × Entry)) → rows_under [] rows ≡ rows
 rows_under-root [] = refl

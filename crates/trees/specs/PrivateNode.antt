@@ -1,11 +1,14 @@
 -- What a node of a stored tree stands for: its own entry, the map of what is below it, and how high it is.
 --
 -- A node knows the names of its children and not its own path, so its map's paths begin at the node itself.
-use Rattle.std.specs.Prelude.{◌≡◌, ℕ, ◌+◌, ◌≤◌, Bool, false, cond, Option, None, List, [], ◌∷◌, ◌++◌, map, not, refl}
+use Rattle.std.specs.Prelude.{◌≡◌, ℕ, ◌+◌, ◌≤◌, Bool, false, cond, Option, Some, None, List, [], ◌∷◌, ◌++◌, map, not, refl}
 use Rattle.std.specs.Coded.{Coded, code_by, coded×, coded_ℕ, coded_list}
 use Rattle.std.specs.Ordering.{eq_by_cmp}
 use Rattle.std.specs.Map.{values_of}
-use Rattle.std.specs.FinMap.{get, insert, empty, entries, retain_keys, code}
+use Rattle.std.specs.Arc.{arc_value}
+use Rattle.std.specs.declared.sync.Arc.{Arc}
+use Rattle.std.specs.BTreeMap.{BTreeMap}
+use Rattle.std.specs.FinMap.{get, insert, empty, entries, retain_keys, find, code}
 use Rattle.std.proofs.Common.{arith}
 use denote.Param.Weighed.{most}
 use Rattle.paths.specs.Path.{is_at_or_under}
@@ -14,7 +17,7 @@ use Rattle.trees.specs.declared.entry.Entry.{Entry}
 use Rattle.trees.specs.contracts.entry.Entry as entries_of
 use Rattle.paths.specs.Order.{name_cmp}
 use Rattle.trees.specs.TreeMap.{TreeMap}
-use Rattle.trees.specs.Over.{insert_all}
+use Rattle.trees.specs.Over.{insert_all, over}
 use Rattle.trees.specs.Put.{planted}
 
 -- a node, as contracts see it
@@ -31,6 +34,15 @@ tree_code = code (coded_list (coded_list coded_ℕ)) entries_of.the_row.coded
 abbrev pub node_code : Coded NodeValue
 node_code =
     code_by (Entry × (TreeMap × ℕ)) (coded× entries_of.the_row.coded (coded× tree_code coded_ℕ)) (λ n. (n.top, (n.below, n.height))) (λ p. record { top = p.0; below = p.1.0; height = p.1.1 }) (λ _. refl)
+
+-- the code of a node's children
+abbrev pub kids_code : Coded (List (List ℕ × NodeValue))
+kids_code = coded_list (coded× (coded_list coded_ℕ) node_code)
+
+-- the children of a folder's map, behind its pointer; none where there is no map
+abbrev pub kids_of : {Z : Type 0} → Option (Arc (BTreeMap (List ℕ) NodeValue) Z) → List (List ℕ × NodeValue)
+kids_of None = []
+kids_of (Some kids) = (arc_value kids).entries
 
 -- the map of a node: its own entry at the root, and what is below it
 abbrev pub map_of : NodeValue → TreeMap
@@ -50,11 +62,11 @@ abbrev pub joined : List (List ℕ × NodeValue) → TreeMap
 joined [] = empty
 joined (kid ∷ kids) = insert_all (below_name kid.0 (entries (map_of kid.1))) (retain_keys (joined kids) (λ path. not (begins_with kid.0 path)))
 
--- how high a node with these children is: a node without children has the height 0
+-- how high these children stand below their node: none at all is the height 0
 abbrev pub height_of : List (List ℕ × NodeValue) → ℕ
 height_of kids = most (λ kid. kid.height + 1) (values_of kids)
 
--- each child is less high than its node
+-- each child is less high than its folder
 pub height_falls : (kids : List (List ℕ × NodeValue)) → most (λ kid. kid.height + 1) (values_of kids) ≤ height_of kids
 height_falls kids = omega arith
 
@@ -69,6 +81,25 @@ pub record IsBelow (tree : TreeMap) (top : List (List ℕ)) (below : TreeMap) : 
 -- what stood at each path, without a path and all that lay below it
 pub record IsCut (old new : List (List ℕ) → Option Entry) (path : List (List ℕ)) : Type 0 where
   pub at : (q : List (List ℕ)) → new q ≡ cond (is_at_or_under q path) None (old q)
+
+-- what stands below a node in which an entry was put at a path that goes on from a name
+pub record ArePlanted (old new : TreeMap) (name : List ℕ) (rest : List (List ℕ)) (parent : Meta) (entry : Entry) : Type 0 where
+  pub at : (d : List ℕ) (ds : List (List ℕ)) → get new (d ∷ ds) ≡ planted (get old) (name ∷ rest) parent entry (d ∷ ds)
+
+-- what stands below a node without a path that goes on from a name and all that lay below it
+pub record AreCut (old new : TreeMap) (name : List ℕ) (rest : List (List ℕ)) : Type 0 where
+  pub at : (d : List ℕ) (ds : List (List ℕ)) → get new (d ∷ ds) ≡ cond (is_at_or_under (d ∷ ds) (name ∷ rest)) None (get old (d ∷ ds))
+
+-- the map of a child of two nodes laid over each other
+abbrev pub laid_kid : Option NodeValue → Option NodeValue → Option TreeMap
+laid_kid None None = None
+laid_kid None (Some upper) = Some (map_of upper)
+laid_kid (Some lower) None = Some (map_of lower)
+laid_kid (Some lower) (Some upper) = Some (over (map_of lower) (map_of upper))
+
+-- children laid over children, name by name
+pub record AreLaid (old upper new : List (List ℕ × NodeValue)) : Type 0 where
+  pub at : (c : List ℕ) → laid_kid (find name_cmp c new) None ≡ laid_kid (find name_cmp c old) (find name_cmp c upper)
 
 -- rows as they are seen from further up: each path below this one
 abbrev pub rows_under : List (List ℕ) → List (List (List ℕ) × Entry) → List (List (List ℕ) × Entry)

@@ -1,34 +1,37 @@
-ghost use Rattle.std.specs.Prelude.{◌≡◌};
+ghost use Rattle.std.specs.Prelude.{◌≡◌, IfOk};
 
 use plain::{Bytes, Exact, Memory};
 use std::alloc::Global;
 use std::marker::Model;
+use std::sync::Arc;
 
 /// The bytes of a file, which need not be text. Contracts see the list of them.
 ///
-/// It is a type of its own so that copies of a tree may come to share their files' bytes.
+/// Copies share them: no change to a tree copies the bytes of a file.
 #[derive(Debug, Drop)]
 pub struct Content {
-    bytes: Bytes,
+    bytes: Arc<Bytes, Global>,
 }
 
 impl Model for Content {
     ghost use Rattle.std.specs.Prelude.{List, ℕ};
     ghost use Rattle.std.specs.Coded.{coded_list, coded_ℕ};
+    ghost use Rattle.std.specs.Arc.{arc_value};
 
     ghost Value = { List ℕ };
 
     ghost coded = { coded_list coded_ℕ };
 
-    ghost view = { λ content. content.bytes };
+    ghost view = { λ content. arc_value content.bytes };
 }
 
 impl Content {
-    /// The content of these bytes. It takes no memory.
-    pub fn new(bytes: Bytes) -> Content
-        ensures { result ≡ bytes }
+    /// The content of these bytes, which aren't copied.
+    pub fn new(alloc: Global, bytes: Bytes) -> Result<Content, Memory>
+        ensures { IfOk result (λ content. content ≡ bytes) }
     {
-        Content { bytes }
+        let bytes = Arc::new(alloc, bytes)?;
+        Ok(Content { bytes })
     }
 
     /// The bytes, lent.
@@ -44,8 +47,8 @@ impl Exact for Content {
         self.bytes.same(&other.bytes)
     }
 
-    fn copy(&self, alloc: Global) -> Result<Content, Memory> {
-        let bytes = self.bytes.copy(alloc)?;
+    fn copy(&self, _alloc: Global) -> Result<Content, Memory> {
+        let bytes = Arc::try_clone(&self.bytes)?;
         Ok(Content { bytes })
     }
 }

@@ -15,6 +15,7 @@
 mod apply;
 mod cause;
 mod changes;
+mod children;
 mod content;
 mod copy;
 mod entry;

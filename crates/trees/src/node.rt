@@ -7,47 +7,49 @@ ghost use Rattle.trees.specs.Over.{over};
 ghost use Rattle.trees.specs.Copy.{placements, kind_of};
 ghost use Rattle.trees.specs.PrivateNode.{map_of, IsPlanted, IsBelow, IsCut, rows_under};
 
+use crate::children::Children;
 use crate::copy::Change;
 use crate::{CopyOptions, Entry, Meta};
 use paths::{LongPath, Path};
 use plain::{Exact, Memory, Text};
 use std::alloc::Global;
-use std::collections::BTreeMap;
 use std::marker::Model;
 
 /// An entry, with all that stands below it by the names of its directory. A file has no children.
 ///
-/// A missing branch is built aside and hung in by one insertion, so that nothing has to be undone where there is no memory.
+/// A copy of a node has the same entry and shares what is below it.
 #[derive(Drop)]
+#[cycle(nodes)]
 pub(crate) struct Node {
     entry: Entry,
-    kids: BTreeMap<Text, Node>,
+    kids: Children,
 }
 
 impl Model for Node {
-    ghost use Rattle.trees.specs.PrivateNode.{NodeValue, node_code, joined, height_of, height_falls};
+    ghost use Rattle.std.specs.Prelude.{◌+◌};
+    ghost use Rattle.trees.specs.PrivateNode.{NodeValue, node_code, joined, height_of};
     ghost use Rattle.std.proofs.Common.{arith};
 
     ghost Value = { NodeValue };
 
     ghost coded = { node_code };
 
-    ghost view = { λ n. record { top = n.entry; below = joined n.kids.entries; height = height_of n.kids.entries } };
+    ghost view = { λ n. record { top = n.entry; below = joined n.kids; height = height_of n.kids + 1 } };
 
     ghost size = { λ v. v.height };
 
-    ghost size_decreases = { λ a h. omega (arith, height_falls a.kids.entries) };
+    ghost size_decreases = { λ a h. omega arith };
 }
 
 impl Node {
     /// An entry with nothing below it. It takes no memory.
-    pub(crate) fn leaf(alloc: Global, entry: Entry) -> Node
+    pub(crate) fn leaf(entry: Entry) -> Node
         ensures top { result.top ≡ entry }
         ensures below { result.below ≡ empty }
     {
         Node {
             entry,
-            kids: BTreeMap::new(alloc),
+            kids: Children::none(),
         }
     }
 
@@ -122,18 +124,21 @@ impl Node {
     }
 
     /// Directories down a path, each with the meta of a parent, that end in an entry.
-    fn chain(alloc: Global, path: &[Text], parent: Meta, entry: Entry) -> Result<Node, Memory>
+    pub(crate) fn chain(
+        alloc: Global,
+        path: &[Text],
+        parent: Meta,
+        entry: Entry,
+    ) -> Result<Node, Memory>
         ensures { IfOk result (λ n. IsPlanted (λ _. None) (map_of n) path.now parent entry) }
     {
         match path {
-            [] => Ok(Node::leaf(alloc, entry)),
+            [] => Ok(Node::leaf(entry)),
             [name, rest @ ..] => {
                 let kid = Node::chain(alloc, rest, parent, entry)?;
-                let mut kids = BTreeMap::new(alloc);
-                kids.insert(name.copy(alloc)?, kid)?;
                 Ok(Node {
                     entry: Entry::Directory(parent),
-                    kids,
+                    kids: Children::one(alloc, name, kid)?,
                 })
             }
         }
@@ -141,6 +146,7 @@ impl Node {
 
     /// Puts an entry at a path below this node. Missing parents are made; a directory that stands at the path keeps what is
     /// below it.
+    #[cycle(planting)]
     pub(crate) fn plant(
         &mut self,
         alloc: Global,
@@ -156,55 +162,31 @@ impl Node {
                 self.entry = entry;
                 Ok(())
             }
-            [name, rest @ ..] => match self.kids.get_mut(name) {
-                Some(kid) => kid.plant(alloc, rest, parent, entry),
-                None => {
-                    let kid = Node::chain(alloc, rest, parent, entry)?;
-                    self.kids.insert(name.copy(alloc)?, kid)?;
-                    Ok(())
-                }
-            },
+            [name, rest @ ..] => self.kids.plant(alloc, name, rest, parent, entry),
         }
     }
 }
 
 impl Node {
     /// Whether the two stand for the same map.
+    #[cycle(comparing)]
     pub(crate) fn same(&self, other: &Node) -> bool
         ensures { IsTrue result ↔ (map_of self.now ≡ map_of other.now) }
     {
-        if !self.entry.same(&other.entry) {
-            return false;
-        }
-        let mut others = other.kids.iter();
-        for (name, kid) in self.kids.iter() {
-            match others.next() {
-                Some((other_name, other_kid)) => {
-                    if !(name.same(other_name) && kid.same(other_kid)) {
-                        return false;
-                    }
-                }
-                None => return false,
-            }
-        }
-        others.next().is_none()
+        self.entry.same(&other.entry) && self.kids.same(&other.kids)
     }
 
-    /// A node of its own that stands for the same map.
+    /// A node that stands for the same map and shares what is below it.
     pub(crate) fn copy(&self, alloc: Global) -> Result<Node, Memory>
         ensures { IfOk result (λ n. n ≡ self.now) }
     {
-        let mut kids = BTreeMap::new(alloc);
-        for (name, kid) in self.kids.iter() {
-            kids.insert(name.copy(alloc)?, kid.copy(alloc)?)?;
-        }
-        Ok(Node {
-            entry: self.entry.copy(alloc)?,
-            kids,
-        })
+        let entry = self.entry.copy(alloc)?;
+        let kids = self.kids.copy()?;
+        Ok(Node { entry, kids })
     }
 
     /// Adds a row for each entry, in path order, this node's own path being `at`.
+    #[cycle(listing)]
     pub(crate) fn push_rows<'a>(
         &'a self,
         alloc: Global,
@@ -215,56 +197,11 @@ impl Node {
         ensures { OnOk result (lent_rows rows.new.items ≡ lent_rows rows.old.items ++ rows_under at.now (entries (map_of self.now))) }
     {
         rows.push((at.copy(alloc)?, &self.entry))?;
-        for (name, kid) in self.kids.iter() {
-            let below = at.child(alloc, name)?;
-            kid.push_rows(alloc, &below, rows)?;
-        }
-        Ok(())
-    }
-}
-
-impl Node {
-    /// Lays another node over this one. Where there is no memory, this one is left half done.
-    pub(crate) fn lay_over(&mut self, alloc: Global, upper: &Node) -> Result<(), Memory>
-        ensures { OnOk result (map_of self.new ≡ over (map_of self.old) (map_of upper.now)) }
-    {
-        if !upper.entry.is_directory() {
-            *self = upper.copy(alloc)?;
-            return Ok(());
-        }
-        self.entry = upper.entry.copy(alloc)?;
-        for (name, kid) in upper.kids.iter() {
-            match self.kids.get_mut(name) {
-                Some(below) => below.lay_over(alloc, kid)?,
-                None => {
-                    self.kids.insert(name.copy(alloc)?, kid.copy(alloc)?)?;
-                }
-            }
-        }
-        Ok(())
-    }
-
-    /// Takes away what stands at a path below this node, with all below it. It takes no memory.
-    pub(crate) fn cut(&mut self, path: &[Text])
-        requires { 0 < length path.now }
-        ensures { IsCut (get (map_of self.old)) (get (map_of self.new)) path.now }
-    {
-        match path {
-            [] => {}
-            [name, rest @ ..] => {
-                if rest.is_empty() {
-                    self.kids.remove(name);
-                    return;
-                }
-                match self.kids.get_mut(name) {
-                    Some(kid) => kid.cut(rest),
-                    None => {}
-                }
-            }
-        }
+        self.kids.push_rows(alloc, at, rows)
     }
 
     /// Adds a change for each entry below this node, in path order: it is placed below `at`, at its path from this node.
+    #[cycle(changing)]
     pub(crate) fn push_changes(
         &self,
         alloc: Global,
@@ -275,12 +212,32 @@ impl Node {
         requires { (q : List (List ℕ)) → is_some (get (map_of self.now) q) ≡ true → IsClean q }
         ensures { OnOk result (changes.new.items ≡ changes.old.items ++ placements options.now at.now (drop 1 (entries (map_of self.now)))) }
     {
-        for (name, kid) in self.kids.iter() {
-            let below = at.child(alloc, name)?;
-            let entry = options.placed_entry(alloc, &kid.entry)?;
-            changes.push(Change::Place(below.copy(alloc)?, entry))?;
-            kid.push_changes(alloc, options, &below, changes)?;
+        self.kids.push_changes(alloc, options, at, changes)
+    }
+
+    /// Lays another node over this one. Where there is no memory, this one is left half done.
+    #[cycle(laying)]
+    pub(crate) fn lay_over(&mut self, alloc: Global, upper: &Node) -> Result<(), Memory>
+        ensures { OnOk result (map_of self.new ≡ over (map_of self.old) (map_of upper.now)) }
+    {
+        if !upper.entry.is_directory() {
+            *self = upper.copy(alloc)?;
+            return Ok(());
         }
-        Ok(())
+        self.entry = upper.entry.copy(alloc)?;
+        self.kids.lay_over(alloc, &upper.kids)
+    }
+
+    /// Takes away what stands at a path below this node, with all below it. Where there is no memory, nothing has changed.
+    #[cycle(cutting)]
+    pub(crate) fn cut(&mut self, alloc: Global, path: &[Text]) -> Result<(), Memory>
+        requires { 0 < length path.now }
+        ensures ok { OnOk result (IsCut (get (map_of self.old)) (get (map_of self.new)) path.now) }
+        ensures err { OnErr result (map_of self.new ≡ map_of self.old) }
+    {
+        match path {
+            [] => Ok(()),
+            [name, rest @ ..] => self.kids.cut(alloc, name, rest),
+        }
     }
 }

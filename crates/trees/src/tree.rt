@@ -43,11 +43,11 @@ impl Model for Tree {
 
 impl Tree {
     /// Just the root, a directory with 0755 and owner 0:0: what `FROM scratch` begins with. It takes no memory.
-    pub fn empty(alloc: Global) -> Tree
+    pub fn empty(_alloc: Global) -> Tree
         ensures { result ≡ empty_tree }
     {
         Tree {
-            root: Node::leaf(alloc, Entry::Directory(Meta::directory())),
+            root: Node::leaf(Entry::Directory(Meta::directory())),
         }
     }
 
@@ -134,7 +134,7 @@ impl Tree {
     /// Takes away what stands at a path, with all that lies below it.
     ///
     /// It fails with `F1` where nothing stands there, and at the root. After any fault the tree is as it was.
-    pub fn remove(&mut self, path: &Path) -> Result<(), TreeFault>
+    pub fn remove(&mut self, alloc: Global, path: &Path) -> Result<(), TreeFault>
         ensures { ChangesTree (removed self.old path.now) self.old self.new result }
     {
         let parts = path.components();
@@ -144,7 +144,7 @@ impl Tree {
         match self.root.kind(parts) {
             None => Err(Fault::Because(Cause::F1)),
             Some(_) => {
-                self.root.cut(parts);
+                self.root.cut(alloc, parts)?;
                 Ok(())
             }
         }

@@ -1,10 +1,9 @@
-use Rattle.trees.proofs.NodeSteps.{leaf-planted, chain-step, kid-under}
+use Rattle.trees.proofs.NodeSteps.{leaf-planted, chain-step}
 use Rattle.trees.proofs.node.Node.+chain.Goals as goal
 
 pub returns-in-empty : goal.returns-in-empty
 returns-in-empty t c = leaf-planted c.leaf.result _ _ _ c.leaf.ensures.top c.leaf.ensures.below c.in-empty.len_below
 
-pub returns-in_ok-insert-in-len1-up : goal.returns-in_ok-insert-in-len1-up
-returns-in_ok-insert-in-len1-up t c =
-    chain-step c.new-kids.result.entries c.insert.new.self.entries _ c.name-item.result _ _ c.in_ok-kid-in-len1-up.kid c.in-len1-up.len_at_least c.name-item.is c.new-kids.ensures.empty
-    (kid-under _ _ c.in_ok-copy-in-len1-up.field-0 _ _ c.in_ok-copy-in-len1-up.ensures c.in_ok-insert-in-len1-up.ensures.updates.0) c.in_ok-kid-in-len1-up.ensures
+pub returns-in_ok-one-in-len1-up : goal.returns-in_ok-one-in-len1-up
+returns-in_ok-one-in-len1-up t c =
+    chain-step c.in_ok-one-in-len1-up.field-0 _ c.name-item.result _ _ c.in_ok-kid-in-len1-up.kid c.in-len1-up.len_at_least c.name-item.is c.in_ok-one-in-len1-up.ensures c.in_ok-kid-in-len1-up.ensures
