@@ -37,10 +37,10 @@ fn short_body(alloc: Global, body: Body, scope: &Scope) -> Result<Option<Text>, 
 }
 
 /// The bytes of a text.
-fn content_of(text: Text) -> Content
-    ensures { result ≡ text }
+fn content_of(alloc: Global, text: Text) -> Result<Content, Memory>
+    ensures { IfOk result (λ content. content ≡ text) }
 {
-    Content::new(Bytes::from_vec(text.into_string().into_bytes()))
+    Content::new(alloc, Bytes::from_vec(text.into_string().into_bytes()))
 }
 
 /// A source with its text expanded, or none where it is past the limits.
@@ -54,7 +54,9 @@ fn near_source(alloc: Global, source: Source, scope: &Scope) -> Result<Option<Fi
         },
         Source::Document { name, body } => {
             match (Name::new(name), short_body(alloc, body, scope)?) {
-                (Some(name), Some(text)) => Ok(Some(FileSource::Data(name, content_of(text)))),
+                (Some(name), Some(text)) => {
+                    Ok(Some(FileSource::Data(name, content_of(alloc, text)?)))
+                }
                 _ => Ok(None),
             }
         }

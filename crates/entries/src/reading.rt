@@ -138,7 +138,7 @@ fn read_file(alloc: Global, value: &Value) -> Result<(Path, Entry), ReadFault>
     let path: Path = one_at(alloc, value, "path")?;
     let meta = read_meta(alloc, value, Meta::file())?;
     let content = read_content(alloc, value)?;
-    Ok((path, Entry::File(meta, Content::new(content))))
+    Ok((path, Entry::File(meta, Content::new(alloc, content)?)))
 }
 
 /// An entry with its path: a directory where `dir` is there, else a file.

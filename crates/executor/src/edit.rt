@@ -39,7 +39,7 @@ pub(crate) fn change_tree(
     match change {
         Change::Write(bytes) => write(alloc, tree, path, bytes),
         Change::Bump => bump(alloc, tree, path),
-        Change::Remove => tree.remove(path),
+        Change::Remove => tree.remove(alloc, path),
     }
 }
 
@@ -68,7 +68,8 @@ fn write(alloc: Global, tree: &mut Tree, path: &Path, bytes: Bytes) -> Result<()
     ensures { ChangesTree (written tree.old path.now bytes) tree.old tree.new result }
 {
     let meta = kept_meta(tree, path);
-    tree.put(alloc, path, Entry::File(meta, Content::new(bytes)))
+    let content = Content::new(alloc, bytes)?;
+    tree.put(alloc, path, Entry::File(meta, content))
 }
 
 /// The mode and owner with which a file is written at a path.

@@ -330,7 +330,7 @@ impl Readable for Content {
             return Err(Fault::Because(NotRead));
         };
         match hex::decode(alloc, text) {
-            Ok(bytes) => Ok(Content::new(Bytes::from_vec(bytes))),
+            Ok(bytes) => Ok(Content::new(alloc, Bytes::from_vec(bytes))?),
             Err(FromHexError::OutOfMemory) => Err(Fault::Memory),
             Err(_) => Err(Fault::Because(NotRead)),
         }

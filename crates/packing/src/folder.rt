@@ -56,7 +56,7 @@ impl Folder {
     ) -> Result<(), TreeFault>
         ensures { ChangesTree (put_into self.old path.now (File file_meta bytes)) self.old self.new result }
     {
-        let entry = Entry::File(Meta::file(), Content::new(bytes));
+        let entry = Entry::File(Meta::file(), Content::new(alloc, bytes)?);
         self.tree.put(alloc, path, entry)
     }
 

@@ -31,7 +31,7 @@ fn answers_are_compact_text(rt: HostRuntime) -> Result<(), Fail> {
         uid: 4294967295,
         gid: 7,
     });
-    let content = Content::new(Bytes::from_slice(alloc, &[0, 255])?);
+    let content = Content::new(alloc, Bytes::from_slice(alloc, &[0, 255])?)?;
     let file = Entry::File(Meta::file(), content);
     let config = Value::Bool(true);
     let text = built_answer(

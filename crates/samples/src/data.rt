@@ -25,7 +25,7 @@ pub fn tree(alloc: Global, files: &[(&str, &str)]) -> Result<Tree, Memory> {
     let mut tree = Tree::empty(alloc);
     for (name, text) in files {
         let bytes = Bytes::from_slice(alloc, text.as_bytes())?;
-        let entry = Entry::File(Meta::file(), Content::new(bytes));
+        let entry = Entry::File(Meta::file(), Content::new(alloc, bytes)?);
         let _ = tree.put(alloc, &path(alloc, name)?, entry);
     }
     Ok(tree)

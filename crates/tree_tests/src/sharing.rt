@@ -4,6 +4,7 @@ use crate::samples::{listing, path, put, tree};
 use paths::Path;
 use plain::{Bytes, Exact, Fault, Items, Mode};
 use std::alloc::Global;
+use std::process::Abort;
 use std::test::Fail;
 use trees::{Cause, Content, CopyOptions, CopySource, Entry, Meta, Tree, TreeFault};
 
@@ -185,8 +186,8 @@ impl Pair {
 }
 
 /// The cause that a call tells.
-fn told(result: Result<(), TreeFault>) -> Result<Option<Cause>, Fail> {
-    match result {
+fn told(answer: Result<(), TreeFault>) -> Result<Option<Cause>, Fail> {
+    match answer {
         Ok(()) => Ok(None),
         Err(Fault::Because(cause)) => Ok(Some(cause)),
         Err(Fault::Memory) => Err(Fail::from("no memory")),

@@ -105,7 +105,7 @@ fn locked_cache_is_held_alone_with_a_file(rt: HostRuntime) -> Result<(), Fail> {
     let alloc: Global = rt.alloc();
     let file = Entry::File(
         Meta::file(),
-        Content::new(Bytes::from_slice(alloc, b"+++")?),
+        Content::new(alloc, Bytes::from_slice(alloc, b"+++")?)?,
     );
     expect(&rt, alloc, tree_with(alloc, file)?, " /n=++++")
 }
