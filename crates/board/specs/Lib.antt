@@ -6,3 +6,5 @@ pub mod Legal
 pub mod Claim
 pub mod Clearing
 pub mod Board
+pub mod PrivateNumbers
+pub mod PrivateFrontier

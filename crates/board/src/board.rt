@@ -12,6 +12,7 @@ ghost use Rattle.board.specs.Claim.{IsClaim, IsOut, IsResult, IsGivenBack};
 ghost use Rattle.board.specs.Clearing.{IsCleared};
 ghost use Rattle.board.specs.Legal.{IsNextClaim};
 
+use crate::frontier::Frontier;
 use crate::state::{self, NextClaim};
 use crate::{Claim, ClaimOut, Happened, Job, Refused};
 use cachemounts::{CacheStore, Content};
@@ -37,11 +38,14 @@ pub struct Board<'a, E: Executor> {
     first: Vec<Content>,
     /// The contents of the caches now, and who holds which of them.
     caches: CacheStore,
+    /// The vertices that may be claimed as far as their inputs go. Contracts don't see it.
+    frontier: Frontier,
 }
 
 impl<'a, E: Executor> Model for Board<'a, E> {
     ghost use Rattle.std.specs.Prelude.{◌+◌, ◌≤◌, vec_len, vec_capacity};
     ghost use Rattle.board.specs.Board.{BoardValue, board_code, IsBoard};
+    ghost use Rattle.board.specs.PrivateFrontier.{IsFrontier};
 
     ghost Value = { BoardValue E };
 
@@ -61,7 +65,8 @@ impl<'a, E: Executor> Model for Board<'a, E> {
           contents = b.caches.contents;
           run = record { history = b.history.items; state = record { settled = b.settled.items; claims = b.claims.items; holds = b.caches.holds } };
         })
-        × (vec_len b.history + vec_len b.claims ≤ vec_capacity b.history) };
+        × (vec_len b.history + vec_len b.claims ≤ vec_capacity b.history)
+        × IsFrontier b.job.graph.vertices b.settled.items b.claims.items b.frontier };
 }
 
 /// The store, given back where there was no memory for its board.
@@ -82,6 +87,9 @@ impl<'a, E: Executor> Board<'a, E> {
         let Ok(first) = caches.contents(alloc) else {
             return Err(NoBoard { caches });
         };
+        let Ok(frontier) = Frontier::new(alloc, job.graph().vertices()) else {
+            return Err(NoBoard { caches });
+        };
         Ok(Board {
             job,
             settled,
@@ -89,6 +97,7 @@ impl<'a, E: Executor> Board<'a, E> {
             history: Vec::new(alloc),
             first,
             caches,
+            frontier,
         })
     }
 
@@ -114,6 +123,7 @@ impl<'a, E: Executor> Board<'a, E> {
             self.settled.as_slice(),
             self.claims.as_slice(),
             &self.caches,
+            &self.frontier,
             worker,
         )?;
         let Some(next) = next else {
@@ -127,6 +137,7 @@ impl<'a, E: Executor> Board<'a, E> {
             .caches
             .take(alloc, worker, state::uses_of(vertices, vertex))?;
         let at = self.history.len();
+        self.frontier.withdraw(vertex);
         growth::add(&mut self.claims, ClaimOut { worker, vertex, at });
         growth::add(&mut self.history, Happened::Claimed { worker, vertex });
         Ok(Some(Claim::new(worker, vertex, at, inputs, lease)))
@@ -163,6 +174,7 @@ impl<'a, E: Executor> Board<'a, E> {
         let vertex = claim.vertex();
         let lease = claim.into_lease();
         state::drop_claim(&mut self.claims, worker);
+        self.frontier.settle(vertex, &value);
         self.settled[vertex.index()] = Some(value);
         self.caches.give(lease, given);
         growth::add(
@@ -257,6 +269,7 @@ impl<'a, E: Executor> Board<'a, E> {
             history,
             first: _,
             caches: _,
+            frontier: _,
         } = self;
         history
     }
@@ -274,6 +287,7 @@ impl<'a, E: Executor> Board<'a, E> {
             history: _,
             first: _,
             caches,
+            frontier: _,
         } = self;
         caches
     }
@@ -289,6 +303,7 @@ impl<'a, E: Executor> Board<'a, E> {
             at: _,
         } = claim;
         state::drop_claim(&mut self.claims, worker);
+        self.frontier.restore(vertex);
         self.caches.leave(worker);
         growth::add(&mut self.history, Happened::Abandoned { worker, vertex });
     }

@@ -20,8 +20,10 @@
 mod board;
 mod claim;
 mod event;
+mod frontier;
 mod job;
 pub mod laws;
+mod number_set;
 mod state;
 
 pub use board::{Board, NoBoard};

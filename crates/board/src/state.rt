@@ -2,15 +2,17 @@
 ghost use Rattle.std.specs.Prelude.{◌≡◌, ◌↔◌, ℕ, IsTrue, ◌<◌, ◌^◌, true, false, is_some, length, map, replicate, IfOk, IfSome, IfNone, [], vec_len};
 ghost use Rattle.std.specs.List.{list_any};
 ghost use Rattle.board.specs.Readiness.{has_tree, has_cause, stops_in};
-ghost use Rattle.board.specs.Play.{value_at, have_trees, is_claimed, ready_in, claim_of, without, least, claimable_in};
+ghost use Rattle.board.specs.Play.{value_at, have_trees, claim_of, without, claimable_in};
 ghost use Rattle.board.specs.Claim.{AreInputs};
 ghost use Rattle.board.specs.Clearing.{IsLeastWorker};
+ghost use Rattle.board.specs.PrivateFrontier.{IsFrontier};
 ghost use Rattle.board.specs.declared.claim.ClaimOut.{ClaimOut};
 ghost use Rattle.std.specs.Option.{option_map};
 ghost use Rattle.board.specs.Problem.{tree_value};
 ghost use Rattle.plans.specs.Plan.{caches_of, uses_in};
 
 use crate::ClaimOut;
+use crate::frontier::Frontier;
 use cachemounts::CacheStore;
 use llb::{Op, Vertex, VertexId};
 use plain::{Exact, Memory};
@@ -30,13 +32,6 @@ pub(crate) fn claim_of(claims: &[ClaimOut], worker: u32) -> Option<ClaimOut>
     None
 }
 
-/// Whether a claim of the vertex is out.
-pub(crate) fn is_claimed(claims: &[ClaimOut], vertex: VertexId) -> bool
-    ensures { result ≡ is_claimed vertex claims.now }
-{
-    claims.iter().any(|claim| claim.vertex == vertex)
-}
-
 /// Leaves the claims of the other workers.
 pub(crate) fn drop_claim(claims: &mut Vec<ClaimOut>, worker: u32)
     ensures kept { claims.new.items ≡ without worker claims.old.items }
@@ -52,39 +47,12 @@ fn is_settled(settled: &[Option<TreeOrCause>], vertex: VertexId) -> bool
     matches!(settled.get(vertex.index()), Some(Some(_)))
 }
 
-/// Whether a vertex is settled with a tree.
-fn has_tree(settled: &[Option<TreeOrCause>], vertex: VertexId) -> bool
-    ensures { result ≡ has_tree (value_at settled.now vertex) }
-{
-    matches!(settled.get(vertex.index()), Some(Some(Ok(_))))
-}
-
-/// Whether a vertex is settled with a cause.
-fn has_cause(value: &Option<TreeOrCause>) -> bool
-    ensures { result ≡ has_cause value.now }
-{
-    matches!(value, Some(Err(_)))
-}
-
-/// Whether any vertex is settled with a cause.
-fn any_cause(settled: &[Option<TreeOrCause>]) -> bool
-    ensures { result ≡ list_any has_cause settled.now }
-{
-    settled.iter().any(|value| has_cause(value))
-}
-
-/// Whether every input is settled with a tree.
-pub(crate) fn have_trees(settled: &[Option<TreeOrCause>], inputs: &[VertexId]) -> bool
-    ensures { result ≡ have_trees settled.now inputs.now }
-{
-    inputs.iter().all(|input| has_tree(settled, *input))
-}
-
 /// Whether a vertex is stopped: the target is settled, or some vertex is settled with a cause. It is one answer for all vertices.
-fn is_over(target: VertexId, settled: &[Option<TreeOrCause>]) -> bool
+fn is_over(target: VertexId, settled: &[Option<TreeOrCause>], frontier: &Frontier) -> bool
+    requires { frontier.now.failed ≡ list_any has_cause settled.now }
     ensures { (vertex : ℕ) → result ≡ stops_in (length settled.now) target (value_at settled.now) vertex }
 {
-    is_settled(settled, target) || any_cause(settled)
+    is_settled(settled, target) || frontier.has_failed()
 }
 
 /// The caches that an operation uses.
@@ -105,52 +73,6 @@ pub(crate) fn uses_of(vertices: &[Vertex], vertex: VertexId) -> &[CacheUse]
         Some(vertex) => caches_of(&vertex.op),
         None => &[],
     }
-}
-
-/// Whether a vertex is ready, where it is known whether it is stopped.
-fn is_ready(
-    vertices: &[Vertex],
-    target: VertexId,
-    settled: &[Option<TreeOrCause>],
-    claims: &[ClaimOut],
-    caches: &CacheStore,
-    over: bool,
-    vertex: VertexId,
-) -> bool
-    requires { over ≡ stops_in (length vertices.now) target (value_at settled.now) vertex }
-    ensures { result ≡ ready_in vertices.now target (record { settled = settled.now; claims = claims.now; holds = caches.now.holds }) vertex }
-{
-    let Some(Vertex { op, inputs }) = vertices.get(vertex.index()) else {
-        return false;
-    };
-    have_trees(settled, inputs.as_slice())
-        && !is_settled(settled, vertex)
-        && !is_claimed(claims, vertex)
-        && caches.can_take(caches_of(op))
-        && !over
-}
-
-/// The least vertex that is ready.
-fn least_ready(
-    vertices: &[Vertex],
-    target: VertexId,
-    settled: &[Option<TreeOrCause>],
-    claims: &[ClaimOut],
-    caches: &CacheStore,
-) -> Option<VertexId>
-    requires few { length vertices.now < 2 ^ 32 }
-    requires long { length settled.now ≡ length vertices.now }
-    ensures which { result ≡ least (ready_in vertices.now target (record { settled = settled.now; claims = claims.now; holds = caches.now.holds })) (length vertices.now) }
-    ensures ready { IfSome result (λ vertex. ready_in vertices.now target (record { settled = settled.now; claims = claims.now; holds = caches.now.holds }) vertex ≡ true) }
-{
-    let over = is_over(target, settled);
-    for number in 0..vertices.len() as u32 {
-        let vertex = VertexId::new(number);
-        if is_ready(vertices, target, settled, claims, caches, over, vertex) {
-            return Some(vertex);
-        }
-    }
-    None
 }
 
 /// The tree with which an input is settled.
@@ -196,17 +118,22 @@ pub(crate) fn next_claim(
     settled: &[Option<TreeOrCause>],
     claims: &[ClaimOut],
     caches: &CacheStore,
+    frontier: &Frontier,
     worker: u32,
 ) -> Result<Option<NextClaim>, Memory>
     requires few { length vertices.now < 2 ^ 32 }
     requires long { length settled.now ≡ length vertices.now }
+    requires frontier { IsFrontier vertices.now settled.now claims.now frontier.now }
     ensures which { IfOk result (λ next. option_map (λ n. n.vertex) next ≡ claimable_in vertices.now target (record { settled = settled.now; claims = claims.now; holds = caches.now.holds }) worker) }
     ensures inputs { IfOk result (λ next. IfSome next (λ n. AreInputs vertices.now settled.now n.vertex n.inputs.items)) }
 {
     if claim_of(claims, worker).is_some() {
         return Ok(None);
     }
-    let Some(vertex) = least_ready(vertices, target, settled, claims, caches) else {
+    if is_over(target, settled, frontier) {
+        return Ok(None);
+    }
+    let Some(vertex) = frontier.least(vertices, caches) else {
         return Ok(None);
     };
     let inputs = copies(alloc, settled, vertices[vertex.index()].inputs.as_slice())?;

@@ -13,6 +13,7 @@ use Rattle.board.specs.Legal.{IsNextClaim}
 use Rattle.board.proofs.PlayLemmas.{replay-right}
 use Rattle.board.proofs.SoundLemmas.{sound, claim-is, claim-can, next_claim-is}
 use Rattle.board.proofs.BoardLemmas.{board_of, run_of, claim-gone, claim-out, copies-count}
+use Rattle.board.proofs.FrontierSteps.{frontier-claim, available-within, claimable-available}
 use Rattle.board.proofs.board.Board.claim.Goals as goal
 
 pub next_claim-requires-clause-long : goal.next_claim-requires-clause-long
@@ -29,6 +30,15 @@ returns-in_default-clause-next g c =
     let run = run_of b.history.items b.settled.items b.claims.items b.caches.holds in
     let none : None ≡ claimable problem run.state c.args.worker = search rules in
     subst (λ v. IsNextClaim (board_problem g.E.Executor.out v) v.run.history c.args.worker None) c.self.view_is (next_claim-is problem run c.args.worker None c.self.invariant.0.problem c.self.invariant.0.replay none)
+
+pub withdraw-requires : goal.withdraw-requires
+withdraw-requires g c =
+    let b = c.self.inside in
+    let t = c.in-Some.next in
+    let problem = job_problem g.E.Executor.out b.job in
+    let state = (run_of b.history.items b.settled.items b.claims.items b.caches.holds).state in
+    let can : claimable problem state c.args.worker ≡ Some t.vertex = search rules in
+    available-within b.job.graph.vertices b.settled.items b.claims.items b.frontier t.vertex c.self.invariant.2 (claimable-available problem state c.args.worker t.vertex can)
 
 pub take-requires-clause-free : goal.take-requires-clause-free
 take-requires-clause-free g c =
@@ -68,7 +78,8 @@ invariant_of-self-2 g c =
     let uses : c.uses_of.result.now ≡ uses_at problem t.vertex = search rules in
     let after : IsAfter (Takes c.args.worker (uses_at problem t.vertex)) b.caches c.take.new.self = subst (λ u. IsAfter (Takes c.args.worker u) b.caches c.take.new.self) uses c.in_ok-lease.ensures.ok in
     let gone = claim-gone g.E.Executor.out b.job b.first.items b.caches c.take.new.self b.history.items c.add-2.new.list.items b.settled.items b.claims.items c.add.new.list.items c.args.worker t.vertex c.len-at.result c.self.invariant.0 can (search rules) (search rules) (search rules) after in
-    (gone.board, omega (arith, c.self.invariant.1, c.in_ok-room-2.ensures.room, c.room-2.ensures.len, c.room.ensures.len, c.add.ensures.len, c.add-2.ensures.len, c.add-2.ensures.capacity, c.len.ensures))
+    let more = frontier-claim b.job.graph.vertices b.settled.items b.claims.items c.add.new.list.items b.frontier c.withdraw.new.self (record { worker = c.args.worker; vertex = t.vertex; at = c.len-at.result }) c.self.invariant.2 (claimable-available problem (run_of b.history.items b.settled.items b.claims.items b.caches.holds).state c.args.worker t.vertex can) c.withdraw.ensures (search rules) in
+    (gone.board, omega (arith, c.self.invariant.1, c.in_ok-room-2.ensures.room, c.room-2.ensures.len, c.room.ensures.len, c.add.ensures.len, c.add-2.ensures.len, c.add-2.ensures.capacity, c.len.ensures), more)
 
 pub returns-clause-run : goal.returns-clause-run
 returns-clause-run g c =

@@ -1,8 +1,19 @@
 use Rattle.std.proofs.Common.{◌≡◌, Some, arith, rules, sym, subst}
 use Rattle.board.specs.Play.{claim_of, Abandon}
 use Rattle.board.specs.Board.{IsStep}
-use Rattle.board.proofs.BoardLemmas.{board_of, abandon-gone}
+use Rattle.board.specs.Job.{job_problem}
+use Rattle.board.proofs.BoardLemmas.{board_of, run_of, abandon-gone}
+use Rattle.board.proofs.FrontierLemmas.{replay-alone}
+use Rattle.board.proofs.FrontierSteps.{frontier-abandon}
 use Rattle.board.proofs.board.Board.give_up.Goals as goal
+
+pub restore-requires : goal.restore-requires
+restore-requires g c =
+    let b = c.self.inside in
+    let claim = c.args.claim in
+    let vertex_out : claim_of claim.worker b.claims.items ≡ Some claim = subst (λ v. claim_of claim.worker v.run.state.claims ≡ Some claim) (sym c.self.view_is) c.requires in
+    let alone = replay-alone (job_problem g.E.Executor.out b.job) (run_of b.history.items b.settled.items b.claims.items b.caches.holds) claim c.self.invariant.0.problem c.self.invariant.0.replay vertex_out in
+    omega (arith, alone.vertex_within, c.self.invariant.2.available_long)
 
 pub invariant_of-self : goal.invariant_of-self
 invariant_of-self g c =
@@ -11,7 +22,9 @@ invariant_of-self g c =
     let vertex_out : claim_of claim.worker b.claims.items ≡ Some claim = subst (λ v. claim_of claim.worker v.run.state.claims ≡ Some claim) (sym c.self.view_is) c.requires in
     let gone = abandon-gone g.E.Executor.out b.job b.first.items b.caches c.leave.new.self b.history.items c.add.new.list.items b.settled.items b.claims.items c.drop_claim.new.claims.items claim c.self.invariant.0 vertex_out (search rules) (search rules) c.leave.ensures.after in
     let fewer = c.drop_claim.ensures.fewer claim vertex_out in
-    (gone.board, omega (arith, fewer, c.self.invariant.1, c.add.ensures.len, c.add.ensures.capacity))
+    let alone = replay-alone (job_problem g.E.Executor.out b.job) (run_of b.history.items b.settled.items b.claims.items b.caches.holds) claim c.self.invariant.0.problem c.self.invariant.0.replay vertex_out in
+    let left = frontier-abandon b.job.graph.vertices b.settled.items b.claims.items c.drop_claim.new.claims.items b.frontier c.restore.new.self claim c.self.invariant.2 alone c.restore.ensures (search rules) in
+    (gone.board, omega (arith, fewer, c.self.invariant.1, c.add.ensures.len, c.add.ensures.capacity), left)
 
 pub returns : goal.returns
 returns g c =
