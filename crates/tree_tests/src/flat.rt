@@ -79,19 +79,13 @@ impl FlatTree {
             };
             next = front.parent(alloc)?;
             if self.get(&front).is_none() {
-                self.map
-                    .insert(front, Entry::Directory(Meta::directory()))?;
+                self.map.insert(front, Entry::Directory(Meta::directory()))?;
             }
         }
         Ok(())
     }
 
-    pub fn put(
-        &mut self,
-        alloc: Global,
-        path: &Path,
-        entry: Entry,
-    ) -> Result<Option<Cause>, Fail> {
+    pub fn put(&mut self, alloc: Global, path: &Path, entry: Entry) -> Result<Option<Cause>, Fail> {
         if let Some(cause) = self.cause(path, &entry) {
             return Ok(Some(cause));
         }

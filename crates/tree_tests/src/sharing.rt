@@ -10,10 +10,12 @@ use trees::{Cause, Content, CopyOptions, CopySource, Entry, Meta, Tree, TreeFaul
 
 /// The lists of changes that one test makes, and the changes of a list.
 const LISTS: u64 = 100;
+
 const CHANGES: usize = 8;
 
 /// What stands in the tests' trees.
 const NAMES: [&str; 3] = ["a", "b", "c"];
+
 const TEXTS: [&str; 4] = ["", "x", "yy", "zzz"];
 
 #[test]
@@ -169,13 +171,10 @@ impl Pair {
         let mut paths = Items::new(alloc);
         paths.push(source.copy(alloc)?)?;
         let sources = [CopySource::Found(paths)];
-        let told = told(self.tree.copy_into(
-            alloc,
-            &from.tree,
-            sources.as_slice(),
-            dest,
-            &options,
-        ))?;
+        let told = told(
+            self.tree
+                .copy_into(alloc, &from.tree, sources.as_slice(), dest, &options),
+        )?;
         let mut flat = self.flat.copy(alloc)?;
         let cause = flat.copy_into(alloc, &from.flat, &source, dest, into)?;
         if cause.is_none() {
