@@ -24,6 +24,7 @@ use Rattle.cachemounts.specs.contracts.content.Content as Content
 use Rattle.cachemounts.specs.contracts.store.CacheStore as CacheStore
 use Rattle.cachemounts.specs.contracts.store.CacheStore.TheInside as CacheStoreInside
 use Rattle.board.proofs.claim.ClaimOut.TheSendSync as claim
+use Rattle.board.proofs.frontier.Frontier.TheSendSync as frontier
 use Rattle.board.specs.contracts.event.Happened as Happened
 use Rattle.board.specs.contracts.job.Job as Job
 use Rattle.board.specs.contracts.job.Job.TheInside as JobInside
@@ -76,7 +77,7 @@ job_sync κ E g e =
 pub board_send : (κ : NamedLft) (E : RattleType) (g : Ghosts E.Denot) → IsSync E → IsSend (Board.the_row κ E g)
 board_send κ E g e =
     let all : AllSend (fields (BoardInside.the_type κ E g)) =
-    (search (job_send κ E g e, sendable) depth 20, (search (settled_send, sendable, any.crosses) depth 20, (search (claim.the_field_send, sendable, any.crosses) depth 20, (search (happened_send, sendable, any.crosses) depth 20, (search (content_send, sendable, any.crosses) depth 20, (search (caches_send, sendable) depth 20, tt)))))) in
+    (search (job_send κ E g e, sendable) depth 20, (search (settled_send, sendable, any.crosses) depth 20, (search (claim.the_field_send, sendable, any.crosses) depth 20, (search (happened_send, sendable, any.crosses) depth 20, (search (content_send, sendable, any.crosses) depth 20, (search (caches_send, sendable) depth 20, (search (frontier.the_field_send, sendable, any.crosses) depth 20, tt))))))) in
     search (all, sendable) depth 20
 
 pub held_send : (κ : NamedLft) (E J : RattleType) (g : Ghosts E.Denot) (j : CaseGhosts J.Denot) (r : RoomGhosts J.Denot) → IsSync E → IsSend J → IsSend (Held.the_row κ E J g j r)
