@@ -38,10 +38,10 @@ use Rattle.sites.specs.contracts.held.Held.TheInside as HeldInside
 use Rattle.sites.specs.contracts.site.Desk as Desk
 
 pub tree_send : IsSend Tree.the_row
-tree_send = search (knot.crosses, entry.the_field_send, text.the_send, sendable, any.crosses, maps.crosses) depth 20
+tree_send = search (knot.both_send-Node, knot.both_sync-Node, entry.the_field_send, entry.the_field_sync, text.the_send, text.the_sync, sendable, any.crosses, maps.crosses) depth 20
 
 pub tree_sync : IsSync Tree.the_row
-tree_sync = search (knot.crosses, entry.the_field_sync, text.the_sync, sendable, any.crosses, maps.crosses) depth 20
+tree_sync = search (knot.both_send-Node, knot.both_sync-Node, entry.the_field_send, entry.the_field_sync, text.the_send, text.the_sync, sendable, any.crosses, maps.crosses) depth 20
 
 pub sources_sync : IsSync Sources.the_row
 sources_sync = search (tree_sync, sendable, any.crosses, maps.crosses, text.the_sync) depth 20
