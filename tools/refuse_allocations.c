@@ -13,6 +13,7 @@ void *__libc_calloc(size_t count, size_t size);
 void *__libc_realloc(void *old, size_t size);
 void *__libc_memalign(size_t alignment, size_t size);
 
+// Threads ask too, so the count is kept by atomic steps. The number that is refused is read by the first call, before there are threads.
 static unsigned long asked, refused;
 static int ready;
 
@@ -22,7 +23,7 @@ static int refuses(void) {
         refused = number ? strtoul(number, NULL, 10) : 0;
         ready = 1;
     }
-    if (++asked != refused) return 0;
+    if (__atomic_add_fetch(&asked, 1, __ATOMIC_SEQ_CST) != refused) return 0;
     errno = ENOMEM;
     return 1;
 }
