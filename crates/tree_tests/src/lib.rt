@@ -5,14 +5,10 @@
 #[cfg(test)]
 mod copies;
 #[cfg(test)]
-mod flat;
-#[cfg(test)]
 mod mounts;
 #[cfg(test)]
 mod running;
 #[cfg(test)]
 mod samples;
-#[cfg(test)]
-mod sharing;
 #[cfg(test)]
 mod trees_of_files;
