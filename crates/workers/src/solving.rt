@@ -23,7 +23,7 @@ use std::thread::Threads;
 /// The solution of a plan's problem under an executor, by this many workers, with a store of caches of which no lease is out
 /// (`CacheStore::is_idle` tests that). The gate is asked around the run of each command: by the workers from 0 on, and by the caller's thread, which
 /// does what they have left, as worker 64. A thread that can't be started is no fault: its work is done by the others. It may never return. If it does, no lease
-/// is out, whatever the result, and the store holds what the build left in it.
+/// is out, whatever the result; which trees the caches hold then is the order of settles, and no clause says it.
 pub fn solve<C, E: Executor, G: Gate, R: Threads + Wait + Sync>(
     alloc: Global,
     rt: &R,
