@@ -36,18 +36,23 @@ pub fn tree(alloc: Global, files: &[(&str, &str)]) -> Result<Tree, Memory> {
 pub fn listing(alloc: Global, tree: &Tree) -> Result<String, Memory> {
     let mut list = String::new(alloc);
     for (path, entry) in tree.entries(alloc)? {
-        if path.is_root() {
-            continue;
-        }
-        list.push_str(" ")?;
-        list.push_str(path.text(alloc)?.as_str())?;
-        match entry {
-            Entry::Directory(_) => list.push_str("/")?,
-            Entry::File(_, content) => {
-                list.push_str("=")?;
-                list.push_str(std::str::from_utf8(content.as_slice()).unwrap_or("?"))?;
-            }
-        }
+        push_entry(alloc, &mut list, &path, entry)?;
     }
     Ok(list)
+}
+
+fn push_entry(alloc: Global, list: &mut String, path: &Path, entry: &Entry) -> Result<(), Memory> {
+    if path.is_root() {
+        return Ok(());
+    }
+    let path = path.text(alloc)?;
+    list.push_str(" ")?;
+    list.push_str(path.as_str())?;
+    match entry {
+        Entry::Directory(_) => Ok(list.push_str("/")?),
+        Entry::File(_, content) => {
+            list.push_str("=")?;
+            Ok(list.push_str(std::str::from_utf8(content.as_slice()).unwrap_or("?"))?)
+        }
+    }
 }

@@ -1,4 +1,4 @@
-use crate::data::{path, texts};
+use crate::data::{path, texts, tree};
 use llb::{Bind, CopyFiles, Exec, FileSource, Graph, Op, Source, Vertex, VertexId};
 use paths::Path;
 use plain::limits::MOST_LINE_NUMBER;
@@ -64,14 +64,31 @@ pub fn copy(alloc: Global, sources: Items<FileSource>, dest: &str) -> Result<Cop
     })
 }
 
-/// The operation that a line names: `scratch`, `context`, `image NAME`, `run WORD ..`, `dirs PATH`, `merge`, or `copy PATTERN .. DEST`. Any
-/// other line is `scratch`.
+/// A vertex of a plan: the operation that a line names (`op_of`), the vertices that it works on, and the line of its instruction, 0 for none.
+pub type Row<'a> = (&'a str, &'a [u32], u32);
+
+/// A command as `command` gives it, with a locked cache at `/c`.
+pub fn locked(alloc: Global, id: &str, text: &str) -> Result<Exec, Memory> {
+    let used = cache(alloc, id, "/c", Sharing::Locked)?;
+    let mut exec = command(alloc, text)?;
+    match exec.caches.push(used) {
+        Ok(()) => Ok(exec),
+        Err(memory) => {
+            drop(exec);
+            Err(memory)
+        }
+    }
+}
+
+/// The operation that a line names: `scratch`, `context`, `image NAME`, `run WORD ..`, `locked WORD ..` (a run with the locked cache `k` at
+/// `/c`), `dirs PATH`, `merge`, or `copy PATTERN .. DEST`. Any other line is `scratch`.
 pub fn op_of(alloc: Global, line: &str) -> Result<Op, Memory> {
     let (kind, rest) = line.split_once(' ').unwrap_or((line, ""));
     match kind {
         "context" => Ok(Op::Source(Source::Context)),
         "image" => Ok(Op::Source(Source::Image(Text::from_str(alloc, rest)?))),
         "run" => Ok(Op::Exec(command(alloc, rest)?)),
+        "locked" => Ok(Op::Exec(locked(alloc, "k", rest)?)),
         "dirs" => Ok(Op::MakeDirs(path(alloc, rest)?)),
         "merge" => Ok(Op::Merge),
         "copy" => {
@@ -91,31 +108,98 @@ pub fn add(
     inputs: &[u32],
     line: Option<u32>,
 ) -> Result<Option<u32>, Memory> {
-    let mut ids = Items::new(alloc);
-    for input in inputs {
-        ids.push(VertexId::new(*input))?;
+    match ids_of(alloc, inputs) {
+        Ok(inputs) => add_vertex(alloc, graph, Vertex { op, inputs }, line),
+        Err(memory) => {
+            drop(op);
+            Err(memory)
+        }
     }
-    let vertex = Vertex { op, inputs: ids };
+}
+
+fn ids_of(alloc: Global, numbers: &[u32]) -> Result<Items<VertexId>, Memory> {
+    let mut ids = Items::new(alloc);
+    for number in numbers {
+        ids.push(VertexId::new(*number))?;
+    }
+    Ok(ids)
+}
+
+fn add_vertex(
+    alloc: Global,
+    graph: &mut Graph,
+    vertex: Vertex,
+    line: Option<u32>,
+) -> Result<Option<u32>, Memory> {
     let is_line = match line {
         None => true,
         Some(line) => 0 < line && line <= MOST_LINE_NUMBER,
     };
-    if !is_line || !graph.can_add(alloc, &vertex)? {
-        return Ok(None);
-    }
-    match graph.add(alloc, vertex, line) {
-        Ok(id) => Ok(Some(id.number())),
-        Err(_) => Ok(None),
+    match graph.can_add(alloc, &vertex) {
+        Ok(can_add) if can_add && is_line => match graph.add(alloc, vertex, line) {
+            Ok(id) => Ok(Some(id.number())),
+            Err(_) => Ok(None),
+        },
+        Ok(_) => {
+            drop(vertex);
+            Ok(None)
+        }
+        Err(memory) => {
+            drop(vertex);
+            Err(memory)
+        }
     }
 }
 
-/// The plan of a graph and a target, with this tree as the context, no image and no configuration; `None` where the target isn't in the
+/// Adds a row to a graph as `add` does.
+pub fn add_row(alloc: Global, graph: &mut Graph, row: &Row) -> Result<Option<u32>, Memory> {
+    let (text, inputs, line) = *row;
+    let op = op_of(alloc, text)?;
+    let line = if line == 0 { None } else { Some(line) };
+    add(alloc, graph, op, inputs, line)
+}
+
+/// The graph of these rows; `None` where one of them can't be added.
+pub fn graph_of(alloc: Global, rows: &[Row]) -> Result<Option<Graph>, Memory> {
+    let mut graph = Graph::new(alloc);
+    for row in rows {
+        match add_row(alloc, &mut graph, row) {
+            Ok(Some(_)) => {}
+            Ok(None) => return Ok(None),
+            Err(memory) => return Err(memory),
+        }
+    }
+    Ok(Some(graph))
+}
+
+/// The plan of a graph and a target, with this tree as the context, no image and the configuration 7; `None` where the target isn't in the
 /// graph, or it names an image.
-pub fn plan_of(alloc: Global, graph: Graph, target: u32, context: Tree) -> Option<Plan<()>> {
+pub fn plan_of(alloc: Global, graph: Graph, target: u32, context: Tree) -> Option<Plan<u8>> {
     let sources = Sources::new(alloc, context);
     let target = VertexId::new(target);
     if target.index() >= graph.len() || !sources.suffice(&graph) {
         return None;
     }
-    Some(Plan::new(graph, target, (), sources))
+    Some(Plan::new(graph, target, 7, sources))
+}
+
+/// The plan of the graph of these rows, as `plan_of` gives it, with these files as the context (`tree`). Rows that have none are told as want
+/// of memory: either fails a test.
+pub fn plan_of_rows(
+    alloc: Global,
+    rows: &[Row],
+    target: u32,
+    files: &[(&str, &str)],
+) -> Result<Plan<u8>, Memory> {
+    let context = tree(alloc, files)?;
+    match graph_of(alloc, rows) {
+        Ok(Some(graph)) => match plan_of(alloc, graph, target, context) {
+            Some(plan) => Ok(plan),
+            None => Err(Memory),
+        },
+        Ok(None) | Err(Memory) => {
+            drop(context);
+            Err(Memory)
+        }
+    }
 }

@@ -4,10 +4,8 @@
 // their plans from here. No library and no program uses it.
 //
 // ```
-// let mut graph = Graph::new(alloc);
-// add(alloc, &mut graph, op_of(alloc, "scratch")?, &[], None)?;                   // Some(0)
-// add(alloc, &mut graph, op_of(alloc, "run put /a hi")?, &[0], Some(2))?;         // Some(1)
-// let plan = plan_of(alloc, graph, 1, Tree::empty(alloc));                        // Some(plan)
+// let rows: [Row; 2] = [("scratch", &[], 1), ("run put /a hi", &[0], 2)];
+// let plan = plan_of_rows(alloc, &rows, 1, &[])?;                                 // Some(plan)
 // ```
 #![tactic(auto)]
 
@@ -15,4 +13,7 @@ mod data;
 mod graphs;
 
 pub use data::{listing, path, texts, tree};
-pub use graphs::{add, bind, cache, command, copy, op_of, patterns, plan_of};
+pub use graphs::{
+    Row, add, add_row, bind, cache, command, copy, graph_of, locked, op_of, patterns, plan_of,
+    plan_of_rows,
+};

@@ -5,11 +5,10 @@ ghost use Rattle.board.specs.Job.{job_problem};
 use board::{Board, Job, NoBoard, Refused};
 use cachemounts::CacheStore;
 use executor::{Executor, Fixture};
-use llb::Graph;
 use plain::Memory;
 use plans::Plan;
 use rolls::{Opened, Room};
-use samples::{add, op_of, plan_of};
+use samples::{Row, plan_of_rows};
 use sites::{Case, Desk, Seat, Site};
 use solver::run;
 use std::alloc::Global;
@@ -18,7 +17,6 @@ use std::sync::Wait;
 use std::test::Fail;
 use std::thread;
 use std::thread::Threads;
-use trees::Tree;
 use vertexrun::Ran;
 
 /// How often a worker looks for a vertex before it leaves.
@@ -108,9 +106,16 @@ fn tallies_of_two<E: Executor, J: Case + Room + Send + Sync, R: Threads + Wait +
     let mut site = Site::<E, J>::new(board, opened);
     let mut seats = [site.seat(tools.alloc), site.seat(tools.alloc)];
     work_all(rt, site.desk(), tools, &mut seats);
-    let board = site.close(&mut seats);
-    let mut tallies = Vec::new(tools.alloc);
-    for seat in &seats {
+    drop(site.close(&mut seats));
+    let tallies = tallies_of(tools.alloc, &seats);
+    drop(seats);
+    tallies
+}
+
+/// The vertices that each of these seats has settled, one seat after the other.
+fn tallies_of<J: Room>(alloc: Global, seats: &[Seat<J>]) -> Result<Vec<u32>, Memory> {
+    let mut tallies = Vec::new(alloc);
+    for seat in seats {
         for vertex in seat.tally() {
             tallies.push(vertex.number())?;
         }
@@ -122,43 +127,37 @@ fn tallies_of_two<E: Executor, J: Case + Room + Send + Sync, R: Threads + Wait +
 fn solve_by_two<E: Executor, R: Threads + Wait + Sync>(
     rt: &R,
     alloc: Global,
-    plan: &Plan<()>,
+    plan: &Plan<u8>,
     executor: &E,
 ) -> Result<Vec<u32>, Memory> {
     let opened = Opened::new(alloc)?;
-    let job = Job::new(plan, executor);
-    let board = match Board::new(alloc, Job::new(plan, executor), CacheStore::new(alloc)) {
-        Ok(board) => board,
-        Err(refused) => {
-            let NoBoard { caches: _ } = refused;
-            return Err(Memory);
+    match Board::new(alloc, Job::new(plan, executor), CacheStore::new(alloc)) {
+        Ok(board) => {
+            let job = Job::new(plan, executor);
+            let tools = Tools { alloc, job: &job };
+            tallies_of_two::<E, Brand, R>(rt, &tools, board, opened)
         }
-    };
-    let tools = Tools { alloc, job: &job };
-    tallies_of_two::<E, Brand, R>(rt, &tools, board, opened)
+        Err(NoBoard { caches }) => {
+            drop(caches);
+            drop(opened);
+            Err(Memory)
+        }
+    }
 }
 
 /// A plan whose target, the last of five vertices, needs them all.
-fn five_vertices(alloc: Global) -> Result<Option<Plan<()>>, Memory> {
-    let mut graph = Graph::new(alloc);
-    for (line, inputs) in [
-        ("scratch", [].as_slice()),
-        ("run put /a 1", [0].as_slice()),
-        ("run put /b 2", [0].as_slice()),
-        ("run put /c 3", [2].as_slice()),
-        ("merge", [1, 3].as_slice()),
-    ] {
-        add(alloc, &mut graph, op_of(alloc, line)?, inputs, None)?;
-    }
-    Ok(plan_of(alloc, graph, 4, Tree::empty(alloc)))
-}
+const FIVE: [Row; 5] = [
+    ("scratch", &[], 1),
+    ("run put /a 1", &[0], 2),
+    ("run put /b 2", &[0], 3),
+    ("run put /c 3", &[2], 4),
+    ("merge", &[1, 3], 5),
+];
 
 #[test]
 fn two_workers_cut_the_settled_vertices(rt: HostRuntime) -> Result<(), Fail> {
     let alloc = rt.alloc();
-    let Some(plan) = five_vertices(alloc)? else {
-        return Err(Memory.into());
-    };
+    let plan = plan_of_rows(alloc, &FIVE, 4, &[])?;
     let mut tallies = solve_by_two(&rt, alloc, &plan, &Fixture)?;
     tallies.sort()?;
     assert_eq!(rt; tallies.as_slice(), [0, 1, 2, 3, 4].as_slice());

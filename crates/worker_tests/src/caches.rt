@@ -1,10 +1,11 @@
 ghost use Rattle.std.specs.Prelude.{◌≡◌, [], IfOk};
 
-use crate::plans_of::{Row, plan_of, solved};
+use crate::answers::solved;
 use cachemounts::CacheStore;
 use llb::VertexId;
-use plain::{Bytes, Memory, Sharing, Text};
-use samples::{cache, listing, path};
+use plain::{Bytes, Fault, Memory, Sharing, Text};
+use plans::Plan;
+use samples::{Row, cache, listing, path, plan_of_rows};
 use solver::Gate;
 use std::alloc::Global;
 use std::process::Abort;
@@ -13,14 +14,14 @@ use std::sync::atomic::{AtomicU64, Ordering};
 use std::test::Fail;
 use std::thread;
 use std::thread::Threads;
-use trees::{Content, Entry, Meta, Tree};
+use trees::{Content, Entry, Meta, Tree, TreeFault};
 
 /// Two commands that use one locked cache, which the copy at the end needs both.
 const TWO_LOCKED: [Row; 4] = [
-    (1, "scratch", &[]),
-    (2, "locked bump /c/n", &[0]),
-    (4, "locked put /o 1", &[0]),
-    (5, "copy / /a/", &[2, 1]),
+    ("scratch", &[], 1),
+    ("locked bump /c/n", &[0], 2),
+    ("locked put /o 1", &[0], 4),
+    ("copy / /a/", &[2, 1], 5),
 ];
 
 /// Tells whether two commands were ever run at the same time, and gives them time to.
@@ -49,74 +50,107 @@ impl Gate for Alone {
 fn store_with(alloc: Global, tree: Tree) -> Result<CacheStore, Memory>
     ensures { IfOk result (λ store. store.holds ≡ []) }
 {
-    let mut trees = Vec::new(alloc);
-    trees.push((Text::from_str(alloc, "k")?, tree))?;
-    CacheStore::with_common(alloc, trees)
+    match Text::from_str(alloc, "k") {
+        Ok(id) => {
+            let mut trees = Vec::new(alloc);
+            match trees.push((id, tree)) {
+                Ok(()) => CacheStore::with_common(alloc, trees),
+                Err(_) => {
+                    drop(trees);
+                    Err(Memory)
+                }
+            }
+        }
+        Err(memory) => {
+            drop(tree);
+            Err(memory)
+        }
+    }
 }
 
 /// The tree with this entry at `/n`.
-fn tree_with(alloc: Global, entry: Entry) -> Result<Tree, Fail> {
+fn tree_with(alloc: Global, entry: Entry) -> Result<Tree, Memory> {
     let mut tree = Tree::empty(alloc);
-    tree.put(alloc, &path(alloc, "/n")?, entry)?;
-    Ok(tree)
+    match put(alloc, &mut tree, entry) {
+        Ok(()) => Ok(tree),
+        Err(_) => {
+            drop(tree);
+            Err(Memory)
+        }
+    }
+}
+
+fn put(alloc: Global, tree: &mut Tree, entry: Entry) -> Result<(), TreeFault> {
+    match path(alloc, "/n") {
+        Ok(path) => tree.put(alloc, &path, entry),
+        Err(memory) => {
+            drop(entry);
+            Err(Fault::from(memory))
+        }
+    }
 }
 
 /// What the cache `k` holds, as a locked use finds it.
-fn held(rt: &impl Abort, alloc: Global, caches: &mut CacheStore) -> Result<String, Fail> {
+fn held(rt: &impl Abort, alloc: Global, caches: &mut CacheStore) -> Result<String, Memory> {
     let uses = [cache(alloc, "k", "/c", Sharing::Locked)?];
     assert!(rt; caches.can_take(&uses) && !caches.is_holder(0));
-    let lease = caches.take(alloc, 0, &uses)?;
-    let list = match lease.trees().first() {
-        Some(tree) => listing(alloc, tree),
-        None => Err(Memory),
-    };
-    caches.release(lease);
-    Ok(list?)
+    match caches.take(alloc, 0, &uses) {
+        Ok(lease) => {
+            let list = match lease.trees().first() {
+                Some(tree) => listing(alloc, tree),
+                None => Err(Memory),
+            };
+            caches.release(lease);
+            list
+        }
+        Err(memory) => Err(memory),
+    }
 }
 
-/// Solves the plan of two locked commands with four workers, over what the cache has before, and compares what it has after.
+/// Solves the plan of two locked commands with four workers, and compares what the cache has then.
 fn expect<R: Abort + Threads + Wait + Sync>(
+    rt: &R,
+    alloc: Global,
+    plan: &Plan<u8>,
+    caches: &mut CacheStore,
+    after: &str,
+) -> Result<(), Fail>
+    requires { caches.old.holds ≡ [] }
+{
+    let gate = Alone {
+        inside: AtomicU64::new(0),
+        met: AtomicU64::new(0),
+    };
+    let text = solved(alloc, rt, plan, 4, &gate, caches)?;
+    assert_eq!(rt; text.as_str(), "built /a/ /o=1");
+    assert_eq!(rt; gate.met.load(Ordering::SeqCst), 0, "one at a time");
+    assert_eq!(rt; held(rt, alloc, caches)?.as_str(), after);
+    Ok(())
+}
+
+/// The same over what the cache has before.
+fn expect_after<R: Abort + Threads + Wait + Sync>(
     rt: &R,
     alloc: Global,
     before: Tree,
     after: &str,
 ) -> Result<(), Fail> {
-    let plan = plan_of(alloc, &TWO_LOCKED)?;
-    let gate = Alone {
-        inside: AtomicU64::new(0),
-        met: AtomicU64::new(0),
-    };
     let mut caches = store_with(alloc, before)?;
-    let text = solved(alloc, rt, &plan, 4, &gate, &mut caches)?;
-    assert_eq!(rt; text.as_str(), "built /a/ /o=1");
-    assert_eq!(rt; gate.met.load(Ordering::SeqCst), 0, "one at a time");
-    assert_eq!(rt; held(rt, alloc, &mut caches)?.as_str(), after);
-    Ok(())
+    let done = match plan_of_rows(alloc, &TWO_LOCKED, 3, &[]) {
+        Ok(plan) => expect(rt, alloc, &plan, &mut caches, after),
+        Err(memory) => Err(Fail::from(memory)),
+    };
+    drop(caches);
+    done
 }
 
 #[test]
 fn locked_cache_is_held_alone(rt: HostRuntime) -> Result<(), Fail> {
     let alloc: Global = rt.alloc();
-    expect(&rt, alloc, Tree::empty(alloc), " /n=+")
-}
-
-#[test]
-fn locked_cache_is_held_alone_with_a_file(rt: HostRuntime) -> Result<(), Fail> {
-    let alloc: Global = rt.alloc();
-    let file = Entry::File(
-        Meta::file(),
-        Content::new(alloc, Bytes::from_slice(alloc, b"+++")?)?,
-    );
-    expect(&rt, alloc, tree_with(alloc, file)?, " /n=++++")
-}
-
-#[test]
-fn locked_cache_is_held_alone_with_a_directory(rt: HostRuntime) -> Result<(), Fail> {
-    let alloc: Global = rt.alloc();
-    expect(
-        &rt,
-        alloc,
-        tree_with(alloc, Entry::Directory(Meta::directory()))?,
-        " /n/",
-    )
+    expect_after(&rt, alloc, Tree::empty(alloc), " /n=+")?;
+    let content = Content::new(alloc, Bytes::from_slice(alloc, b"+++")?)?;
+    let tree = tree_with(alloc, Entry::File(Meta::file(), content))?;
+    expect_after(&rt, alloc, tree, " /n=++++")?;
+    let tree = tree_with(alloc, Entry::Directory(Meta::directory()))?;
+    expect_after(&rt, alloc, tree, " /n/")
 }

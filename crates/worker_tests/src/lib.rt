@@ -3,10 +3,10 @@
 #![tactic(auto)]
 
 #[cfg(test)]
+mod answers;
+#[cfg(test)]
 mod caches;
 #[cfg(test)]
 mod overlaps;
-#[cfg(test)]
-mod plans_of;
 #[cfg(test)]
 mod randoms;

@@ -1,34 +1,39 @@
-use crate::plans_of::{Row, plan_of, solved};
+use crate::answers::{solved_anew, written};
 use board::{Board, Job, NoBoard};
 use cachemounts::CacheStore;
 use executor::Fixture;
 use llb::VertexId;
 use plain::Memory;
-use samples::listing;
-use solver::{Gate, OpenGate, Solution, finish};
+use plans::Plan;
+use samples::{Row, plan_of_rows};
+use solver::{Gate, OpenGate, finish};
+use std::alloc::Global;
+use std::process::Abort;
+use std::sync::Wait;
 use std::sync::atomic::{AtomicU64, Ordering};
 use std::test::Fail;
 use std::thread;
+use std::thread::Threads;
 
 /// How many turns the first one waits for the second one.
 const MOST_TURNS: u64 = 1_000_000_000;
 
 /// Two commands that need nothing of each other.
 const TWO_RUNS: [Row; 4] = [
-    (1, "scratch", &[]),
-    (2, "run put /a 1", &[0]),
-    (4, "run put /b 2", &[0]),
-    (5, "copy /a /a", &[2, 1]),
+    ("scratch", &[], 1),
+    ("run put /a 1", &[0], 2),
+    ("run put /b 2", &[0], 4),
+    ("copy /a /a", &[2, 1], 5),
 ];
 
 /// A command and a copy that both fail, of which neither needs the other.
 const TWO_FAILURES: [Row; 6] = [
-    (1, "scratch", &[]),
-    (2, "dirs /w", &[0]),
-    (4, "run fail 3", &[1]),
-    (5, "context", &[]),
-    (5, "copy nope /x", &[0, 3]),
-    (5, "merge", &[2, 4]),
+    ("scratch", &[], 1),
+    ("dirs /w", &[0], 2),
+    ("run fail 3", &[1], 4),
+    ("context", &[], 5),
+    ("copy nope /x", &[0, 3], 5),
+    ("merge", &[2, 4], 5),
 ];
 
 /// Holds the first command back until a second one has come.
@@ -79,17 +84,18 @@ impl Gate for Count {
     }
 }
 
-#[test]
-fn workers_overlap(rt: HostRuntime) -> Result<(), Fail> {
-    let alloc = rt.alloc();
-    let plan = plan_of(alloc, &TWO_RUNS)?;
+/// Solves two commands with two workers, and compares what the gate saw.
+fn expect_overlap<R: Abort + Threads + Wait + Sync>(
+    rt: &R,
+    alloc: Global,
+    plan: &Plan<u8>,
+) -> Result<(), Fail> {
     let gate = Pair {
         entered: AtomicU64::new(0),
         met: AtomicU64::new(0),
         left: AtomicU64::new(0),
     };
-    let mut caches = CacheStore::new(alloc);
-    let text = solved(alloc, &rt, &plan, 2, &gate, &mut caches)?;
+    let text = solved_anew(alloc, rt, plan, 2, &gate)?;
     assert_eq!(rt; text.as_str(), "built /a=1 /b=2");
     assert_eq!(rt; gate.met.load(Ordering::SeqCst), 1, "the second came");
     // Neither the source nor the copy is a command.
@@ -99,12 +105,21 @@ fn workers_overlap(rt: HostRuntime) -> Result<(), Fail> {
 }
 
 #[test]
-fn either_failure_is_named(rt: HostRuntime) -> Result<(), Fail> {
-    let alloc = rt.alloc();
-    let plan = plan_of(alloc, &TWO_FAILURES)?;
+fn workers_overlap(rt: HostRuntime) -> Result<(), Fail> {
+    let plan = plan_of_rows(rt.alloc(), &TWO_RUNS, 3, &[])?;
+    let done = expect_overlap(&rt, rt.alloc(), &plan);
+    drop(plan);
+    done
+}
+
+/// Solves two commands that fail a hundred times.
+fn expect_either<R: Abort + Threads + Wait + Sync>(
+    rt: &R,
+    alloc: Global,
+    plan: &Plan<u8>,
+) -> Result<(), Fail> {
     for _ in 0..100 {
-        let mut caches = CacheStore::new(alloc);
-        let text = solved(alloc, &rt, &plan, 4, &OpenGate, &mut caches)?;
+        let text = solved_anew(alloc, rt, plan, 4, &OpenGate)?;
         let named = text.as_str() == "failed 4: exit 3" || text.as_str() == "failed 5: F1";
         assert!(rt; named, "{text}");
     }
@@ -112,26 +127,50 @@ fn either_failure_is_named(rt: HostRuntime) -> Result<(), Fail> {
 }
 
 #[test]
-fn the_sweep_asks_the_gate(rt: HostRuntime) -> Result<(), Fail> {
-    let alloc = rt.alloc();
-    let plan = plan_of(alloc, &TWO_RUNS)?;
+fn either_failure_is_named(rt: HostRuntime) -> Result<(), Fail> {
+    let plan = plan_of_rows(rt.alloc(), &TWO_FAILURES, 5, &[])?;
+    let done = expect_either(&rt, rt.alloc(), &plan);
+    drop(plan);
+    done
+}
+
+/// What a plan comes to on a new board that no worker has, in a line.
+fn swept<G: Gate>(alloc: Global, plan: &Plan<u8>, gate: &G) -> Result<String, Fail> {
+    let job = Job::new(plan, &Fixture);
+    let solution = match Board::new(alloc, job, CacheStore::new(alloc)) {
+        Ok(mut board) => {
+            let solution = finish(alloc, gate, &mut board);
+            drop(board);
+            solution
+        }
+        Err(NoBoard { caches }) => {
+            drop(caches);
+            Err(Memory)
+        }
+    };
+    match solution {
+        Ok(solution) => written(alloc, solution),
+        Err(memory) => Err(Fail::from(memory)),
+    }
+}
+
+/// Compares what the gate saw of a sweep of two commands.
+fn expect_sweep(rt: &impl Abort, alloc: Global, plan: &Plan<u8>) -> Result<(), Fail> {
     let gate = Count {
         entered: AtomicU64::new(0),
         left: AtomicU64::new(0),
     };
-    let job = Job::new(&plan, &Fixture);
-    let mut board = match Board::new(alloc, job, CacheStore::new(alloc)) {
-        Ok(board) => board,
-        Err(refused) => {
-            let NoBoard { caches: _ } = refused;
-            return Err(Fail::from(Memory));
-        }
-    };
-    let Solution::Built(tree) = finish(alloc, &gate, &mut board)? else {
-        return Err(Fail::from("it is built"));
-    };
-    assert_eq!(rt; listing(alloc, &tree)?.as_str(), " /a=1 /b=2");
+    let text = swept(alloc, plan, &gate)?;
+    assert_eq!(rt; text.as_str(), "built /a=1 /b=2");
     assert_eq!(rt; gate.entered.load(Ordering::SeqCst), 2);
     assert_eq!(rt; gate.left.load(Ordering::SeqCst), 2);
     Ok(())
+}
+
+#[test]
+fn the_sweep_asks_the_gate(rt: HostRuntime) -> Result<(), Fail> {
+    let plan = plan_of_rows(rt.alloc(), &TWO_RUNS, 3, &[])?;
+    let done = expect_sweep(&rt, rt.alloc(), &plan);
+    drop(plan);
+    done
 }

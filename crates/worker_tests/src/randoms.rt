@@ -1,18 +1,15 @@
-use crate::plans_of::op_named;
-use cachemounts::CacheStore;
-use executor::Fixture;
-use llb::{Graph, VertexId};
+use crate::answers::solved_anew;
+use llb::Graph;
 use plain::Memory;
 use plans::Plan;
-use samples::{add, listing};
-use solver::{OpenGate, Solution};
+use samples::{add_row, plan_of};
+use solver::OpenGate;
 use std::alloc::Global;
 use std::process::Abort;
 use std::sync::Wait;
 use std::test::Fail;
 use std::thread::Threads;
-use trees::{Cause, Tree};
-use workers::solve;
+use trees::Tree;
 
 /// How many plans each test makes: four of them make 200.
 const PLANS: u64 = 50;
@@ -42,22 +39,55 @@ const FAILING: &str = "run fail 3";
 /// Numbers of workers to compare.
 const WORKERS: [u32; 5] = [1, 2, 4, 16, 64];
 
-/// What is known of a vertex before any solver has seen it, by the rules alone.
-#[derive(Clone, Copy)]
+/// What is known of a plan's vertices before any solver has seen them, by the rules alone.
+#[derive(Drop)]
 struct Known {
-    /// Whether its value is a tree: it doesn't fail, and its inputs have trees.
-    treed: bool,
-    /// Whether its value is a cause: it fails, and its inputs have trees.
-    fails: bool,
-    /// The least of its lines.
-    line: u32,
+    /// Of each vertex whether its value is a tree: it doesn't fail, and its inputs have trees.
+    treed: Vec<bool>,
+    /// The lines of those that fail, though their inputs have trees.
+    failing: Vec<u32>,
 }
 
-/// A plan with what is known of its vertices.
-#[derive(Drop)]
-struct Sample {
-    plan: Plan<()>,
-    known: Vec<Known>,
+impl Known {
+    /// How many vertices there are.
+    fn count(&self) -> u32 {
+        u32::try_from(self.treed.len()).unwrap_or(0)
+    }
+
+    /// Whether these vertices have trees.
+    fn have_trees(&self, vertices: &[u32]) -> bool {
+        for vertex in vertices {
+            if self.treed.get(*vertex as usize) != Some(&true) {
+                return false;
+            }
+        }
+        true
+    }
+
+    /// Takes note of the next vertex, from a line: whether its inputs have trees, and whether it fails itself.
+    fn add(&mut self, line: u32, has_trees: bool, fails: bool) -> Result<(), Memory> {
+        if has_trees && fails {
+            self.failing.push(line)?;
+        }
+        Ok(self.treed.push(has_trees && !fails)?)
+    }
+
+    /// Whether an answer, as `solved` writes it, is one that the rules allow: a tree where the target has one, or a failure of a vertex that
+    /// fails, with the least of its lines.
+    fn allows(&self, answer: &str) -> bool {
+        match answer.strip_prefix("failed ") {
+            Some(failure) => self.has_failure(failure),
+            None => self.treed.last() == Some(&true),
+        }
+    }
+
+    fn has_failure(&self, failure: &str) -> bool {
+        let line = failure.strip_suffix(": exit 3").unwrap_or("");
+        match line.parse::<u32>() {
+            Ok(line) => self.failing.contains(&line),
+            Err(_) => false,
+        }
+    }
 }
 
 /// Numbers that look random: a linear congruential generator.
@@ -66,119 +96,137 @@ struct Dice(u64);
 
 impl Dice {
     /// A number below a bound.
-    fn below(&mut self, bound: usize) -> usize {
+    fn below(&mut self, bound: u32) -> u32 {
         self.0 = self
             .0
             .wrapping_mul(6_364_136_223_846_793_005)
             .wrapping_add(1_442_695_040_888_963_407);
-        ((self.0 >> 33) as usize).checked_rem(bound).unwrap_or(0)
+        let number = u32::try_from(self.0 >> 33).unwrap_or(0);
+        number.checked_rem(bound).unwrap_or(0)
+    }
+
+    /// What a vertex is, and on how many others it works.
+    fn op(&mut self) -> (&'static str, usize) {
+        *OPS.get(self.below(12) as usize).unwrap_or(&OPS[0])
     }
 }
 
-/// Adds a vertex to a graph, and what is known of it.
+/// Adds a vertex to a graph, the empty tree where it is the first one, and what is known of it.
 fn add_vertex(
     alloc: Global,
     dice: &mut Dice,
     graph: &mut Graph,
-    known: &mut Vec<Known>,
+    known: &mut Known,
     line: u32,
 ) -> Result<(), Memory> {
-    let Some((text, count)) = OPS.get(dice.below(OPS.len())) else {
+    let count = known.count();
+    let (text, inputs) = if count == 0 { OPS[0] } else { dice.op() };
+    let pair = [dice.below(count), dice.below(count)];
+    let Some(ids) = pair.get(..inputs) else {
         return Ok(());
     };
-    let mut inputs = Vec::new(alloc);
-    let mut treed = true;
-    for _ in 0..*count {
-        let input = dice.below(known.len());
-        treed = treed && known.get(input).is_some_and(|input| input.treed);
-        inputs.push(u32::try_from(input).unwrap_or(u32::MAX))?;
-    }
-    let op = op_named(alloc, text)?;
-    let added = add(alloc, graph, op, inputs.as_slice(), Some(line))?;
+    let has_trees = known.have_trees(ids);
     // A vertex that was there before is known already, under a lower line.
-    if added.is_some_and(|id| id as usize == known.len()) {
-        let fails = *text == FAILING;
-        known.push(Known {
-            treed: treed && !fails,
-            fails: treed && fails,
-            line,
-        })?;
+    if add_row(alloc, graph, &(text, ids, line))? == Some(count) {
+        known.add(line, has_trees, text == FAILING)?;
     }
     Ok(())
 }
 
-/// The plan of a seed. It begins with the empty tree, and its target is the last vertex.
-fn make_sample(alloc: Global, seed: u64) -> Result<Sample, Fail> {
-    let mut dice = Dice(seed);
+/// The graph of a seed, and what is known of it.
+fn make_graph(alloc: Global, seed: u64, known: &mut Known) -> Result<Graph, Memory> {
     let mut graph = Graph::new(alloc);
-    let mut known = Vec::new(alloc);
-    add(alloc, &mut graph, op_named(alloc, "scratch")?, &[], Some(1))?;
-    known.push(Known {
-        treed: true,
-        fails: false,
-        line: 1,
-    })?;
-    for line in 2..=VERTICES {
-        add_vertex(alloc, &mut dice, &mut graph, &mut known, line)?;
-    }
-    let target = u32::try_from(known.len().saturating_sub(1)).unwrap_or(0);
-    let plan = samples::plan_of(alloc, graph, target, Tree::empty(alloc));
-    Ok(Sample {
-        plan: plan.ok_or("no such target")?,
-        known,
-    })
-}
-
-/// Whether a failure is one that the sample has.
-fn is_known_failure(sample: &Sample, vertex: VertexId, place: u32, cause: Cause) -> bool {
-    let known = sample.known.get(vertex.index());
-    known.is_some_and(|known| known.fails && known.line == place) && cause == Cause::Exit(3)
-}
-
-/// Whether the target of a sample has a tree.
-fn is_buildable(sample: &Sample) -> bool {
-    sample.known.last().is_some_and(|target| target.treed)
-}
-
-/// Solves a sample with each number of workers: what is built is the same, and what fails is known to.
-fn compare<R: Abort + Threads + Wait + Sync>(
-    rt: &R,
-    alloc: Global,
-    sample: &Sample,
-) -> Result<(), Fail> {
-    let mut first: Option<String> = None;
-    for workers in WORKERS {
-        let mut caches = CacheStore::new(alloc);
-        match solve(
-            alloc,
-            rt,
-            &sample.plan,
-            &Fixture,
-            workers,
-            &OpenGate,
-            &mut caches,
-        )? {
-            Solution::Built(tree) => {
-                assert!(rt; is_buildable(sample));
-                let list = listing(alloc, &tree)?;
-                let same = match &first {
-                    Some(other) => other.as_str() == list.as_str(),
-                    None => true,
-                };
-                assert!(rt; same, "{list}");
-                first = Some(list);
-            }
-            Solution::Failed {
-                vertex,
-                place,
-                cause,
-            } => assert!(rt;
-                is_known_failure(sample, vertex, place, cause),
-                "{place}: {cause}"
-            ),
+    match add_vertices(alloc, seed, &mut graph, known) {
+        Ok(()) => Ok(graph),
+        Err(memory) => {
+            drop(graph);
+            Err(memory)
         }
     }
+}
+
+fn add_vertices(
+    alloc: Global,
+    seed: u64,
+    graph: &mut Graph,
+    known: &mut Known,
+) -> Result<(), Memory> {
+    let mut dice = Dice(seed);
+    for line in 1..=VERTICES {
+        add_vertex(alloc, &mut dice, graph, known, line)?;
+    }
     Ok(())
+}
+
+/// The plan of a seed, whose target is its last vertex, and what is known of it. (It has a target, so it is for want of memory alone that
+/// there is none.)
+fn make_plan(alloc: Global, seed: u64, known: &mut Known) -> Result<Plan<u8>, Memory> {
+    match make_graph(alloc, seed, known) {
+        Ok(graph) => {
+            let target = known.count().saturating_sub(1);
+            match plan_of(alloc, graph, target, Tree::empty(alloc)) {
+                Some(plan) => Ok(plan),
+                None => Err(Memory),
+            }
+        }
+        Err(memory) => Err(memory),
+    }
+}
+
+/// Adds what a plan comes to with each number of workers.
+fn push_answers<R: Threads + Wait + Sync>(
+    rt: &R,
+    alloc: Global,
+    plan: &Plan<u8>,
+    answers: &mut Vec<String>,
+) -> Result<(), Fail> {
+    for workers in WORKERS {
+        answers.push(solved_anew(alloc, rt, plan, workers, &OpenGate)?)?;
+    }
+    Ok(())
+}
+
+/// Whether answers to one plan are allowed, and what is built is the same in each.
+fn expect_alike(rt: &impl Abort, known: &Known, answers: &[String]) {
+    let mut built = "";
+    for answer in answers {
+        let answer = answer.as_str();
+        assert!(rt; known.allows(answer), "{answer}");
+        if answer.starts_with("built") {
+            assert!(rt; built.is_empty() || built == answer, "{answer}");
+            built = answer;
+        }
+    }
+}
+
+/// Solves a plan with each number of workers: what is built is the same, and what fails is known to.
+fn compare_known<R: Abort + Threads + Wait + Sync>(
+    rt: &R,
+    alloc: Global,
+    plan: &Plan<u8>,
+    known: &Known,
+) -> Result<(), Fail> {
+    let mut answers = Vec::new(alloc);
+    let done = push_answers(rt, alloc, plan, &mut answers);
+    if done.is_ok() {
+        expect_alike(rt, known, &answers);
+    }
+    drop(answers);
+    done
+}
+
+/// The same for the plan of a seed.
+fn compare<R: Abort + Threads + Wait + Sync>(rt: &R, alloc: Global, seed: u64) -> Result<(), Fail> {
+    let mut known = Known {
+        treed: Vec::new(alloc),
+        failing: Vec::new(alloc),
+    };
+    let done = match make_plan(alloc, seed, &mut known) {
+        Ok(plan) => compare_known(rt, alloc, &plan, &known),
+        Err(memory) => Err(Fail::from(memory)),
+    };
+    drop(known);
+    done
 }
 
 /// Compares the plans of as many seeds, from this one on.
@@ -188,7 +236,7 @@ fn compare_from<R: Abort + Threads + Wait + Sync>(
     first: u64,
 ) -> Result<(), Fail> {
     for seed in 0..PLANS {
-        compare(rt, alloc, &make_sample(alloc, first.wrapping_add(seed))?)?;
+        compare(rt, alloc, first.wrapping_add(seed))?;
     }
     Ok(())
 }
