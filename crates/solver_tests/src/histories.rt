@@ -1,8 +1,9 @@
-use crate::rows::{Row, SCRATCH, locked_on, plan_of, run_on};
+use crate::solutions::SCRATCH;
 use board::{Event, Happened};
-use executor::{Executor, Fixture};
+use executor::Fixture;
 use plans::Plan;
 use replay::follow;
+use samples::{Row, plan_of_rows};
 use std::alloc::Global;
 use std::process::Abort;
 use std::test::Fail;
@@ -50,78 +51,73 @@ fn expect(
     events: &str,
     expected: &str,
 ) -> Result<(), Fail> {
-    let plan = plan_of(alloc, rows, target)?;
-    let text = history_text(alloc, &plan, &Fixture, events)?;
+    let plan = plan_of_rows(alloc, rows, target, &[])?;
+    let text = history_text(alloc, &plan, events)?;
     assert_eq!(rt; text.as_str(), expected);
     Ok(())
 }
 
 /// The history that events leave of a plan, in a line.
-fn history_text<E: Executor>(
-    alloc: Global,
-    plan: &Plan<u8>,
-    executor: &E,
-    events: &str,
-) -> Result<String, Fail> {
+fn history_text(alloc: Global, plan: &Plan<u8>, events: &str) -> Result<String, Fail> {
     let events = events_of(alloc, events)?;
-    let history = follow(alloc, plan, executor, events.as_slice())?;
+    let history = follow(alloc, plan, &Fixture, events.as_slice())?;
     written(alloc, history.as_slice())
 }
 
 #[test]
 fn impossible_event_is_skipped(rt: HostRuntime) -> Result<(), Fail> {
-    let rows = [SCRATCH, run_on(0, 2, "put /a hi")];
-    expect(
-        &rt,
-        rt.alloc(),
-        &rows,
-        1,
-        "c0 c1 s0 c1 s1",
-        "c0:0 s0:0 c1:1 s1:1 ",
-    )
+    let rows = [SCRATCH, ("run put /a hi", &[0], 2)];
+    let want = "c0:0 s0:0 c1:1 s1:1 ";
+    expect(&rt, rt.alloc(), &rows, 1, "c0 c1 s0 c1 s1", want)
 }
+
+/// Two runs that need nothing of each other.
+const TWO_RUNS: [Row; 3] = [
+    SCRATCH,
+    ("run put /a 1", &[0], 2),
+    ("run put /a 2", &[0], 3),
+];
 
 #[test]
 fn two_workers_one_target(rt: HostRuntime) -> Result<(), Fail> {
-    let rows = [SCRATCH, run_on(0, 2, "put /a 1"), run_on(0, 3, "put /a 2")];
+    let want = "c0:0 s0:0 c0:1 c1:2 s1:2 a0:1 ";
     expect(
         &rt,
         rt.alloc(),
-        &rows,
+        &TWO_RUNS,
         2,
         "c0 s0 c0 c1 s1 c1 a0 c0",
-        "c0:0 s0:0 c0:1 c1:2 s1:2 a0:1 ",
+        want,
     )
 }
+
+/// A run that fails, and one on it.
+const FAILURE: [Row; 3] = [SCRATCH, ("run fail 1", &[0], 2), ("run put /a 2", &[1], 3)];
 
 #[test]
 fn failure_stops_the_board(rt: HostRuntime) -> Result<(), Fail> {
-    let rows = [SCRATCH, run_on(0, 2, "fail 1"), run_on(1, 3, "put /a 2")];
-    expect(
-        &rt,
-        rt.alloc(),
-        &rows,
-        2,
-        "c0 s0 c0 s0 c1",
-        "c0:0 s0:0 c0:1 s0:1 ",
-    )
+    let want = "c0:0 s0:0 c0:1 s0:1 ";
+    expect(&rt, rt.alloc(), &FAILURE, 2, "c0 s0 c0 s0 c1", want)
 }
+
+/// Two runs with one locked cache, and one on the second of them.
+const LOCKED: [Row; 4] = [
+    SCRATCH,
+    ("locked put /a 1", &[0], 2),
+    ("locked put /o 1", &[0], 3),
+    ("locked put /p 1", &[2], 4),
+];
 
 #[test]
 fn locked_cache_is_held_alone(rt: HostRuntime) -> Result<(), Fail> {
-    let rows = [
-        SCRATCH,
-        locked_on(0, 2, "k", "put /a 1"),
-        locked_on(0, 3, "k", "put /o 1"),
-        locked_on(2, 4, "k", "put /p 1"),
-    ];
     // Vertex 2 is ready once vertex 1 has given the cache back.
+    let want = "c0:0 s0:0 c0:1 s0:1 c1:2 a1:2 c0:2 ";
     expect(
         &rt,
         rt.alloc(),
-        &rows,
+        &LOCKED,
         3,
         "c0 s0 c0 c1 s0 c1 c0 a1 c0",
-        "c0:0 s0:0 c0:1 s0:1 c1:2 a1:2 c0:2 ",
+        want,
     )
 }

@@ -9,6 +9,4 @@ mod caches;
 #[cfg(test)]
 mod histories;
 #[cfg(test)]
-mod rows;
-#[cfg(test)]
 mod solutions;
