@@ -1,7 +1,6 @@
-use Rattle.std.proofs.Common.{arith}
-use Rattle.std.proofs.lemmas.Grind.{common_steps}
+use Rattle.std.proofs.Common.{rules}
 use Rattle.imageconfig.proofs.CopyFacts.{once-names}
 use Rattle.imageconfig.proofs.names.listed.Goals as goal
 
 pub returns-clause-once : goal.returns-clause-once
-returns-clause-once c = once-names c.args.set.now.keys c.loop-name.names c.iter-name-items.ensures.unique (grind (arith, common_steps))
+returns-clause-once c = once-names c.args.set.now.keys c.loop-name.names c.iter-name-items.ensures.unique (search rules)
