@@ -5,3 +5,4 @@ mod PlainNames
 mod Texts
 mod Spelling
 mod Relating
+pub mod SpelledOut

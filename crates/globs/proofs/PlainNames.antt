@@ -1,5 +1,5 @@
 -- A component without signs of patterns is a plain name: its characters are its parts, and it relates to that name alone.
-use Rattle.std.proofs.Common.{◌≡◌, ◌↔◌, ◌∙◌, ℕ, true, false, List, [], ◌∷◌, ◌++◌, Some, sym, ap, refl, subst, inl, inr, true≢false, map, append_assoc, eq-eqb}
+use Rattle.std.proofs.Common.{◌≡◌, ◌↔◌, ◌∙◌, ℕ, codes, true, false, List, [], ◌∷◌, ◌++◌, Some, sym, ap, refl, subst, inl, inr, true≢false, map, append_assoc, eq-eqb}
 use Rattle.std.specs.Option.{option_and_then}
 use Rattle.std.specs.Str.{chars, IsUtf8}
 use Rattle.std.proofs.lemmas.Bool.{and_parts, eqb-true}
@@ -8,37 +8,26 @@ use Rattle.std.proofs.Math.Utf8.{encodes}
 use Rattle.std.proofs.lemmas.Str.{chars-encodes}
 use Rattle.globs.specs.declared.part.Part.{Part}
 use Rattle.globs.specs.declared.part.Part.TheVariants.{Exactly}
-use Rattle.globs.specs.declared.sign.Sign.{Sign}
-use Rattle.globs.specs.declared.sign.Sign.TheVariants.{Star, Question, Backslash, Open, Close, Hyphen, Caret, Other}
 use Rattle.globs.specs.declared.reading.State.TheVariants.{Outside}
 use Rattle.globs.specs.declared.reading.Reading.{Reading}
 use Rattle.globs.specs.Component.{takes_any, holds, plain_parts, RelatesToName}
 use Rattle.globs.specs.Cut.{CanBeCut}
-use Rattle.globs.specs.Reading.{sign_at, run, finished, parts_of, outside, with_part}
-use Rattle.globs.specs.PrivateShape.{is_plain_sign, are_plain}
-
-outside-plain : (r : Reading) (sign : Sign) (c : ℕ) → is_plain_sign sign ≡ true → outside r sign c ≡ with_part r (Exactly c)
-outside-plain r Star c h = absurd (true≢false (sym h))
-outside-plain r Question c h = absurd (true≢false (sym h))
-outside-plain r Backslash c h = absurd (true≢false (sym h))
-outside-plain r Open c h = absurd (true≢false (sym h))
-outside-plain r Close c h = refl
-outside-plain r Hyphen c h = refl
-outside-plain r Caret c h = refl
-outside-plain r Other c h = refl
+use Rattle.globs.specs.Grammar.{is_none_of, is_spelled_out}
+use Rattle.globs.specs.Reading.{sign_at, run, finished, parts_of}
+use Rattle.globs.proofs.Spelling.{says, plain-by, outside-plain}
 
 abbrev outside_with : List Part → Reading
 outside_with parts = record { parts = parts; negated = false; ranges = []; state = Outside }
 
-run-plain : (parts : List Part) (cs : List ℕ) → are_plain cs ≡ true → run (outside_with parts) cs ≡ Some (outside_with (parts ++ map (λ c. Exactly c) cs))
+run-plain : (parts : List Part) (cs : List ℕ) → is_spelled_out cs ≡ true → run (outside_with parts) cs ≡ Some (outside_with (parts ++ map (λ c. Exactly c) cs))
 run-plain parts [] h = ap (λ l. Some (outside_with l)) (sym (append-nil parts))
 run-plain parts (c ∷ cs) h =
-    let both = and_parts (is_plain_sign (sign_at c)) (are_plain cs) h in
-    ap (λ r. run r cs) (outside-plain (outside_with parts) (sign_at c) c both.0)
+    let both = and_parts (is_none_of (codes "*?[\\") c) (is_spelled_out cs) h in
+    ap (λ r. run r cs) (outside-plain (sign_at c) (outside_with parts) c (plain-by (sign_at c) c (says c) both.0))
     ∙ run-plain (parts ++ Exactly c ∷ []) cs both.1
     ∙ ap (λ l. Some (outside_with l)) (append_assoc parts (Exactly c ∷ []) (map (λ c. Exactly c) cs))
 
-pub parts_of-plain : (cs : List ℕ) → are_plain cs ≡ true → parts_of cs ≡ Some (map (λ c. Exactly c) cs)
+pub parts_of-plain : (cs : List ℕ) → is_spelled_out cs ≡ true → parts_of cs ≡ Some (map (λ c. Exactly c) cs)
 parts_of-plain cs h = ap (λ found. option_and_then finished found) (run-plain [] cs h)
 
 -- a plain name relates to itself alone
@@ -57,8 +46,8 @@ chars-same : (bs ds : List ℕ) → IsUtf8 bs → IsUtf8 ds → chars bs ≡ cha
 chars-same bs ds (cs, (s, e)) (es, (t, f)) h =
     sym e ∙ ap encodes (sym (chars-encodes cs s) ∙ ap chars e ∙ h ∙ sym (ap chars f) ∙ chars-encodes es t) ∙ f
 
-pub relates-plain : (text name : List ℕ) → IsUtf8 text → IsUtf8 name → (text ≡ name) ↔ RelatesToName (plain_parts text) name
-relates-plain text name t n = (
-  (λ e. subst (λ (l : List ℕ). RelatesToName (plain_parts text) l) e (plain-made (chars text))),
-  (λ r. chars-same text name t n (sym (plain-only (chars text) (chars name) r))),
+pub relates-plain : (text name : List ℕ) → IsUtf8 text → (text ≡ name) ↔ RelatesToName (plain_parts text) name
+relates-plain text name t = (
+  (λ e. subst (λ (l : List ℕ). RelatesToName (plain_parts text) l) e (t, plain-made (chars text))),
+  (λ r. chars-same text name t r.0 (sym (plain-only (chars text) (chars name) r.1))),
 )

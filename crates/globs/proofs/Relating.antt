@@ -6,12 +6,12 @@ use Rattle.std.specs.Str.{chars}
 use Rattle.std.proofs.lemmas.Bool.{and_parts, and_from}
 use Rattle.std.proofs.lemmas.Option.{same_Some, none-some}
 use Rattle.globs.specs.declared.part.Part.{Part}
-use Rattle.globs.specs.Component.{RelatesToName, relates_to_name, takes_any, holds}
+use Rattle.globs.specs.Component.{RelatesToName, relates_to_name}
 use Rattle.globs.specs.Grammar.{Spell}
 use Rattle.globs.specs.Reading.{parts_of}
 use Rattle.globs.specs.Glob.{components_of, all_parts_of, glob_of, is_malformed, matches, some_matches, relates, Relates}
 use Rattle.globs.proofs.Spelling.{read-spelled, spelled-read}
-use Rattle.globs.proofs.Tests.{cut-to, cut-from}
+use Rattle.globs.proofs.Tests.{name-to, name-from}
 
 abbrev pub SpellAll : List (List ℕ) → List (List Part) → Type 0
 SpellAll texts glob = AllZip (λ component parts. Spell (chars component) parts) texts glob
@@ -43,13 +43,13 @@ matches-to [] [] h = tt
 matches-to [] (name ∷ names) h = absurd (true≢false (sym h))
 matches-to (parts ∷ glob) [] h = absurd (true≢false (sym h))
 matches-to (parts ∷ glob) (name ∷ names) h =
-    let both = and_parts (relates_to_name parts name) (matches glob names) h in (cut-to takes_any holds parts (chars name) both.0, matches-to glob names both.1)
+    let both = and_parts (relates_to_name parts name) (matches glob names) h in (name-to parts name both.0, matches-to glob names both.1)
 
 matches-from : (glob : List (List Part)) (path : List (List ℕ)) → AllZip (λ parts name. RelatesToName parts name) glob path → matches glob path ≡ true
 matches-from [] [] r = refl
 matches-from [] (name ∷ names) r = absurd r
 matches-from (parts ∷ glob) [] r = absurd r
-matches-from (parts ∷ glob) (name ∷ names) r = and_from (relates_to_name parts name) (matches glob names) (cut-from takes_any holds parts (chars name) r.0) (matches-from glob names r.1)
+matches-from (parts ∷ glob) (name ∷ names) r = and_from (relates_to_name parts name) (matches glob names) (name-from parts name r.0) (matches-from glob names r.1)
 
 pub relates-to : (text : List ℕ) (path : List (List ℕ)) → relates text path ≡ true → Relates text path
 relates-to text path h = by (glob_of text) refl h

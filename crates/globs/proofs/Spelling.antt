@@ -55,7 +55,7 @@ unfolding sign_at
 sign-caret = refl
 
 -- a character outside of classes that is none of `*?[\` stands for itself
-abbrev IsPlain : Sign → Type 0
+abbrev pub IsPlain : Sign → Type 0
 IsPlain Star = ⊥
 IsPlain Question = ⊥
 IsPlain Backslash = ⊥
@@ -77,7 +77,7 @@ IsEnd Caret = Unit {0}
 IsEnd Other = Unit {0}
 
 -- what a sign says of the character
-abbrev SaysOf : Sign → ℕ → Type 0
+abbrev pub SaysOf : Sign → ℕ → Type 0
 SaysOf Star c = c ≡ 42
 SaysOf Question c = c ≡ 63
 SaysOf Backslash c = c ≡ 92
@@ -99,7 +99,7 @@ says-by c false ai false bi false di false ei false fi true gi h hi = eqb-true c
 says-by c false ai false bi false di false ei false fi false gi true hi = eqb-true c 94 hi
 says-by c false ai false bi false di false ei false fi false gi false hi = (ai, (bi, (di, (ei, (fi, (gi, hi))))))
 
-says : (c : ℕ) → SaysOf (sign_at c) c
+pub says : (c : ℕ) → SaysOf (sign_at c) c
 unfolding sign_at
 says c = says-by c (nat_eq c 42) refl (nat_eq c 63) refl (nat_eq c 92) refl (nat_eq c 91) refl (nat_eq c 93) refl (nat_eq c 45) refl (nat_eq c 94) refl
 
@@ -110,7 +110,7 @@ none-of signs c d e off on = true≢false (sym on ∙ ap (λ x. is_none_of signs
 moved-none : (signs : List ℕ) (c d : ℕ) → c ≡ d → is_none_of signs d ≡ true → is_none_of signs c ≡ true
 moved-none signs c d e on = ap (λ x. is_none_of signs x) e ∙ on
 
-plain-by : (s : Sign) (c : ℕ) → SaysOf s c → is_none_of (codes "*?[\\") c ≡ true → IsPlain s
+pub plain-by : (s : Sign) (c : ℕ) → SaysOf s c → is_none_of (codes "*?[\\") c ≡ true → IsPlain s
 plain-by Star c e h = none-of (codes "*?[\\") c 42 e refl h
 plain-by Question c e h = none-of (codes "*?[\\") c 63 e refl h
 plain-by Backslash c e h = none-of (codes "*?[\\") c 92 e refl h
@@ -158,7 +158,7 @@ go r next c ds e = ap (λ o. option_and_then (λ n. run n ds) o) e
 by-sign : (s : State) (r : Reading) (c : ℕ) (sign : Sign) → r.state ≡ s → sign_at c ≡ sign → step r c ≡ stepped s r sign c
 by-sign s r c sign e is = λ i. stepped (e i) r (is i) c
 
-outside-plain : (s : Sign) (r : Reading) (c : ℕ) → IsPlain s → outside r s c ≡ with_part r (Exactly c)
+pub outside-plain : (s : Sign) (r : Reading) (c : ℕ) → IsPlain s → outside r s c ≡ with_part r (Exactly c)
 outside-plain Star r c h = absurd h
 outside-plain Question r c h = absurd h
 outside-plain Backslash r c h = absurd h

@@ -2,7 +2,8 @@
 use Rattle.std.proofs.Common.{◌≡◌, ◌↔◌, ◌||◌, ℕ, Bool, IsTrue, true, false, cond, List, [], ◌∷◌, ◌⊎◌, drop, sym, refl, subst, inl, inr, true≢false, zero, suc}
 use Rattle.std.specs.List.{list_any}
 use Rattle.std.proofs.lemmas.Bool.{and_parts, and_from}
-use Rattle.std.specs.Str.{chars}
+use Rattle.std.specs.Str.{chars, is_utf8}
+use Rattle.std.proofs.lemmas.Str.{IsUtf8-from_is_utf8, is_utf8-from_IsUtf8}
 use Rattle.globs.specs.declared.part.Part.{Part}
 use Rattle.globs.specs.Component.{takes_any, holds, RelatesToName, relates_to_name}
 use Rattle.globs.specs.Cut.{CanBeCut, can_be_cut, tails, begins}
@@ -75,6 +76,15 @@ module _ {P T : Type 0} (any_run : P → Bool) (fits : P → T → Bool) where
   cut-from (part ∷ parts) items r = from-part part parts items (λ xs. cut-from parts xs) (any_run part) refl r
 
 -- of a component's pattern and a name
+pub name-to : (parts : List Part) (name : List ℕ) → relates_to_name parts name ≡ true → RelatesToName parts name
+name-to parts name h =
+    let both = and_parts (is_utf8 name) (can_be_cut takes_any holds parts (chars name)) h in
+    (IsUtf8-from_is_utf8 name both.0, cut-to takes_any holds parts (chars name) both.1)
+
+pub name-from : (parts : List Part) (name : List ℕ) → RelatesToName parts name → relates_to_name parts name ≡ true
+name-from parts name r =
+    and_from (is_utf8 name) (can_be_cut takes_any holds parts (chars name)) (is_utf8-from_IsUtf8 name r.0) (cut-from takes_any holds parts (chars name) r.1)
+
 pub matched : (b : Bool) (parts : List Part) (name : List ℕ) → IsTrue b ↔ RelatesToName parts name → b ≡ relates_to_name parts name
 matched b parts name both =
-    same-bools b (relates_to_name parts name) (λ h. cut-from takes_any holds parts (chars name) (both.0 h)) (λ h. both.1 (cut-to takes_any holds parts (chars name) h))
+    same-bools b (relates_to_name parts name) (λ h. name-from parts name (both.0 h)) (λ h. both.1 (name-to parts name h))

@@ -1,7 +1,7 @@
 -- The parts of a component's pattern, and what each holds of (Go's filepath.Match). Characters are Unicode scalar values, and case counts.
 use Rattle.std.specs.Prelude.{◌≡◌, ℕ, Bool, true, false, ◌&&◌, List, map, not, nat_le, nat_eq, if◌then◌else◌}
 use Rattle.std.specs.List.{list_any}
-use Rattle.std.specs.Str.{chars, IsUtf8}
+use Rattle.std.specs.Str.{chars, IsUtf8, is_utf8}
 use Rattle.globs.specs.declared.part.Range.{Range}
 use Rattle.globs.specs.declared.part.Part.{Part}
 use Rattle.globs.specs.declared.part.Part.TheVariants.{AnyRun, AnyOne, Exactly, Class}
@@ -25,13 +25,13 @@ holds AnyOne c = true
 holds (Exactly own) c = nat_eq own c
 holds (Class negated ranges) c = if negated then not (is_in ranges c) else is_in ranges c
 
--- a component's pattern relates to a name: the name's characters can be cut so that each part relates to its piece
+-- a component's pattern relates to a name: the name is text, and its characters can be cut so that each part relates to its piece
 abbrev pub RelatesToName : List Part → List ℕ → Type 0
-RelatesToName parts name = CanBeCut takes_any (λ part c. holds part c ≡ true) parts (chars name)
+RelatesToName parts name = IsUtf8 name × CanBeCut takes_any (λ part c. holds part c ≡ true) parts (chars name)
 
 -- the test of it
 abbrev pub relates_to_name : List Part → List ℕ → Bool
-relates_to_name parts name = can_be_cut takes_any holds parts (chars name)
+relates_to_name parts name = is_utf8 name && can_be_cut takes_any holds parts (chars name)
 
 -- the parts of a pattern that is a plain name: each of its characters
 abbrev pub plain_parts : List ℕ → List Part
@@ -39,4 +39,4 @@ plain_parts name = map (λ c. Exactly c) (chars name)
 
 -- a name is the only one that a pattern relates to
 abbrev pub IsOnlyName : List Part → List ℕ → Type 0
-IsOnlyName parts name = (other : List ℕ) → IsUtf8 other → RelatesToName parts other → other ≡ name
+IsOnlyName parts name = (other : List ℕ) → RelatesToName parts other → other ≡ name

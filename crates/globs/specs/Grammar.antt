@@ -2,7 +2,7 @@
 -- A list of characters that spells no parts is malformed: a class that has no item, whose item isn't of this form or that isn't closed,
 -- and a `\` at the end.
 use Rattle.std.specs.Prelude.{◌≡◌, ℕ, Bool, true, false, List, [], ◌∷◌, ◌++◌, ◌⊎◌, not, nat_eq, codes}
-use Rattle.std.specs.List.{list_any}
+use Rattle.std.specs.List.{list_any, list_all}
 use Rattle.globs.specs.declared.part.Range.{Range}
 use Rattle.globs.specs.declared.part.Part.{Part}
 use Rattle.globs.specs.declared.part.Part.TheVariants.{AnyRun, AnyOne, Exactly, Class}
@@ -10,6 +10,10 @@ use Rattle.globs.specs.declared.part.Part.TheVariants.{AnyRun, AnyOne, Exactly, 
 -- a character is none of these
 abbrev pub is_none_of : List ℕ → ℕ → Bool
 is_none_of signs c = not (list_any (λ sign. nat_eq c sign) signs)
+
+-- characters that all stand for themselves outside of classes: there is none of `*`, `?`, `[` and `\`
+abbrev pub is_spelled_out : List ℕ → Bool
+is_spelled_out cs = list_all (λ c. is_none_of (codes "*?[\\") c) cs
 
 -- a character as it stands, if it is none of the signs, or behind a `\`
 abbrev pub SpellsCharacter : List ℕ → List ℕ → ℕ → Type 0

@@ -1,12 +1,11 @@
 ghost use Rattle.std.specs.Prelude.{◌≡◌, ◌↔◌, IsTrue, IfOk, IfSome};
 ghost use Rattle.std.specs.Str.{chars};
 ghost use Rattle.globs.specs.Component.{RelatesToName, relates_to_name, plain_parts, IsOnlyName};
-ghost use Rattle.globs.specs.PrivateShape.{are_plain};
+ghost use Rattle.globs.specs.Grammar.{is_spelled_out};
 ghost use Rattle.globs.specs.Reading.{parts_of};
 
 use crate::part::{Part, name_can_be_cut};
 use crate::reading::read_parts;
-use crate::sign::sign_of;
 use crate::text::first_and_rest;
 use plain::{Items, Memory, Text};
 use std::alloc::Global;
@@ -37,13 +36,14 @@ impl Model for Component {
     ghost view = { λ c. parts_in c.shape };
 }
 
-/// Whether all characters of a text stand for themselves outside of classes.
-fn is_plain(text: &str) -> bool
-    ensures { result ≡ are_plain (chars text.now) }
+/// Whether a pattern's text is spelled out: it has none of the signs `*`, `?`, `[` and `\`. Then it relates to the one path that it reads
+/// as, and whoever looks for that need not go through all paths that there are.
+pub fn is_spelled_out(text: &str) -> bool
+    ensures { result ≡ is_spelled_out (chars text.now) }
 {
     let mut left = text;
     while let Some((character, rest)) = first_and_rest(left) {
-        if !sign_of(character).is_plain() {
+        if matches!(character, '*' | '?' | '[' | '\\') {
             return false;
         }
         left = rest;
@@ -63,7 +63,7 @@ impl Component {
     pub fn read(alloc: Global, text: &str) -> Result<Option<Component>, Memory>
         ensures { IfOk result (λ found. found ≡ parts_of (chars text.now)) }
     {
-        if is_plain(text) {
+        if is_spelled_out(text) {
             let name = Text::from_str(alloc, text)?;
             return Ok(Some(Component {
                 shape: Shape::Plain(name),

@@ -2,11 +2,11 @@
 
 ghost use Rattle.std.specs.Prelude.{◌≡◌, ◌↔◌, ℕ, true, Some, List};
 ghost use Rattle.std.specs.List.{AllZip};
-ghost use Rattle.std.specs.Str.{chars};
+ghost use Rattle.std.specs.Str.{chars, IsUtf8};
 ghost use Rattle.globs.specs.declared.part.Part.{Part};
 ghost use Rattle.globs.specs.Glob.{components_of, is_malformed, relates, Relates};
 ghost use Rattle.globs.specs.Component.{RelatesToName, relates_to_name};
-ghost use Rattle.globs.specs.Grammar.{Spell};
+ghost use Rattle.globs.specs.Grammar.{Spell, is_spelled_out};
 ghost use Rattle.globs.specs.Reading.{parts_of};
 
 /// The test of a component's pattern holds exactly where the name can be cut so that each part relates to its piece.
@@ -30,4 +30,10 @@ pub fn a_malformed_text_spells_nothing()
 /// that the parts of its component relate to its pieces.
 pub fn a_text_relates_by_grammar_and_cuts()
     ensures { (text : List ℕ) (path : List (List ℕ)) → (relates text path ≡ true) ↔ Relates text path }
+{}
+
+/// A text that is spelled out relates to the path of its components, and to no other one.
+pub fn a_text_that_is_spelled_out_relates_to_one_path()
+    ensures { (text : List ℕ) → IsUtf8 text → is_spelled_out (chars text) ≡ true
+        → (path : List (List ℕ)) → (relates text path ≡ true) ↔ (path ≡ components_of text) }
 {}

@@ -23,7 +23,7 @@ mod reading;
 mod sign;
 mod text;
 
-pub use component::Component;
+pub use component::{Component, is_spelled_out};
 pub use cut::{Fits, can_be_cut};
 pub use cutting::cut_components;
 pub use fault::{GlobFault, Malformed};

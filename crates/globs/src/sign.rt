@@ -1,6 +1,5 @@
 ghost use Rattle.std.specs.Prelude.{◌≡◌};
 ghost use Rattle.globs.specs.Reading.{sign_at};
-ghost use Rattle.globs.specs.PrivateShape.{is_plain_sign};
 
 /// What a character is to the syntax of patterns.
 #[derive(Clone, Copy, Debug)]
@@ -37,17 +36,5 @@ pub(crate) fn sign_of(character: char) -> Sign
         '-' => Sign::Hyphen,
         '^' => Sign::Caret,
         _ => Sign::Other,
-    }
-}
-
-impl Sign {
-    /// Whether such a character stands for itself outside of classes.
-    pub(crate) fn is_plain(self) -> bool
-        ensures { result ≡ is_plain_sign self }
-    {
-        !matches!(
-            self,
-            Sign::Star | Sign::Question | Sign::Backslash | Sign::Open
-        )
     }
 }

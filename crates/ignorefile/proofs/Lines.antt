@@ -3,13 +3,11 @@ use Rattle.std.specs.Prelude.{◌≡◌, ℕ, ◌+◌, ◌-◌, ◌<◌, ◌≤�
 use Rattle.std.proofs.Common.{sym, ap, refl, ◌∙◌, subst, arith, zero, suc}
 use denote.Ref.{Bor}
 use Rattle.std.specs.Option.{IfSome}
-use Rattle.std.specs.Str.{chars}
 use Rattle.std.proofs.lemmas.Bool.{ltb-true, ltb-false}
 use Rattle.std.proofs.lemmas.Option.{same_Some}
 use Rattle.globs.specs.Cut.{CanBeCut}
-use Rattle.globs.specs.Component.{takes_any, holds as part_holds}
 use Rattle.globs.proofs.Cuts.{last-parts, snoc-parts}
-use Rattle.globs.proofs.Tests.{cut-to}
+use Rattle.globs.proofs.Tests.{name-to}
 use Rattle.ignorefile.specs.declared.line.Segment.{Segment}
 use Rattle.ignorefile.specs.declared.line.Segment.TheVariants.{Deep, Named}
 use Rattle.ignorefile.specs.declared.line.Line.{Line}
@@ -25,7 +23,7 @@ last-only line segments Deep name same more is only path r = absurd only
 last-only line segments (Named parts) name same more is only path r =
     let whole : line.segments ≡ take (length segments - 1) segments ++ Named parts ∷ [] = same ∙ last-parts is_deep Holds segments (Named parts) more is in
     let w = snoc-parts is_deep Holds (take (length segments - 1) segments) (Named parts) path refl (subst (λ (l : List Segment). CanBeCut is_deep Holds l path) whole r) in
-    (w.0, (w.1.0, (w.1.1.0, λ utf8. only w.1.0 utf8 (cut-to takes_any part_holds parts (chars w.1.0) w.1.1.1.0))))
+    (w.0, (w.1.0, (w.1.1.0, λ utf8. only w.1.0 (name-to parts w.1.0 w.1.1.1.0))))
 
 pub ends-in : (line : Line) (segments : List Segment) (last : Segment) (found : Option (Bor (List ℕ))) → segments ≡ line.segments → 1 ≤ length segments → last ≡ get_or segments (length segments - 1) last
     → IfSome found (λ name. TakesOnly last name.now) → IfSome found (λ name. EndsIn line name.now)

@@ -11,4 +11,4 @@ returns-in-Plain c =
 pub returns-in-Parts : goal.returns-in-Parts
 returns-in-Parts c =
     let parts : c.as_slice.result.now ≡ c.args.self.now = cc in
-    matched _ c.as_slice.result.now c.as_str-in-Parts.result.now c.name_can_be_cut.ensures ∙ (λ i. relates_to_name (parts i) (c.as_str-in-Parts.ensures i))
+    matched _ c.as_slice.result.now c.as_str-in-Parts.result.now ((λ h. (c.as_str-in-Parts.utf8, c.name_can_be_cut.ensures.0 h)), (λ r. c.name_can_be_cut.ensures.1 r.1)) ∙ (λ i. relates_to_name (parts i) (c.as_str-in-Parts.ensures i))
