@@ -1,2 +1,3 @@
 pub mod BindSteps
 pub mod FileSteps
+mod LookUps

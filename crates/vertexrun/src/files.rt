@@ -1,5 +1,6 @@
-ghost use Rattle.std.specs.Prelude.{◌≡◌, Some, IfOk, IsSome, map};
-ghost use Rattle.std.specs.List.{filter};
+ghost use Rattle.std.specs.Prelude.{◌≡◌, true, false, Some, IfOk, IsSome, map};
+ghost use Rattle.std.specs.List.{filter, list_any};
+ghost use Rattle.std.specs.Str.{chars};
 ghost use Rattle.std.specs.FinMap.{entries};
 ghost use Rattle.trees.specs.Cause.{TreeOrCause as TreeOrCauseValue, GivesTree};
 ghost use Rattle.trees.specs.Make.{made};
@@ -7,10 +8,12 @@ ghost use Rattle.trees.specs.Rows.{lent_rows};
 ghost use Rattle.trees.specs.TreeMap.{TreeMap};
 ghost use Rattle.trees.specs.Over.{merged};
 ghost use Rattle.globs.specs.Glob.{matches};
+ghost use Rattle.globs.specs.Grammar.{is_spelled_out};
 ghost use Rattle.plans.specs.Files.{matches_in, source_in, sources_in};
 ghost use Rattle.plans.specs.Value.{copied_files, copy_value, file_value};
+ghost use Rattle.vertexrun.specs.PrivateSources.{is_searched};
 
-use globs::Glob;
+use globs::{Glob, is_spelled_out};
 use llb::{CopyFiles, FileSource, Op};
 use paths::Path;
 use plain::{Exact, Fault, Items, Memory};
@@ -85,7 +88,7 @@ fn settle_dirs(alloc: Global, path: &Path, tree: &Tree) -> Result<TreeOrCause, M
     }
 }
 
-/// The sources of a copy, each looked up in the tree that is copied from, which is listed once for all of them.
+/// The sources of a copy, each found in the tree that is copied from.
 fn find_sources(
     alloc: Global,
     from: &Tree,
@@ -93,25 +96,61 @@ fn find_sources(
 ) -> Result<Vec<CopySource>, Memory>
     ensures { IfOk result (λ found. found.items ≡ sources_in from.now sources.now) }
 {
-    let rows = from.entries(alloc)?;
+    let rows = rows_for(alloc, from, sources)?;
     let mut found = Vec::with_capacity(alloc, sources.len())?;
     for source in sources {
-        found.push(find_source(alloc, rows.as_slice(), source)?)?;
+        found.push(find_source(alloc, from, rows.as_slice(), source)?)?;
     }
     Ok(found)
 }
 
-/// A source, looked up in the rows of the tree that is copied from.
+/// The rows of a tree if one of the sources is searched for among them, else none: a copy may have more than a hundred thousand sources,
+/// and an image as many files, so what is spelled out is looked up, and the tree isn't listed for it.
+fn rows_for<'a>(
+    alloc: Global,
+    from: &'a Tree,
+    sources: &[FileSource],
+) -> Result<Vec<(Path, &'a Entry)>, Memory>
+    ensures { IfOk result (λ rows. list_any is_searched sources.now ≡ true → lent_rows rows.items ≡ entries from.now) }
+{
+    if is_any_searched(sources) {
+        from.entries(alloc)
+    } else {
+        Ok(Vec::new(alloc))
+    }
+}
+
+/// Whether one of the sources is searched for among the rows of a tree.
+fn is_any_searched(sources: &[FileSource]) -> bool
+    ensures { result ≡ list_any is_searched sources.now }
+{
+    sources.iter().any(is_searched)
+}
+
+/// Whether a source is: its pattern isn't spelled out.
+fn is_searched(source: &FileSource) -> bool
+    ensures { result ≡ is_searched source.now }
+{
+    match source {
+        FileSource::Pattern(text) => !is_spelled_out(text.as_str()),
+        FileSource::Data(_, _) => false,
+    }
+}
+
+/// A source, found in the tree that is copied from; these are the tree's rows if it is searched for among them.
 fn find_source(
     alloc: Global,
+    from: &Tree,
     rows: &[(Path, &Entry)],
     source: &FileSource,
 ) -> Result<CopySource, Memory>
-    ensures { (tree : TreeMap) → lent_rows rows.now ≡ entries tree → IfOk result (λ found. found ≡ source_in tree source.now) }
+    requires { is_searched source.now ≡ true → lent_rows rows.now ≡ entries from.now }
+    ensures { IfOk result (λ found. found ≡ source_in from.now source.now) }
 {
     match source {
         FileSource::Pattern(text) => Ok(CopySource::Found(find_matches(
             alloc,
+            from,
             rows,
             text.as_str(),
         )?)),
@@ -123,12 +162,46 @@ fn find_source(
     }
 }
 
-/// Those of a tree's rows' paths to which a pattern relates, in path order; none where it is malformed.
+/// The paths of a tree to which a pattern relates, in path order; these are the tree's rows unless the pattern is spelled out.
 fn find_matches(
     alloc: Global,
+    from: &Tree,
     rows: &[(Path, &Entry)],
     pattern: &str,
 ) -> Result<Items<Path>, Memory>
+    requires { is_spelled_out (chars pattern.now) ≡ false → lent_rows rows.now ≡ entries from.now }
+    ensures { IfOk result (λ paths. paths ≡ matches_in from.now pattern.now) }
+{
+    if is_spelled_out(pattern) {
+        look_up(alloc, from, pattern)
+    } else {
+        search(alloc, rows, pattern)
+    }
+}
+
+/// The one path of a tree to which a pattern that is spelled out relates, if something stands there. A path that breaks a limit is in no
+/// tree.
+fn look_up(alloc: Global, from: &Tree, pattern: &str) -> Result<Items<Path>, Memory>
+    requires { is_spelled_out (chars pattern.now) ≡ true }
+    ensures { IfOk result (λ paths. paths ≡ matches_in from.now pattern.now) }
+{
+    // What `root` says of its tree: each of its paths keeps the limits.
+    let _root = from.root();
+    let path = match Path::read(alloc, pattern, &Path::root(alloc)) {
+        Ok(path) => path,
+        Err(Fault::Because(_)) => return Ok(Items::new(alloc)),
+        Err(Fault::Memory) => return Err(Memory),
+    };
+    if from.get(&path).is_none() {
+        return Ok(Items::new(alloc));
+    }
+    let mut paths = Vec::new(alloc);
+    paths.push(path)?;
+    Ok(Items::from_vec(paths))
+}
+
+/// Those of a tree's rows' paths to which a pattern relates, in path order; none where it is malformed.
+fn search(alloc: Global, rows: &[(Path, &Entry)], pattern: &str) -> Result<Items<Path>, Memory>
     ensures { (tree : TreeMap) → lent_rows rows.now ≡ entries tree → IfOk result (λ paths. paths ≡ matches_in tree pattern.now) }
 {
     match Glob::read(alloc, pattern) {

@@ -1,6 +1,6 @@
 use Rattle.std.proofs.Common.{◌∙◌}
 use Rattle.vertexrun.proofs.FileSteps.{matches-found, matches-none}
-use Rattle.vertexrun.proofs.files.find_matches.Goals as goal
+use Rattle.vertexrun.proofs.files.search.Goals as goal
 
 pub returns-in_ok-matching-in-Ok : goal.returns-in_ok-matching-in-Ok
 returns-in_ok-matching-in-Ok c = λ tree all.
