@@ -50,7 +50,7 @@ get-with_placements tree (Make d ∷ changes) q = get-with_placements tree chang
 pub get-changed_tree : (meta : Meta) (tree : TreeMap) (changes : List Change) (q : List (List ℕ)) → get (changed_tree meta tree changes) q ≡ option_or (last_placed changes q) (option_or (get tree q) (cond (needs_directory changes q) (Some (Directory meta)) None))
 get-changed_tree meta tree changes q = get-with_placements (with_missing meta (directories_for_all changes) tree) changes q ∙ ap (option_or (last_placed changes q)) (get-with_missing meta (directories_for_all changes) tree q)
 
-last_placed-more : (changes : List Change) (change : Change) (q : List (List ℕ)) → last_placed (changes ++ change ∷ []) q ≡ option_or (placed_by change q) (last_placed changes q)
+pub last_placed-more : (changes : List Change) (change : Change) (q : List (List ℕ)) → last_placed (changes ++ change ∷ []) q ≡ option_or (placed_by change q) (last_placed changes q)
 last_placed-more [] change q = or_none (placed_by change q)
 last_placed-more (x ∷ xs) change q = ap (λ o. option_or o (placed_by x q)) (last_placed-more xs change q) ∙ or_assoc (placed_by change q) (last_placed xs q) (placed_by x q)
 
@@ -58,7 +58,7 @@ directories_for_all-more : (changes : List Change) (change : Change) → directo
 directories_for_all-more [] change = append-nil (directories_for change)
 directories_for_all-more (x ∷ xs) change = ap (λ ps. directories_for x ++ ps) (directories_for_all-more xs change) ∙ sym (append_assoc (directories_for x) (directories_for_all xs) (directories_for change))
 
-any-append : (test : List (List ℕ) → Bool) (ps qs : List (List (List ℕ))) → list_any test (ps ++ qs) ≡ (list_any test ps || list_any test qs)
+pub any-append : (test : List (List ℕ) → Bool) (ps qs : List (List (List ℕ))) → list_any test (ps ++ qs) ≡ (list_any test ps || list_any test qs)
 any-append test [] qs = refl
 any-append test (p ∷ ps) qs = ap (λ b. test p || b) (any-append test ps qs) ∙ grouped (test p) (list_any test ps) (list_any test qs)
   where
@@ -66,7 +66,7 @@ any-append test (p ∷ ps) qs = ap (λ b. test p || b) (any-append test ps qs) �
     grouped true b c = refl
     grouped false b c = refl
 
-needs_directory-more : (changes : List Change) (change : Change) (q : List (List ℕ)) → needs_directory (changes ++ change ∷ []) q ≡ (needs_directory changes q || list_any (eq_by_cmp path_cmp q) (directories_for change))
+pub needs_directory-more : (changes : List Change) (change : Change) (q : List (List ℕ)) → needs_directory (changes ++ change ∷ []) q ≡ (needs_directory changes q || list_any (eq_by_cmp path_cmp q) (directories_for change))
 needs_directory-more changes change q = ap (list_any (eq_by_cmp path_cmp q)) (directories_for_all-more changes change) ∙ any-append (eq_by_cmp path_cmp q) (directories_for_all changes) (directories_for change)
 
 place-cases : (tie front wide : Bool) (l t : Option Entry) (e d : Entry) → option_or (option_or (cond tie (Some e) None) l) (option_or t (cond (wide || front) (Some d) None)) ≡ cond tie (Some e) (option_or (option_or l (option_or t (cond wide (Some d) None))) (cond front (Some d) None))
@@ -117,7 +117,7 @@ kind_placed-more changes change q = ap kind_of (last_placed-more changes change 
 way-fronts : (q d : List (List ℕ)) → list_any (eq_by_cmp path_cmp q) (fronts d ++ d ∷ []) ≡ (is_front q d || (eq_by_cmp path_cmp q d || false))
 way-fronts q d = any-append (eq_by_cmp path_cmp q) (fronts d) (d ∷ []) ∙ ap (λ b. b || (eq_by_cmp path_cmp q d || false)) (any-fronts q d)
 
-way-either : (q d : List (List ℕ)) → list_any (eq_by_cmp path_cmp q) (fronts d ++ d ∷ []) ≡ (is_front q d || eq_by_cmp path_cmp q d)
+pub way-either : (q d : List (List ℕ)) → list_any (eq_by_cmp path_cmp q) (fronts d ++ d ∷ []) ≡ (is_front q d || eq_by_cmp path_cmp q d)
 way-either q d = way-fronts q d ∙ ap (λ b. is_front q d || b) (or_false (eq_by_cmp path_cmp q d))
   where
     or_false : (b : Bool) → (b || false) ≡ b

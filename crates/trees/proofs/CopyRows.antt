@@ -94,7 +94,7 @@ items-node o at value top kids old changes is done = done ∙ ap (λ rows. old +
 
 -- ---- the changes of one match
 
-of_directory : (o : CopyOptions) (into : Bool) (dest path : List (List ℕ)) (there : Option Entry) (rows : Rows) → is_directory there ≡ true → match_changes o into dest path there rows ≡ Make dest ∷ placements o dest (drop 1 rows)
+pub of_directory : (o : CopyOptions) (into : Bool) (dest path : List (List ℕ)) (there : Option Entry) (rows : Rows) → is_directory there ≡ true → match_changes o into dest path there rows ≡ Make dest ∷ placements o dest (drop 1 rows)
 of_directory o into dest path None rows d = absurd (true≢false (sym d))
 of_directory o into dest path (Some (Directory m)) rows d = refl
 of_directory o into dest path (Some (File m b)) rows d = absurd (true≢false (sym d))

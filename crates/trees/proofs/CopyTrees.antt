@@ -137,6 +137,11 @@ found-all : (missing : Bool) (r : Result TreeMap Cause) (new : TreeMap) → cond
 found-all true r new e = cc
 found-all false r new e = e
 
+-- a tree after changes of which none fails is a tree
+pub changed_tree-IsTree : (tree from : TreeMap) (sources : List CopySource) (dest : List (List ℕ)) (o : CopyOptions) (into : Bool) → IsTree tree → IsTree from → IsClean dest → AllByRecursion HasName sources
+    → first_cause (parent_meta o) tree [] (changes_of o into from dest sources) ≡ None → IsTree (changed_tree (parent_meta o) tree (changes_of o into from dest sources))
+changed_tree-IsTree tree from sources dest o into h g clean named none = laid-more (parent_meta o) tree [] (changes_of o into from dest sources) h (named-items o into from dest g clean sources named) none
+
 -- a tree after a COPY is a tree
 pub copied-IsTree : (tree from new : TreeMap) (sources : List CopySource) (dest : List (List ℕ)) (o : CopyOptions) → IsTree tree → IsTree from → IsClean dest → AllByRecursion HasName sources → copied tree from sources dest o ≡ Ok new → IsTree new
 copied-IsTree tree from new sources dest o h g clean named e =

@@ -15,3 +15,6 @@ mod OverSteps
 mod CutSteps
 mod CopySteps
 mod CopyRows
+mod FillSteps
+mod FolderSteps
+mod FolderDone

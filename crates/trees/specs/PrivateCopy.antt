@@ -1,17 +1,23 @@
 -- By what the functions inside this crate that carry out a COPY are stated: one change after another.
-use Rattle.std.specs.Prelude.{◌≡◌, ℕ, Bool, Option, Some, None, Result, Ok, Err, List, []}
+use Rattle.std.specs.Prelude.{◌≡◌, ℕ, ◌≤◌, Bool, true, ◌∷◌, ◌++◌, length, is_some, Option, Some, None, Result, Ok, Err, List, []}
 use Rattle.std.specs.Option.{option_or}
 use Rattle.std.specs.FinMap.{get}
+use Rattle.paths.specs.Path.{IsClean}
 use Rattle.plain.specs.declared.fault.Fault.{Fault}
 use Rattle.plain.specs.declared.fault.Fault.TheVariants.{Because, Memory}
 use Rattle.trees.specs.declared.meta.Meta.{Meta}
 use Rattle.trees.specs.declared.copy.Change.{Change}
 use Rattle.trees.specs.declared.copy.Change.TheVariants.{Place, Make}
 use Rattle.trees.specs.declared.cause.Cause.{Cause}
-use Rattle.trees.specs.TreeMap.{TreeMap, IsTree}
+use Rattle.trees.specs.declared.entry.Entry.{Entry}
+use Rattle.trees.specs.declared.copy.CopyOptions.{CopyOptions}
+use Rattle.trees.specs.declared.copy.CopySource.{CopySource}
+use Rattle.trees.specs.declared.copy.CopySource.TheVariants.{Found}
+use Rattle.trees.specs.PrivateNode.{IsBelow}
+use Rattle.trees.specs.TreeMap.{TreeMap, IsTree, is_directory}
 use Rattle.trees.specs.Put.{placed}
 use Rattle.trees.specs.Make.{with_directory}
-use Rattle.trees.specs.Copy.{placed_by, kind_of, change_cause, first_cause, changed_tree}
+use Rattle.trees.specs.Copy.{placed_entry, placed_by, kind_of, change_cause, first_cause, changed_tree}
 
 -- the tree after one change more
 abbrev pub with_change : Meta → TreeMap → Change → TreeMap
@@ -44,3 +50,22 @@ TellsCause Memory found = Unit {0}
 abbrev pub AppliesChanges : Meta → List Change → TreeMap → TreeMap → Result (Unit {0}) (Fault Cause) → Type 0
 AppliesChanges meta changes old new (Ok done) = (first_cause meta old [] changes ≡ None) × ((new ≡ changed_tree meta old changes) × IsTree new)
 AppliesChanges meta changes old new (Err fault) = TellsCause fault (first_cause meta old [] changes)
+
+-- the same, but nothing is said of the tree's being one
+abbrev pub PlacesAll : Meta → List Change → TreeMap → TreeMap → Result (Unit {0}) (Fault Cause) → Type 0
+PlacesAll meta changes old new (Ok done) = (first_cause meta old [] changes ≡ None) × (new ≡ changed_tree meta old changes)
+PlacesAll meta changes old new (Err fault) = TellsCause fault (first_cause meta old [] changes)
+
+-- a COPY of one folder as a whole: folder is what lies below its one match, entries keep mode and owner, and nothing lies below the
+-- destination, from which no path of the folder gets too deep
+pub record IsWholeFolder (tree : TreeMap) (options : CopyOptions) (from : TreeMap) (dest : List (List ℕ)) (sources : List CopySource) (folder : TreeMap) : Type 0 where
+  pub match : List (List ℕ)
+  pub only : sources ≡ Found (match ∷ []) ∷ []
+  pub clean : IsClean dest
+  pub from_is : IsTree from
+  pub lies : IsBelow from match folder
+  pub directory : is_directory (get folder []) ≡ true
+  pub tree_is : IsTree folder
+  pub plain : (entry : Entry) → placed_entry options entry ≡ entry
+  pub free : (name : List ℕ) (rest : List (List ℕ)) → get tree (dest ++ name ∷ rest) ≡ None
+  pub few : (path : List (List ℕ)) → is_some (get folder path) ≡ true → length (dest ++ path) ≤ 64

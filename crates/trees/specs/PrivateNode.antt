@@ -1,7 +1,7 @@
 -- What a node of a stored tree stands for: its own entry, the map of what is below it, and how high it is.
 --
 -- A node knows the names of its children and not its own path, so its map's paths begin at the node itself.
-use Rattle.std.specs.Prelude.{◌≡◌, ℕ, ◌+◌, ◌≤◌, Bool, false, cond, Option, Some, None, List, [], ◌∷◌, ◌++◌, map, not, refl}
+use Rattle.std.specs.Prelude.{◌≡◌, ℕ, ◌+◌, ◌≤◌, Bool, true, false, cond, Option, Some, None, List, [], ◌∷◌, ◌++◌, map, is_some, not, refl}
 use Rattle.std.specs.Coded.{Coded, code_by, coded×, coded_ℕ, coded_list}
 use Rattle.std.specs.Ordering.{eq_by_cmp}
 use Rattle.std.specs.Map.{values_of}
@@ -100,6 +100,21 @@ laid_kid (Some lower) (Some upper) = Some (over (map_of lower) (map_of upper))
 -- children laid over children, name by name
 pub record AreLaid (old upper new : List (List ℕ × NodeValue)) : Type 0 where
   pub at : (c : List ℕ) → laid_kid (find name_cmp c new) None ≡ laid_kid (find name_cmp c old) (find name_cmp c upper)
+
+-- What stands at q once the folder at a path has other things below it, `old` being what stood
+abbrev pub filled : (List (List ℕ) → Option Entry) → TreeMap → List (List ℕ) → List (List ℕ) → Option Entry
+filled old below [] [] = old []
+filled old below [] (c ∷ cs) = get below (c ∷ cs)
+filled old below (d ∷ ds) [] = old []
+filled old below (d ∷ ds) (c ∷ cs) = cond (eq_by_cmp name_cmp c d) (filled (λ q. old (c ∷ q)) below ds cs) (old (c ∷ cs))
+
+-- what stood at each path, with other things below one at which something stood
+pub record IsFilled (old new : List (List ℕ) → Option Entry) (path : List (List ℕ)) (below : TreeMap) : Type 0 where
+  pub at : is_some (old path) ≡ true → (q : List (List ℕ)) → new q ≡ filled old below path q
+
+-- the same below a node, where the path goes on from a name
+pub record AreFilled (old new : TreeMap) (name : List ℕ) (rest : List (List ℕ)) (below : TreeMap) : Type 0 where
+  pub at : is_some (get old (name ∷ rest)) ≡ true → (d : List ℕ) (ds : List (List ℕ)) → get new (d ∷ ds) ≡ filled (get old) below (name ∷ rest) (d ∷ ds)
 
 -- rows as they are seen from further up: each path below this one
 abbrev pub rows_under : List (List ℕ) → List (List (List ℕ) × Entry) → List (List (List ℕ) × Entry)

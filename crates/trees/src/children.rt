@@ -1,12 +1,12 @@
 ghost use Rattle.std.specs.Prelude.{◌≡◌, ◌↔◌, ℕ, true, List, [], ◌∷◌, ◌++◌, is_some, IsTrue, IfOk, OnOk, OnErr, option_copied};
 ghost use Rattle.std.specs.Map.{lookup};
 ghost use Rattle.std.specs.BTreeMap.{is_at};
-ghost use Rattle.std.specs.FinMap.{get, entries};
+ghost use Rattle.std.specs.FinMap.{get, empty, entries};
 ghost use Rattle.paths.specs.Path.{IsClean};
 ghost use Rattle.paths.specs.Order.{name_cmp};
 ghost use Rattle.trees.specs.Rows.{lent_rows};
 ghost use Rattle.trees.specs.Copy.{placements};
-ghost use Rattle.trees.specs.PrivateNode.{joined, rows_under, ArePlanted, AreCut, AreLaid};
+ghost use Rattle.trees.specs.PrivateNode.{joined, rows_under, ArePlanted, AreCut, AreFilled, AreLaid};
 
 use crate::copy::Change;
 use crate::node::Node;
@@ -143,6 +143,38 @@ impl Children {
         Ok(())
     }
 
+    /// Puts what is below a folder below the node at a path that goes on from a name, as [`Node::fill`] does.
+    #[cycle(filling)]
+    pub(crate) fn fill(
+        &mut self,
+        alloc: Global,
+        name: &Text,
+        rest: &[Text],
+        folder: &Node,
+    ) -> Result<(), Memory>
+        ensures { OnOk result (AreFilled (joined self.old) (joined self.new) name.now rest.now folder.now.below) }
+    {
+        if let Some(shared) = &mut self.map {
+            if let Some(map) = Arc::get_mut(shared) {
+                return fill_in(alloc, map, name, rest, folder);
+            }
+        }
+        let mut map = self.own_map(alloc)?;
+        fill_in(alloc, &mut map, name, rest, folder)?;
+        *self = Children::of(alloc, map)?;
+        Ok(())
+    }
+
+    /// Whether there are none.
+    pub(crate) fn is_none(&self) -> bool
+        ensures { IsTrue result → joined self.now ≡ empty }
+    {
+        match &self.map {
+            None => true,
+            Some(map) => map.is_empty(),
+        }
+    }
+
     /// Lays other children over these. Where there is no memory, these are left half done.
     #[cycle(laying)]
     pub(crate) fn lay_over(&mut self, alloc: Global, upper: &Children) -> Result<(), Memory>
@@ -218,6 +250,23 @@ fn cut_in(
     }
     match map.get_mut(name) {
         Some(kid) => kid.cut(alloc, rest),
+        None => Ok(()),
+    }
+}
+
+/// [`Children::fill`] in a map that nobody shares.
+#[cycle(filling)]
+fn fill_in(
+    alloc: Global,
+    map: &mut BTreeMap<Text, Node>,
+    name: &Text,
+    rest: &[Text],
+    folder: &Node,
+) -> Result<(), Memory>
+    ensures { OnOk result (AreFilled (joined map.old.entries) (joined map.new.entries) name.now rest.now folder.now.below) }
+{
+    match map.get_mut(name) {
+        Some(kid) => kid.fill(alloc, rest, folder),
         None => Ok(()),
     }
 }

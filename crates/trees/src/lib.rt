@@ -19,6 +19,7 @@ mod children;
 mod content;
 mod copy;
 mod entry;
+mod folder;
 pub mod laws;
 mod meta;
 mod node;

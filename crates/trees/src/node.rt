@@ -5,7 +5,7 @@ ghost use Rattle.trees.specs.TreeMap.{is_blocked, is_directory, meta_of};
 ghost use Rattle.trees.specs.Rows.{lent_rows};
 ghost use Rattle.trees.specs.Over.{over};
 ghost use Rattle.trees.specs.Copy.{placements, kind_of};
-ghost use Rattle.trees.specs.PrivateNode.{map_of, IsPlanted, IsBelow, IsCut, rows_under};
+ghost use Rattle.trees.specs.PrivateNode.{map_of, IsPlanted, IsBelow, IsCut, IsFilled, rows_under};
 
 use crate::children::Children;
 use crate::copy::Change;
@@ -226,6 +226,27 @@ impl Node {
         }
         self.entry = upper.entry.copy(alloc)?;
         self.kids.lay_over(alloc, &upper.kids)
+    }
+
+    /// Puts what is below a folder below the node at a path, if there is one, in place of what was below that. All of it is shared.
+    #[cycle(filling)]
+    pub(crate) fn fill(&mut self, alloc: Global, path: &[Text], folder: &Node) -> Result<(), Memory>
+        ensures { OnOk result (IsFilled (get (map_of self.old)) (get (map_of self.new)) path.now folder.now.below) }
+    {
+        match path {
+            [] => {
+                self.kids = folder.kids.copy()?;
+                Ok(())
+            }
+            [name, rest @ ..] => self.kids.fill(alloc, name, rest, folder),
+        }
+    }
+
+    /// Whether nothing is below this node.
+    pub(crate) fn is_bare(&self) -> bool
+        ensures { IsTrue result → self.now.below ≡ empty }
+    {
+        self.kids.is_none()
     }
 
     /// Takes away what stands at a path below this node, with all below it. Where there is no memory, nothing has changed.

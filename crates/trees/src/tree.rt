@@ -12,8 +12,9 @@ ghost use Rattle.trees.specs.Over.{over, merged};
 ghost use Rattle.trees.specs.Copy.{copied};
 ghost use Rattle.trees.specs.PrivateNode.{map_of, IsBelow};
 
-use crate::apply::{apply_all, make};
-use crate::changes::{changes_of, goes_into, is_any_missing};
+use crate::apply::make;
+use crate::changes::is_any_missing;
+use crate::folder::place_sources;
 use crate::node::Node;
 use crate::put::cause_at;
 use crate::{Cause, CopyOptions, CopySource, Entry, Meta, TreeFault};
@@ -189,10 +190,8 @@ impl Tree {
         if is_any_missing(from, sources) {
             return Err(Fault::Because(Cause::F1));
         }
-        let into = goes_into(&self.root, dest, options);
-        let changes = changes_of(alloc, options, into, from, dest, sources)?;
         let Tree { mut root } = self;
-        apply_all(alloc, &mut root, &options.parent_meta(), changes)?;
+        place_sources(alloc, &mut root, options, from, dest, sources)?;
         Ok(Tree { root })
     }
 

@@ -1,0 +1,121 @@
+// A COPY of one folder to where nothing lies: what is below the folder is shared, and not placed entry by entry.
+
+ghost use Rattle.std.specs.Prelude.{◌≡◌, ◌≤◌, ℕ, true, None, List, [], ◌∷◌, ◌++◌, drop, length, is_some, IsTrue, IfSome};
+ghost use Rattle.std.specs.FinMap.{get, entries};
+ghost use Rattle.paths.specs.Path.{IsClean};
+ghost use Rattle.trees.specs.declared.entry.Entry.{Entry};
+ghost use Rattle.trees.specs.declared.copy.Change.TheVariants.{Make};
+ghost use Rattle.trees.specs.declared.copy.CopySource.TheVariants.{Found};
+ghost use Rattle.trees.specs.TreeMap.{IsTree};
+ghost use Rattle.trees.specs.Copy.{placed_entry, placements, parent_meta, changes_of, goes_into};
+ghost use Rattle.trees.specs.PrivateCopy.{AppliesChanges, PlacesAll, IsWholeFolder};
+ghost use Rattle.trees.specs.PrivateNode.{map_of};
+
+use crate::apply::{apply_all, make};
+use crate::changes::{changes_of, goes_into};
+use crate::node::Node;
+use crate::{CopyOptions, CopySource, Meta, Tree, TreeFault};
+use paths::Path;
+use std::alloc::Global;
+
+/// The folder that a COPY shares whole: its one match is a directory, it keeps modes and owners, nothing lies below its destination,
+/// and the destination is no deeper than the match, so that no path gets too deep.
+pub(crate) fn whole_folder<'a>(
+    root: &Node,
+    options: &CopyOptions,
+    from: &'a Tree,
+    dest: &Path,
+    sources: &[CopySource],
+) -> Option<&'a Node>
+    requires { IsTree (map_of root.now) }
+    ensures { IfSome result (λ folder. IsWholeFolder (map_of root.now) options.now from.now dest.now sources.now (map_of folder.now)) }
+{
+    let path = only_match(sources)?;
+    let folder = from.node_at(path)?;
+    let keeps = is_keeping(options);
+    let fits = dest.depth() <= path.depth();
+    if keeps && fits && folder.is_directory() && is_free_below(root, dest) {
+        Some(folder)
+    } else {
+        None
+    }
+}
+
+/// The one match of a COPY that has one source with one match.
+fn only_match(sources: &[CopySource]) -> Option<&Path>
+    ensures { IfSome result (λ path. sources.now ≡ Found (path.now ∷ []) ∷ []) }
+{
+    let [source] = sources else {
+        return None;
+    };
+    match source {
+        CopySource::Found(paths) => match paths.as_slice() {
+            [path] => Some(path),
+            _ => None,
+        },
+        CopySource::Data(_, _) => None,
+    }
+}
+
+/// Whether entries are placed with their own modes and owners.
+fn is_keeping(options: &CopyOptions) -> bool
+    ensures { IsTrue result → (entry : Entry) → placed_entry options.now entry ≡ entry }
+{
+    options.owner.is_none() && options.mode.is_none()
+}
+
+/// Whether nothing lies below a path.
+fn is_free_below(root: &Node, path: &Path) -> bool
+    requires { IsTree (map_of root.now) }
+    ensures free { IsTrue result → (name : List ℕ) (rest : List (List ℕ)) → get (map_of root.now) (path.now ++ name ∷ rest) ≡ None }
+    ensures clean { IsClean path.now }
+{
+    match root.node_at(path.components()) {
+        None => true,
+        Some(node) => node.is_bare(),
+    }
+}
+
+/// Places what a COPY places. After a fault the root is left half done.
+pub(crate) fn place_sources(
+    alloc: Global,
+    root: &mut Node,
+    options: &CopyOptions,
+    from: &Tree,
+    dest: &Path,
+    sources: &[CopySource],
+) -> Result<(), TreeFault>
+    requires { IsTree (map_of root.old) }
+    ensures { AppliesChanges (parent_meta options.now) (changes_of options.now (goes_into (map_of root.old) dest.now options.now) from.now dest.now sources.now) (map_of root.old) (map_of root.new) result }
+{
+    let parent = options.parent_meta();
+    match whole_folder(root, options, from, dest, sources) {
+        Some(folder) => place_folder(alloc, root, options, &parent, dest, folder),
+        None => {
+            let into = goes_into(root, dest, options);
+            let changes = changes_of(alloc, options, into, from, dest, sources)?;
+            apply_all(alloc, root, &parent, changes)
+        }
+    }
+}
+
+/// Makes the destination, and shares what is below a folder below it. After a fault the root is left half done.
+pub(crate) fn place_folder(
+    alloc: Global,
+    root: &mut Node,
+    options: &CopyOptions,
+    parent: &Meta,
+    dest: &Path,
+    folder: &Node,
+) -> Result<(), TreeFault>
+    requires tree { IsTree (map_of root.old) }
+    requires below { IsTree (map_of folder.now) }
+    requires plain { (entry : Entry) → placed_entry options.now entry ≡ entry }
+    requires free { (name : List ℕ) (rest : List (List ℕ)) → get (map_of root.old) (dest.now ++ name ∷ rest) ≡ None }
+    requires few { (path : List (List ℕ)) → is_some (get (map_of folder.now) path) ≡ true → length (dest.now ++ path) ≤ 64 }
+    ensures { PlacesAll parent.now (Make dest.now ∷ placements options.now dest.now (drop 1 (entries (map_of folder.now)))) (map_of root.old) (map_of root.new) result }
+{
+    make(alloc, root, parent, dest)?;
+    root.fill(alloc, dest.components(), folder)?;
+    Ok(())
+}
