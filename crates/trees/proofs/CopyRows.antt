@@ -23,7 +23,7 @@ use Rattle.trees.specs.Subtree.{map_below}
 use Rattle.paths.proofs.FrontLaws.{both_first, both_second}
 use Rattle.trees.proofs.NodeLaws.{get-map_of_root}
 use Rattle.trees.proofs.NodeSteps.{node_of}
-use Rattle.trees.proofs.RowLists.{rows_of, entries-node, entries-kids, no-entries}
+use Rattle.trees.proofs.RowLists.{rows_of, entries-node, entries-kids}
 
 abbrev pub Rows : Type 0
 Rows = List (List (List ℕ) × Entry)
@@ -83,9 +83,6 @@ pub items-all : (o : CopyOptions) (at : List (List ℕ)) (kids its : List (List 
     → changes ++ placements o at (rows_of []) ≡ old ++ placements o at (rows_of its) → changes ≡ old ++ placements o at (entries (joined kids))
 items-all o at kids its old changes ordered lent done =
     sym (append-nil changes) ∙ done ∙ (λ i. old ++ placements o at (rows_of (lent i))) ∙ ap (λ rows. old ++ placements o at rows) (sym (entries-kids kids ordered))
-
-pub items-none : (o : CopyOptions) (at : List (List ℕ)) (kids : List (List ℕ × NodeValue)) (old : List Change) → [] ≡ kids → old ≡ old ++ placements o at (entries (joined kids))
-items-none o at kids old none = sym (append-nil old) ∙ (λ i. old ++ placements o at (sym no-entries i)) ∙ (λ i. old ++ placements o at (entries (joined (none i))))
 
 -- they are the node's but for its own entry
 pub items-node : (o : CopyOptions) (at : List (List ℕ)) (value : NodeValue) (top : Entry) (kids : List (List ℕ × NodeValue)) (old changes : List Change) → node_of top kids ≡ value

@@ -6,8 +6,6 @@ use Rattle.trees.specs.Copy.{kind_of}
 use Rattle.std.specs.Map.{lookup}
 use Rattle.std.specs.BTreeMap.{is_at}
 use Rattle.std.specs.Ordering.{eq_by_cmp}
-use Rattle.std.specs.Cmp.{eq_by_cmp_equiv}
-use Rattle.std.specs.Cmp.Lexicographic.{nat_list_cmp_total}
 use Rattle.std.specs.FinMap.{get, find}
 use Rattle.paths.specs.Path.{is_at_or_under}
 use Rattle.trees.specs.declared.entry.Entry.{Entry}
@@ -17,21 +15,11 @@ use Rattle.trees.specs.TreeMap.{TreeMap, IsTree}
 use Rattle.trees.specs.PrivateNode.{NodeValue, map_of, joined}
 use Rattle.paths.proofs.FrontLaws.{name_same}
 use Rattle.trees.specs.Remove.{without, remove_cause, removed}
-use Rattle.trees.specs.PrivateNode.{IsCut, AreCut}
+use Rattle.trees.specs.PrivateNode.{IsCut, AreCut, AreKids}
 use Rattle.trees.proofs.CauseLaws.{tree_or-none}
 use Rattle.trees.proofs.RemoveLaws.{under-cons, without-from_cut, without-IsTree}
 use Rattle.trees.proofs.NodeLaws.{get-map_of_root, get-map_of_cons, get-joined, lookup-find}
-use Rattle.trees.proofs.NodeSteps.{node_of, at_kid, path-parts, IsKid, find_changed}
-
--- of the children, the one of this name is another or none, and all others are the same
-pub record AreKids (old new : List (List ℕ × NodeValue)) (name : List ℕ) (kid : Option NodeValue) : Type 0 where
-  pub at : (d : List ℕ) → find name_cmp d new ≡ cond (eq_by_cmp name_cmp d name) kid (find name_cmp d old)
-
-pub kids-without : (old new : List (List ℕ × NodeValue)) (name : List ℕ) → ((q : List ℕ) → lookup (is_at (name_cmp q)) new ≡ cond (is_at (name_cmp name) q) None (lookup (is_at (name_cmp q)) old)) → AreKids old new name None
-kids-without old new name at = record { at = λ d. sym (lookup-find d new) ∙ at d ∙ (λ i. cond ((eq_by_cmp_equiv nat_list_cmp_total).symm name d i) None (lookup-find d old i)) }
-
-pub kids-changed : (old new : List (List ℕ × NodeValue)) (name : List ℕ) (kid : NodeValue) → IsKid old new name kid → AreKids old new name (Some kid)
-kids-changed old new name kid h = record { at = find_changed old new name kid h }
+use Rattle.trees.proofs.NodeSteps.{node_of, at_kid, path-parts}
 
 pub kids-kept : (old new : List (List ℕ × NodeValue)) (name : List ℕ) → new ≡ old → None ≡ lookup (is_at (name_cmp name)) old → AreKids old new name None
 kids-kept old new name same none = record { at = λ d. ap (find name_cmp d) same ∙ by d (eq_by_cmp name_cmp d name) refl }

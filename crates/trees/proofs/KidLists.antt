@@ -1,24 +1,26 @@
 -- The children of a node as the list of their names and maps, in the order of the names.
-use Rattle.std.specs.Prelude.{◌≡◌, ℕ, Bool, true, false, ◌&&◌, cond, T, IsTrue, Option, Some, None, ◌↔◌, List, [], ◌∷◌, ◌++◌, map, is_some, length, option_and_then, option_map}
-use Rattle.std.proofs.Common.{sym, ap, refl, ◌∙◌, subst, true≢false, append_assoc, unwrap_or, arith}
+use Rattle.std.specs.Prelude.{◌≡◌, ℕ, Bool, true, false, ◌&&◌, cond, T, IsTrue, Option, Some, None, ◌↔◌, List, [], ◌∷◌, ◌++◌, map, is_some, option_and_then, option_map}
+use Rattle.std.proofs.Common.{sym, ap, refl, ◌∙◌, subst, true≢false, append_assoc, unwrap_or}
 use Rattle.std.specs.Ordering.{eq_by_cmp, is_lt, ordering_reverse, match_ordering}
 use Rattle.std.specs.declared.cmp.Ordering.{Ordering}
 use Rattle.std.specs.declared.cmp.Ordering.TheVariants.{Less, Equal, Greater}
 use Rattle.std.specs.Cmp.Lexicographic.{nat_list_cmp_total}
 use Rattle.std.specs.List.{AllByRecursion}
 use Rattle.std.specs.List.Sorted.{IsStrictlySortedBy}
-use Rattle.std.specs.Map.{keys_of}
-use Rattle.std.specs.BTreeMap.{insert_entry}
-use Rattle.std.specs.FinMap.{get, get-empty, find, insert, slice_cmp-IsAntisymmetric, nat_cmp-IsAntisymmetric}
+use Rattle.std.specs.Map.{keys_of, lookup}
+use Rattle.std.specs.Option.{option_or}
+use Rattle.std.specs.BTreeMap.{insert_entry, is_at}
+use Rattle.std.specs.FinMap.{get, find, insert, slice_cmp-IsAntisymmetric, nat_cmp-IsAntisymmetric}
 use Rattle.std.specs.FinMap.Entries.{is_sorted, below_all, same_entries}
 use Rattle.trees.specs.declared.entry.Entry.{Entry}
-use Rattle.paths.specs.Order.{name_cmp, path_cmp}
+use Rattle.paths.specs.Order.{name_cmp}
 use Rattle.trees.specs.TreeMap.{TreeMap}
 use Rattle.trees.specs.PrivateNode.{NodeValue, map_of, joined}
 use Rattle.trees.proofs.TreeLaws.{same_tree}
 use Rattle.paths.proofs.FrontLaws.{both_hold, both_first, both_second, name_itself}
 use Rattle.trees.proofs.NodeSteps.{node_of}
-use Rattle.trees.proofs.NodeLaws.{get-map_of_root, get-map_of_cons, get-joined, get-joined_root}
+use Rattle.trees.proofs.PartLists.{less, find-append, not-below, below-from_under, sorted-under}
+use Rattle.trees.proofs.NodeLaws.{get-map_of_root, get-map_of_cons, get-joined, get-joined_root, lookup-find}
 
 -- the names and maps of children
 abbrev pub kid_map : List ℕ × NodeValue → List ℕ × TreeMap
@@ -89,6 +91,16 @@ unfolding IsStrictlySortedBy
 sorted-from_keys [] h = refl
 sorted-from_keys (k ∷ ks) h = both_hold _ _ (below-from_all k.0 ks h.0) (sorted-from_keys ks h.1)
 
+all-from_below : (c : List ℕ) (ks : List (List ℕ × NodeValue)) → below_all name_cmp c ks ≡ true → AllByRecursion (λ y. name_cmp c y ≡ Less) (keys_of ks)
+all-from_below c [] h = tt
+all-from_below c (k ∷ ks) h = (less (name_cmp c k.0) (both_first _ _ h), all-from_below c ks (both_second (is_lt (name_cmp c k.0)) _ h))
+
+-- and the other way
+pub keys-from_sorted : (ks : List (List ℕ × NodeValue)) → is_sorted name_cmp ks ≡ true → IsStrictlySortedBy name_cmp (keys_of ks)
+unfolding IsStrictlySortedBy
+keys-from_sorted [] h = tt
+keys-from_sorted (k ∷ ks) h = (all-from_below k.0 ks (both_first _ _ h), keys-from_sorted ks (both_second (below_all name_cmp k.0 ks) _ h))
+
 -- ---- the same node
 
 own-same : (a b : Entry) → Some a ≡ Some b → a ≡ b
@@ -118,21 +130,20 @@ same-both v w top top' kids others told v-is w-is tops says =
 pub same-not : (v w : NodeValue) (top top' : Entry) (kids others : List (List ℕ × NodeValue)) (told : Bool) → node_of top kids ≡ v → node_of top' others ≡ w → told ≡ false → IsTrue told ↔ (top ≡ top') → (map_of v ≡ map_of w) → ⊥
 same-not v w top top' kids others told v-is w-is not_told says e = true≢false (sym (says.1 (node-apart v w top top' kids others v-is w-is e)) ∙ not_told)
 
--- children of nothing below them are none
-pub no-kids : (kids : List (List ℕ × NodeValue)) → joined [] ≡ joined kids → kids ≡ []
-no-kids [] e = refl
-no-kids (k ∷ ks) e =
-    absurd (true≢false (sym (ap is_some (sym (get-empty path_cmp (k.0 ∷ [])) ∙ ap (λ m. get m (k.0 ∷ [])) e ∙ get-joined (k ∷ ks) k.0 [] ∙ (λ i. option_and_then (λ v. get (map_of v) []) (cond (tie i) (Some k.1) (find name_cmp k.0 ks))) ∙ get-map_of_root k.1))))
-  where
-    tie : eq_by_cmp name_cmp k.0 k.0 ≡ true
-    tie = name_itself k.0
+-- ---- a child that is gone through
 
-pub same-none : (kids : List (List ℕ × NodeValue)) (told : Bool) → IsTrue told ↔ (length kids ≡ 0) → IsTrue told ↔ (joined [] ≡ joined kids)
-same-none kids told says = (λ t. ap joined (sym (empty kids (says.0 t))), λ e. says.1 (ap length (no-kids kids e)))
-  where
-    empty : (ks : List (List ℕ × NodeValue)) → length ks ≡ 0 → ks ≡ []
-    empty [] e = refl
-    empty (k ∷ ks) e = absurd (omega arith)
+-- among children in order, each is found by its name
+pub found-among : (all before rest its : List (List ℕ × NodeValue)) (name : List ℕ) (kid : NodeValue) → IsStrictlySortedBy name_cmp (keys_of all) → before ++ its ≡ all → its ≡ (name, kid) ∷ rest → lookup (is_at (name_cmp name)) all ≡ Some kid
+found-among all before rest its name kid ordered so_far next =
+    let whole : before ++ (name, kid) ∷ rest ≡ all = ap (λ l. before ++ l) (sym next) ∙ so_far in
+    let sorted : is_sorted name_cmp (before ++ (name, kid) ∷ rest) ≡ true = ap (is_sorted name_cmp) whole ∙ sorted-from_keys all ordered in
+    lookup-find name all ∙ ap (find name_cmp name) (sym whole) ∙ find-append name before ((name, kid) ∷ rest)
+    ∙ (λ i. option_or (not-below name before (below-from_under name kid rest before (sorted-under before ((name, kid) ∷ rest) sorted)) i) (find name_cmp name ((name, kid) ∷ rest)))
+    ∙ ap (λ b. cond b (Some kid) (find name_cmp name rest)) (name_itself name)
+
+-- one was gone through
+pub passed-more : (all before rest its : List (List ℕ × NodeValue)) (name : List ℕ) (kid : NodeValue) → before ++ its ≡ all → its ≡ (name, kid) ∷ rest → (before ++ (name, kid) ∷ []) ++ rest ≡ all
+passed-more all before rest its name kid so_far next = append_assoc before ((name, kid) ∷ []) rest ∙ ap (λ l. before ++ l) (sym next) ∙ so_far
 
 -- ---- one child more
 
@@ -165,6 +176,12 @@ copy-step es its rest all es' key name v kid so_far ordered next done same_key s
 
 pub heads-same : (a b : List ℕ) (m n : TreeMap) (xs ys : List (List ℕ × TreeMap)) → a ≡ b → m ≡ n → ((a, m) ∷ xs ≡ (b, n) ∷ ys) ↔ (xs ≡ ys)
 heads-same a b m n xs ys p q = (λ e. cc, λ e i. (p i, q i) ∷ e i)
+
+-- one more is the same
+pub same-step : {P : Type 0} (its rest js rest' : List (List ℕ × NodeValue)) (a b : List ℕ) (v w : NodeValue) → P ↔ (kid_maps its ≡ kid_maps js) → its ≡ (a, v) ∷ rest → js ≡ (b, w) ∷ rest' → a ≡ b → map_of v ≡ map_of w → P ↔ (kid_maps rest ≡ kid_maps rest')
+same-step its rest js rest' a b v w so_far next other same both =
+    let heads = heads-same a b (map_of v) (map_of w) (kid_maps rest) (kid_maps rest') same both in
+    (λ p. heads.0 (sym (ap kid_maps next) ∙ so_far.0 p ∙ ap kid_maps other), λ e. so_far.1 (ap kid_maps next ∙ heads.1 e ∙ sym (ap kid_maps other)))
 
 -- the start of a comparison, its and js being the children as they were lent
 pub same-start : (kids others its js : List (List ℕ × NodeValue)) → IsStrictlySortedBy name_cmp (keys_of kids) → IsStrictlySortedBy name_cmp (keys_of others) → its ≡ kids → js ≡ others

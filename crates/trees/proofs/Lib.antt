@@ -9,6 +9,8 @@ pub mod CopyTrees
 mod NodeLaws
 mod NodeSteps
 mod KidLists
+mod PartLists
+mod PartSteps
 mod RowLists
 mod TreeSteps
 mod OverSteps

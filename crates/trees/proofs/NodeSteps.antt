@@ -1,5 +1,5 @@
 -- One step down a path, as the code of a node takes it: the path's first name, the child of that name, and the rest of the path.
-use Rattle.std.specs.Prelude.{◌≡◌, ℕ, max, ◌+◌, ◌-◌, ◌<◌, ◌≤◌, Bool, true, false, not, cond, ◌||◌, ◌&&◌, Option, Some, None, List, [], ◌∷◌, length, get_or, take, drop, ◌++◌, MatchOption, option_and_then}
+use Rattle.std.specs.Prelude.{◌≡◌, ℕ, max, ◌+◌, ◌-◌, ◌<◌, ◌≤◌, Bool, true, false, not, cond, ◌||◌, ◌&&◌, Option, Some, None, List, [], ◌∷◌, length, get_or, take, drop, ◌++◌, MatchOption, option_and_then, Result, Ok, Err, OnErr, is_ok}
 use Rattle.std.proofs.Common.{sym, ap, refl, ◌∙◌, subst, true≢false, arith, Bor}
 use Rattle.std.proofs.lemmas.Grind.{common_steps}
 use Rattle.std.proofs.lemmas.Option.{same_Some, none-some}
@@ -17,7 +17,7 @@ use Rattle.trees.specs.declared.entry.Entry.{Entry}
 use Rattle.paths.specs.Order.{name_cmp}
 use Rattle.paths.specs.Fronts.{is_front}
 use Rattle.trees.specs.TreeMap.{is_blocked, is_file, is_directory}
-use Rattle.trees.specs.PrivateNode.{NodeValue, map_of, joined, height_of, IsPlanted, ArePlanted}
+use Rattle.trees.specs.PrivateNode.{NodeValue, map_of, joined, height_of, IsPlanted, ArePlanted, AreKids}
 use Rattle.trees.specs.Put.{planted}
 use Rattle.trees.specs.PrivateNode.{IsBelow}
 use Rattle.paths.proofs.FrontLaws.{name_same, path_eq-cons}
@@ -126,11 +126,21 @@ own-planted value top kids [] parent entry is less = record { at = own_at value 
 pub record IsKid (old new : List (List ℕ × NodeValue)) (name : List ℕ) (kid : NodeValue) : Type 0 where
   pub at : (q : List ℕ) → lookup (is_at (name_cmp q)) new ≡ cond (is_at (name_cmp name) q) (Some kid) (lookup (is_at (name_cmp q)) old)
 
-pub kid-under : (old new : List (List ℕ × NodeValue)) (key name : List ℕ) (kid : NodeValue) → key ≡ name → ((q : List ℕ) → lookup (is_at (name_cmp q)) new ≡ cond (is_at (name_cmp key) q) (Some kid) (lookup (is_at (name_cmp q)) old)) → IsKid old new name kid
-kid-under old new key name kid same at = record { at = λ q. at q ∙ (λ i. cond (is_at (name_cmp (same i)) q) (Some kid) (lookup (is_at (name_cmp q)) old)) }
+-- a child found to be another
+pub is-kid : (old new : List (List ℕ × NodeValue)) (name : List ℕ) (kid : NodeValue) → AreKids old new name (Some kid) → IsKid old new name kid
+is-kid old new name kid h = record { at = λ q. lookup-find q new ∙ h.at q ∙ (λ i. cond (sym ((eq_by_cmp_equiv nat_list_cmp_total).symm name q) i) (Some kid) (sym (lookup-find q old) i)) }
 
-pub kid-from : (old old' new : List (List ℕ × NodeValue)) (name : List ℕ) (kid : NodeValue) → old ≡ old' → IsKid old new name kid → IsKid old' new name kid
-kid-from old old' new name kid same h = subst (λ (o : List (List ℕ × NodeValue)). IsKid o new name kid) same h
+pub kids-from : (old old' new : List (List ℕ × NodeValue)) (name : List ℕ) (kid : Option NodeValue) → old ≡ old' → AreKids old new name kid → AreKids old' new name kid
+kids-from old old' new name kid same h = subst (λ (o : List (List ℕ × NodeValue)). AreKids o new name kid) same h
+
+-- what holds at a refusal holds where there was one
+pub at-err : {A E P : Type 0} (r : Result A E) (e : E) → r ≡ Err e → OnErr r P → P
+at-err (Ok a) e is p = absurd (true≢false (ap is_ok is))
+at-err (Err e') e is p = p
+
+-- what is found is there
+pub there : (kids : List (List ℕ × NodeValue)) (name : List ℕ) (kid : Option NodeValue) → find name_cmp name kids ≡ kid → kid ≡ lookup (is_at (name_cmp name)) kids
+there kids name kid found = sym found ∙ sym (lookup-find name kids)
 
 -- what stands in a child, if there is one
 abbrev pub at_kid : Option NodeValue → List (List ℕ) → Option Entry
@@ -236,6 +246,9 @@ kid-lower (k ∷ ks) name kid has = by_name (is_at (name_cmp name) k.0) k.1 (loo
     by_name : (b : Bool) (v : NodeValue) (r : Option NodeValue) (h : ℕ) (kid : NodeValue) → cond b (Some v) r ≡ Some kid → (r ≡ Some kid → kid.height + 1 ≤ h) → kid.height + 1 ≤ max (v.height + 1) h
     by_name true v r h kid e rest = let same : v.height ≡ kid.height = ap (λ n. n.height) (same_Some v kid e) in omega arith
     by_name false v r h kid e rest = let low : kid.height + 1 ≤ h = rest e in omega arith
+
+pub found-lower : (kids : List (List ℕ × NodeValue)) (name : List ℕ) (kid : NodeValue) → find name_cmp name kids ≡ Some kid → kid.height + 1 ≤ height_of kids
+found-lower kids name kid found = kid-lower kids name kid (lookup-find name kids ∙ found)
 
 -- ---- the node at a path
 

@@ -125,28 +125,17 @@ changed_tree-more old upper now its rest new name kid kid' below changed_tree ne
     }
 
 -- nothing is laid yet, its being the upper children as they were lent
-pub laid-start : (old upper its : List (List ℕ × NodeValue)) → its ≡ upper → IsStrictlySortedBy name_cmp (keys_of upper) → AreLaying old its old its
-laid-start old upper its lent ordered = record { at = λ c. refl; ordered = subst (λ (l : List (List ℕ × NodeValue)). IsStrictlySortedBy name_cmp (keys_of l)) (sym lent) ordered }
+pub laid-start : (old upper its : List (List ℕ × NodeValue)) → its ≡ upper → IsStrictlySortedBy name_cmp (keys_of upper) → AreLaying old upper old its
+laid-start old upper its lent ordered =
+    record { at = λ c. (λ i. laid_kid (find name_cmp c old) (find name_cmp c (lent i))); ordered = subst (λ (l : List (List ℕ × NodeValue)). IsStrictlySortedBy name_cmp (keys_of l)) (sym lent) ordered }
 
 -- what the test for a directory said of the upper node
 pub told_file : (up : NodeValue) (top : Entry) (kids : List (List ℕ × NodeValue)) (told : Bool) → node_of top kids ≡ up → told ≡ is_directory (Some top) → told ≡ false → is_directory (Some up.top) ≡ false
 told_file up top kids told is said held = (λ i. is_directory (Some (sym is i).top)) ∙ sym said ∙ held
 
--- all are laid, its being the upper children as they were lent, and rest those that are left
-pub laid-done : (old upper its new rest : List (List ℕ × NodeValue)) → AreLaying old its new rest → rest ≡ [] → its ≡ upper → AreLaid old upper new
-laid-done old upper its new rest laying none lent =
-    record { at = λ c. (λ i. laid_kid (find name_cmp c new) (find name_cmp c (sym none i))) ∙ laying.at c ∙ (λ i. laid_kid (find name_cmp c old) (find name_cmp c (lent i))) }
-
--- no children laid over others leave them, and laid over none are what stands
-pub laid-none : (old upper : List (List ℕ × NodeValue)) → [] ≡ upper → AreLaid old upper old
-laid-none old upper none = record { at = λ c. (λ i. laid_kid (find name_cmp c old) (find name_cmp c (none i))) }
-
-pub laid-first : (old upper new : List (List ℕ × NodeValue)) → [] ≡ old → new ≡ upper → AreLaid old upper new
-laid-first old upper new none same = record { at = λ c. (λ i. laid_kid (find name_cmp c (same i)) None) ∙ by (find name_cmp c upper) ∙ (λ i. laid_kid (find name_cmp c (none i)) (find name_cmp c upper)) }
-  where
-    by : (o : Option NodeValue) → laid_kid o None ≡ laid_kid None o
-    by None = refl
-    by (Some v) = refl
+-- all are laid, rest being those that are left
+pub laid-done : (old upper new rest : List (List ℕ × NodeValue)) → AreLaying old upper new rest → rest ≡ [] → AreLaid old upper new
+laid-done old upper new rest laying none = record { at = λ c. (λ i. laid_kid (find name_cmp c new) (find name_cmp c (sym none i))) ∙ laying.at c }
 
 -- a directory laid over a node, own being the entry that this one then has
 pub laid-end : (low up : NodeValue) (top own top' : Entry) (old upper new : List (List ℕ × NodeValue)) (told : Bool) → node_of top old ≡ low → node_of top' upper ≡ up → told ≡ is_directory (Some top') → told ≡ true

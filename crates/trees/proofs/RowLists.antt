@@ -186,14 +186,6 @@ pub rows-all : (kids its : List (List ℕ × NodeValue)) (at : List (List ℕ)) 
 rows-all kids its at old rows ordered lent done =
     sym (append-nil rows) ∙ done ∙ (λ i. old ++ rows_under at (rows_of (lent i))) ∙ ap (λ r. old ++ rows_under at r) (sym (entries-kids kids ordered))
 
--- below a node without children are none
-pub no-entries : entries (joined []) ≡ []
-unfolding IsStrictlySortedBy
-no-entries = entries-kids [] tt
-
-pub rows-none : (kids : List (List ℕ × NodeValue)) (at : List (List ℕ)) (old : List (List (List ℕ) × Entry)) → [] ≡ kids → old ≡ old ++ rows_under at (entries (joined kids))
-rows-none kids at old none = sym (append-nil old) ∙ (λ i. old ++ rows_under at (sym no-entries i)) ∙ (λ i. old ++ rows_under at (entries (joined (none i))))
-
 -- and with the node's own before them
 pub rows-node : (value : NodeValue) (top : Entry) (kids : List (List ℕ × NodeValue)) (at own : List (List ℕ)) (entry : Bor Entry) (old first : List (List (List ℕ) × Bor Entry)) (rows : List (List (List ℕ) × Entry)) → node_of top kids ≡ value
     → entry.now ≡ top → own ≡ at → first ≡ old ++ (own, entry) ∷ [] → rows ≡ lent_rows first ++ rows_under at (entries (joined kids)) → rows ≡ lent_rows old ++ rows_under at (entries (map_of value))

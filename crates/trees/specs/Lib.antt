@@ -8,4 +8,6 @@ pub mod Subtree
 pub mod Over
 pub mod Copy
 pub mod PrivateNode
+pub mod PrivateFall
+pub mod PrivateLent
 pub mod PrivateCopy

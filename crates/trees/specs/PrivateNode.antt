@@ -1,13 +1,16 @@
 -- What a node of a stored tree stands for: its own entry, the map of what is below it, and how high it is.
 --
 -- A node knows the names of its children and not its own path, so its map's paths begin at the node itself.
-use Rattle.std.specs.Prelude.{◌≡◌, ℕ, ◌+◌, ◌≤◌, Bool, true, false, cond, Option, Some, None, List, [], ◌∷◌, ◌++◌, map, is_some, not, refl}
+use Rattle.std.specs.Prelude.{◌≡◌, ◌↔◌, ℕ, ◌+◌, ◌<◌, ◌≤◌, Bool, true, false, ◌&&◌, cond, max, IsTrue, Option, Some, None, List, [], ◌∷◌, ◌++◌, map, length, take, drop, is_some, not, refl}
 use Rattle.std.specs.Coded.{Coded, code_by, coded×, coded_ℕ, coded_list}
-use Rattle.std.specs.Ordering.{eq_by_cmp}
-use Rattle.std.specs.Map.{values_of}
+use Rattle.std.specs.Ordering.{eq_by_cmp, is_lt}
+use Rattle.std.specs.List.Sorted.{IsStrictlySortedBy}
+use Rattle.std.specs.Map.{values_of, keys_of, remove_entry, lookup}
 use Rattle.std.specs.Arc.{arc_value}
 use Rattle.std.specs.declared.sync.Arc.{Arc}
-use Rattle.std.specs.BTreeMap.{BTreeMap}
+use Rattle.std.specs.declared.vec.Vec.{Vec}
+use Rattle.std.specs.BTreeMap.{BTreeMap, insert_entry, is_at}
+use Rattle.std.specs.FinMap.Entries.{is_sorted, below_all}
 use Rattle.std.specs.FinMap.{get, insert, empty, entries, retain_keys, find, code}
 use Rattle.std.proofs.Common.{arith}
 use denote.Param.Weighed.{most}
@@ -39,10 +42,86 @@ node_code =
 abbrev pub kids_code : Coded (List (List ℕ × NodeValue))
 kids_code = coded_list (coded× (coded_list coded_ℕ) node_code)
 
--- the children of a folder's map, behind its pointer; none where there is no map
-abbrev pub kids_of : {Z : Type 0} → Option (Arc (BTreeMap (List ℕ) NodeValue) Z) → List (List ℕ × NodeValue)
-kids_of None = []
-kids_of (Some kids) = (arc_value kids).entries
+-- the children of a folder's parts, part by part
+abbrev pub lists_of : {Z : Type 0} → List (Arc (BTreeMap (List ℕ) NodeValue) Z) → List (List (List ℕ × NodeValue))
+lists_of [] = []
+lists_of (part ∷ parts) = (arc_value part).entries ∷ lists_of parts
+
+-- lists, one after the other
+abbrev pub flat : {V : Type 0} → List (List (List ℕ × V)) → List (List ℕ × V)
+flat [] = []
+flat (kids ∷ more) = kids ++ flat more
+
+-- the children of all parts
+abbrev pub kids_of : {Z : Type 0} → Vec (Arc (BTreeMap (List ℕ) NodeValue) Z) Z → List (List ℕ × NodeValue)
+kids_of parts = flat (lists_of parts.items)
+
+-- the children left of a part that was begun
+abbrev pub left_of : {V : Type 0} → Option (List (List ℕ × V)) → List (List ℕ × V)
+left_of None = []
+left_of (Some kids) = kids
+
+-- whether there are any
+abbrev pub is_full : {V : Type 0} → List (List ℕ × V) → Bool
+is_full [] = false
+is_full (kid ∷ kids) = true
+
+-- whether none of the lists is empty
+abbrev pub are_full : {V : Type 0} → List (List (List ℕ × V)) → Bool
+are_full [] = true
+are_full (kids ∷ more) = is_full kids && are_full more
+
+-- no part is empty, and the names rise through all of them
+abbrev pub are_parts : {V : Type 0} → List (List (List ℕ × V)) → Bool
+are_parts lists = are_full lists && is_sorted name_cmp (flat lists)
+
+-- whether each of these names is below the name
+abbrev pub are_below : {V : Type 0} → List ℕ → List (List ℕ × V) → Bool
+are_below name [] = true
+are_below name (kid ∷ kids) = is_lt (name_cmp kid.0 name) && are_below name kids
+
+-- whether the first of these names is above the name
+abbrev pub begins_past : {V : Type 0} → List ℕ → List (List ℕ × V) → Bool
+begins_past name [] = false
+begins_past name (kid ∷ kids) = is_lt (name_cmp name kid.0)
+
+-- the part in which a name stands or would stand: all names before it are below the name, and all behind it above
+pub record IsPlace {V : Type 0} (name : List ℕ) (lists : List (List (List ℕ × V))) (at : ℕ) : Type 0 where
+  pub within : 0 < length lists → at < length lists
+  pub before : are_below name (flat (take at lists)) ≡ true
+  pub behind : below_all name_cmp name (flat (drop (at + 1) lists)) ≡ true
+
+-- a part in which a child was put
+pub record IsPut (name : List ℕ) (kid : NodeValue) (old new : List (List ℕ × NodeValue)) : Type 0 where
+  pub entries : new ≡ insert_entry name_cmp old name kid
+  pub rise : IsStrictlySortedBy name_cmp (keys_of new)
+  pub at : (q : List ℕ) → lookup (is_at (name_cmp q)) new ≡ cond (is_at (name_cmp name) q) (Some kid) (lookup (is_at (name_cmp q)) old)
+
+-- a part from which a child was taken, and whether none is left
+pub record IsTaken (name : List ℕ) (old new : List (List ℕ × NodeValue)) (none_left : Bool) : Type 0 where
+  pub entries : new ≡ remove_entry (is_at (name_cmp name)) old
+  pub rise : IsStrictlySortedBy name_cmp (keys_of new)
+  pub at : (q : List ℕ) → lookup (is_at (name_cmp q)) new ≡ cond (is_at (name_cmp name) q) None (lookup (is_at (name_cmp q)) old)
+  pub left : IsTrue none_left ↔ (length new ≡ 0)
+
+-- a part in two halves
+pub record IsHalved (old lower upper : List (List ℕ × NodeValue)) : Type 0 where
+  pub whole : old ≡ lower ++ upper
+  pub lower_full : is_full lower ≡ true
+  pub upper_full : is_full upper ≡ true
+
+-- a name with others before it
+pub record IsWithin (name : List ℕ) (kids : List (List ℕ × NodeValue)) : Type 0 where
+  pub before : List (List ℕ × NodeValue)
+  pub behind : List (List ℕ × NodeValue)
+  pub kid : NodeValue
+  pub whole : kids ≡ before ++ (name, kid) ∷ behind
+  pub full : is_full before ≡ true
+  pub rise : IsStrictlySortedBy name_cmp (keys_of kids)
+
+-- of the children, the one of this name is another or none, and all others are the same
+pub record AreKids (old new : List (List ℕ × NodeValue)) (name : List ℕ) (kid : Option NodeValue) : Type 0 where
+  pub at : (d : List ℕ) → find name_cmp d new ≡ cond (eq_by_cmp name_cmp d name) kid (find name_cmp d old)
 
 -- the map of a node: its own entry at the root, and what is below it
 abbrev pub map_of : NodeValue → TreeMap
@@ -66,9 +145,18 @@ joined (kid ∷ kids) = insert_all (below_name kid.0 (entries (map_of kid.1))) (
 abbrev pub height_of : List (List ℕ × NodeValue) → ℕ
 height_of kids = most (λ kid. kid.height + 1) (values_of kids)
 
+-- of two lists, one after the other, the higher one counts
+pub height_of-append : (xs ys : List (List ℕ × NodeValue)) → height_of (xs ++ ys) ≡ max (height_of xs) (height_of ys)
+height_of-append [] ys = omega arith
+height_of-append (x ∷ xs) ys = let rest = height_of-append xs ys in omega arith
+
 -- each child is less high than its folder
-pub height_falls : (kids : List (List ℕ × NodeValue)) → most (λ kid. kid.height + 1) (values_of kids) ≤ height_of kids
-height_falls kids = omega arith
+pub height_falls : {Z : Type 0} (parts : List (Arc (BTreeMap (List ℕ) NodeValue) Z)) → most (λ (part : Arc (BTreeMap (List ℕ) NodeValue) Z). most (λ (kid : NodeValue). kid.height + 1) (values_of (arc_value {X = BTreeMap (List ℕ) NodeValue} part).entries)) parts ≤ height_of (flat (lists_of parts))
+height_falls [] = omega arith
+height_falls (part ∷ parts) =
+    let rest = height_falls parts in
+    let e = height_of-append (arc_value part).entries (flat (lists_of parts)) in
+    omega arith
 
 -- the map of a node in which an entry stands at a path, `old` being what stood before
 pub record IsPlanted (old : List (List ℕ) → Option Entry) (new : TreeMap) (path : List (List ℕ)) (parent : Meta) (entry : Entry) : Type 0 where

@@ -1,107 +1,173 @@
-ghost use Rattle.std.specs.Prelude.{◌≡◌, ◌↔◌, ℕ, true, List, [], ◌∷◌, ◌++◌, is_some, IsTrue, IfOk, OnOk, OnErr, option_copied};
-ghost use Rattle.std.specs.Map.{lookup};
+ghost use Rattle.std.specs.Prelude.{◌≡◌, ◌↔◌, ℕ, true, Some, None, List, [], ◌∷◌, ◌++◌, is_some, IsTrue, IfOk, IfErr, OnOk, OnErr, option_copied};
+ghost use Rattle.std.specs.Borrow.{sem};
+ghost use Rattle.std.specs.List.Sorted.{IsStrictlySortedBy};
+ghost use Rattle.std.specs.Map.{lookup, keys_of};
 ghost use Rattle.std.specs.BTreeMap.{is_at};
-ghost use Rattle.std.specs.FinMap.{get, empty, entries};
+ghost use Rattle.std.specs.FinMap.{get, empty, entries, find};
+ghost use Rattle.plain.specs.declared.fault.Fault.TheVariants.{Because};
 ghost use Rattle.paths.specs.Path.{IsClean};
 ghost use Rattle.paths.specs.Order.{name_cmp};
+ghost use Rattle.trees.specs.declared.children.Absent.{Absent};
 ghost use Rattle.trees.specs.Rows.{lent_rows};
 ghost use Rattle.trees.specs.Copy.{placements};
-ghost use Rattle.trees.specs.PrivateNode.{joined, rows_under, ArePlanted, AreCut, AreFilled, AreLaid};
+ghost use Rattle.trees.specs.PrivateNode.{joined, rows_under, AreKids, ArePlanted, AreCut, AreFilled, AreLaid};
+ghost use Rattle.trees.specs.PrivateLent.{LendsKid};
 
 use crate::copy::Change;
+use crate::kids::Kids;
 use crate::node::Node;
+use crate::part::{Part, make_room, own, part_of_one, place, put, share, take_away};
 use crate::{CopyOptions, Entry, Meta};
 use paths::{LongPath, Path};
-use plain::{Exact, Memory, Text};
+use plain::{Exact, Fault, Memory, Text};
 use std::alloc::Global;
-use std::collections::BTreeMap;
 use std::marker::Model;
 use std::sync::Arc;
 
-/// What stands below a node: its children by their names.
+/// There is no child of a name.
+#[derive(Clone, Copy, Debug, PartialEq, Eq)]
+pub(crate) struct Absent;
+
+/// What stands below a node: its children by their names, in parts that copies share.
 ///
-/// Copies share them. A change to children that others share is made in a map of their own, whose nodes share what is below them;
-/// the last holder's map is changed in place. So a change copies the folders on its way and nothing else.
+/// No part is empty, and all names of a part come before all of the next. A change copies the pointers to the parts and the part that
+/// it reaches, whose nodes share what is below them; a part that nobody shares is changed in place. So it costs the folders on its way,
+/// and of each but one part.
 #[derive(Drop)]
 #[cycle(nodes)]
 pub(crate) struct Children {
-    map: Option<Arc<BTreeMap<Text, Node>, Global>>,
+    parts: Vec<Part>,
 }
 
 impl Model for Children {
-    ghost use Rattle.std.specs.Prelude.{ℕ, List};
-    ghost use Rattle.trees.specs.PrivateNode.{NodeValue, kids_code, kids_of, height_of, height_falls};
-    ghost use Rattle.std.proofs.Common.{arith};
+    ghost use Rattle.std.specs.Prelude.{◌≡◌, true, ℕ, List};
+    ghost use Rattle.trees.specs.PrivateNode.{NodeValue, kids_code, lists_of, kids_of, are_parts, height_of};
 
     ghost Value = { List (List ℕ × NodeValue) };
 
     ghost coded = { kids_code };
 
-    ghost view = { λ c. kids_of c.map };
+    ghost view = { λ c. kids_of c.parts };
+
+    ghost invariant = { λ c. are_parts (lists_of c.parts.items) ≡ true };
 
     ghost size = { height_of };
 
-    ghost size_decreases = { λ a h. Prim.grind (arith, height_falls) };
+    ghost use Rattle.trees.specs.PrivateFall.{children_fall};
+
+    ghost size_decreases = { λ a h. children_fall a };
 }
 
 impl Children {
     /// No children. It takes no memory.
-    pub(crate) fn none() -> Children
+    pub(crate) fn none(alloc: Global) -> Children
         ensures { result ≡ [] }
     {
-        Children { map: None }
+        Children {
+            parts: Vec::new(alloc),
+        }
     }
 
     /// One child.
     pub(crate) fn one(alloc: Global, name: &Text, kid: Node) -> Result<Children, Memory>
         ensures { IfOk result (λ kids. kids ≡ (name.now, kid) ∷ []) }
     {
-        let mut map = BTreeMap::new(alloc);
-        map.insert(name.copy(alloc)?, kid)?;
-        Children::of(alloc, map)
-    }
-
-    /// The children of a map.
-    fn of(alloc: Global, map: BTreeMap<Text, Node>) -> Result<Children, Memory>
-        ensures { IfOk result (λ kids. kids ≡ map.entries) }
-    {
-        let map = Arc::new(alloc, map)?;
-        Ok(Children { map: Some(map) })
+        let part = part_of_one(alloc, name, kid)?;
+        let mut parts = Vec::new(alloc);
+        parts.push(part)?;
+        Ok(Children { parts })
     }
 
     /// The child of a name.
     pub(crate) fn get(&self, name: &Text) -> Option<&Node>
         ensures value { option_copied result ≡ lookup (is_at (name_cmp name.now)) self.now }
     {
-        match &self.map {
+        let at = place(self.parts.as_slice(), name);
+        match self.parts.get(at) {
+            Some(part) => part.get(name),
             None => None,
-            Some(map) => map.get(name),
         }
     }
 
-    /// The same children, shared. It takes no memory, but a pointer can have only so many copies.
-    pub(crate) fn copy(&self) -> Result<Children, Memory>
+    /// The same children, each part of which is shared.
+    pub(crate) fn copy(&self, alloc: Global) -> Result<Children, Memory>
         ensures { IfOk result (λ kids. kids ≡ self.now) }
     {
-        match &self.map {
-            None => Ok(Children { map: None }),
-            Some(map) => {
-                let map = Arc::try_clone(map)?;
-                Ok(Children { map: Some(map) })
-            }
-        }
+        let parts = share(alloc, self.parts.as_slice())?;
+        Ok(Children { parts })
     }
 
-    /// The same children in a map of its own; each shares what is below it.
-    fn own_map(&self, alloc: Global) -> Result<BTreeMap<Text, Node>, Memory>
-        ensures { IfOk result (λ map. map.entries ≡ self.now) }
+    /// All children, in the order of their names.
+    pub(crate) fn iter(&self) -> Kids<'_>
+        ensures all { result ≡ self.now }
+        ensures ordered { IsStrictlySortedBy name_cmp (keys_of self.now) }
     {
-        match &self.map {
-            None => Ok(BTreeMap::new(alloc)),
-            Some(map) => copy_of(alloc, map),
+        Kids::of(self.parts.as_slice())
+    }
+
+    /// Whether there are none.
+    pub(crate) fn is_none(&self) -> bool
+        ensures { IsTrue result ↔ (self.now ≡ []) }
+    {
+        self.parts.is_empty()
+    }
+
+    /// The child of a name, lent to be changed: its part is made this holder's own first. The children stay as they are until it is.
+    pub(crate) fn own_mut(&mut self, alloc: Global, name: &Text) -> Result<&mut Node, Fault<Absent>>
+        ensures* lends { sem 𝓛 (LendsKid self.entry name.now result) }
+        ensures kid { IfOk result (λ kid. find name_cmp name.now self.old ≡ Some kid.now) }
+        ensures absent { IfErr result (λ fault. (why : Absent) → fault ≡ Because why → find name_cmp name.now self.old ≡ None) }
+    {
+        let at = place(self.parts.as_slice(), name);
+        let Some(part) = self.parts.get_mut(at) else {
+            return Err(Fault::Because(Absent));
+        };
+        if let Err(Memory) = own(alloc, part) {
+            return Err(Fault::Memory);
+        }
+        let Some(map) = Arc::get_mut(part) else {
+            return Err(Fault::Memory);
+        };
+        match map.get_mut(name) {
+            Some(kid) => Ok(kid),
+            None => Err(Fault::Because(Absent)),
         }
     }
 
+    /// Puts a child under a name. Where there is no memory, nothing has changed.
+    pub(crate) fn insert(&mut self, alloc: Global, name: &Text, kid: Node) -> Result<(), Memory>
+        ensures ok { OnOk result (AreKids self.old self.new name.now (Some kid)) }
+        ensures err { OnErr result (self.new ≡ self.old) }
+    {
+        if self.parts.is_empty() {
+            let part = part_of_one(alloc, name, kid)?;
+            self.parts.push(part)?;
+            return Ok(());
+        }
+        let full = place(self.parts.as_slice(), name);
+        make_room(alloc, &mut self.parts, full)?;
+        let at = place(self.parts.as_slice(), name);
+        put(alloc, &mut self.parts[at], name, kid)
+    }
+
+    /// Takes the child of a name away, if there is one. Where there is no memory, nothing has changed.
+    pub(crate) fn remove(&mut self, alloc: Global, name: &Text) -> Result<(), Memory>
+        ensures ok { OnOk result (AreKids self.old self.new name.now None) }
+        ensures err { OnErr result (self.new ≡ self.old) }
+    {
+        let at = place(self.parts.as_slice(), name);
+        let Some(part) = self.parts.get_mut(at) else {
+            return Ok(());
+        };
+        let none_left = take_away(alloc, part, name)?;
+        if none_left {
+            self.parts.remove(at);
+        }
+        Ok(())
+    }
+}
+
+impl Children {
     /// Puts an entry at a path that goes on from a name. Missing parents are made. Where there is no memory, nothing has changed.
     #[cycle(planting)]
     pub(crate) fn plant(
@@ -115,15 +181,14 @@ impl Children {
         ensures ok { OnOk result (ArePlanted (joined self.old) (joined self.new) name.now rest.now parent entry) }
         ensures err { OnErr result (joined self.new ≡ joined self.old) }
     {
-        if let Some(shared) = &mut self.map {
-            if let Some(map) = Arc::get_mut(shared) {
-                return plant_in(alloc, map, name, rest, parent, entry);
+        match self.own_mut(alloc, name) {
+            Ok(kid) => kid.plant(alloc, rest, parent, entry),
+            Err(Fault::Because(_)) => {
+                let kid = Node::chain(alloc, rest, parent, entry)?;
+                self.insert(alloc, name, kid)
             }
+            Err(Fault::Memory) => Err(Memory),
         }
-        let mut map = self.own_map(alloc)?;
-        plant_in(alloc, &mut map, name, rest, parent, entry)?;
-        *self = Children::of(alloc, map)?;
-        Ok(())
     }
 
     /// Takes away what stands at a path that goes on from a name, with all below it. Where there is no memory, nothing has changed.
@@ -132,15 +197,14 @@ impl Children {
         ensures ok { OnOk result (AreCut (joined self.old) (joined self.new) name.now rest.now) }
         ensures err { OnErr result (joined self.new ≡ joined self.old) }
     {
-        if let Some(shared) = &mut self.map {
-            if let Some(map) = Arc::get_mut(shared) {
-                return cut_in(alloc, map, name, rest);
-            }
+        if rest.is_empty() {
+            return self.remove(alloc, name);
         }
-        let mut map = self.own_map(alloc)?;
-        cut_in(alloc, &mut map, name, rest)?;
-        *self = Children::of(alloc, map)?;
-        Ok(())
+        match self.own_mut(alloc, name) {
+            Ok(kid) => kid.cut(alloc, rest),
+            Err(Fault::Because(_)) => Ok(()),
+            Err(Fault::Memory) => Err(Memory),
+        }
     }
 
     /// Puts what is below a folder below the node at a path that goes on from a name, as [`Node::fill`] does.
@@ -154,24 +218,10 @@ impl Children {
     ) -> Result<(), Memory>
         ensures { OnOk result (AreFilled (joined self.old) (joined self.new) name.now rest.now folder.now.below) }
     {
-        if let Some(shared) = &mut self.map {
-            if let Some(map) = Arc::get_mut(shared) {
-                return fill_in(alloc, map, name, rest, folder);
-            }
-        }
-        let mut map = self.own_map(alloc)?;
-        fill_in(alloc, &mut map, name, rest, folder)?;
-        *self = Children::of(alloc, map)?;
-        Ok(())
-    }
-
-    /// Whether there are none.
-    pub(crate) fn is_none(&self) -> bool
-        ensures { IsTrue result → joined self.now ≡ empty }
-    {
-        match &self.map {
-            None => true,
-            Some(map) => map.is_empty(),
+        match self.own_mut(alloc, name) {
+            Ok(kid) => kid.fill(alloc, rest, folder),
+            Err(Fault::Because(_)) => Ok(()),
+            Err(Fault::Memory) => Err(Memory),
         }
     }
 
@@ -180,115 +230,20 @@ impl Children {
     pub(crate) fn lay_over(&mut self, alloc: Global, upper: &Children) -> Result<(), Memory>
         ensures { OnOk result (AreLaid self.old upper.now self.new) }
     {
-        let Some(uppers) = &upper.map else {
-            return Ok(());
-        };
-        if self.map.is_none() {
-            *self = upper.copy()?;
+        if self.is_none() {
+            *self = upper.copy(alloc)?;
             return Ok(());
         }
-        if let Some(shared) = &mut self.map {
-            if let Some(map) = Arc::get_mut(shared) {
-                return lay_in(alloc, map, uppers);
+        let mut uppers = upper.iter();
+        while let Some((name, kid)) = uppers.next() {
+            match self.own_mut(alloc, name) {
+                Ok(below) => below.lay_over(alloc, kid)?,
+                Err(Fault::Because(_)) => self.insert(alloc, name, kid.copy(alloc)?)?,
+                Err(Fault::Memory) => return Err(Memory),
             }
         }
-        let mut map = self.own_map(alloc)?;
-        lay_in(alloc, &mut map, uppers)?;
-        *self = Children::of(alloc, map)?;
         Ok(())
     }
-}
-
-/// A map of its own with the same nodes, each of which shares what is below it.
-fn copy_of(alloc: Global, map: &BTreeMap<Text, Node>) -> Result<BTreeMap<Text, Node>, Memory>
-    ensures { IfOk result (λ copy. copy.entries ≡ map.now.entries) }
-{
-    let mut copy = BTreeMap::new(alloc);
-    for (name, kid) in map.iter() {
-        copy.insert(name.copy(alloc)?, kid.copy(alloc)?)?;
-    }
-    Ok(copy)
-}
-
-/// [`Children::plant`] in a map that nobody shares.
-#[cycle(planting)]
-fn plant_in(
-    alloc: Global,
-    map: &mut BTreeMap<Text, Node>,
-    name: &Text,
-    rest: &[Text],
-    parent: Meta,
-    entry: Entry,
-) -> Result<(), Memory>
-    ensures ok { OnOk result (ArePlanted (joined map.old.entries) (joined map.new.entries) name.now rest.now parent entry) }
-    ensures err { OnErr result (joined map.new.entries ≡ joined map.old.entries) }
-{
-    match map.get_mut(name) {
-        Some(kid) => kid.plant(alloc, rest, parent, entry),
-        None => {
-            let kid = Node::chain(alloc, rest, parent, entry)?;
-            map.insert(name.copy(alloc)?, kid)?;
-            Ok(())
-        }
-    }
-}
-
-/// [`Children::cut`] in a map that nobody shares.
-#[cycle(cutting)]
-fn cut_in(
-    alloc: Global,
-    map: &mut BTreeMap<Text, Node>,
-    name: &Text,
-    rest: &[Text],
-) -> Result<(), Memory>
-    ensures ok { OnOk result (AreCut (joined map.old.entries) (joined map.new.entries) name.now rest.now) }
-    ensures err { OnErr result (joined map.new.entries ≡ joined map.old.entries) }
-{
-    if rest.is_empty() {
-        map.remove(name);
-        return Ok(());
-    }
-    match map.get_mut(name) {
-        Some(kid) => kid.cut(alloc, rest),
-        None => Ok(()),
-    }
-}
-
-/// [`Children::fill`] in a map that nobody shares.
-#[cycle(filling)]
-fn fill_in(
-    alloc: Global,
-    map: &mut BTreeMap<Text, Node>,
-    name: &Text,
-    rest: &[Text],
-    folder: &Node,
-) -> Result<(), Memory>
-    ensures { OnOk result (AreFilled (joined map.old.entries) (joined map.new.entries) name.now rest.now folder.now.below) }
-{
-    match map.get_mut(name) {
-        Some(kid) => kid.fill(alloc, rest, folder),
-        None => Ok(()),
-    }
-}
-
-/// [`Children::lay_over`] in a map that nobody shares.
-#[cycle(laying)]
-fn lay_in(
-    alloc: Global,
-    map: &mut BTreeMap<Text, Node>,
-    uppers: &BTreeMap<Text, Node>,
-) -> Result<(), Memory>
-    ensures { OnOk result (AreLaid map.old.entries uppers.now.entries map.new.entries) }
-{
-    for (name, kid) in uppers.iter() {
-        match map.get_mut(name) {
-            Some(below) => below.lay_over(alloc, kid)?,
-            None => {
-                map.insert(name.copy(alloc)?, kid.copy(alloc)?)?;
-            }
-        }
-    }
-    Ok(())
 }
 
 impl Children {
@@ -297,12 +252,22 @@ impl Children {
     pub(crate) fn same(&self, other: &Children) -> bool
         ensures { IsTrue result ↔ (joined self.now ≡ joined other.now) }
     {
-        match (&self.map, &other.map) {
-            (None, None) => true,
-            (None, Some(others)) => others.is_empty(),
-            (Some(map), None) => map.is_empty(),
-            (Some(map), Some(others)) => same_maps(map, others),
+        let mut kids = self.iter();
+        let mut others = other.iter();
+        while let Some((name, kid)) = kids.next() {
+            match others.next() {
+                Some((other_name, other_kid)) => {
+                    if !name.same(other_name) {
+                        return false;
+                    }
+                    if !kid.same(other_kid) {
+                        return false;
+                    }
+                }
+                None => return false,
+            }
         }
+        others.next().is_none()
     }
 
     /// Adds a row for each entry of these children and below them, in path order, their folder's path being `at`.
@@ -316,10 +281,12 @@ impl Children {
         requires { (q : List (List ℕ)) → is_some (get (joined self.now) q) ≡ true → IsClean (at.now ++ q) }
         ensures { OnOk result (lent_rows rows.new.items ≡ lent_rows rows.old.items ++ rows_under at.now (entries (joined self.now))) }
     {
-        match &self.map {
-            None => Ok(()),
-            Some(map) => push_rows_of(alloc, map, at, rows),
+        let mut kids = self.iter();
+        while let Some((name, kid)) = kids.next() {
+            let below = at.child(alloc, name)?;
+            kid.push_rows(alloc, &below, rows)?;
         }
+        Ok(())
     }
 
     /// Adds a change for each entry of these children and below them, in path order: it is placed below `at`, at its path from
@@ -335,67 +302,13 @@ impl Children {
         requires { (q : List (List ℕ)) → is_some (get (joined self.now) q) ≡ true → IsClean q }
         ensures { OnOk result (changes.new.items ≡ changes.old.items ++ placements options.now at.now (entries (joined self.now))) }
     {
-        match &self.map {
-            None => Ok(()),
-            Some(map) => push_changes_of(alloc, options, map, at, changes),
+        let mut kids = self.iter();
+        while let Some((name, kid)) = kids.next() {
+            let below = at.child(alloc, name)?;
+            let entry = options.placed_entry(alloc, kid.entry())?;
+            changes.push(Change::Place(below.copy(alloc)?, entry))?;
+            kid.push_changes(alloc, options, &below, changes)?;
         }
+        Ok(())
     }
-}
-
-/// [`Children::push_rows`] of a map.
-#[cycle(listing)]
-fn push_rows_of<'a>(
-    alloc: Global,
-    map: &'a BTreeMap<Text, Node>,
-    at: &Path,
-    rows: &mut Vec<(Path, &'a Entry)>,
-) -> Result<(), Memory>
-    requires { (q : List (List ℕ)) → is_some (get (joined map.now.entries) q) ≡ true → IsClean (at.now ++ q) }
-    ensures { OnOk result (lent_rows rows.new.items ≡ lent_rows rows.old.items ++ rows_under at.now (entries (joined map.now.entries))) }
-{
-    for (name, kid) in map.iter() {
-        let below = at.child(alloc, name)?;
-        kid.push_rows(alloc, &below, rows)?;
-    }
-    Ok(())
-}
-
-/// [`Children::push_changes`] of a map.
-#[cycle(changing)]
-fn push_changes_of(
-    alloc: Global,
-    options: &CopyOptions,
-    map: &BTreeMap<Text, Node>,
-    at: &LongPath,
-    changes: &mut Vec<Change>,
-) -> Result<(), Memory>
-    requires { (q : List (List ℕ)) → is_some (get (joined map.now.entries) q) ≡ true → IsClean q }
-    ensures { OnOk result (changes.new.items ≡ changes.old.items ++ placements options.now at.now (entries (joined map.now.entries))) }
-{
-    for (name, kid) in map.iter() {
-        let below = at.child(alloc, name)?;
-        let entry = options.placed_entry(alloc, kid.entry())?;
-        changes.push(Change::Place(below.copy(alloc)?, entry))?;
-        kid.push_changes(alloc, options, &below, changes)?;
-    }
-    Ok(())
-}
-
-/// Whether the two stand for the same map.
-#[cycle(comparing)]
-fn same_maps(map: &BTreeMap<Text, Node>, other: &BTreeMap<Text, Node>) -> bool
-    ensures { IsTrue result ↔ (joined map.now.entries ≡ joined other.now.entries) }
-{
-    let mut others = other.iter();
-    for (name, kid) in map.iter() {
-        match others.next() {
-            Some((other_name, other_kid)) => {
-                if !(name.same(other_name) && kid.same(other_kid)) {
-                    return false;
-                }
-            }
-            None => return false,
-        }
-    }
-    others.next().is_none()
 }

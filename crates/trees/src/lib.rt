@@ -20,9 +20,11 @@ mod content;
 mod copy;
 mod entry;
 mod folder;
+mod kids;
 pub mod laws;
 mod meta;
 mod node;
+mod part;
 mod put;
 mod tree;
 

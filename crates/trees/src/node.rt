@@ -43,13 +43,13 @@ impl Model for Node {
 
 impl Node {
     /// An entry with nothing below it. It takes no memory.
-    pub(crate) fn leaf(entry: Entry) -> Node
+    pub(crate) fn leaf(alloc: Global, entry: Entry) -> Node
         ensures top { result.top ≡ entry }
         ensures below { result.below ≡ empty }
     {
         Node {
             entry,
-            kids: Children::none(),
+            kids: Children::none(alloc),
         }
     }
 
@@ -133,7 +133,7 @@ impl Node {
         ensures { IfOk result (λ n. IsPlanted (λ _. None) (map_of n) path.now parent entry) }
     {
         match path {
-            [] => Ok(Node::leaf(entry)),
+            [] => Ok(Node::leaf(alloc, entry)),
             [name, rest @ ..] => {
                 let kid = Node::chain(alloc, rest, parent, entry)?;
                 Ok(Node {
@@ -181,7 +181,7 @@ impl Node {
         ensures { IfOk result (λ n. n ≡ self.now) }
     {
         let entry = self.entry.copy(alloc)?;
-        let kids = self.kids.copy()?;
+        let kids = self.kids.copy(alloc)?;
         Ok(Node { entry, kids })
     }
 
@@ -235,7 +235,7 @@ impl Node {
     {
         match path {
             [] => {
-                self.kids = folder.kids.copy()?;
+                self.kids = folder.kids.copy(alloc)?;
                 Ok(())
             }
             [name, rest @ ..] => self.kids.fill(alloc, name, rest, folder),

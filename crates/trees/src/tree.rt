@@ -44,11 +44,11 @@ impl Model for Tree {
 
 impl Tree {
     /// Just the root, a directory with 0755 and owner 0:0: what `FROM scratch` begins with. It takes no memory.
-    pub fn empty(_alloc: Global) -> Tree
+    pub fn empty(alloc: Global) -> Tree
         ensures { result ≡ empty_tree }
     {
         Tree {
-            root: Node::leaf(Entry::Directory(Meta::directory())),
+            root: Node::leaf(alloc, Entry::Directory(Meta::directory())),
         }
     }
 

@@ -1,29 +1,47 @@
-use Rattle.std.proofs.Common.{ap, subst, refl, IsSome, None, Some}
+use Rattle.std.proofs.Common.{ap, refl, None, Some}
 use Rattle.std.proofs.lemmas.Result.{on_ok_weaker, on_err_weaker}
-use Rattle.std.specs.declared.option.Option.{Option}
-use Rattle.trees.specs.PrivateNode.{NodeValue}
 use Rattle.trees.proofs.NodeSteps.{keep-kid}
-use Rattle.trees.proofs.CutSteps.{cut-kid, cut-step, cut-empty, cut-none, kids-without, kids-changed, kids-kept}
+use Rattle.trees.proofs.CutSteps.{cut-kid, cut-step, cut-empty, cut-none, kids-kept}
+use Rattle.std.proofs.Common.{◌≡◌, ◌+◌, ◌<◌, arith}
+use Rattle.trees.specs.PrivateNode.{height_of}
+use Rattle.trees.proofs.CutSteps.{long-path}
+use Rattle.std.specs.Prelude.{is_ok}
+use Rattle.trees.proofs.NodeSteps.{is-kid, at-err, there, found-lower}
 use Rattle.trees.proofs.+cutting.Goals as goal
-
-pub children::cut_in-returns-then-is_empty-clause-ok : goal.children::cut_in-returns-then-is_empty-clause-ok
-children::cut_in-returns-then-is_empty-clause-ok t c =
-    cut-kid c.args.map.now.entries c.remove.new.self.entries c.args.name.now _ None _ refl (kids-without _ _ _ c.remove.ensures.updates.0) (cut-empty _ _ c.is_empty.result c.is_empty.ensures c.if-is_empty.true)
-
-pub children::cut_in-returns-in-Some-clause-ok : goal.children::cut_in-returns-in-Some-clause-ok
-children::cut_in-returns-in-Some-clause-ok t c =
-    let changed = ((c.get_mut.follows.holds c.cut.new.self).3 (subst (λ (o : Option NodeValue). IsSome o) c.in-Some.ensures.value refl)).0 in
-    on_ok_weaker _ (cut-kid c.args.map.now.entries (c.get_mut.follows.lender c.cut.new.self).entries c.args.name.now _ (Some c.cut.new.self) _ c.in-Some.ensures.value (kids-changed _ _ _ c.cut.new.self (record { at = changed }))) c.cut.ensures.ok
-
-pub children::cut_in-returns-in-Some-clause-err : goal.children::cut_in-returns-in-Some-clause-err
-children::cut_in-returns-in-Some-clause-err t c =
-    let changed = ((c.get_mut.follows.holds c.cut.new.self).3 (subst (λ (o : Option NodeValue). IsSome o) c.in-Some.ensures.value refl)).0 in
-    on_err_weaker _ (keep-kid c.args.map.now.entries (c.get_mut.follows.lender c.cut.new.self).entries c.args.name.now c.cut.new.self _ c.in-Some.ensures.value (record { at = changed })) c.cut.ensures.err
-
-pub children::cut_in-returns-in-None-clause-ok : goal.children::cut_in-returns-in-None-clause-ok
-children::cut_in-returns-in-None-clause-ok t c =
-    cut-kid c.args.map.now.entries c.get_mut.follows.lender-at-none.entries c.args.name.now _ None None c.in-None.ensures.value (kids-kept _ _ _ (ap (λ m. m.entries) c.get_mut.follows.holds-at-none) c.in-None.ensures.value) (cut-none _)
 
 pub node::Node::cut-returns-in-len1-up-clause-ok : goal.node::Node::cut-returns-in-len1-up-clause-ok
 node::Node::cut-returns-in-len1-up-clause-ok t c =
     on_ok_weaker _ (cut-step _ _ c.self.inside.kids c.cut.new.self _ c.name-item.result c.self.view_is c.in-len1-up.len_at_least c.name-item.is) c.cut.ensures.ok
+
+pub children::Children::cut-cut-requires : goal.children::Children::cut-cut-requires
+children::Children::cut-cut-requires t c =
+    let low = found-lower c.args.self.now c.args.name.now c.in-Ok.kid.now c.in-Ok.ensures.kid in
+    let d : height_of c.args.self.now + height_of c.args.self.now + 1 ≡ t = c.decreases in
+    let g : c.in-Ok.kid.now.height + c.in-Ok.kid.now.height < t = omega arith in
+    (g, long-path c.args.rest.now c.is_empty.result c.is_empty.ensures c.if-is_empty.false)
+
+pub node::Node::cut-cut-requires : goal.node::Node::cut-cut-requires
+node::Node::cut-cut-requires t c =
+    let same : height_of c.self.inside.kids + 1 ≡ c.args.self.now.height = ap (λ v. v.height) c.self.view_is in
+    let d : c.args.self.now.height + c.args.self.now.height ≡ t = c.decreases in
+    let g : height_of c.self.inside.kids + height_of c.self.inside.kids + 1 < t = omega arith in
+    (g, tt)
+
+pub children::Children::cut-returns-then-is_empty-clause-ok : goal.children::Children::cut-returns-then-is_empty-clause-ok
+children::Children::cut-returns-then-is_empty-clause-ok t c =
+    on_ok_weaker _ (λ h. cut-kid c.args.self.now c.remove.new.self c.args.name.now _ None _ refl h (cut-empty _ _ c.is_empty.result c.is_empty.ensures c.if-is_empty.true)) c.remove.ensures.ok
+
+pub children::Children::cut-returns-in-Ok-clause-ok : goal.children::Children::cut-returns-in-Ok-clause-ok
+children::Children::cut-returns-in-Ok-clause-ok t c =
+    let new = c.own_mut.follows.lender c.cut.new.self in
+    on_ok_weaker _ (cut-kid c.args.self.now new c.args.name.now _ (Some c.cut.new.self) _ (there c.args.self.now c.args.name.now (Some c.in-Ok.kid.now) c.in-Ok.ensures.kid) (c.own_mut.follows.holds c.cut.new.self (ap is_ok c.in-Ok.is))) c.cut.ensures.ok
+
+pub children::Children::cut-returns-in-Ok-clause-err : goal.children::Children::cut-returns-in-Ok-clause-err
+children::Children::cut-returns-in-Ok-clause-err t c =
+    let new = c.own_mut.follows.lender c.cut.new.self in
+    on_err_weaker _ (keep-kid c.args.self.now new c.args.name.now c.cut.new.self c.in-Ok.kid.now (there c.args.self.now c.args.name.now (Some c.in-Ok.kid.now) c.in-Ok.ensures.kid) (is-kid c.args.self.now new c.args.name.now c.cut.new.self (c.own_mut.follows.holds c.cut.new.self (ap is_ok c.in-Ok.is)))) c.cut.ensures.err
+
+pub children::Children::cut-returns-in-Err-Because-clause-ok : goal.children::Children::cut-returns-in-Err-Because-clause-ok
+children::Children::cut-returns-in-Err-Because-clause-ok t c =
+    let none = there c.args.self.now c.args.name.now None (c.in-Err-Because.ensures.absent c.in-Err-Because.field-0-0 c.in-Err-Because.field-0-is) in
+    cut-kid c.args.self.now c.own_mut.follows.lender-at-none c.args.name.now _ None None none (kids-kept _ _ _ (at-err c.own_mut.result c.in-Err-Because.field-0 c.in-Err-Because.is c.own_mut.follows.holds-at-none) none) (cut-none _)

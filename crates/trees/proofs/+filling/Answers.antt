@@ -1,17 +1,12 @@
-use Rattle.std.proofs.Common.{◌∙◌, ap, subst, refl, IsSome}
+use Rattle.std.proofs.Common.{◌∙◌, ap}
 use Rattle.std.proofs.lemmas.Result.{on_ok_weaker}
-use Rattle.std.specs.declared.option.Option.{Option}
 use Rattle.trees.specs.PrivateNode.{NodeValue, joined}
 use Rattle.trees.proofs.FillSteps.{fill-kid, fill-none, fill-step, fill-own}
+use Rattle.std.proofs.Common.{◌≡◌, ◌+◌, ◌<◌, Some, None, arith}
+use Rattle.trees.specs.PrivateNode.{height_of}
+use Rattle.std.specs.Prelude.{is_ok}
+use Rattle.trees.proofs.NodeSteps.{is-kid, there, found-lower}
 use Rattle.trees.proofs.+filling.Goals as goal
-
-pub children::fill_in-returns-in-Some : goal.children::fill_in-returns-in-Some
-children::fill_in-returns-in-Some t c =
-    let changed = ((c.get_mut.follows.holds c.fill.new.self).3 (subst (λ (o : Option NodeValue). IsSome o) c.in-Some.ensures.value refl)).0 in
-    on_ok_weaker _ (fill-kid c.args.map.now.entries (c.get_mut.follows.lender c.fill.new.self).entries c.args.name.now _ _ c.fill.new.self _ c.in-Some.ensures.value (record { at = changed })) c.fill.ensures
-
-pub children::fill_in-returns-in-None : goal.children::fill_in-returns-in-None
-children::fill_in-returns-in-None t c = fill-none c.args.map.now.entries c.get_mut.follows.lender-at-none.entries c.args.name.now _ _ c.in-None.ensures.value
 
 pub node::Node::fill-returns-in-len1-up : goal.node::Node::fill-returns-in-len1-up
 node::Node::fill-returns-in-len1-up t c =
@@ -20,3 +15,26 @@ node::Node::fill-returns-in-len1-up t c =
 pub node::Node::fill-returns-in_ok-self-inside-in-empty : goal.node::Node::fill-returns-in_ok-self-inside-in-empty
 node::Node::fill-returns-in_ok-self-inside-in-empty t c =
     fill-own _ _ c.self.inside.kids c.in_ok-self-inside-in-empty.field-0 _ _ c.self.view_is c.in-empty.len_below (ap joined c.in_ok-self-inside-in-empty.ensures ∙ ap (λ (v : NodeValue). v.below) c.folder.view_is)
+
+pub children::Children::fill-fill-requires : goal.children::Children::fill-fill-requires
+children::Children::fill-fill-requires t c =
+    let low = found-lower c.args.self.now c.args.name.now c.in-Ok.kid.now c.in-Ok.ensures.kid in
+    let d : height_of c.args.self.now + height_of c.args.self.now + 1 ≡ t = c.decreases in
+    let g : c.in-Ok.kid.now.height + c.in-Ok.kid.now.height < t = omega arith in
+    (g, tt)
+
+pub node::Node::fill-fill-requires : goal.node::Node::fill-fill-requires
+node::Node::fill-fill-requires t c =
+    let same : height_of c.self.inside.kids + 1 ≡ c.args.self.now.height = ap (λ v. v.height) c.self.view_is in
+    let d : c.args.self.now.height + c.args.self.now.height ≡ t = c.decreases in
+    let g : height_of c.self.inside.kids + height_of c.self.inside.kids + 1 < t = omega arith in
+    (g, tt)
+
+pub children::Children::fill-returns-in-Ok : goal.children::Children::fill-returns-in-Ok
+children::Children::fill-returns-in-Ok t c =
+    let new = c.own_mut.follows.lender c.fill.new.self in
+    on_ok_weaker _ (fill-kid c.args.self.now new c.args.name.now _ _ c.fill.new.self _ (there c.args.self.now c.args.name.now (Some c.in-Ok.kid.now) c.in-Ok.ensures.kid) (is-kid c.args.self.now new c.args.name.now c.fill.new.self (c.own_mut.follows.holds c.fill.new.self (ap is_ok c.in-Ok.is)))) c.fill.ensures
+
+pub children::Children::fill-returns-in-Err-Because : goal.children::Children::fill-returns-in-Err-Because
+children::Children::fill-returns-in-Err-Because t c =
+    fill-none c.args.self.now c.own_mut.follows.lender-at-none c.args.name.now _ _ (there c.args.self.now c.args.name.now None (c.in-Err-Because.ensures.absent c.in-Err-Because.field-0-0 c.in-Err-Because.field-0-is))

@@ -1,9 +1,10 @@
-use Rattle.std.proofs.Common.{ap, sym, ◌∙◌, subst, refl, IsSome, Some}
-use Rattle.std.specs.declared.option.Option.{Option}
+use Rattle.std.proofs.Common.{ap, sym, ◌∙◌, [], ◌∷◌, ◌++◌, ◌≡◌, ◌<◌, ◌+◌, Some, None, arith}
 use Rattle.std.proofs.lemmas.Result.{on_ok_weaker}
-use Rattle.trees.specs.PrivateNode.{NodeValue, map_of}
-use Rattle.trees.proofs.NodeSteps.{kid-under, kid-from}
-use Rattle.trees.proofs.OverSteps.{over-file, told_file, laid-end, changed_tree-more}
+use Rattle.trees.specs.PrivateNode.{map_of, height_of}
+use Rattle.std.specs.Prelude.{is_ok}
+use Rattle.trees.proofs.NodeSteps.{is-kid, at-err, kids-from, there, kid-lower}
+use Rattle.trees.proofs.KidLists.{found-among, passed-more}
+use Rattle.trees.proofs.OverSteps.{over-file, told_file, laid-end, laid-start, laid-done, changed_tree-more}
 use Rattle.trees.proofs.+laying.Goals as goal
 
 pub node::Node::lay_over-returns-then-not-is_directory : goal.node::Node::lay_over-returns-then-not-is_directory
@@ -15,13 +16,31 @@ pub node::Node::lay_over-returns : goal.node::Node::lay_over-returns
 node::Node::lay_over-returns t c =
     on_ok_weaker _ (laid-end _ _ c.self.inside.entry _ c.upper.inside.entry c.self.inside.kids c.upper.inside.kids c.lay_over.new.self _ c.self.view_is c.upper.view_is c.is_directory.ensures c.if-not-is_directory.false c.in_ok-self-inside-2.ensures) c.lay_over.ensures
 
-pub children::lay_in-loop-name-preserved-in_ok-lay_over-in-Some-get_mut : goal.children::lay_in-loop-name-preserved-in_ok-lay_over-in-Some-get_mut
-children::lay_in-loop-name-preserved-in_ok-lay_over-in-Some-get_mut t c =
-    let changed = ((c.get_mut.follows.holds c.lay_over.new.self).3 (subst (λ (o : Option NodeValue). IsSome o) c.in-Some-get_mut.ensures.value refl)).0 in
-    changed_tree-more _ _ _ _ _ (c.get_mut.follows.lender c.lay_over.new.self).entries c.in-Some.name.now c.in-Some.kid.now c.lay_over.new.self _ c.loop-name.invariant c.in-Some.ensures.steps c.in-Some-get_mut.ensures.value (record { at = changed }) (ap Some c.in_ok-lay_over-in-Some-get_mut.ensures)
+pub children::Children::lay_over-loop-name-init : goal.children::Children::lay_over-loop-name-init
+children::Children::lay_over-loop-name-init t c = (laid-start c.args.self.now c.args.upper.now c.iter-uppers.result c.iter-uppers.ensures.all c.iter-uppers.ensures.ordered, ([], c.iter-uppers.ensures.all))
 
-pub children::lay_in-loop-name-preserved : goal.children::lay_in-loop-name-preserved
-children::lay_in-loop-name-preserved t c =
-    let changed = kid-from c.get_mut.follows.lender-at-none.entries c.loop-name.map.entries c.insert.new.self.entries c.in-Some.name.now c.in_ok-copy-in-None-get_mut-2.field-0 (ap (λ m. m.entries) c.get_mut.follows.holds-at-none)
-    (kid-under _ _ c.in_ok-copy-in-None-get_mut.field-0 _ _ c.in_ok-copy-in-None-get_mut.ensures c.in_ok-insert-in-None-get_mut.ensures.updates.0) in
-    changed_tree-more _ _ _ _ _ c.insert.new.self.entries c.in-Some.name.now c.in-Some.kid.now c.in_ok-copy-in-None-get_mut-2.field-0 _ c.loop-name.invariant c.in-Some.ensures.steps c.in-None-get_mut.ensures.value changed (ap (λ n. Some (map_of n)) c.in_ok-copy-in-None-get_mut-2.ensures)
+pub children::Children::lay_over-lay_over-requires : goal.children::Children::lay_over-lay_over-requires
+children::Children::lay_over-lay_over-requires t c =
+    let has = found-among c.args.upper.now c.loop-name.invariant.1.0 c.next.new.self c.loop-name.uppers c.in-Some.name.now c.in-Some.kid.now c.iter-uppers.ensures.ordered c.loop-name.invariant.1.1 c.in-Some.ensures in
+    let low = kid-lower c.args.upper.now c.in-Some.name.now c.in-Some.kid.now has in
+    let d : height_of c.args.upper.now + height_of c.args.upper.now + 1 ≡ t = c.decreases in
+    let g : c.in-Some.kid.now.height + c.in-Some.kid.now.height < t = omega arith in
+    (g, tt)
+
+pub children::Children::lay_over-loop-name-preserved-in_ok-lay_over-in-Ok : goal.children::Children::lay_over-loop-name-preserved-in_ok-lay_over-in-Ok
+children::Children::lay_over-loop-name-preserved-in_ok-lay_over-in-Ok t c =
+    let new = c.own_mut.follows.lender c.lay_over.new.self in (
+      changed_tree-more _ _ _ _ _ new c.in-Some.name.now c.in-Some.kid.now c.lay_over.new.self (Some c.in-Ok.below.now) c.loop-name.invariant.0 c.in-Some.ensures (there c.loop-name.self c.in-Some.name.now (Some c.in-Ok.below.now) c.in-Ok.ensures.kid) (is-kid c.loop-name.self new c.in-Some.name.now c.lay_over.new.self (c.own_mut.follows.holds c.lay_over.new.self (ap is_ok c.in-Ok.is))) (ap Some c.in_ok-lay_over-in-Ok.ensures),
+      (c.loop-name.invariant.1.0 ++ (c.in-Some.name.now, c.in-Some.kid.now) ∷ [], passed-more c.args.upper.now c.loop-name.invariant.1.0 c.next.new.self c.loop-name.uppers c.in-Some.name.now c.in-Some.kid.now c.loop-name.invariant.1.1 c.in-Some.ensures),
+    )
+
+pub children::Children::lay_over-loop-name-preserved : goal.children::Children::lay_over-loop-name-preserved
+children::Children::lay_over-loop-name-preserved t c =
+    let none = there c.loop-name.self c.in-Some.name.now None (c.in-Err-Because.ensures.absent c.in-Err-Because.field-0-0 c.in-Err-Because.field-0-is) in (
+      changed_tree-more _ _ _ _ _ c.insert.new.self c.in-Some.name.now c.in-Some.kid.now c.in_ok-copy-in-Err-Because.field-0 None c.loop-name.invariant.0 c.in-Some.ensures none
+          (is-kid c.loop-name.self c.insert.new.self c.in-Some.name.now c.in_ok-copy-in-Err-Because.field-0 (kids-from c.own_mut.follows.lender-at-none c.loop-name.self c.insert.new.self c.in-Some.name.now (Some c.in_ok-copy-in-Err-Because.field-0) (at-err c.own_mut.result c.in-Err-Because.field-0 c.in-Err-Because.is c.own_mut.follows.holds-at-none) c.in_ok-insert-in-Err-Because.ensures.ok)) (ap (λ n. Some (map_of n)) c.in_ok-copy-in-Err-Because.ensures),
+      (c.loop-name.invariant.1.0 ++ (c.in-Some.name.now, c.in-Some.kid.now) ∷ [], passed-more c.args.upper.now c.loop-name.invariant.1.0 c.next.new.self c.loop-name.uppers c.in-Some.name.now c.in-Some.kid.now c.loop-name.invariant.1.1 c.in-Some.ensures),
+    )
+
+pub children::Children::lay_over-returns : goal.children::Children::lay_over-returns
+children::Children::lay_over-returns t c = laid-done c.args.self.now c.args.upper.now c.loop-name.self c.loop-name.uppers c.loop-name.invariant.0 c.in_default.ensures.0

@@ -1,5 +1,5 @@
 use Rattle.std.proofs.Common.{◌≡◌, ◌++◌}
-use Rattle.trees.proofs.children.copy_of.Given as goal
+use Rattle.trees.proofs.part.copy_of.Given as goal
 
 -- the children copied so far, and those that are left
 abbrev pub invariant-loop-name : goal.invariant-loop-name

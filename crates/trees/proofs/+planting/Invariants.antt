@@ -1,0 +1,9 @@
+use Rattle.std.proofs.Common.{◌+◌}
+use Rattle.trees.specs.PrivateNode.{height_of}
+use Rattle.trees.proofs.+planting.Given as goal
+
+abbrev pub decreases-node::Node::plant : goal.decreases-node::Node::plant
+decreases-node::Node::plant l = l.self.now.height + l.self.now.height
+
+abbrev pub decreases-children::Children::plant : goal.decreases-children::Children::plant
+decreases-children::Children::plant l = height_of l.self.now + height_of l.self.now + 1

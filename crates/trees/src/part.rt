@@ -1,0 +1,169 @@
+// The parts of a folder's children: which one a name is in, and how one is changed that others may share.
+ghost use Rattle.std.specs.Prelude.{◌≡◌, ◌+◌, ◌<◌, ◌≤◌, ◌↔◌, IfSome, true, false, length, IsTrue, IfOk, OnOk, OnErr, [], ◌∷◌, ◌++◌, vec_len};
+ghost use Rattle.std.specs.Arc.{arc_value};
+ghost use Rattle.trees.specs.PrivateNode.{lists_of, flat, are_parts, begins_past, IsPlace, IsPut, IsTaken, IsHalved, IsWithin};
+
+use crate::node::Node;
+use plain::{Exact, Memory, Text};
+use std::alloc::Global;
+use std::collections::BTreeMap;
+use std::sync::Arc;
+
+/// Some children of a folder whose names follow each other, behind a pointer that folders share.
+pub(crate) type Part = Arc<BTreeMap<Text, Node>, Global>;
+
+/// A part of so many names is cut in two before one more comes in.
+const MOST_NAMES: usize = 128;
+
+/// The part in which a name stands or would stand.
+pub(crate) fn place(parts: &[Part], name: &Text) -> usize
+    requires { are_parts (lists_of parts.now) ≡ true }
+    ensures { IsPlace name.now (lists_of parts.now) result }
+{
+    let mut low = 0;
+    let mut high = parts.len();
+    while high - low > 1 {
+        let middle = low + (high - low) / 2;
+        if begins_past(&parts[middle], name) {
+            high = middle;
+        } else {
+            low = middle;
+        }
+    }
+    low
+}
+
+/// Whether a part's first name is above a name.
+fn begins_past(part: &Part, name: &Text) -> bool
+    ensures { result ≡ begins_past name.now (arc_value part.now).entries }
+{
+    match part.first_key_value() {
+        Some((first, _)) => name < first,
+        None => false,
+    }
+}
+
+/// The same parts, shared.
+pub(crate) fn share(alloc: Global, parts: &[Part]) -> Result<Vec<Part>, Memory>
+    ensures { IfOk result (λ shared. lists_of shared.items ≡ lists_of parts.now) }
+{
+    let mut shared = Vec::with_capacity(alloc, parts.len())?;
+    for part in parts {
+        shared.push(Arc::try_clone(part)?)?;
+    }
+    Ok(shared)
+}
+
+/// A part of one child.
+pub(crate) fn part_of_one(alloc: Global, name: &Text, kid: Node) -> Result<Part, Memory>
+    ensures { IfOk result (λ part. (arc_value part).entries ≡ (name.now, kid) ∷ []) }
+{
+    let mut map = BTreeMap::new(alloc);
+    map.insert(name.copy(alloc)?, kid)?;
+    let part = Arc::new(alloc, map)?;
+    Ok(part)
+}
+
+/// Makes a part the holder's own: where others share it, a part with the same children takes its place, each of which shares what
+/// is below it.
+pub(crate) fn own(alloc: Global, part: &mut Part) -> Result<(), Memory>
+    ensures { (arc_value part.new).entries ≡ (arc_value part.old).entries }
+{
+    if let Some(_alone) = Arc::get_mut(part) {
+        return Ok(());
+    }
+    let map = copy_of(alloc, part)?;
+    *part = Arc::new(alloc, map)?;
+    Ok(())
+}
+
+/// A map of its own with the same nodes, each of which shares what is below it.
+fn copy_of(alloc: Global, map: &BTreeMap<Text, Node>) -> Result<BTreeMap<Text, Node>, Memory>
+    ensures { IfOk result (λ copy. copy.entries ≡ map.now.entries) }
+{
+    let mut copy = BTreeMap::new(alloc);
+    for (name, kid) in map.iter() {
+        copy.insert(name.copy(alloc)?, kid.copy(alloc)?)?;
+    }
+    Ok(copy)
+}
+
+/// Puts a child into a part.
+pub(crate) fn put(alloc: Global, part: &mut Part, name: &Text, kid: Node) -> Result<(), Memory>
+    ensures ok { OnOk result (IsPut name.now kid (arc_value part.old).entries (arc_value part.new).entries) }
+    ensures err { OnErr result ((arc_value part.new).entries ≡ (arc_value part.old).entries) }
+{
+    own(alloc, part)?;
+    let Some(map) = Arc::get_mut(part) else {
+        return Err(Memory);
+    };
+    map.insert(name.copy(alloc)?, kid)?;
+    Ok(())
+}
+
+/// Takes a child out of a part, and answers whether none is left.
+pub(crate) fn take_away(alloc: Global, part: &mut Part, name: &Text) -> Result<bool, Memory>
+    ensures ok { IfOk result (λ none_left. IsTaken name.now (arc_value part.old).entries (arc_value part.new).entries none_left) }
+    ensures err { OnErr result ((arc_value part.new).entries ≡ (arc_value part.old).entries) }
+{
+    own(alloc, part)?;
+    let Some(map) = Arc::get_mut(part) else {
+        return Err(Memory);
+    };
+    map.remove(name);
+    Ok(map.is_empty())
+}
+
+/// Cuts the part at a place in two where it has as many names as a part may have.
+pub(crate) fn make_room(alloc: Global, parts: &mut Vec<Part>, at: usize) -> Result<(), Memory>
+    requires inside { at < vec_len parts.old }
+    requires parts { are_parts (lists_of parts.old.items) ≡ true }
+    ensures kids { flat (lists_of parts.new.items) ≡ flat (lists_of parts.old.items) }
+    ensures parts { are_parts (lists_of parts.new.items) ≡ true }
+    ensures more { vec_len parts.old ≤ vec_len parts.new }
+{
+    if parts[at].len() < MOST_NAMES {
+        return Ok(());
+    }
+    parts.reserve(1)?;
+    let mut upper = Arc::new(alloc, BTreeMap::new(alloc))?;
+    let halved = halve(alloc, &mut parts[at], &mut upper)?;
+    if halved {
+        parts.insert(at + 1, upper).unwrap();
+    }
+    Ok(())
+}
+
+/// Moves the upper half of a part into an empty one. Where there is nothing to move, nothing has changed.
+fn halve(alloc: Global, part: &mut Part, upper: &mut Part) -> Result<bool, Memory>
+    ensures done { IfOk result (λ halved. IsTrue halved → IsHalved (arc_value part.old).entries (arc_value part.new).entries (arc_value upper.new).entries) }
+    ensures kept { IfOk result (λ halved. halved ≡ false → (arc_value part.new).entries ≡ (arc_value part.old).entries) }
+    ensures err { OnErr result ((arc_value part.new).entries ≡ (arc_value part.old).entries) }
+{
+    let Some(name) = middle(alloc, part)? else {
+        return Ok(false);
+    };
+    own(alloc, part)?;
+    let Some(map) = Arc::get_mut(part) else {
+        return Err(Memory);
+    };
+    let Some(empty) = Arc::get_mut(upper) else {
+        return Err(Memory);
+    };
+    *empty = map.split_off(&name)?;
+    Ok(true)
+}
+
+/// The name in the middle, with names before it.
+fn middle(alloc: Global, map: &BTreeMap<Text, Node>) -> Result<Option<Text>, Memory>
+    ensures { IfOk result (λ found. IfSome found (λ name. IsWithin name map.now.entries)) }
+{
+    let mut passed = 0;
+    for (name, _) in map.iter() {
+        if passed == MOST_NAMES / 2 {
+            return Ok(Some(name.copy(alloc)?));
+        }
+        passed += 1;
+    }
+    Ok(None)
+}
