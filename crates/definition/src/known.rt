@@ -3,13 +3,14 @@ ghost use Rattle.serde_json.specs.View.{view};
 ghost use Rattle.llb.specs.Graph.{IsAfterInputs, IsNew};
 ghost use Rattle.plain.specs.Limits.{most_vertices};
 ghost use Rattle.llb.specs.WellFormed.{is_well_formed};
-ghost use Rattle.definition.specs.Address.{addresses_of, vertex_address, place_of};
+ghost use Rattle.operations.specs.Texts.{op_data};
+ghost use Rattle.definition.specs.Address.{address_of, addresses_of, vertex_address, place_of};
 ghost use Rattle.definition.specs.Reading.{no_graph, grown, address_place, told_next, IsNext, IsPlaced};
 
 use crate::address::address_of;
 use crate::addresses::Addresses;
 use crate::{DefFault, Defect};
-use llb::{Graph, Vertex, VertexId};
+use llb::{Graph, Op, Vertex, VertexId};
 use operations::{Spelled, op_value, read_spelled};
 use plain::{Exact, Fault, Memory, Text};
 use serde_json::Value;
@@ -36,6 +37,14 @@ impl Model for Known {
     ghost view = { λ k. k.graph };
 
     ghost invariant = { λ k. k.addresses ≡ addresses_of k.graph.vertices };
+}
+
+/// The address of an operation on inputs that have these addresses.
+fn address_on(alloc: Global, op: &Op, inputs: &[Text]) -> Result<Text, Memory>
+    ensures { IfOk result (λ address. address ≡ address_of (op_data inputs.now op.now)) }
+{
+    let operation = op_value(alloc, op, inputs)?;
+    address_of(alloc, &operation)
 }
 
 impl Known {
@@ -73,16 +82,31 @@ impl Known {
         let _once = self.addresses.len();
         let place = self.graph.vertices().len() as u32;
         let Spelled { op, inputs } = spelled;
-        let Some(ids) = self.addresses.ids(alloc, inputs.as_slice())? else {
+        let ids = match self.addresses.ids(alloc, inputs.as_slice()) {
+            Ok(ids) => ids,
+            Err(_) => {
+                drop(op);
+                return Err(Fault::Memory);
+            }
+        };
+        let Some(ids) = ids else {
+            drop(op);
             return Err(Fault::Because(Defect::Unknown(place)));
         };
-        let operation = op_value(alloc, &op, inputs.as_slice())?;
-        let address = address_of(alloc, &operation)?;
+        let address = match address_on(alloc, &op, inputs.as_slice()) {
+            Ok(address) => address,
+            Err(_) => {
+                drop(op);
+                return Err(Fault::Memory);
+            }
+        };
         let vertex = Vertex { op, inputs: ids };
         let Some(at) = self.addresses.place(&address) else {
             return Ok((vertex, address));
         };
-        if self.has(VertexId::new(at), &vertex) {
+        let is_there = self.has(VertexId::new(at), &vertex);
+        drop(vertex);
+        if is_there {
             Err(Fault::Because(Defect::Repeated(place)))
         } else {
             Err(Fault::Because(Defect::Clash(place)))
