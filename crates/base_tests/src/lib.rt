@@ -1,4 +1,4 @@
-// Tests of the crates at the bottom: `plain`, `ascii`, `paths`, `counted` and `command`. They stand in a crate of their own, since a
+// Tests of the crates at the bottom: `plain`, `ascii`, `paths` and `counted`. They stand in a crate of their own, since a
 // library with tests in it is proved twice.
 //
 // Each shows what no clause says: an example from the rules, that a call succeeds where there is memory, that a generic works at a
@@ -7,8 +7,6 @@
 
 #[cfg(test)]
 mod characters;
-#[cfg(test)]
-mod command_lines;
 #[cfg(test)]
 mod data;
 #[cfg(test)]

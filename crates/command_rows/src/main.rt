@@ -1,0 +1,52 @@
+// Answers command lines, one a line, whose words are cut at each space: what they ask for, or the kind of fault. Behind ` | ` stands a part of
+// what is told of the fault.
+//
+// The cases are data: `stdin` has them, and `stdout` what the rules say of each.
+#![tactic(auto)]
+
+use clap::Error;
+use command::{Task, read_command};
+use plain::Memory;
+use std::alloc::Global;
+use std::io;
+
+fn main(rt: HostRuntime) -> io::Result<()> {
+    for line in rt.lines(rt.alloc()) {
+        let case = line?;
+        match answer(rt.alloc(), case.as_str()) {
+            Ok(answer) => println!(rt; "{case} => {answer}")?,
+            Err(Memory) => println!(rt; "{case} => out of memory")?,
+        }
+    }
+    Ok(())
+}
+
+/// The answer to a case.
+fn answer(alloc: Global, case: &str) -> Result<String, Memory> {
+    let (line, part) = case.split_once(" | ").unwrap_or((case, ""));
+    let words: Vec<&str> = line.split(' ').collect(alloc)?;
+    match read_command(alloc, words.as_slice()) {
+        Ok(task) => task_text(alloc, task),
+        Err(error) => error_text(alloc, error, part),
+    }
+}
+
+fn task_text(alloc: Global, task: Task) -> Result<String, Memory> {
+    match task {
+        Task::Build(workers) => Ok(format!(in alloc; "build with {workers}")?),
+        Task::Graph => Ok(String::from_str(alloc, "graph")?),
+        Task::Pack(folder) => Ok(format!(in alloc; "pack of [{}]", folder.as_str())?),
+    }
+}
+
+/// The kind of a fault, and whether this part isn't told of it.
+fn error_text(alloc: Global, error: Error, part: &str) -> Result<String, Memory> {
+    let kind = error.kind();
+    let told = error.to_string(alloc);
+    drop(error);
+    if told?.as_str().contains(part) {
+        Ok(format!(in alloc; "{kind:?}")?)
+    } else {
+        Ok(format!(in alloc; "{kind:?}, of which it isn't told")?)
+    }
+}
