@@ -1,9 +1,9 @@
 use crate::lookup::Names;
-use crate::showing::{add, add_instruction, empty_page};
+use crate::showing::{Page, add, add_instruction, empty_page};
 use expand::{Kind, Word, expand};
 use instructions::parse;
 use lines::{Escape, Line, LineFault, Reader};
-use plain::{Fault, Memory};
+use plain::{Fault, Memory, Text};
 use std::alloc::Global;
 use words::TextFault;
 
@@ -34,35 +34,77 @@ fn refusal_text(alloc: Global, fault: &LineFault) -> Result<String, Memory> {
 
 /// What a text's lines spell: the instructions, or `R06 at line 1`, with `;` between them.
 pub fn spelling_of(alloc: Global, text: &str) -> Result<String, TextFault> {
-    let mut page = empty_page(alloc)?;
-    let lines = match lines_of(alloc, text) {
-        Ok(lines) => lines,
-        Err(fault) => return Ok(refusal_text(alloc, &fault)?),
-    };
-    for line in &lines {
-        if !page.text.is_empty() {
-            add(&mut page, &[";"])?;
+    match lines_of(alloc, text) {
+        Ok(lines) => {
+            let spelling = spelling_of_lines(alloc, &lines);
+            drop(lines);
+            spelling
         }
-        match parse(alloc, line) {
-            Ok(instruction) => add_instruction(alloc, &mut page, &instruction.kind)?,
-            Err(fault) => {
-                let refusal = refusal_text(alloc, &fault)?;
-                add(&mut page, &[refusal.as_str()])?;
-            }
+        Err(fault) => Ok(refusal_text(alloc, &fault)?),
+    }
+}
+
+fn spelling_of_lines(alloc: Global, lines: &[Line]) -> Result<String, TextFault> {
+    let mut page = empty_page(alloc)?;
+    match add_lines(alloc, &mut page, lines) {
+        Ok(()) => Ok(page.text),
+        Err(fault) => {
+            drop(page);
+            Err(fault)
         }
     }
-    Ok(page.text)
+}
+
+fn add_lines(alloc: Global, page: &mut Page, lines: &[Line]) -> Result<(), TextFault> {
+    for line in lines {
+        if !page.text.is_empty() {
+            add(page, &[";"])?;
+        }
+        add_line(alloc, page, line)?;
+    }
+    Ok(())
+}
+
+fn add_line(alloc: Global, page: &mut Page, line: &Line) -> Result<(), TextFault> {
+    match parse(alloc, line) {
+        Ok(instruction) => {
+            let done = add_instruction(alloc, page, &instruction.kind);
+            drop(instruction);
+            done
+        }
+        Err(fault) => {
+            let refusal = refusal_text(alloc, &fault)?;
+            add(page, &[refusal.as_str()])
+        }
+    }
 }
 
 /// The values of a text where `v` is `x y`, where it is empty and where it is unset, with `|` between them.
 pub fn values_of(alloc: Global, kind: Kind, text: &str) -> Result<String, TextFault> {
-    let word = Word::read(alloc, kind, Escape::Backslash, text)?;
+    match Word::read(alloc, kind, Escape::Backslash, text) {
+        Ok(word) => {
+            let values = values_of_word(alloc, &word);
+            drop(word);
+            values
+        }
+        Err(fault) => Err(fault),
+    }
+}
+
+fn values_of_word(alloc: Global, word: &Word) -> Result<String, TextFault> {
     let mut values = String::new(alloc);
     for v in [Some("x y"), Some(""), None] {
-        let names = Names::new(alloc, v)?;
-        let value = expand(alloc, &word, &names)?;
+        let value = value_of(alloc, word, v)?;
         values.push_str(value.as_str())?;
         values.push_str("|")?;
     }
     Ok(values)
+}
+
+/// The value of a word where `v` has this one.
+fn value_of(alloc: Global, word: &Word, v: Option<&str>) -> Result<Text, TextFault> {
+    let names = Names::new(alloc, v)?;
+    let value = expand(alloc, word, &names);
+    drop(names);
+    value
 }

@@ -1,5 +1,6 @@
 use crate::spelling::{lines_of, reason};
 use instructions::{InstructionKind, parse};
+use lines::Line;
 use plain::{Fault, Memory};
 use scopes::{Args, Scope};
 use std::alloc::Global;
@@ -23,9 +24,17 @@ impl Stage {
         }
     }
 
+    /// Takes lines in order.
+    fn take_all(&mut self, alloc: Global, text: &str) -> Result<(), TextFault> {
+        for line in text.split('\n') {
+            self.take(alloc, line)?;
+        }
+        Ok(())
+    }
+
     /// Takes a line of a Dockerfile, or one of two of the cases' own: `GIVEN name=value` for a build argument and `BASE name=value`
     /// for a variable of the base image.
-    pub fn take(&mut self, alloc: Global, line: &str) -> Result<(), TextFault> {
+    fn take(&mut self, alloc: Global, line: &str) -> Result<(), TextFault> {
         match line.split_once(' ') {
             Some(("GIVEN", rest)) => Ok(self.give(alloc, rest)?),
             Some(("BASE", rest)) => Ok(self.inherit(alloc, rest)?),
@@ -48,17 +57,32 @@ impl Stage {
     }
 
     fn read(&mut self, alloc: Global, text: &str) -> Result<(), TextFault> {
-        let lines = match lines_of(alloc, text) {
-            Ok(lines) => lines,
-            Err(fault) => return Err(reason(fault)),
-        };
-        for line in &lines {
-            match parse(alloc, line) {
-                Ok(instruction) => self.evaluate(alloc, &instruction.kind)?,
-                Err(fault) => return Err(reason(fault)),
+        match lines_of(alloc, text) {
+            Ok(lines) => {
+                let done = self.read_lines(alloc, &lines);
+                drop(lines);
+                done
             }
+            Err(fault) => Err(reason(fault)),
+        }
+    }
+
+    fn read_lines(&mut self, alloc: Global, lines: &[Line]) -> Result<(), TextFault> {
+        for line in lines {
+            self.read_line(alloc, line)?;
         }
         Ok(())
+    }
+
+    fn read_line(&mut self, alloc: Global, line: &Line) -> Result<(), TextFault> {
+        match parse(alloc, line) {
+            Ok(instruction) => {
+                let done = self.evaluate(alloc, &instruction.kind);
+                drop(instruction);
+                done
+            }
+            Err(fault) => Err(reason(fault)),
+        }
     }
 
     fn evaluate(&mut self, alloc: Global, kind: &InstructionKind) -> Result<(), TextFault> {
@@ -98,11 +122,16 @@ impl Stage {
 /// RUN's environment behind lines; the code that refuses one of them.
 pub fn environment_after(alloc: Global, text: &str) -> Result<String, TextFault> {
     let mut stage = Stage::new(alloc);
-    for line in text.split('\n') {
-        stage.take(alloc, line)?;
+    let done = stage.take_all(alloc, text);
+    let environment = stage.environment(alloc);
+    drop(stage);
+    match done {
+        Ok(()) => Ok(environment?),
+        Err(fault) => {
+            drop(environment);
+            Err(fault)
+        }
     }
-    let environment = stage.environment(alloc)?;
-    Ok(environment)
 }
 
 /// A code as text.
