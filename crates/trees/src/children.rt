@@ -16,7 +16,7 @@ ghost use Rattle.trees.specs.PrivateLent.{LendsKid};
 use crate::copy::Change;
 use crate::kids::Kids;
 use crate::node::Node;
-use crate::part::{Part, make_room, own, part_of_one, place, put, share, take_away};
+use crate::part::{Part, has_room, make_room, own, part_of_one, place, put, share, take_away};
 use crate::{CopyOptions, Entry, Meta};
 use paths::{LongPath, Path};
 use plain::{Exact, Fault, Memory, Text};
@@ -144,8 +144,11 @@ impl Children {
             self.parts.push(part)?;
             return Ok(());
         }
-        let full = place(self.parts.as_slice(), name);
-        make_room(alloc, &mut self.parts, full)?;
+        let first = place(self.parts.as_slice(), name);
+        if has_room(&self.parts[first]) {
+            return put(alloc, &mut self.parts[first], name, kid);
+        }
+        make_room(alloc, &mut self.parts, first)?;
         let at = place(self.parts.as_slice(), name);
         put(alloc, &mut self.parts[at], name, kid)
     }

@@ -114,7 +114,12 @@ pub(crate) fn take_away(alloc: Global, part: &mut Part, name: &Text) -> Result<b
     Ok(map.is_empty())
 }
 
-/// Cuts the part at a place in two where it has as many names as a part may have.
+/// Whether a part may take one name more.
+pub(crate) fn has_room(part: &Part) -> bool {
+    part.len() < MOST_NAMES
+}
+
+/// Cuts the part at a place in two.
 pub(crate) fn make_room(alloc: Global, parts: &mut Vec<Part>, at: usize) -> Result<(), Memory>
     requires inside { at < vec_len parts.old }
     requires parts { are_parts (lists_of parts.old.items) ≡ true }
@@ -122,9 +127,6 @@ pub(crate) fn make_room(alloc: Global, parts: &mut Vec<Part>, at: usize) -> Resu
     ensures parts { are_parts (lists_of parts.new.items) ≡ true }
     ensures more { vec_len parts.old ≤ vec_len parts.new }
 {
-    if parts[at].len() < MOST_NAMES {
-        return Ok(());
-    }
     parts.reserve(1)?;
     let mut upper = Arc::new(alloc, BTreeMap::new(alloc))?;
     let halved = halve(alloc, &mut parts[at], &mut upper)?;
