@@ -18,7 +18,7 @@ use std::thread::Threads;
 ///
 /// `Clash` only where two different operations of that drawing have one address; nothing was written then. Nothing was written after `Memory`
 /// either. After `Device` a read failed, and nothing was written, or a write failed, and a beginning of the line was. What `run_build` says of
-/// readers, writers, their counts and threads holds here too.
+/// readers, writers and their counts holds here too. It takes no `Wait`, so unlike `run_build` it returns.
 #[tactic(auto, unfolding(plain::specs::Limits::most_bundle_bytes))]
 pub fn run_graph<R: CountedRead, W: CountedWrite>(
     alloc: Global,

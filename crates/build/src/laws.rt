@@ -1,4 +1,4 @@
-// The laws of what a bundle means, claimed: each function's contract is one law, and its body is empty.
+// The laws of what a bundle means, claimed: each function's contract is one law, and its body names the laws of crates below that it rests on.
 ghost use Rattle.std.specs.Prelude.{◌≡◌, ◌≢◌, ℕ, List, Result};
 ghost use Rattle.plain.specs.declared.refusal.Refusal.{Refusal};
 ghost use Rattle.plans.specs.Value.{Out};
