@@ -82,6 +82,7 @@ impl Known {
         let _once = self.addresses.len();
         let place = self.graph.vertices().len() as u32;
         let Spelled { op, inputs } = spelled;
+        // An operation that isn't handed on is let go by name: the proof would walk all its parts at each end of the function.
         let ids = match self.addresses.ids(alloc, inputs.as_slice()) {
             Ok(ids) => ids,
             Err(_) => {
