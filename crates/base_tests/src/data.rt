@@ -1,4 +1,6 @@
 use plain::*;
+use std::alloc::Global;
+use std::process::Abort;
 use std::test::Fail;
 
 #[test]
@@ -7,29 +9,45 @@ fn items_are_a_list(rt: HostRuntime) -> Result<(), Fail> {
     assert!(rt; items.is_empty());
     items.push(3u8)?;
     items.push(5)?;
-    let twin = items.copy(rt.alloc())?;
-    assert!(rt; items.same(&twin));
-    items.push(5)?;
-    assert!(rt; !items.same(&twin));
-    assert_eq!(rt; items.len(), 3);
+    expect_copied(&rt, rt.alloc(), &items)?;
+    assert_eq!(rt; items.len(), 2);
     let copied = copied_items(rt.alloc(), items.as_slice())?;
-    assert_eq!(rt; copied.as_slice(), [3u8, 5, 5].as_slice());
-    let again = Items::from_vec(twin.into_vec());
-    assert_eq!(rt; again.as_slice(), [3u8, 5].as_slice());
+    assert_eq!(rt; copied.as_slice(), [3u8, 5].as_slice());
+    let again = Items::from_vec(copied);
+    assert!(rt; items.same(&again));
+    items.push(5)?;
+    assert!(rt; !items.same(&again));
+    assert_eq!(rt; items.into_vec().as_slice(), [3u8, 5, 5].as_slice());
     Ok(())
+}
+
+/// Whether a value is the same as its copy.
+fn expect_copied<T: Exact + Drop>(rt: &impl Abort, alloc: Global, value: &T) -> Result<(), Memory> {
+    let copy = value.copy(alloc)?;
+    assert!(rt; value.same(&copy));
+    Ok(())
+}
+
+/// Whether a text comes before another one.
+fn expect_below(rt: &impl Abort, low: &Text, high: &Text) {
+    assert!(rt; low < high && low != high && !low.same(high));
 }
 
 #[test]
 fn texts_are_ordered_by_their_bytes(rt: HostRuntime) -> Result<(), Fail> {
-    let alloc = rt.alloc();
     // In UTF-16 `𝒜` (1D49C) would be below `ﬀ` (FB00).
     for (low, high) in [("", "a"), ("ab", "b"), ("B", "a"), ("z", "é"), ("ﬀ", "𝒜")] {
-        let low = Text::from_str(alloc, low)?;
-        let high = Text::from_str(alloc, high)?;
-        assert!(rt; low < high && low != high && !low.same(&high));
+        let low = Text::from_str(rt.alloc(), low)?;
+        let high = Text::from_str(rt.alloc(), high)?;
+        expect_below(&rt, &low, &high);
     }
-    let word = Text::from_string(String::from_str(alloc, "né")?);
-    assert!(rt; word.same(&word.copy(alloc)?));
+    Ok(())
+}
+
+#[test]
+fn texts_are_strings(rt: HostRuntime) -> Result<(), Fail> {
+    let word = Text::from_string(String::from_str(rt.alloc(), "né")?);
+    expect_copied(&rt, rt.alloc(), &word)?;
     assert_eq!(rt; word.len(), 3);
     assert_eq!(rt; word.as_str(), "né");
     assert_eq!(rt; word.into_string().as_str(), "né");
@@ -38,11 +56,10 @@ fn texts_are_ordered_by_their_bytes(rt: HostRuntime) -> Result<(), Fail> {
 
 #[test]
 fn bytes_need_not_be_text(rt: HostRuntime) -> Result<(), Fail> {
-    let alloc = rt.alloc();
-    let bytes = Bytes::from_slice(alloc, &[255, 0])?;
-    assert!(rt; bytes.same(&bytes.copy(alloc)?));
+    let bytes = Bytes::from_slice(rt.alloc(), &[255, 0])?;
+    expect_copied(&rt, rt.alloc(), &bytes)?;
     assert_eq!(rt; bytes.len(), 2);
-    let longer = Bytes::from_vec([255u8, 0, 0].to_vec(alloc)?);
+    let longer = Bytes::from_vec([255u8, 0, 0].to_vec(rt.alloc())?);
     assert!(rt; !bytes.same(&longer));
     assert_eq!(rt; longer.as_slice(), [255u8, 0, 0].as_slice());
     assert_eq!(rt; bytes.into_vec().as_slice(), [255u8, 0].as_slice());
@@ -51,21 +68,33 @@ fn bytes_need_not_be_text(rt: HostRuntime) -> Result<(), Fail> {
 
 #[test]
 fn small_values_are_copied(rt: HostRuntime) -> Result<(), Fail> {
-    let alloc = rt.alloc();
-    assert!(rt; 7u8.same(&7u8.copy(alloc)?) && 7u16.same(&7u16.copy(alloc)?));
-    assert!(rt; 7u32.same(&7u32.copy(alloc)?) && true.same(&true.copy(alloc)?));
-    assert!(rt; Sharing::Locked.same(&Sharing::Locked.copy(alloc)?));
-    let owner = Owner { user: 1, group: 2 };
-    assert!(rt; owner.same(&owner.copy(alloc)?));
-    let some: Option<Text> = Some(Text::from_str(alloc, "a")?);
-    assert!(rt; some.same(&some.copy(alloc)?) && !some.same(&None));
+    let alloc: Global = rt.alloc();
+    expect_copied(&rt, alloc, &7u8)?;
+    expect_copied(&rt, alloc, &7u16)?;
+    expect_copied(&rt, alloc, &7u32)?;
+    expect_copied(&rt, alloc, &true)?;
+    expect_copied(&rt, alloc, &Sharing::Locked)?;
+    expect_copied(&rt, alloc, &Owner { user: 1, group: 2 })?;
     let fine: Result<u8, Sharing> = Ok(7);
-    assert!(rt; fine.same(&fine.copy(alloc)?) && !fine.same(&Err(Sharing::Shared)));
+    expect_copied(&rt, alloc, &fine)?;
+    assert!(rt; !fine.same(&Err(Sharing::Shared)));
+    Ok(())
+}
+
+#[test]
+fn texts_in_values_are_copied(rt: HostRuntime) -> Result<(), Fail> {
+    let some: Option<Text> = Some(Text::from_str(rt.alloc(), "a")?);
+    assert!(rt; !some.same(&None));
+    expect_copied(&rt, rt.alloc(), &some)?;
+    let variable = path_variable(rt.alloc())?;
+    expect_copied(&rt, rt.alloc(), &variable)?;
+    Ok(())
+}
+
+fn path_variable(alloc: Global) -> Result<Variable, Memory> {
     let name = Text::from_str(alloc, "PATH")?;
     let value = Text::from_str(alloc, "/bin")?;
-    let variable = Variable { name, value };
-    assert!(rt; variable.same(&variable.copy(alloc)?));
-    Ok(())
+    Ok(Variable { name, value })
 }
 
 #[test]

@@ -1,6 +1,7 @@
 use paths::*;
-use plain::{Exact, Fault, Text};
+use plain::{Exact, Fault, Memory, Text};
 use std::alloc::Global;
+use std::process::Abort;
 use std::test::Fail;
 
 /// The path of a text that is read from the root.
@@ -94,43 +95,81 @@ fn long_texts_are_read_at_once(rt: HostRuntime) -> Result<(), Fail> {
 
 #[test]
 fn a_path_shows_its_parts(rt: HostRuntime) -> Result<(), Fail> {
-    let alloc = rt.alloc();
-    let root = Path::root(alloc);
-    assert!(rt; root.is_root() && root.name().is_none() && root.parent(alloc)?.is_none());
-    let path = at(alloc, "usr/bin")?;
-    assert!(rt; !path.is_root() && path.same(&path.copy(alloc)?) && !path.same(&root));
+    let path = at(rt.alloc(), "usr/bin")?;
+    let done = expect_parts(&rt, rt.alloc(), &path);
+    drop(path);
+    Ok(done?)
+}
+
+/// Compares what `/usr/bin` shows.
+fn expect_parts(rt: &impl Abort, alloc: Global, path: &Path) -> Result<(), Memory> {
+    assert!(rt; !path.is_root() && is_copied(alloc, path)?);
     assert_eq!(rt; path.components().len(), 2);
-    let Some(name) = path.name() else {
-        assert!(rt; false, "it is not the root");
-        return Ok(());
-    };
-    assert_eq!(rt; name.as_str(), "bin");
-    let Some(parent) = path.parent(alloc)? else {
-        assert!(rt; false, "it is not the root");
-        return Ok(());
-    };
+    assert_eq!(rt; path.name().map_or("", |name| name.as_str()), "bin");
+    match path.parent(alloc)? {
+        Some(parent) => expect_parent(rt, alloc, path, &parent),
+        None => Err(Memory),
+    }
+}
+
+fn expect_parent(rt: &impl Abort, alloc: Global, path: &Path, parent: &Path) -> Result<(), Memory> {
+    assert!(rt; !path.same(parent) && path.is_at_or_under(parent) && !parent.is_at_or_under(path));
     assert_eq!(rt; parent.text(alloc)?.as_str(), "/usr");
-    assert!(rt; path.is_at_or_under(&parent) && !parent.is_at_or_under(&path));
     Ok(())
+}
+
+/// Whether a path is the same as its copy.
+fn is_copied(alloc: Global, path: &Path) -> Result<bool, Memory> {
+    let copy = path.copy(alloc)?;
+    let same = path.same(&copy);
+    drop(copy);
+    Ok(same)
+}
+
+#[test]
+fn the_root_has_no_name(rt: HostRuntime) -> Result<(), Fail> {
+    let root = Path::root(rt.alloc());
+    assert!(rt; root.is_root() && root.name().is_none() && root.parent(rt.alloc())?.is_none());
+    Ok(())
+}
+
+/// Whether a text is a name.
+fn is_name(alloc: Global, text: &str) -> Result<bool, Memory> {
+    Ok(Name::new(Text::from_str(alloc, text)?).is_some())
 }
 
 #[test]
 fn names_are_components(rt: HostRuntime) -> Result<(), Fail> {
-    let alloc = rt.alloc();
     for text in ["", ".", "..", "a/b", "/"] {
-        assert!(rt; Name::new(Text::from_str(alloc, text)?).is_none(), "{text}");
+        assert!(rt; !is_name(rt.alloc(), text)?, "{text}");
     }
-    assert!(rt; Name::new(repeated(alloc, "b", 256, "")?).is_none());
-    let Some(name) = Name::new(repeated(alloc, "b", 255, "")?) else {
-        assert!(rt; false, "255 bytes are a name");
-        return Ok(());
+    let long = repeated(rt.alloc(), "b", 256, "")?;
+    assert!(rt; !is_name(rt.alloc(), long.as_str())?);
+    let longest = repeated(rt.alloc(), "b", 255, "")?;
+    let Some(name) = Name::new(longest) else {
+        return Err(Fail::from("255 bytes are a name"));
     };
+    let done = expect_child(&rt, rt.alloc(), &name);
+    drop(name);
+    Ok(done?)
+}
+
+/// Compares the paths below the root that a name makes.
+fn expect_child(rt: &impl Abort, alloc: Global, name: &Name) -> Result<(), Memory> {
     assert!(rt; name.same(&name.copy(alloc)?));
     let top = Path::root(alloc).child(alloc, name.as_text())?;
     assert_eq!(rt; top.depth(), 1);
-    let long = LongPath::of(alloc, &top)?.child(alloc, name.as_text())?;
-    assert!(rt; long.same(&long.copy(alloc)?));
-    assert_eq!(rt; long.components().len(), 2);
+    match LongPath::of(alloc, &top)?.child(alloc, name.as_text()) {
+        Ok(long) => expect_long(rt, alloc, long),
+        Err(memory) => Err(memory),
+    }
+}
+
+fn expect_long(rt: &impl Abort, alloc: Global, long: LongPath) -> Result<(), Memory> {
+    let copy = long.copy(alloc)?;
+    assert!(rt; long.same(&copy));
+    assert_eq!(rt; copy.components().len(), 2);
+    drop(copy);
     assert!(rt; long.into_path().is_some());
     Ok(())
 }
