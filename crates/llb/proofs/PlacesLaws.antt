@@ -1,5 +1,5 @@
 -- What follows about the lines behind a vertex.
-use Rattle.std.specs.Prelude.{◌≡◌, ◌<◌, ◌≤◌, ℕ, Bool, true, false, List, [], ◌∷◌, nat_lt, length, slice_index, refl}
+use Rattle.std.specs.Prelude.{◌≡◌, ◌<◌, ◌≤◌, ℕ, Bool, true, false, List, [], ◌∷◌, ◌++◌, ◌-◌, nat_lt, length, slice_index, slice_index_or, refl}
 use Rattle.std.specs.List.{filter}
 use Rattle.std.proofs.Common.{arith, ap, sym, subst}
 use Rattle.std.proofs.lemmas.Bool.{lt-ltb, le-ltb, ltb-true, ltb-false}
@@ -46,6 +46,38 @@ with_lines-from low (line ∷ more) lines ascend are =
 -- lines with more among them are ascending, each once
 pub AreLines-with_lines : (more lines : List ℕ) → AreLines more → AreLines lines → AreLines (with_lines more lines)
 AreLines-with_lines more lines ascend are = with_lines-from 0 more lines ascend are
+
+below_last : (low x : ℕ) (xs : List ℕ) → AscendFrom low (x ∷ xs) → low < slice_index_or (x ∷ xs) (length xs) 0
+below_last low x [] ascend = ascend.0
+below_last low x (y ∷ ys) ascend =
+    let further : x < slice_index_or (y ∷ ys) (length ys) 0 = below_last x y ys ascend.1.1 in
+    omega (arith, ascend.0)
+
+all_before : (line low x : ℕ) (xs : List ℕ) → AscendFrom low (x ∷ xs) → slice_index_or (x ∷ xs) (length xs) 0 < line → filter (λ other. nat_lt other line) (x ∷ xs) ≡ x ∷ xs
+all_before line low x [] ascend lt =
+    let at : nat_lt x line ≡ true = lt-ltb x line lt in
+    rw at refl
+all_before line low x (y ∷ ys) ascend lt =
+    let below : x < slice_index_or (y ∷ ys) (length ys) 0 = below_last x y ys ascend.1.1 in
+    let at : nat_lt x line ≡ true = lt-ltb x line (omega (arith, lt)) in
+    rw at (ap (λ zs. x ∷ zs) (all_before line x y ys ascend.1.1 lt))
+
+none_after : (line low x : ℕ) (xs : List ℕ) → AscendFrom low (x ∷ xs) → slice_index_or (x ∷ xs) (length xs) 0 < line → filter (λ other. nat_lt line other) (x ∷ xs) ≡ []
+none_after line low x [] ascend lt =
+    let at : nat_lt line x ≡ false = le-ltb line x (omega (arith, lt)) in
+    rw at refl
+none_after line low x (y ∷ ys) ascend lt =
+    let below : x < slice_index_or (y ∷ ys) (length ys) 0 = below_last x y ys ascend.1.1 in
+    let at : nat_lt line x ≡ false = le-ltb line x (omega (arith, lt)) in
+    rw at (none_after line x y ys ascend.1.1 lt)
+
+-- a line after the last of ascending lines comes after them all
+pub with_line-after : (line : ℕ) (lines : List ℕ) → 0 < length lines → AreLines lines → slice_index_or lines (length lines - 1) 0 < line → with_line line lines ≡ lines ++ line ∷ []
+with_line-after line [] long are lt = absurd (omega arith)
+with_line-after line (x ∷ xs) long are lt =
+    let front : length (x ∷ xs) - 1 ≡ length xs = omega arith in
+    let last : slice_index_or (x ∷ xs) (length xs) 0 < line = subst (λ at. slice_index_or (x ∷ xs) at 0 < line) front lt in
+    rw (all_before line 0 x xs are last, none_after line 0 x xs are last) refl
 
 least_line-first : (low line : ℕ) (lines : List ℕ) → AscendFrom low (line ∷ lines) → least_line (line ∷ lines) ≡ line
 least_line-first low line [] ascend = refl

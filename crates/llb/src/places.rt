@@ -1,4 +1,4 @@
-ghost use Rattle.std.specs.Prelude.{◌≡◌, ◌<◌, IfOk, OnOk, OnErr, vec_len, filter, nat_lt};
+ghost use Rattle.std.specs.Prelude.{◌≡◌, ◌<◌, ◌++◌, ◌∷◌, [], IsTrue, IfOk, OnOk, OnErr, vec_len, filter, nat_lt, slice_index_or};
 ghost use Rattle.llb.specs.Places.{AreLines, with_line, with_lines, places_with, least_line};
 
 use plain::{Exact, Items, Memory};
@@ -48,19 +48,38 @@ fn with_lines(alloc: Global, lines: &Items<u32>, more: &[u32]) -> Result<Items<u
     Ok(lines)
 }
 
+/// Whether a line comes after all of some ascending lines.
+fn is_after(line: u32, lines: &[u32]) -> bool
+    requires { AreLines lines.now }
+    ensures { IsTrue result → with_line line lines.now ≡ lines.now ++ line ∷ [] }
+{
+    match lines {
+        [] => true,
+        [.., last] => *last < line,
+    }
+}
+
 /// Adds lines to those of the vertex at `at`. After `Memory` nothing has changed.
+///
+/// Instructions mostly come in the order of their lines: then the line is put after the others, which aren't gone through.
 pub(crate) fn add_lines(
     alloc: Global,
     places: &mut Vec<Items<u32>>,
     at: usize,
     lines: &[u32],
 ) -> Result<(), Memory>
-    requires { at < vec_len places.old }
+    requires inside { at < vec_len places.old }
+    requires lines { AreLines (slice_index_or places.old.items at []) }
     ensures ok { OnOk result (places.new.items ≡ places_with lines.now at places.old.items) }
     ensures err { OnErr result (places.new.items ≡ places.old.items) }
 {
     if lines.is_empty() {
         return Ok(());
+    }
+    if let [line] = lines {
+        if is_after(*line, places[at].as_slice()) {
+            return places[at].push(*line);
+        }
     }
     let lines = with_lines(alloc, &places[at], lines)?;
     places[at] = lines;
