@@ -8,7 +8,9 @@ use Rattle.globs.proofs.Cuts.{last-parts, same-ends, nil-parts}
 use Rattle.ignorefile.specs.declared.line.Line.{Line}
 use Rattle.ignorefile.specs.Line.{Relates, is_deep}
 use Rattle.ignorefile.specs.Kept.{Touches, TouchesAt, Kept}
-use Rattle.ignorefile.specs.PrivateRanks.{RelatesAt, Member, AreWithin, IsBest, IsVerdict, IsDecided, Lets}
+use Rattle.ignorefile.specs.declared.counts.Counts.{Counts}
+use Rattle.ignorefile.specs.PrivateRanks.{RelatesAt, Member, AreInOrder, IsBest, IsVerdict, IsDecided, Lets}
+use Rattle.ignorefile.specs.PrivateCounts.{under}
 use Rattle.ignorefile.specs.PrivateIndex.{IsIndex, named}
 use Rattle.ignorefile.proofs.Lines.{Holds}
 
@@ -18,23 +20,39 @@ ends [] = inl refl
 ends (c ∷ cs) = inr (elim (ends cs) [ inl e ↦ ([], (c, ap (λ x. c ∷ x) e)) | inr w ↦ (c ∷ w.0, (w.1.0, ap (λ x. c ∷ x) w.1.1)) ])
 
 -- the index has each line that relates to a path
-pub indexed : (lines : List Line) (entries : List (List ℕ × List ℕ)) (others : List ℕ) → IsIndex lines entries others → (path : List (List ℕ)) (n : ℕ) → RelatesAt lines path n
-    → Member n others ⊎ ((front : List (List ℕ)) × ((last : List ℕ) × ((path ≡ front ++ last ∷ []) × (IsUtf8 last → Member n (named entries last)))))
-indexed lines entries others index path n (line, (at, r)) =
+indexed : (lines : List Line) (entries : List (List ℕ × List ℕ)) (counts : Counts) (others : List ℕ) → IsIndex lines entries counts others → (path : List (List ℕ)) (n : ℕ) → RelatesAt lines path n
+    → (Member n others ⊎ Member n (under counts (length path))) ⊎ ((front : List (List ℕ)) × ((last : List ℕ) × ((path ≡ front ++ last ∷ []) × (IsUtf8 last → Member n (named entries last)))))
+indexed lines entries counts others index path n (line, (at, r)) =
     elim (index.there n line at) [
-      | inl m ↦ inl m
-      | inr w ↦ (let v = w.1.0 path r in inr (v.0, (v.1.0, (v.1.1.0, λ utf8. subst (λ (l : List ℕ). Member n (named entries l)) (sym (v.1.1.1 utf8)) w.1.1))))
+      | inl m ↦ inl (inl m)
+      | inr (inl w) ↦ (let v = w.1.0 path r in inr (v.0, (v.1.0, (v.1.1.0, λ utf8. subst (λ (l : List ℕ). Member n (named entries l)) (sym (v.1.1.1 utf8)) w.1.1))))
+      | inr (inr w) ↦ inl (inr (subst (λ (count : ℕ). Member n (under counts count)) (sym (w.1.0 path r)) w.1.1))
     ]
 
 snoc-nil : {A : Type 0} (xs : List A) (x : A) → [] ≡ xs ++ x ∷ [] → ⊥
 snoc-nil xs x e = let n : 0 ≡ length (x ∷ []) = ap length (sym (nil-parts xs (x ∷ []) e).1) in omega arith
 
-module _ (lines : List Line) (entries : List (List ℕ × List ℕ)) (others : List ℕ) (index : IsIndex lines entries others) (path : List (List ℕ)) (above middle : ℕ) (first : IsBest lines others path above middle) where
+-- of two ranks behind one another the last one that is greater
+later-hit : (lines : List Line) (path : List (List ℕ)) (above middle rank : ℕ) → middle ≤ rank → (above < middle → RelatesAt lines path (middle - 1)) → (middle < rank → RelatesAt lines path (rank - 1)) → above < rank → RelatesAt lines path (rank - 1)
+later-hit lines path above middle rank up before after h = by (nat_lt middle rank) refl
+  where
+    by : (x : Bool) → nat_lt middle rank ≡ x → RelatesAt lines path (rank - 1)
+    by true e = after (ltb-true middle rank e)
+    by false e = let b = ltb-false middle rank e in let same : middle ≡ rank = omega arith in subst (λ (x : ℕ). RelatesAt lines path (x - 1)) same (before (omega arith))
+
+module _ (lines : List Line) (entries : List (List ℕ × List ℕ)) (counts : Counts) (others : List ℕ) (index : IsIndex lines entries counts others) (path : List (List ℕ)) (above low middle : ℕ) (first : IsBest lines others path above low) (second : IsBest lines (under counts (length path)) path low middle) where
+  middle-hit : above < middle → RelatesAt lines path (middle - 1)
+  middle-hit h = later-hit lines path above low middle second.least first.hit second.hit h
+
+  middle-miss : (n : ℕ) → middle ≤ n → RelatesAt lines path n → Member n others ⊎ Member n (under counts (length path)) → ⊥
+  middle-miss n b r (inl m) = let l = second.least in first.miss n m (omega arith) r
+  middle-miss n b r (inr m) = second.miss n m b r
+
   pub verdict-root : length path < 1 → IsVerdict lines path above middle
   verdict-root none = record {
-    least = first.least;
-    hit = first.hit;
-    miss = λ n b r. elim (indexed lines entries others index path n r) [ inl m ↦ first.miss n m b r | inr w ↦ snoc-nil w.0 w.1.0 (sym (empty path none) ∙ w.1.1.0) ];
+    least = let a = first.least in let b = second.least in omega arith;
+    hit = λ h. middle-hit h;
+    miss = λ n b r. elim (indexed lines entries counts others index path n r) [ inl m ↦ middle-miss n b r m | inr w ↦ snoc-nil w.0 w.1.0 (sym (empty path none) ∙ w.1.1.0) ];
   }
     where
       empty : (p : List (List ℕ)) → length p < 1 → p ≡ []
@@ -45,20 +63,16 @@ module _ (lines : List Line) (entries : List (List ℕ × List ℕ)) (others : L
   same-last last more is front name e = (same-ends is_deep Holds front (take (length path - 1) path) name last (sym e ∙ last-parts is_deep Holds path last more is)).1
 
   pub verdict-some : (last : List ℕ) (ns : List ℕ) (rank : ℕ) → 1 ≤ length path → last ≡ get_or path (length path - 1) last → IsUtf8 last → named entries last ≡ ns → IsBest lines ns path middle rank → IsVerdict lines path above rank
-  verdict-some last ns rank more is utf8 some second = record {
-    least = let a = first.least in let b = second.least in omega arith;
-    hit = λ h. hits (nat_lt middle rank) refl h;
-    miss = λ n b r. elim (indexed lines entries others index path n r) [
-      | inl m ↦ let l = second.least in first.miss n m (omega arith) r
+  verdict-some last ns rank more is utf8 some third = record {
+    least = let a = first.least in let b = second.least in let d = third.least in omega arith;
+    hit = λ h. later-hit lines path above middle rank third.least middle-hit third.hit h;
+    miss = λ n b r. elim (indexed lines entries counts others index path n r) [
+      | inl m ↦ let l = third.least in middle-miss n (omega arith) r m
       | inr w ↦ (
           let same = same-last last more is w.0 w.1.0 w.1.1.0 in
-          second.miss n (subst (Member n) (ap (named entries) same ∙ some) (w.1.1.1 (subst IsUtf8 (sym same) utf8))) b r)
+          third.miss n (subst (Member n) (ap (named entries) same ∙ some) (w.1.1.1 (subst IsUtf8 (sym same) utf8))) b r)
     ];
   }
-    where
-      hits : (x : Bool) → nat_lt middle rank ≡ x → above < rank → RelatesAt lines path (rank - 1)
-      hits true e h = second.hit (ltb-true middle rank e)
-      hits false e h = let b = ltb-false middle rank e in let a = second.least in let same : middle ≡ rank = omega arith in subst (λ (x : ℕ). RelatesAt lines path (x - 1)) same (first.hit (omega arith))
 
 -- ---- handed down
 
@@ -138,8 +152,8 @@ decided-kept lines path rank d = (λ l. there (nat_lt 0 rank) refl l, λ k. back
 
 -- ---- the same values under other names
 
-pub moved-within : (ls lines : List Line) (ms ns : List ℕ) → ls ≡ lines → ms ≡ ns → AreWithin (length lines) ns → AreWithin (length ls) ms
-moved-within ls lines ms ns l m w = subst (λ (x : List Line). AreWithin (length x) ms) (sym l) (subst (AreWithin (length lines)) (sym m) w)
+pub moved-order : (ls lines : List Line) (ms ns : List ℕ) → ls ≡ lines → ms ≡ ns → AreInOrder (length lines) ns → AreInOrder (length ls) ms
+moved-order ls lines ms ns l m w = subst (λ (x : List Line). AreInOrder (length x) ms) (sym l) (subst (AreInOrder (length lines)) (sym m) w)
 
 pub moved-best : (ls lines : List Line) (ms ns : List ℕ) (path : List (List ℕ)) (above rank : ℕ) → ls ≡ lines → ms ≡ ns → IsBest ls ms path above rank → IsBest lines ns path above rank
 moved-best ls lines ms ns path above rank l m b = subst (λ (x : List Line). IsBest x ns path above rank) l (subst (λ (x : List ℕ). IsBest ls x path above rank) m b)

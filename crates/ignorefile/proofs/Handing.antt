@@ -1,9 +1,9 @@
 -- What is decided of folders, handed down from path to path, and the making of the index.
-use Rattle.std.specs.Prelude.{◌≡◌, ℕ, ◌+◌, ◌<◌, ◌≤◌, Bool, true, false, cond, List, [], ◌∷◌, ◌++◌, ◌⊎◌, Some, None, take, length, get_or, slice_get, ◌↔◌, IsTrue, nat_lt}
-use Rattle.std.proofs.Common.{sym, ap, refl, ◌∙◌, subst, inl, inr, true≢false, arith, zero, suc, set}
+use Rattle.std.specs.Prelude.{◌≡◌, ℕ, ◌+◌, ◌<◌, ◌≤◌, Bool, true, false, ◌==◌, cond, List, [], ◌∷◌, ◌++◌, ◌⊎◌, Some, None, take, length, get_or, slice_get, ◌↔◌, IsTrue, nat_lt}
+use Rattle.std.proofs.Common.{sym, ap, refl, ◌∙◌, subst, inl, inr, true≢false, arith, zero, suc, set, eq-eqb}
 use Rattle.std.proofs.lemmas.Bool.{ltb-true, ltb-false}
 use Rattle.std.proofs.lemmas.Option.{same_Some, none-some}
-use Rattle.std.proofs.lemmas.List.{take_more, take-take, get_or-set_same, get_or-set_other}
+use Rattle.std.proofs.lemmas.List.{append-nil, take_more, take-take, get_or-set_same, get_or-set_other}
 use Rattle.std.specs.List.{AllZip}
 use Rattle.std.specs.declared.cmp.Ordering.{Ordering}
 use Rattle.std.specs.declared.cmp.Ordering.TheVariants.{Less, Equal, Greater}
@@ -14,9 +14,11 @@ use Rattle.std.specs.Map.{lookup}
 use Rattle.std.specs.BTreeMap.{is_at}
 use Rattle.std.specs.Cmp.Lexicographic.{slice_cmp, nat_list_cmp_total}
 use Rattle.ignorefile.specs.declared.line.Line.{Line}
+use Rattle.ignorefile.specs.declared.counts.Counts.{Counts}
 use Rattle.ignorefile.specs.Kept.{Kept}
-use Rattle.ignorefile.specs.PrivateRanks.{EndsIn, Member, IsVerdict, IsDecided, Lets, IsShared}
-use Rattle.ignorefile.specs.PrivateIndex.{IsIndex, IsAdded, named, positions_of}
+use Rattle.ignorefile.specs.PrivateRanks.{EndsIn, HasCount, Member, AreInOrder, IsVerdict, IsDecided, Lets, IsShared}
+use Rattle.ignorefile.specs.PrivateCounts.{under, Enters}
+use Rattle.ignorefile.specs.PrivateIndex.{IsIndex, IsAdded, StandsIn, named, positions_of}
 use Rattle.ignorefile.proofs.Deciding.{decided-start, decided-more, decided-all}
 
 -- the ranks of a path's fronts
@@ -115,53 +117,92 @@ get-snoc [] x y (suc m) e = absurd (none-some y e)
 get-snoc (z ∷ zs) x y zero e = inl e
 get-snoc (z ∷ zs) x y (suc m) e = elim (get-snoc zs x y m e) [ inl w ↦ inl w | inr w ↦ inr (let q = w.0 in omega arith, w.1) ]
 
-length-snoc : (xs : List Line) (x : Line) → length (xs ++ x ∷ []) ≡ length xs + 1
+length-snoc : {A : Type 0} (xs : List A) (x : A) → length (xs ++ x ∷ []) ≡ length xs + 1
 length-snoc [] x = refl
 length-snoc (y ∷ ys) x = let e = length-snoc ys x in omega arith
 
-module _ (xs : List Line) (x : Line) (old new : List (List ℕ × List ℕ)) (others others' : List ℕ) (h : IsIndex xs old others) where
-  index-named : (name : List ℕ) → EndsIn x name → IsAdded old new name (length xs) → IsIndex (xs ++ x ∷ []) new others
-  index-named name ends add = record {
-    there = λ m line at. elim (get-snoc xs x line m at) [
-      | inl before ↦ elim (h.there m line before) [ inl other ↦ inl other | inr w ↦ inr (w.0, (w.1.0, keeps w.0 m (is_at (slice_cmp nat_cmp name) w.0) refl w.1.1)) ]
-      | inr w ↦ inr (name, (subst (λ (l : Line). EndsIn l name) w.1 ends, news name m w.0 refl))
-    ];
-    named_within = λ q m in_new. within q m (is_at (slice_cmp nat_cmp name) q) refl in_new;
-    others_within = λ m r. let l = h.others_within m r in let s = length-snoc xs x in omega arith;
-  }
+get-front : (ns : List ℕ) (n k : ℕ) → k < length ns → get_or (ns ++ n ∷ []) k 0 ≡ get_or ns k 0
+get-front [] n k l = absurd (omega arith)
+get-front (x ∷ xs) n zero l = refl
+get-front (x ∷ xs) n (suc k) l = get-front xs n k (omega arith)
+
+get-end : (ns : List ℕ) (n k : ℕ) → k ≡ length ns → get_or (ns ++ n ∷ []) k 0 ≡ n
+get-end [] n zero e = refl
+get-end [] n (suc k) e = absurd (omega arith)
+get-end (x ∷ xs) n zero e = absurd (omega arith)
+get-end (x ∷ xs) n (suc k) e = get-end xs n k (omega arith)
+
+rise-more : (ns : List ℕ) (n : ℕ) → AreInOrder n ns → (i j : ℕ) → i < j → j < length (ns ++ n ∷ []) → get_or (ns ++ n ∷ []) i 0 < get_or (ns ++ n ∷ []) j 0
+rise-more ns n order i j l m = by (nat_lt j (length ns)) refl
+  where
+    by : (x : Bool) → nat_lt j (length ns) ≡ x → get_or (ns ++ n ∷ []) i 0 < get_or (ns ++ n ∷ []) j 0
+    by true e =
+        let h = ltb-true j (length ns) e in
+        let a = get-front ns n i (omega arith) in let b = get-front ns n j h in let r = order.rise i j l h in omega arith
+    by false e =
+        let h = ltb-false j (length ns) e in
+        let s = length-snoc ns n in
+        let a = get-front ns n i (omega arith) in let b = get-end ns n j (omega arith) in
+        let w = order.within (get_or ns i 0) (i, (omega arith, refl)) in omega arith
+
+-- positions stay, or get one more at their end
+abbrev Grown : List ℕ → List ℕ → ℕ → Type 0
+Grown old new n = (new ≡ old ++ n ∷ []) ⊎ (new ≡ old)
+
+grown-keeps : (old new : List ℕ) (n m : ℕ) → Grown old new n → Member m old → Member m new
+grown-keeps old new n m (inl more) r = subst (Member m) (sym more) (member-more old n m r)
+grown-keeps old new n m (inr same) r = subst (Member m) (sym same) r
+
+grown-order : (old new : List ℕ) (n bound : ℕ) → bound ≡ n + 1 → Grown old new n → AreInOrder n old → AreInOrder bound new
+grown-order old new n bound is (inl more) order = subst (AreInOrder bound) (sym more) (record {
+  within = λ m r. elim (member-either old n m r) [ inl w ↦ (let l = order.within m w in omega arith) | inr w ↦ omega arith ];
+  rise = rise-more old n order;
+})
+grown-order old new n bound is (inr same) order = subst (AreInOrder bound) (sym same) (record {
+  within = λ m r. let l = order.within m r in omega arith;
+  rise = order.rise;
+})
+
+-- the lists of an index grow by a position and keep what they had
+module _ (old new : List (List ℕ × List ℕ)) (name : List ℕ) (n : ℕ) (add : IsAdded old new name n) where
+  named-grown : (q : List ℕ) → Grown (named old q) (named new q) n
+  named-grown q = by (is_at (slice_cmp nat_cmp name) q) refl
     where
-      keeps : (q : List ℕ) (m : ℕ) (b : Bool) → is_at (slice_cmp nat_cmp name) q ≡ b → Member m (named old q) → Member m (named new q)
-      keeps q m true e r = subst (Member m) (sym (add.at q ∙ ap (λ b. cond b (named old q ++ length xs ∷ []) (named old q)) e)) (member-more (named old q) (length xs) m r)
-      keeps q m false e r = subst (Member m) (sym (add.at q ∙ ap (λ b. cond b (named old q ++ length xs ∷ []) (named old q)) e)) r
+      by : (b : Bool) → is_at (slice_cmp nat_cmp name) q ≡ b → Grown (named old q) (named new q) n
+      by true e = inl (add.at q ∙ ap (λ b. cond b (named old q ++ n ∷ []) (named old q)) e)
+      by false e = inr (add.at q ∙ ap (λ b. cond b (named old q ++ n ∷ []) (named old q)) e)
 
-      itself : is_at (slice_cmp nat_cmp name) name ≡ true
-      itself = ap is_eq (tied_itself nat_list_cmp_total name)
+  named-new : Member n (named new name)
+  named-new =
+      subst (Member n) (sym (add.at name ∙ ap (λ b. cond b (named old name ++ n ∷ []) (named old name)) (ap is_eq (tied_itself nat_list_cmp_total name)))) (member-new (named old name) n)
 
-      news : (q : List ℕ) (m : ℕ) → m ≡ length xs → name ≡ q → Member m (named new q)
-      news q m is same =
-          subst (λ (p : List ℕ). Member m (named new p)) same
-          (subst (Member m) (sym (add.at name ∙ ap (λ b. cond b (named old name ++ length xs ∷ []) (named old name)) itself))
-          (subst (λ (k : ℕ). Member k (named old name ++ length xs ∷ [])) (sym is) (member-new (named old name) (length xs))))
+module _ (before after : Counts) (count n : ℕ) (enters : Enters before after count n) where
+  counts-grown : (q : ℕ) → Grown (under before q) (under after q) n
+  counts-grown q = by (q == count) refl
+    where
+      by : (b : Bool) → (q == count) ≡ b → Grown (under before q) (under after q) n
+      by true e = inl (enters q ∙ ap (λ b. under before q ++ cond b (n ∷ []) []) e)
+      by false e = inr (enters q ∙ ap (λ b. under before q ++ cond b (n ∷ []) []) e ∙ append-nil (under before q))
 
-      within : (q : List ℕ) (m : ℕ) (b : Bool) → is_at (slice_cmp nat_cmp name) q ≡ b → Member m (named new q) → m < length (xs ++ x ∷ [])
-      within q m true e r =
-          let s = length-snoc xs x in
-          elim (member-either (named old q) (length xs) m (subst (Member m) (add.at q ∙ ap (λ b. cond b (named old q ++ length xs ∷ []) (named old q)) e) r)) [
-            | inl w ↦ (let l = h.named_within q m w in omega arith)
-            | inr w ↦ omega arith
-          ]
-      within q m false e r =
-          let s = length-snoc xs x in
-          let l = h.named_within q m (subst (Member m) (add.at q ∙ ap (λ b. cond b (named old q ++ length xs ∷ []) (named old q)) e) r) in omega arith
+  counts-new : Member n (under after count)
+  counts-new = subst (Member n) (sym (enters count ∙ ap (λ b. under before count ++ cond b (n ∷ []) []) (eq-eqb count count refl))) (member-new (under before count) n)
 
-  index-other : others' ≡ others ++ length xs ∷ [] → IsIndex (xs ++ x ∷ []) old others'
-  index-other add = record {
+module _ (xs : List Line) (x : Line) (old new : List (List ℕ × List ℕ)) (before after : Counts) (others others' : List ℕ) (h : IsIndex xs old before others)
+    (by_name : (q : List ℕ) → Grown (named old q) (named new q) (length xs)) (by_count : (q : ℕ) → Grown (under before q) (under after q) (length xs)) (rest : Grown others others' (length xs)) where
+  keeps : (line : Line) (m : ℕ) → StandsIn line m old before others → StandsIn line m new after others'
+  keeps line m (inl r) = inl (grown-keeps others others' (length xs) m rest r)
+  keeps line m (inr (inl w)) = inr (inl (w.0, (w.1.0, grown-keeps (named old w.0) (named new w.0) (length xs) m (by_name w.0) w.1.1)))
+  keeps line m (inr (inr w)) = inr (inr (w.0, (w.1.0, grown-keeps (under before w.0) (under after w.0) (length xs) m (by_count w.0) w.1.1)))
+
+  index-more : StandsIn x (length xs) new after others' → IsIndex (xs ++ x ∷ []) new after others'
+  index-more stands = record {
     there = λ m line at. elim (get-snoc xs x line m at) [
-      | inl before ↦ elim (h.there m line before) [ inl other ↦ inl (subst (Member m) (sym add) (member-more others (length xs) m other)) | inr w ↦ inr w ]
-      | inr w ↦ inl (subst (Member m) (sym add) (subst (λ (k : ℕ). Member k (others ++ length xs ∷ [])) (sym w.0) (member-new others (length xs))))
+      | inl earlier ↦ keeps line m (h.there m line earlier)
+      | inr w ↦ subst (λ (k : ℕ). StandsIn line k new after others') (sym w.0) (subst (λ (l : Line). StandsIn l (length xs) new after others') w.1 stands)
     ];
-    named_within = λ q m r. let l = h.named_within q m r in let s = length-snoc xs x in omega arith;
-    others_within = λ m r. let s = length-snoc xs x in elim (member-either others (length xs) m (subst (Member m) add r)) [ inl w ↦ (let l = h.others_within m w in omega arith) | inr w ↦ omega arith ];
+    named_order = λ q. grown-order (named old q) (named new q) (length xs) (length (xs ++ x ∷ [])) (length-snoc xs x) (by_name q) (h.named_order q);
+    counted_order = λ q. grown-order (under before q) (under after q) (length xs) (length (xs ++ x ∷ [])) (length-snoc xs x) (by_count q) (h.counted_order q);
+    others_order = grown-order others others' (length xs) (length (xs ++ x ∷ [])) (length-snoc xs x) rest h.others_order;
   }
 
 length-front : (lines : List Line) (n : ℕ) → n < length lines → length (take n lines) ≡ n
@@ -169,22 +210,44 @@ length-front [] n l = absurd (omega arith)
 length-front (x ∷ xs) zero l = refl
 length-front (x ∷ xs) (suc n) l = let e = length-front xs n (omega arith) in omega arith
 
-pub index-more-named : (lines : List Line) (n : ℕ) (line : Line) (old new : List (List ℕ × List ℕ)) (others : List ℕ) (name : List ℕ) → n < length lines → line ≡ get_or lines n line → EndsIn line name → IsAdded old new name n → IsIndex (take n lines) old others → IsIndex (take (n + 1) lines) new others
-index-more-named lines n line old new others name less is ends add h =
-    subst (λ (l : List Line). IsIndex l new others) (sym (take_more lines n line less ∙ ap (λ (l : Line). take n lines ++ l ∷ []) (sym is)))
-    (index-named (take n lines) line old new others others h name ends (subst (IsAdded old new name) (sym (length-front lines n less)) add))
+module _ (lines : List Line) (n : ℕ) (line : Line) (old : List (List ℕ × List ℕ)) (before : Counts) (others : List ℕ) (less : n < length lines) (is : line ≡ get_or lines n line) (h : IsIndex (take n lines) old before others) where
+  to-front : (new : List (List ℕ × List ℕ)) (after : Counts) (others' : List ℕ) → IsIndex (take n lines ++ line ∷ []) new after others' → IsIndex (take (n + 1) lines) new after others'
+  to-front new after others' index =
+      subst (λ (l : List Line). IsIndex l new after others') (sym (take_more lines n line less ∙ ap (λ (l : Line). take n lines ++ l ∷ []) (sym is))) index
 
-pub index-more-other : (lines : List Line) (n : ℕ) (line : Line) (old : List (List ℕ × List ℕ)) (others others' : List ℕ) → n < length lines → line ≡ get_or lines n line → others' ≡ others ++ n ∷ [] → IsIndex (take n lines) old others → IsIndex (take (n + 1) lines) old others'
-index-more-other lines n line old others others' less is add h =
-    subst (λ (l : List Line). IsIndex l old others') (sym (take_more lines n line less ∙ ap (λ (l : Line). take n lines ++ l ∷ []) (sym is)))
-    (index-other (take n lines) line old old others others' h (add ∙ ap (λ k. others ++ k ∷ []) (sym (length-front lines n less))))
+  pub index-more-named : (new : List (List ℕ × List ℕ)) (name : List ℕ) → EndsIn line name → IsAdded old new name n → IsIndex (take (n + 1) lines) new before others
+  index-more-named new name ends add =
+      let add' = subst (IsAdded old new name) (sym (length-front lines n less)) add in
+      to-front new before others
+      (index-more (take n lines) line old new before before others others h (λ q. named-grown old new name (length (take n lines)) add' q) (λ q. inr refl) (inr refl) (inr (inl (name, (ends, named-new old new name (length (take n lines)) add')))))
 
-pub index-moved : (lines : List Line) (e e' : List (List ℕ × List ℕ)) (o o' : List ℕ) → e' ≡ e → o' ≡ o → IsIndex lines e o → IsIndex lines e' o'
-index-moved lines e e' o o' same also h = subst (λ (x : List (List ℕ × List ℕ)). IsIndex lines x o') (sym same) (subst (IsIndex lines e) (sym also) h)
+  pub index-more-counted : (after : Counts) (count : ℕ) → HasCount line count → Enters before after count n → IsIndex (take (n + 1) lines) old after others
+  index-more-counted after count has enters =
+      let enters' = subst (Enters before after count) (sym (length-front lines n less)) enters in
+      to-front old after others
+      (index-more (take n lines) line old old before after others others h (λ q. inr refl) (λ q. counts-grown before after count (length (take n lines)) enters' q) (inr refl) (inr (inr (count, (has, counts-new before after count (length (take n lines)) enters')))))
 
-pub index-none : IsIndex [] [] []
-index-none = record {
+  pub index-more-other : (others' : List ℕ) → others' ≡ others ++ n ∷ [] → IsIndex (take (n + 1) lines) old before others'
+  index-more-other others' add =
+      let add' : others' ≡ others ++ length (take n lines) ∷ [] = add ∙ ap (λ k. others ++ k ∷ []) (sym (length-front lines n less)) in
+      to-front old before others'
+      (index-more (take n lines) line old old before before others others' h (λ q. inr refl) (λ q. inr refl) (inl add')
+      (inl (subst (Member (length (take n lines))) (sym add') (member-new others (length (take n lines))))))
+
+pub index-moved : (lines : List Line) (e e' : List (List ℕ × List ℕ)) (c c' : Counts) (o o' : List ℕ) → e' ≡ e → c' ≡ c → o' ≡ o → IsIndex lines e c o → IsIndex lines e' c' o'
+index-moved lines e e' c c' o o' same counts also h =
+    subst (λ (x : List (List ℕ × List ℕ)). IsIndex lines x c' o') (sym same) (subst (λ (x : Counts). IsIndex lines e x o') (sym counts) (subst (IsIndex lines e c) (sym also) h))
+
+pub order-none : (ns : List ℕ) → ns ≡ [] → AreInOrder 0 ns
+order-none ns is = subst (AreInOrder 0) (sym is) (record {
+  within = λ n m. let l = m.1.0 in absurd (omega arith);
+  rise = λ i j l m. absurd (omega arith);
+})
+
+pub index-none : (counts : Counts) → ((q : ℕ) → under counts q ≡ []) → IsIndex [] [] counts []
+index-none counts none = record {
   there = λ n line at. absurd (none-some line at);
-  named_within = λ name n m. let l = m.1.0 in absurd (omega arith);
-  others_within = λ n m. let l = m.1.0 in absurd (omega arith);
+  named_order = λ name. order-none [] refl;
+  counted_order = λ q. order-none (under counts q) (none q);
+  others_order = order-none [] refl;
 }

@@ -1,6 +1,7 @@
--- The greatest rank of the lines at some positions, as a loop finds it, and the name that a line's paths end in.
-use Rattle.std.specs.Prelude.{◌≡◌, ℕ, ◌+◌, ◌-◌, ◌<◌, ◌≤◌, Bool, true, false, List, [], ◌∷◌, ◌++◌, Option, Some, None, take, length, get_or, slice_get, nat_lt}
-use Rattle.std.proofs.Common.{sym, ap, refl, ◌∙◌, subst, arith, zero, suc}
+-- The greatest rank of the lines at some positions, as a loop finds it, the name that a line's paths end in, and how many names they have.
+use Rattle.std.specs.Prelude.{◌≡◌, ℕ, ◌+◌, ◌-◌, ◌<◌, ◌≤◌, Bool, true, false, List, [], ◌∷◌, ◌++◌, ◌||◌, Option, Some, None, take, length, get_or, slice_get, nat_lt}
+use Rattle.std.proofs.Common.{sym, ap, refl, ◌∙◌, subst, inl, inr, true≢false, arith, zero, suc}
+use Rattle.std.specs.List.{list_any}
 use denote.Ref.{Bor}
 use Rattle.std.specs.Option.{IfSome}
 use Rattle.std.proofs.lemmas.Bool.{ltb-true, ltb-false}
@@ -12,7 +13,7 @@ use Rattle.ignorefile.specs.declared.line.Segment.{Segment}
 use Rattle.ignorefile.specs.declared.line.Segment.TheVariants.{Deep, Named}
 use Rattle.ignorefile.specs.declared.line.Line.{Line}
 use Rattle.ignorefile.specs.Line.{Relates, is_deep, holds}
-use Rattle.ignorefile.specs.PrivateRanks.{EndsIn, RelatesAt, AreWithin, IsRaised, IsBest, TakesOnly}
+use Rattle.ignorefile.specs.PrivateRanks.{EndsIn, HasCount, RelatesAt, AreInOrder, IsRaised, IsBest, TakesOnly}
 
 abbrev pub Holds : Segment → List ℕ → Type 0
 Holds segment name = holds segment name ≡ true
@@ -30,32 +31,40 @@ pub ends-in : (line : Line) (segments : List Segment) (last : Segment) (found : 
 ends-in line segments last None same more is only = tt
 ends-in line segments last (Some name) same more is only = last-only line segments last name.now (sym same) more is only
 
+-- ---- how many names a line's paths have
+
+or-none : (a b : Bool) → (a || b) ≡ false → (a ≡ false) × (b ≡ false)
+or-none true b h = absurd (true≢false h)
+or-none false b h = (refl, h)
+
+counted : (segments : List Segment) (path : List (List ℕ)) → list_any (λ segment. is_deep segment) segments ≡ false → CanBeCut is_deep Holds segments path → length path ≡ length segments
+counted [] path none e = ap (λ (l : List (List ℕ)). length l) e
+counted (segment ∷ more) path none (piece, (rest, (e, (inl any, r)))) =
+    absurd (true≢false (sym any ∙ (or-none (is_deep segment) (list_any (λ segment. is_deep segment) more) none).0))
+counted (segment ∷ more) path none (piece, (rest, (e, (inr (one, (name, (is, holds))), r)))) =
+    let whole : length path ≡ length (name ∷ rest) = ap (λ (l : List (List ℕ)). length l) (e ∙ ap (λ (p : List (List ℕ)). p ++ rest) is) in
+    let others = counted more rest (or-none (is_deep segment) (list_any (λ segment. is_deep segment) more) none).1 r in
+    whole ∙ ap (λ (n : ℕ). suc n) others
+
+pub has-count : (line : Line) (segments : List Segment) (deep : Bool) (count : ℕ) → segments ≡ line.segments → deep ≡ list_any (λ segment. is_deep segment) segments → deep ≡ false → count ≡ length segments → HasCount line count
+has-count line segments deep count same any none is path r =
+    counted segments path (sym any ∙ none) (subst (λ (l : List Segment). CanBeCut is_deep Holds l path) (sym same) r) ∙ sym is
+
 -- ---- the greatest rank
 
-pub record IsSoFar (lines : List Line) (ns : List ℕ) (passed : ℕ) (path : List (List ℕ)) (above rank : ℕ) : Type 0 where
-  pub least : above ≤ rank
-  pub hit : above < rank → RelatesAt lines path (rank - 1)
-  pub miss : (k : ℕ) → k < length ns → length ns ≤ k + passed → rank ≤ get_or ns k 0 → RelatesAt lines path (get_or ns k 0) → ⊥
+-- none of the lines at the last positions relates
+abbrev pub AreMissed : List Line → List ℕ → ℕ → List (List ℕ) → Type 0
+AreMissed lines ns passed path = (k : ℕ) → k < length ns → length ns ≤ k + passed → RelatesAt lines path (get_or ns k 0) → ⊥
 
-pub sofar-start : (lines : List Line) (ns : List ℕ) (path : List (List ℕ)) (above : ℕ) → IsSoFar lines ns 0 path above above
-sofar-start lines ns path above = record { least = omega arith; hit = λ h. absurd (omega arith); miss = λ k l m. absurd (omega arith) }
-
-pub sofar-end : (lines : List Line) (ns : List ℕ) (path : List (List ℕ)) (above rank passed : ℕ) → length ns ≤ passed → IsSoFar lines ns passed path above rank → IsBest lines ns path above rank
-sofar-end lines ns path above rank passed all s = record {
-  least = s.least;
-  hit = s.hit;
-  miss = λ n m b r. s.miss m.0 m.1.0 (omega arith) (subst (λ (x : ℕ). rank ≤ x) (sym m.1.1) b) (subst (RelatesAt lines path) (sym m.1.1) r);
-}
-
-pub within-at : (ns : List ℕ) (bound k : ℕ) → AreWithin bound ns → k < length ns → get_or ns k 0 < bound
-within-at ns bound k w l = w (get_or ns k 0) (k, (l, refl))
+pub missed-none : (lines : List Line) (ns : List ℕ) (path : List (List ℕ)) → AreMissed lines ns 0 path
+missed-none lines ns path k l m = absurd (omega arith)
 
 pub line-at : (lines : List Line) (n : ℕ) (line : Line) → n < length lines → line ≡ get_or lines n line → slice_get lines n ≡ Some line
 line-at [] n line l e = absurd (omega arith)
 line-at (x ∷ xs) zero line l e = ap Some (sym e)
 line-at (x ∷ xs) (suc n) line l e = line-at xs n line (omega arith) e
 
-pub relates-at : (lines : List Line) (path : List (List ℕ)) (n : ℕ) (line : Line) → slice_get lines n ≡ Some line → RelatesAt lines path n → Relates line path
+relates-at : (lines : List Line) (path : List (List ℕ)) (n : ℕ) (line : Line) → slice_get lines n ≡ Some line → RelatesAt lines path n → Relates line path
 relates-at lines path n line at (l, (is, r)) = subst (λ (x : Line). Relates x path) (same_Some l line (sym is ∙ at)) r
 
 pub raised-yes : (lines : List Line) (n : ℕ) (path : List (List ℕ)) (before : ℕ) (line : Line) → n < length lines → line ≡ get_or lines n line → before ≤ n → Relates line path → IsRaised lines n path before (n + 1)
@@ -64,25 +73,62 @@ raised-yes lines n path before line l is b r = record { least = omega arith; hit
 pub raised-no : (lines : List Line) (n : ℕ) (path : List (List ℕ)) (before : ℕ) (line : Line) → n < length lines → line ≡ get_or lines n line → (Relates line path → ⊥) → IsRaised lines n path before before
 raised-no lines n path before line l is off = record { least = omega arith; hit = λ h. absurd (omega arith); miss = λ h r. off (relates-at lines path n line (line-at lines n line l is) r) }
 
-pub raised-low : (lines : List Line) (n : ℕ) (path : List (List ℕ)) (before : ℕ) → n < before → IsRaised lines n path before before
-raised-low lines n path before b = record { least = omega arith; hit = λ h. absurd (omega arith); miss = λ h. absurd (omega arith) }
+module _ (lines : List Line) (ns : List ℕ) (path : List (List ℕ)) (above passed : ℕ) (order : AreInOrder (length lines) ns) (missed : AreMissed lines ns passed path) where
+  pub best-none : length ns ≤ passed → IsBest lines ns path above above
+  best-none all = record {
+    least = omega arith;
+    hit = λ h. absurd (omega arith);
+    miss = λ n m b r. missed m.0 m.1.0 (omega arith) (subst (RelatesAt lines path) (sym m.1.1) r);
+  }
 
-pub sofar-more : (lines : List Line) (ns : List ℕ) (path : List (List ℕ)) (above rank passed next n : ℕ) → IsSoFar lines ns passed path above rank → passed < length ns → n ≡ get_or ns (length ns - 1 - passed) 0 → IsRaised lines n path rank next → IsSoFar lines ns (passed + 1) path above next
-sofar-more lines ns path above rank passed next n s less is r = record {
-  least = let a = s.least in let b = r.least in omega arith;
-  hit = λ h. hits (nat_lt rank next) refl h;
-  miss = λ k l m b. misses k (nat_lt k (length ns - passed)) refl l m b;
-}
-  where
-    hits : (x : Bool) → nat_lt rank next ≡ x → above < next → RelatesAt lines path (next - 1)
-    hits true e h = let w = r.hit (ltb-true rank next e) in let q = w.0 in subst (RelatesAt lines path) (let z : n ≡ next - 1 = omega arith in z) w.1
-    hits false e h = let a = r.least in let b = ltb-false rank next e in let same : rank ≡ next = omega arith in subst (λ (x : ℕ). RelatesAt lines path (x - 1)) same (s.hit (omega arith))
+  -- of the position that is tried next, and of those before it
+  module _ (position : ℕ) (less : passed < length ns) (is : position ≡ get_or ns (length ns - 1 - passed) 0) where
+    pub position-within : position < length lines
+    position-within = let w = order.within (get_or ns (length ns - 1 - passed) 0) (length ns - 1 - passed, (omega arith, refl)) in omega arith
 
-    misses : (k : ℕ) (x : Bool) → nat_lt k (length ns - passed) ≡ x → k < length ns → length ns ≤ k + (passed + 1) → next ≤ get_or ns k 0 → RelatesAt lines path (get_or ns k 0) → ⊥
-    misses k true e l m b at =
-        let c = ltb-true k (length ns - passed) e in
-        let same : k ≡ length ns - 1 - passed = omega arith in
-        let here : get_or ns k 0 ≡ n = ap (λ i. get_or ns i 0) same ∙ sym is in
-        r.miss (omega arith) (subst (RelatesAt lines path) here at)
-    misses k false e l m b at =
-        let c = ltb-false k (length ns - passed) e in let a = r.least in s.miss k l (omega arith) (omega arith) at
+    not-above : (k : ℕ) → k < length ns - passed → get_or ns k 0 ≤ position
+    not-above k l = by (nat_lt k (length ns - 1 - passed)) refl
+      where
+        by : (x : Bool) → nat_lt k (length ns - 1 - passed) ≡ x → get_or ns k 0 ≤ position
+        by true e = let r = order.rise k (length ns - 1 - passed) (ltb-true k (length ns - 1 - passed) e) (omega arith) in omega arith
+        by false e =
+            let b = ltb-false k (length ns - 1 - passed) e in
+            let same : k ≡ length ns - 1 - passed = omega arith in
+            let here : get_or ns k 0 ≡ position = ap (λ (i : ℕ). get_or ns i 0) same ∙ sym is in
+            omega arith
+
+    -- a line at one of these positions that relates stands at the next one or before
+    not-behind : (k n : ℕ) → k < length ns → get_or ns k 0 ≡ n → RelatesAt lines path n → n ≤ position
+    not-behind k n l e r = by (nat_lt k (length ns - passed)) refl
+      where
+        by : (x : Bool) → nat_lt k (length ns - passed) ≡ x → n ≤ position
+        by true t = let a = not-above k (ltb-true k (length ns - passed) t) in omega arith
+        by false f = let b = ltb-false k (length ns - passed) f in absurd (missed k l (omega arith) (subst (RelatesAt lines path) (sym e) r))
+
+    pub best-low : position < above → IsBest lines ns path above above
+    best-low low = record {
+      least = omega arith;
+      hit = λ h. absurd (omega arith);
+      miss = λ n m b r. let a = not-behind m.0 n m.1.0 m.1.1 r in omega arith;
+    }
+
+    pub best-here : (rank : ℕ) → IsRaised lines position path above rank → above < rank → IsBest lines ns path above rank
+    best-here rank raised h =
+        let hit = raised.hit h in
+        let next : rank ≡ position + 1 = hit.0 in
+        record {
+          least = omega arith;
+          hit = λ g. (let same : position ≡ rank - 1 = omega arith in subst (RelatesAt lines path) same hit.1);
+          miss = λ n m b q. let a = not-behind m.0 n m.1.0 m.1.1 q in omega arith;
+        }
+
+    pub missed-more : (rank : ℕ) → IsRaised lines position path above rank → above ≤ position → rank ≤ above → AreMissed lines ns (passed + 1) path
+    missed-more rank raised high same k l m r = by (nat_lt k (length ns - passed)) refl
+      where
+        by : (x : Bool) → nat_lt k (length ns - passed) ≡ x → ⊥
+        by true t =
+            let b = ltb-true k (length ns - passed) t in
+            let next : k ≡ length ns - 1 - passed = omega arith in
+            let here : get_or ns k 0 ≡ position = ap (λ (i : ℕ). get_or ns i 0) next ∙ sym is in
+            raised.miss (omega arith) (subst (RelatesAt lines path) here r)
+        by false f = let b = ltb-false k (length ns - passed) f in missed k l (omega arith) r

@@ -1,11 +1,14 @@
--- The index of an ignore file's lines: positions of those whose every path ends in one name, by that name, and of the others.
+-- The index of an ignore file's lines: positions of those whose every path ends in one name, by that name, of those whose paths all have
+-- the same number of names, by that number, and of the others.
 use Rattle.std.specs.Prelude.{◌≡◌, ℕ, List, Option, Some, None, [], ◌∷◌, ◌++◌, ◌⊎◌, cond, length, slice_get}
 use Rattle.std.specs.Ordering.{nat_cmp}
 use Rattle.std.specs.Map.{lookup}
 use Rattle.std.specs.BTreeMap.{is_at}
 use Rattle.std.specs.Cmp.Lexicographic.{slice_cmp}
 use Rattle.ignorefile.specs.declared.line.Line.{Line}
-use Rattle.ignorefile.specs.PrivateRanks.{EndsIn, Member, AreWithin}
+use Rattle.ignorefile.specs.declared.counts.Counts.{Counts}
+use Rattle.ignorefile.specs.PrivateRanks.{EndsIn, HasCount, Member, AreInOrder}
+use Rattle.ignorefile.specs.PrivateCounts.{under}
 
 abbrev pub positions_of : Option (List ℕ) → List ℕ
 positions_of None = []
@@ -15,15 +18,19 @@ positions_of (Some ns) = ns
 abbrev pub named : List (List ℕ × List ℕ) → List ℕ → List ℕ
 named entries name = positions_of (lookup (is_at (slice_cmp nat_cmp name)) entries)
 
--- a line's position is under the name that its paths end in, or among the others
-abbrev pub StandsIn : Line → ℕ → List (List ℕ × List ℕ) → List ℕ → Type 0
-StandsIn line n entries others = Member n others ⊎ ((name : List ℕ) × (EndsIn line name × Member n (named entries name)))
+-- a line's position is under the name that its paths end in, under the number of names that they have, or among the others
+abbrev pub StandsIn : Line → ℕ → List (List ℕ × List ℕ) → Counts → List ℕ → Type 0
+StandsIn line n entries counts others =
+    Member n others
+    ⊎ (((name : List ℕ) × (EndsIn line name × Member n (named entries name)))
+    ⊎ ((count : ℕ) × (HasCount line count × Member n (under counts count))))
 
--- each line stands in the index, and nothing else does
-pub record IsIndex (lines : List Line) (entries : List (List ℕ × List ℕ)) (others : List ℕ) : Type 0 where
-  pub there : (n : ℕ) (line : Line) → slice_get lines n ≡ Some line → StandsIn line n entries others
-  pub named_within : (name : List ℕ) → AreWithin (length lines) (named entries name)
-  pub others_within : AreWithin (length lines) others
+-- each line stands in the index, nothing else does, and positions rise
+pub record IsIndex (lines : List Line) (entries : List (List ℕ × List ℕ)) (counts : Counts) (others : List ℕ) : Type 0 where
+  pub there : (n : ℕ) (line : Line) → slice_get lines n ≡ Some line → StandsIn line n entries counts others
+  pub named_order : (name : List ℕ) → AreInOrder (length lines) (named entries name)
+  pub counted_order : (count : ℕ) → AreInOrder (length lines) (under counts count)
+  pub others_order : AreInOrder (length lines) others
 
 -- a position is added to those of a name
 pub record IsAdded (old new : List (List ℕ × List ℕ)) (name : List ℕ) (position : ℕ) : Type 0 where

@@ -21,11 +21,20 @@ TakesOnly (Named parts) name = IsOnlyName parts name
 abbrev pub EndsIn : Line → List ℕ → Type 0
 EndsIn line name = (path : List (List ℕ)) → Relates line path → (front : List (List ℕ)) × ((last : List ℕ) × ((path ≡ front ++ last ∷ []) × (IsUtf8 last → last ≡ name)))
 
+-- every path that a line relates to has so many names
+abbrev pub HasCount : Line → ℕ → Type 0
+HasCount line count = (path : List (List ℕ)) → Relates line path → length path ≡ count
+
 abbrev pub Member : ℕ → List ℕ → Type 0
 Member n ns = (i : ℕ) × ((i < length ns) × (get_or ns i 0 ≡ n))
 
 abbrev pub AreWithin : ℕ → List ℕ → Type 0
 AreWithin bound ns = (n : ℕ) → Member n ns → n < bound
+
+-- positions below a bound, each less than those behind it
+pub record AreInOrder (bound : ℕ) (ns : List ℕ) : Type 0 where
+  pub within : AreWithin bound ns
+  pub rise : (i j : ℕ) → i < j → j < length ns → get_or ns i 0 < get_or ns j 0
 
 -- a line's rank where it relates and is greater, else the rank before
 pub record IsRaised (lines : List Line) (n : ℕ) (path : List (List ℕ)) (before rank : ℕ) : Type 0 where

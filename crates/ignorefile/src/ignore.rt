@@ -5,6 +5,7 @@ ghost use Rattle.ignorefile.specs.File.{IsIgnoreRead, ignore_of};
 ghost use Rattle.ignorefile.specs.PrivateRanks.{IsVerdict, IsDecided, Lets, IsShared};
 
 use crate::IgnoreFault;
+use crate::counts::Counts;
 use crate::file::read_lines;
 use crate::index::{add, best, positions_under};
 use crate::line::Line;
@@ -19,6 +20,7 @@ use std::marker::Model;
 pub struct Ignore {
     lines: Items<Line>,
     by_name: BTreeMap<Text, Items<usize>>,
+    by_count: Counts,
     others: Items<usize>,
 }
 
@@ -31,7 +33,7 @@ impl Model for Ignore {
 
     ghost view = { λ i. i.lines };
 
-    ghost invariant = { λ i. IsIndex i.lines i.by_name.entries i.others };
+    ghost invariant = { λ i. IsIndex i.lines i.by_name.entries i.by_count i.others };
 }
 
 /// How many first names two paths share.
@@ -53,18 +55,23 @@ impl Ignore {
         ensures { IfOk result (λ ignore. ignore ≡ lines.items) }
     {
         let mut by_name = BTreeMap::new(alloc);
+        let mut by_count = Counts::new(alloc);
         let mut others = Items::new(alloc);
         let rows = lines.as_slice();
         for position in 0..rows.len() {
             let line = &rows[position];
             match line.last_name() {
                 Some(name) => add(alloc, &mut by_name, name, position)?,
-                None => others.push(position)?,
+                None => match line.count() {
+                    Some(count) => by_count.enter(alloc, count, position)?,
+                    None => others.push(position)?,
+                },
             }
         }
         Ok(Ignore {
             lines: Items::from_vec(lines),
             by_name,
+            by_count,
             others,
         })
     }
@@ -89,10 +96,11 @@ impl Ignore {
         ensures { IsVerdict self.now names.now above result }
     {
         let lines = self.lines.as_slice();
-        let above = best(lines, self.others.as_slice(), names, above);
+        let low = best(lines, self.others.as_slice(), names, above);
+        let middle = best(lines, self.by_count.under(names.len()), names, low);
         match names {
-            [] => above,
-            [.., last] => best(lines, positions_under(&self.by_name, last), names, above),
+            [] => middle,
+            [.., last] => best(lines, positions_under(&self.by_name, last), names, middle),
         }
     }
 

@@ -1,5 +1,5 @@
-ghost use Rattle.std.specs.Prelude.{◌≡◌, ◌<◌, IsUtf8, OnOk, length};
-ghost use Rattle.ignorefile.specs.PrivateRanks.{IsRaised, IsBest, AreWithin};
+ghost use Rattle.std.specs.Prelude.{◌≡◌, ◌<◌, ◌≤◌, IsUtf8, OnOk, length};
+ghost use Rattle.ignorefile.specs.PrivateRanks.{IsRaised, IsBest, AreInOrder};
 ghost use Rattle.ignorefile.specs.PrivateIndex.{IsAdded, named};
 
 use crate::line::Line;
@@ -7,29 +7,36 @@ use plain::{Items, Memory, Text};
 use std::alloc::Global;
 use std::collections::BTreeMap;
 
-/// The rank of a line where it relates to a path and is greater, else the rank that there was. The rank of a line is its position and one.
-fn raised(lines: &[Line], position: usize, names: &[Text], best: usize) -> usize
-    requires { position < length lines.now }
-    ensures { IsRaised lines.now position names.now best result }
+/// The rank of a line where it relates to a path, else the rank that there was. The rank of a line is its position and one.
+fn raised(lines: &[Line], position: usize, names: &[Text], above: usize) -> usize
+    requires within { position < length lines.now }
+    requires next { above ≤ position }
+    ensures { IsRaised lines.now position names.now above result }
 {
-    if position >= best && lines[position].relates(names) {
+    if lines[position].relates(names) {
         position + 1
     } else {
-        best
+        above
     }
 }
 
-/// The greatest of a rank and of those of the lines at these positions that relate to a path. The last positions are tried first: then
-/// the others are mostly told by their numbers alone.
+/// The greatest of a rank and of those of the lines at these positions that relate to a path. Positions rise and the last ones are
+/// tried first: the first line that relates decides, and none below the rank is tried.
 pub(crate) fn best(lines: &[Line], positions: &[usize], names: &[Text], above: usize) -> usize
-    requires { AreWithin (length lines.now) positions.now }
+    requires { AreInOrder (length lines.now) positions.now }
     ensures { IsBest lines.now positions.now names.now above result }
 {
-    let mut best = above;
     for passed in 0..positions.len() {
-        best = raised(lines, positions[positions.len() - 1 - passed], names, best);
+        let position = positions[positions.len() - 1 - passed];
+        if position < above {
+            return above;
+        }
+        let rank = raised(lines, position, names, above);
+        if rank > above {
+            return rank;
+        }
     }
-    best
+    above
 }
 
 /// The positions of the lines whose paths all end in a name.

@@ -1,6 +1,7 @@
 ghost use Rattle.std.specs.Prelude.{◌≡◌, ◌↔◌, IsTrue, IfSome};
-ghost use Rattle.ignorefile.specs.Line.{Relates};
-ghost use Rattle.ignorefile.specs.PrivateRanks.{EndsIn, TakesOnly};
+ghost use Rattle.std.specs.List.{list_any};
+ghost use Rattle.ignorefile.specs.Line.{Relates, is_deep};
+ghost use Rattle.ignorefile.specs.PrivateRanks.{EndsIn, HasCount, TakesOnly};
 
 use globs::{Component, Fits, can_be_cut};
 use plain::{Items, Text};
@@ -45,6 +46,13 @@ impl Segment {
     }
 }
 
+/// Whether a segment is `**`.
+fn has_deep(segments: &[Segment]) -> bool
+    ensures { result ≡ list_any (λ segment. is_deep segment) segments.now }
+{
+    segments.iter().any(|segment| segment.takes_any())
+}
+
 /// A line of an ignore file that has a pattern.
 #[derive(Debug, Drop)]
 pub struct Line {
@@ -70,5 +78,16 @@ impl Line {
             [] => None,
             [.., last] => last.only_name(),
         }
+    }
+
+    /// How many names each path has that the line relates to, where no segment is `**`.
+    pub(crate) fn count(&self) -> Option<usize>
+        ensures { IfSome result (λ count. HasCount self.now count) }
+    {
+        let segments = self.segments.as_slice();
+        if has_deep(segments) {
+            return None;
+        }
+        Some(segments.len())
     }
 }
