@@ -1,5 +1,5 @@
 ghost use Rattle.std.specs.Prelude.{◌≡◌, map, option_map, IfOk};
-ghost use Rattle.lines.specs.Marks.{is_quoted_by, named, mark_from, after_two, mark_of, is_mark, is_flag, after_flags, marks_among, has_heredocs, marks_in};
+ghost use Rattle.lines.specs.Marks.{is_quoted_by, named, mark_from, after_two, mark_dashed, mark_of, is_mark, is_flag, after_flags, marks_among, has_heredocs, marks_in};
 ghost use Rattle.lines.specs.Marks.{marks_of};
 ghost use Rattle.lines.specs.PrivateMarks.{mark_written};
 
@@ -52,17 +52,24 @@ fn after_two(piece: &[u8]) -> Option<&[u8]>
     }
 }
 
-/// The mark that a piece is, as `<<-"EOF"`.
-fn written_mark(piece: &str) -> Option<WrittenMark<'_>>
-    ensures { option_map mark_written result ≡ mark_of piece.entry.now }
+/// The mark of what follows `<<`.
+fn mark_dashed(rest: &[u8]) -> Option<WrittenMark<'_>>
+    ensures { option_map mark_written result ≡ mark_dashed rest.entry.now }
 {
-    let Some(rest) = after_two(piece.as_bytes()) else {
-        return None;
-    };
     if starts_with(rest, b'-') {
         return mark_from(true, &rest[1..]);
     }
     mark_from(false, rest)
+}
+
+/// The mark that a piece is, as `<<-"EOF"`.
+fn written_mark(piece: &str) -> Option<WrittenMark<'_>>
+    ensures { option_map mark_written result ≡ mark_of piece.entry.now }
+{
+    match after_two(piece.as_bytes()) {
+        Some(rest) => mark_dashed(rest),
+        None => None,
+    }
 }
 
 /// Whether a word is the mark of a heredoc: the whole word is `<<NAME` or `<<-NAME`, where the name may be in a pair of single or

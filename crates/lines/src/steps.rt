@@ -14,6 +14,8 @@ use plain::limits::MOST_LINES;
 use plain::{Code, Exact, Items, Memory, Refusal, Text};
 use std::alloc::Global;
 
+// A state that isn't handed on is let go by name in some functions: the proof would walk all its parts at each of their ends.
+
 /// The state before the first line.
 pub fn initial_state(alloc: Global) -> FileState
     ensures { result ≡ initial_state }
@@ -46,8 +48,13 @@ fn with_fault(state: FileState, code: Code, line: u32) -> Result<FileState, Memo
     ensures { IfOk result (λ r. r ≡ with_fault state code line) }
 {
     let mut state = state;
-    state.faults.push(Refusal { code, line })?;
-    Ok(state)
+    match state.faults.push(Refusal { code, line }) {
+        Ok(()) => Ok(state),
+        Err(memory) => {
+            drop(state);
+            Err(memory)
+        }
+    }
 }
 
 /// Whether a directive's key was there before.
@@ -133,13 +140,19 @@ fn complete_line(
 {
     let mut state = at_position(state, Position::Between);
     let escape = state.escape;
-    state.lines.push(Line {
+    let line = Line {
         number,
         text,
         heredocs,
         escape,
-    })?;
-    Ok(state)
+    };
+    match state.lines.push(line) {
+        Ok(()) => Ok(state),
+        Err(memory) => {
+            drop(state);
+            Err(memory)
+        }
+    }
 }
 
 /// Begins the heredocs of a logical line whose text is complete, or adds the line where it has no marks.
@@ -152,19 +165,28 @@ fn open_heredocs(
 ) -> Result<FileState, Memory>
     ensures { IfOk result (λ r. r ≡ open_heredocs state number text marks) }
 {
-    let mark = match marks.as_slice() {
-        [] => return complete_line(state, number, text, Items::new(alloc)),
-        [first, ..] => first.copy(alloc)?,
-    };
-    let unclosed = Unclosed {
-        number,
-        text,
-        marks,
-        heredocs: Items::new(alloc),
-        mark,
-        body: Text::from_string(String::new(alloc)),
-    };
-    Ok(at_position(state, Position::Bodies(unclosed)))
+    match marks.as_slice() {
+        [] => complete_line(state, number, text, Items::new(alloc)),
+        [first, ..] => match first.copy(alloc) {
+            Ok(mark) => {
+                let unclosed = Unclosed {
+                    number,
+                    text,
+                    marks,
+                    heredocs: Items::new(alloc),
+                    mark,
+                    body: Text::from_string(String::new(alloc)),
+                };
+                Ok(at_position(state, Position::Bodies(unclosed)))
+            }
+            Err(memory) => {
+                drop(marks);
+                drop(text);
+                drop(state);
+                Err(memory)
+            }
+        },
+    }
 }
 
 /// Ends the lines of a logical line, which join to this text.
@@ -347,8 +369,13 @@ fn end_continuation(alloc: Global, state: FileState) -> Result<FileState, Memory
 {
     if let Position::Within(pending) = &state.position {
         let number = pending.number;
-        let text = Text::from_str(alloc, trimmed(pending.text.as_str()))?;
-        return close_line(alloc, state, number, text.as_str());
+        return match Text::from_str(alloc, trimmed(pending.text.as_str())) {
+            Ok(text) => close_line(alloc, state, number, text.as_str()),
+            Err(memory) => {
+                drop(state);
+                Err(memory)
+            }
+        };
     }
     Ok(state)
 }
