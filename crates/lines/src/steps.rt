@@ -1,4 +1,4 @@
-ghost use Rattle.std.specs.Prelude.{◌≡◌, ◌++◌, ◌<◌, ◌-◌, ◌^◌, IfOk};
+ghost use Rattle.std.specs.Prelude.{◌≡◌, ◌++◌, ◌<◌, ◌-◌, ◌^◌, [], ◌∷◌, IfOk};
 ghost use Rattle.lines.specs.Marks.{body_line, closes};
 ghost use Rattle.lines.specs.PrivateSteps.{initial_state, at_position, with_fault, is_repeated, with_seen, take_value, refuse_repeated, read_directive};
 ghost use Rattle.lines.specs.PrivateSteps.{refuse_past_limit, complete_line, open_heredocs, close_line, join_line, close_heredoc, grow_body};
@@ -206,8 +206,13 @@ fn append(text: Text, more: &str) -> Result<Text, Memory>
     ensures { IfOk result (λ both. both ≡ text ++ more.now) }
 {
     let mut text = text.into_string();
-    text.push_str(more)?;
-    Ok(Text::from_string(text))
+    match text.push_str(more) {
+        Ok(()) => Ok(Text::from_string(text)),
+        Err(_) => {
+            drop(text);
+            Err(Memory)
+        }
+    }
 }
 
 /// Adds a line to the text of the lines before it in its logical line.
@@ -246,31 +251,107 @@ fn closes(mark: &Mark, line: &str) -> bool
     body_line(mark, line) == mark.name.as_str()
 }
 
+/// The heredocs, and one more.
+fn with_heredoc(heredocs: Items<Heredoc>, heredoc: Heredoc) -> Result<Items<Heredoc>, Memory>
+    ensures { IfOk result (λ all. all ≡ heredocs ++ heredoc ∷ []) }
+{
+    let mut heredocs = heredocs;
+    match heredocs.push(heredoc) {
+        Ok(()) => Ok(heredocs),
+        Err(memory) => {
+            drop(heredocs);
+            Err(memory)
+        }
+    }
+}
+
 /// Closes the heredoc that was read, and begins the next one or adds the logical line.
 fn close_heredoc(alloc: Global, state: FileState, unclosed: Unclosed) -> Result<FileState, Memory>
     ensures { IfOk result (λ r. r ≡ close_heredoc state unclosed) }
 {
-    let mut unclosed = unclosed;
-    let Unclosed { mark, body, .. } = unclosed;
-    unclosed.heredocs.push(Heredoc { mark, body })?;
-    match unclosed.marks.as_slice().get(unclosed.heredocs.len()) {
-        None => complete_line(state, unclosed.number, unclosed.text, unclosed.heredocs),
-        Some(next) => {
-            unclosed.mark = next.copy(alloc)?;
-            unclosed.body = Text::from_string(String::new(alloc));
-            Ok(at_position(state, Position::Bodies(unclosed)))
+    let Unclosed {
+        number,
+        text,
+        marks,
+        heredocs,
+        mark,
+        body,
+    } = unclosed;
+    let heredocs = match with_heredoc(heredocs, Heredoc { mark, body }) {
+        Ok(heredocs) => heredocs,
+        Err(memory) => {
+            drop(marks);
+            drop(text);
+            drop(state);
+            return Err(memory);
         }
+    };
+    match marks.as_slice().get(heredocs.len()) {
+        None => complete_line(state, number, text, heredocs),
+        Some(next) => match next.copy(alloc) {
+            Ok(mark) => {
+                let unclosed = Unclosed {
+                    number,
+                    text,
+                    marks,
+                    heredocs,
+                    mark,
+                    body: Text::from_string(String::new(alloc)),
+                };
+                Ok(at_position(state, Position::Bodies(unclosed)))
+            }
+            Err(memory) => {
+                drop(heredocs);
+                drop(marks);
+                drop(text);
+                drop(state);
+                Err(memory)
+            }
+        },
     }
+}
+
+/// A text with a line and its LF at its end.
+fn append_line(text: Text, line: &str) -> Result<Text, Memory>
+    ensures { IfOk result (λ both. both ≡ text ++ (line.now ++ 10 ∷ [])) }
+{
+    let text = append(text, line)?;
+    append(text, "\n")
 }
 
 /// Adds a line with its LF to the body of the heredoc that is read.
 fn grow_body(state: FileState, unclosed: Unclosed, line: &str) -> Result<FileState, Memory>
     ensures { IfOk result (λ r. r ≡ grow_body state unclosed line.now) }
 {
-    let mut unclosed = unclosed;
-    let body = append(unclosed.body, line)?;
-    unclosed.body = append(body, "\n")?;
-    Ok(at_position(state, Position::Bodies(unclosed)))
+    let Unclosed {
+        number,
+        text,
+        marks,
+        heredocs,
+        mark,
+        body,
+    } = unclosed;
+    match append_line(body, line) {
+        Ok(body) => {
+            let unclosed = Unclosed {
+                number,
+                text,
+                marks,
+                heredocs,
+                mark,
+                body,
+            };
+            Ok(at_position(state, Position::Bodies(unclosed)))
+        }
+        Err(memory) => {
+            drop(text);
+            drop(marks);
+            drop(heredocs);
+            drop(mark);
+            drop(state);
+            Err(memory)
+        }
+    }
 }
 
 /// Reads a line between logical lines.
