@@ -13,7 +13,7 @@ use std::sync::Arc;
 pub(crate) type Part = Arc<BTreeMap<Text, Node>, Global>;
 
 /// A part of so many names is cut in two before one more comes in.
-const MOST_NAMES: usize = 128;
+const MOST_NAMES: usize = 32;
 
 /// The part in which a name stands or would stand.
 pub(crate) fn place(parts: &[Part], name: &Text) -> usize
