@@ -55,9 +55,9 @@ module _ {Z : Type 0} where
       ∙ ap (λ l. lists_of shared ++ l) (sym (ap lists_of (drop_more parts at part less ∙ ap (λ q. q ∷ drop (at + 1) parts) (sym is)))) ∙ so_far
 
 -- one child more was passed
-pub middle-step : (before its rest all : List (List ℕ × NodeValue)) (name : List ℕ) (kid : NodeValue) (n : ℕ) → (n ≤ 16) × ((b : List (List ℕ × NodeValue)) × (b ++ its ≡ all) × (length b ≡ n)) → its ≡ (name, kid) ∷ rest → n < 16
-    → (n + 1 ≤ 16) × ((b : List (List ℕ × NodeValue)) × (b ++ rest ≡ all) × (length b ≡ n + 1))
-middle-step before its rest all name kid n so_far next less =
+pub middle-step : (half : ℕ) (before its rest all : List (List ℕ × NodeValue)) (name : List ℕ) (kid : NodeValue) (n : ℕ) → (n ≤ half) × ((b : List (List ℕ × NodeValue)) × (b ++ its ≡ all) × (length b ≡ n)) → its ≡ (name, kid) ∷ rest → n < half
+    → (n + 1 ≤ half) × ((b : List (List ℕ × NodeValue)) × (b ++ rest ≡ all) × (length b ≡ n + 1))
+middle-step half before its rest all name kid n so_far next less =
     let b = so_far.1.0 in
     (omega arith, (b ++ (name, kid) ∷ [], append_assoc b ((name, kid) ∷ []) rest ∙ ap (λ l. b ++ l) (sym next) ∙ so_far.1.1, length_push b (name, kid) ∙ ap (λ (k : ℕ). k + 1) so_far.1.2))
 
@@ -326,9 +326,9 @@ some-parts zero told is f = absurd (true≢false (sym is ∙ f))
 some-parts (suc n) told is f = omega arith
 
 -- the name in the middle, with others before it
-pub middle-found : (its rest all : List (List ℕ × NodeValue)) (name key : List ℕ) (kid : NodeValue) (n : ℕ) → (n ≤ 16) × ((b : List (List ℕ × NodeValue)) × (b ++ its ≡ all) × (length b ≡ n)) → its ≡ (name, kid) ∷ rest → n ≡ 16 → key ≡ name → IsStrictlySortedBy name_cmp (keys_of all)
+pub middle-found : (half : ℕ) (its rest all : List (List ℕ × NodeValue)) (name key : List ℕ) (kid : NodeValue) (n : ℕ) → (n ≤ half) × ((b : List (List ℕ × NodeValue)) × (b ++ its ≡ all) × (length b ≡ n)) → its ≡ (name, kid) ∷ rest → n ≡ half → 0 < half → key ≡ name → IsStrictlySortedBy name_cmp (keys_of all)
     → IsWithin key all
-middle-found its rest all name key kid n so_far next mid same rise = record {
+middle-found half its rest all name key kid n so_far next mid more same rise = record {
   before = so_far.1.0;
   behind = rest;
   kid = kid;
@@ -337,8 +337,8 @@ middle-found its rest all name key kid n so_far next mid same rise = record {
   rise = rise;
 }
   where
-    some : (l : List (List ℕ × NodeValue)) → length l ≡ 16 → is_full l ≡ true
-    some [] e = absurd (omega (arith, e))
+    some : (l : List (List ℕ × NodeValue)) → length l ≡ half → is_full l ≡ true
+    some [] e = absurd (omega (arith, e, more))
     some (k ∷ ks) e = refl
 
 -- what isn't there needn't go

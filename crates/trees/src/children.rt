@@ -145,7 +145,7 @@ impl Children {
             return Ok(());
         }
         let first = place(self.parts.as_slice(), name);
-        if has_room(&self.parts[first]) {
+        if has_room(&self.parts[first], self.parts.len()) {
             return put(alloc, &mut self.parts[first], name, kid);
         }
         make_room(alloc, &mut self.parts, first)?;

@@ -12,8 +12,12 @@ use std::sync::Arc;
 /// Some children of a folder whose names follow each other, behind a pointer that folders share.
 pub(crate) type Part = Arc<BTreeMap<Text, Node>, Global>;
 
-/// A part of so many names is cut in two before one more comes in.
-const MOST_NAMES: usize = 32;
+/// So many names every part may have before it is cut in two.
+const FEW_NAMES: usize = 16;
+
+/// For each so many parts of a folder, its parts may have one name more: a change copies the pointers to all parts and the names of
+/// one, and a name costs so many pointers.
+const PARTS_A_NAME: usize = 16;
 
 /// The part in which a name stands or would stand.
 pub(crate) fn place(parts: &[Part], name: &Text) -> usize
@@ -114,9 +118,9 @@ pub(crate) fn take_away(alloc: Global, part: &mut Part, name: &Text) -> Result<b
     Ok(map.is_empty())
 }
 
-/// Whether a part may take one name more.
-pub(crate) fn has_room(part: &Part) -> bool {
-    part.len() < MOST_NAMES
+/// Whether a part, one of so many, may take one name more.
+pub(crate) fn has_room(part: &Part, parts: usize) -> bool {
+    part.len() < FEW_NAMES + parts / PARTS_A_NAME
 }
 
 /// Cuts the part at a place in two.
@@ -156,13 +160,14 @@ fn halve(alloc: Global, part: &mut Part, upper: &mut Part) -> Result<bool, Memor
     Ok(true)
 }
 
-/// The name in the middle, with names before it.
+/// The name behind the middle, with names before it.
 fn middle(alloc: Global, map: &BTreeMap<Text, Node>) -> Result<Option<Text>, Memory>
     ensures { IfOk result (λ found. IfSome found (λ name. IsWithin name map.now.entries)) }
 {
+    let half = map.len() / 2 + 1;
     let mut passed = 0;
     for (name, _) in map.iter() {
-        if passed == MOST_NAMES / 2 {
+        if passed == half {
             return Ok(Some(name.copy(alloc)?));
         }
         passed += 1;
