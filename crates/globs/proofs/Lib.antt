@@ -2,6 +2,7 @@ pub mod Cuts
 pub mod Tests
 mod Characters
 mod PlainNames
+mod Endings
 mod Texts
 mod Spelling
 mod Relating

@@ -16,10 +16,10 @@ use Rattle.globs.specs.Grammar.{is_none_of, is_spelled_out}
 use Rattle.globs.specs.Reading.{sign_at, run, finished, parts_of}
 use Rattle.globs.proofs.Spelling.{says, plain-by, outside-plain}
 
-abbrev outside_with : List Part → Reading
+abbrev pub outside_with : List Part → Reading
 outside_with parts = record { parts = parts; negated = false; ranges = []; state = Outside }
 
-run-plain : (parts : List Part) (cs : List ℕ) → is_spelled_out cs ≡ true → run (outside_with parts) cs ≡ Some (outside_with (parts ++ map (λ c. Exactly c) cs))
+pub run-plain : (parts : List Part) (cs : List ℕ) → is_spelled_out cs ≡ true → run (outside_with parts) cs ≡ Some (outside_with (parts ++ map (λ c. Exactly c) cs))
 run-plain parts [] h = ap (λ l. Some (outside_with l)) (sym (append-nil parts))
 run-plain parts (c ∷ cs) h =
     let both = and_parts (is_none_of (codes "*?[\\") c) (is_spelled_out cs) h in
@@ -31,11 +31,11 @@ pub parts_of-plain : (cs : List ℕ) → is_spelled_out cs ≡ true → parts_of
 parts_of-plain cs h = ap (λ found. option_and_then finished found) (run-plain [] cs h)
 
 -- a plain name relates to itself alone
-plain-made : (cs : List ℕ) → CanBeCut takes_any (λ part c. holds part c ≡ true) (map (λ c. Exactly c) cs) cs
+pub plain-made : (cs : List ℕ) → CanBeCut takes_any (λ part c. holds part c ≡ true) (map (λ c. Exactly c) cs) cs
 plain-made [] = refl
 plain-made (c ∷ cs) = (c ∷ [], (cs, (refl, (inr (refl, (c, (refl, eq-eqb c c refl))), plain-made cs))))
 
-plain-only : (cs ds : List ℕ) → CanBeCut takes_any (λ part c. holds part c ≡ true) (map (λ c. Exactly c) cs) ds → ds ≡ cs
+pub plain-only : (cs ds : List ℕ) → CanBeCut takes_any (λ part c. holds part c ≡ true) (map (λ c. Exactly c) cs) ds → ds ≡ cs
 plain-only [] ds e = e
 plain-only (c ∷ cs) ds (piece, (rest, (e, (inl any, r)))) = absurd (true≢false (sym any))
 plain-only (c ∷ cs) ds (piece, (rest, (e, (inr (n, (d, (is, h))), r)))) =

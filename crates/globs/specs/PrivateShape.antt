@@ -1,11 +1,17 @@
 -- How a component's pattern is kept.
-use Rattle.std.specs.Prelude.{List}
+use Rattle.std.specs.Prelude.{ℕ, List, ◌∷◌}
 use Rattle.globs.specs.declared.part.Part.{Part}
+use Rattle.globs.specs.declared.part.Part.TheVariants.{AnyRun}
 use Rattle.globs.specs.declared.component.Shape.{Shape}
-use Rattle.globs.specs.declared.component.Shape.TheVariants.{Plain, Parts}
+use Rattle.globs.specs.declared.component.Shape.TheVariants.{Plain, Ending, Parts}
 use Rattle.globs.specs.Component.{plain_parts}
+
+-- the parts of a `*` and of a plain text behind it
+abbrev pub ending_parts : List ℕ → List Part
+ending_parts text = AnyRun ∷ plain_parts text
 
 -- the parts of a component's pattern
 abbrev pub parts_in : Shape → List Part
 parts_in (Plain name) = plain_parts name
+parts_in (Ending text) = ending_parts text
 parts_in (Parts parts) = parts

@@ -1,7 +1,8 @@
-ghost use Rattle.std.specs.Prelude.{◌≡◌, ◌↔◌, IsTrue, IfOk, IfSome};
+ghost use Rattle.std.specs.Prelude.{◌≡◌, ◌↔◌, IsTrue, Some, IfOk, IfSome};
 ghost use Rattle.std.specs.Str.{chars};
 ghost use Rattle.globs.specs.Component.{RelatesToName, relates_to_name, plain_parts, IsOnlyName};
 ghost use Rattle.globs.specs.Grammar.{is_spelled_out};
+ghost use Rattle.globs.specs.PrivateShape.{ending_parts};
 ghost use Rattle.globs.specs.Reading.{parts_of};
 
 use crate::part::{Part, name_can_be_cut};
@@ -17,11 +18,13 @@ pub struct Component {
     shape: Shape,
 }
 
-/// How a component's pattern is kept. Most are plain names, which are compared by their bytes.
+/// How a component's pattern is kept. Most are plain names, or a `*` and a plain ending: these are compared by their bytes.
 #[derive(Debug, Drop)]
 pub(crate) enum Shape {
     /// Just this name.
     Plain(Text),
+    /// A `*`, and this text behind it.
+    Ending(Text),
     /// These parts.
     Parts(Items<Part>),
 }
@@ -58,6 +61,28 @@ fn is_name(own: &str, name: &str) -> bool
     own == name
 }
 
+/// Whether a name is one that a `*` and this text behind it stand for.
+fn is_ending(own: &str, name: &str) -> bool
+    ensures { IsTrue result ↔ RelatesToName (ending_parts own.now) name.now }
+{
+    name.ends_with(own)
+}
+
+/// What stands behind the `*` that a pattern's text begins with, where that is spelled out; none for others.
+fn plain_ending(text: &str) -> Option<&str>
+    ensures { IfSome result (λ rest. parts_of (chars text.now) ≡ Some (ending_parts rest.now)) }
+{
+    match first_and_rest(text) {
+        Some((character, rest)) => {
+            if character == '*' && is_spelled_out(rest) {
+                return Some(rest);
+            }
+            None
+        }
+        None => None,
+    }
+}
+
 impl Component {
     /// The pattern that a component's text spells; none where it is malformed. The text has no `/`, else it relates to no name.
     pub fn read(alloc: Global, text: &str) -> Result<Option<Component>, Memory>
@@ -67,6 +92,12 @@ impl Component {
             let name = Text::from_str(alloc, text)?;
             return Ok(Some(Component {
                 shape: Shape::Plain(name),
+            }));
+        }
+        if let Some(ending) = plain_ending(text) {
+            let own = Text::from_str(alloc, ending)?;
+            return Ok(Some(Component {
+                shape: Shape::Ending(own),
             }));
         }
         match read_parts(alloc, text)? {
@@ -83,6 +114,7 @@ impl Component {
     {
         match &self.shape {
             Shape::Plain(own) => is_name(own.as_str(), name.as_str()),
+            Shape::Ending(own) => is_ending(own.as_str(), name.as_str()),
             Shape::Parts(parts) => name_can_be_cut(parts.as_slice(), name.as_str()),
         }
     }
@@ -93,7 +125,7 @@ impl Component {
     {
         match &self.shape {
             Shape::Plain(own) => Some(own.as_str()),
-            Shape::Parts(_) => None,
+            Shape::Ending(_) | Shape::Parts(_) => None,
         }
     }
 }
