@@ -25,8 +25,6 @@ pub fn expand<S: Lookup>(alloc: Global, word: &Word, scope: &S) -> Result<Text, 
 }
 
 /// The value of tokens, if it has no more bytes than a limit.
-///
-/// A word that doesn't count is gone past: `skipped` is how many such words are open.
 fn expand_tokens<S: Lookup>(
     alloc: Global,
     tokens: &[Token],
@@ -36,6 +34,27 @@ fn expand_tokens<S: Lookup>(
     ensures { Expands limit (run (S.value_of scope.now) 0 tokens.now) result }
 {
     let mut text = String::new(alloc);
+    match push_tokens(&mut text, tokens, scope, limit) {
+        Ok(()) => Ok(Text::from_string(text)),
+        Err(fault) => {
+            drop(text);
+            Err(fault)
+        }
+    }
+}
+
+/// Adds the value of tokens to a text: R18 where the whole would be longer than the limit.
+///
+/// A word that doesn't count is gone past: `skipped` is how many such words are open.
+fn push_tokens<S: Lookup>(
+    text: &mut String,
+    tokens: &[Token],
+    scope: &S,
+    limit: usize,
+) -> Result<(), TextFault>
+    requires { string_len text.old ≤ limit }
+    ensures { IsPushed limit (string_bytes text.old) (run (S.value_of scope.now) 0 tokens.now) (string_bytes text.new) result }
+{
     let mut skipped = 0usize;
     for token in tokens {
         match token {
@@ -43,12 +62,12 @@ fn expand_tokens<S: Lookup>(
             Token::Close => skipped = skipped.saturating_sub(1),
             Token::Plain(_) | Token::Variable(_) if skipped > 0 => {}
             Token::Default(_) | Token::Alternative(_) if skipped > 0 => skipped += 1,
-            Token::Plain(plain) => push_within(&mut text, plain.as_str(), limit)?,
-            Token::Variable(name) => push_within(&mut text, value_at(scope, name), limit)?,
+            Token::Plain(plain) => push_within(text, plain.as_str(), limit)?,
+            Token::Variable(name) => push_within(text, value_at(scope, name), limit)?,
             Token::Default(name) => {
                 let value = value_at(scope, name);
                 if !value.is_empty() {
-                    push_within(&mut text, value, limit)?;
+                    push_within(text, value, limit)?;
                     skipped = 1;
                 }
             }
@@ -59,7 +78,7 @@ fn expand_tokens<S: Lookup>(
             }
         }
     }
-    Ok(Text::from_string(text))
+    Ok(())
 }
 
 /// The text of a variable, which is empty where it is unset.
