@@ -14,6 +14,7 @@
 
 pub mod laws;
 mod lists;
+mod members;
 mod operation;
 mod spelled;
 

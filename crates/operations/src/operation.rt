@@ -8,33 +8,17 @@ ghost use Rattle.llb.specs.declared.op.FileSource.TheVariants.{Pattern, Data as 
 ghost use Rattle.hex.specs.Hex.{IsBytes, encode_lower};
 ghost use Rattle.paths.specs.Path.{IsClean};
 ghost use Rattle.operations.specs.Proper.{IsProperVariable, IsProperBind, IsProperCache, IsProperExec, IsProperFileSource, IsProperOwner, IsProperMode, IsProperCopy, IsProper};
-ghost use Rattle.operations.specs.Texts.{variable_data, sharing_text, bind_data, cache_data, number_data, uid_data, gid_data, file_source_data, source_text, source_data, exec_data, copy_data, mkdir_data, merge_data, path_data, op_data};
+ghost use Rattle.operations.specs.Texts.{variable_data, sharing_text, bind_data, cache_data, number_data, uid_data, gid_data, file_source_data, source_text, source_data, exec_data, copy_data, mkdir_data, merge_data, op_data};
 
-use crate::lists::{Writable, parts_value};
+use crate::lists::Writable;
+use crate::members::{with, with_parts, with_path, with_text, with_texts};
 use llb::{Bind, CopyFiles, Exec, FileSource, Op, Source};
 use paths::{Name, Path};
 use plain::{Memory, Mode, Owner, Sharing, Text, Variable};
 use runs::CacheUse;
 use serde_json::{Map, Value};
 use std::alloc::Global;
-use strict::{ToJson, list_to_json, put};
 use trees::Content;
-
-/// A path by its text.
-fn path_to_json(alloc: Global, path: &Path) -> Result<Value, Memory>
-    ensures data { IfOk result (λ v. view v ≡ path_data path.now) }
-    ensures clean { IsClean path.now }
-{
-    let _clean = path.components();
-    Ok(Value::String(path.text(alloc)?.into_string()))
-}
-
-/// A text of the program's own.
-fn literal(alloc: Global, text: &str) -> Result<Value, Memory>
-    ensures { IfOk result (λ v. view v ≡ string text.now) }
-{
-    Ok(Value::String(String::from_str(alloc, text)?))
-}
 
 impl Writable for Variable {
     ghost written = { variable_data };
@@ -55,12 +39,9 @@ impl Writable for Bind {
     ghost proper = { IsProperBind };
 
     fn write(&self, alloc: Global) -> Result<Value, Memory> {
-        let source = path_to_json(alloc, &self.source)?;
-        let target = path_to_json(alloc, &self.target)?;
-        let mut members = Map::new(alloc);
-        put(alloc, &mut members, "rw", Value::Bool(self.rw))?;
-        put(alloc, &mut members, "source", source)?;
-        put(alloc, &mut members, "target", target)?;
+        let members = with(alloc, Map::new(alloc), "rw", Value::Bool(self.rw))?;
+        let members = with_path(alloc, members, "source", &self.source)?;
+        let members = with_path(alloc, members, "target", &self.target)?;
         Ok(Value::Object(members))
     }
 }
@@ -71,13 +52,9 @@ impl Writable for CacheUse {
     ghost proper = { IsProperCache };
 
     fn write(&self, alloc: Global) -> Result<Value, Memory> {
-        let id = self.id.to_json(alloc)?;
-        let sharing = literal(alloc, sharing_text(self.sharing))?;
-        let target = path_to_json(alloc, &self.target)?;
-        let mut members = Map::new(alloc);
-        put(alloc, &mut members, "id", id)?;
-        put(alloc, &mut members, "sharing", sharing)?;
-        put(alloc, &mut members, "target", target)?;
+        let members = with_text(alloc, Map::new(alloc), "id", self.id.as_str())?;
+        let members = with_text(alloc, members, "sharing", sharing_text(self.sharing))?;
+        let members = with_path(alloc, members, "target", &self.target)?;
         Ok(Value::Object(members))
     }
 }
@@ -110,9 +87,7 @@ impl Writable for FileSource {
 fn pattern_value(alloc: Global, text: &Text) -> Result<Value, Memory>
     ensures { IfOk result (λ v. view v ≡ file_source_data (Pattern text.now)) }
 {
-    let text = text.to_json(alloc)?;
-    let mut members = Map::new(alloc);
-    put(alloc, &mut members, "pattern", text)?;
+    let members = with_text(alloc, Map::new(alloc), "pattern", text.as_str())?;
     Ok(Value::Object(members))
 }
 
@@ -130,10 +105,8 @@ fn own_file_value(alloc: Global, name: &Name, content: &Content) -> Result<Value
     ensures proper { IfOk result (λ _. IsProperFileSource (OwnFile name.now content.now)) }
 {
     let bytes = bytes_to_json(alloc, content.as_slice())?;
-    let name = name.as_text().to_json(alloc)?;
-    let mut members = Map::new(alloc);
-    put(alloc, &mut members, "data", bytes)?;
-    put(alloc, &mut members, "name", name)?;
+    let members = with(alloc, Map::new(alloc), "data", bytes)?;
+    let members = with_text(alloc, members, "name", name.as_text().as_str())?;
     Ok(Value::Object(members))
 }
 
@@ -157,13 +130,10 @@ fn source_text(alloc: Global, source: &Source) -> Result<String, Memory>
 fn source_value(alloc: Global, source: &Source, inputs: &[Text]) -> Result<Value, Memory>
     ensures { IfOk result (λ v. view v ≡ source_data inputs.now source.now) }
 {
-    let inputs = list_to_json(alloc, inputs)?;
-    let kind = literal(alloc, "source")?;
-    let source = Value::String(source_text(alloc, source)?);
-    let mut members = Map::new(alloc);
-    put(alloc, &mut members, "inputs", inputs)?;
-    put(alloc, &mut members, "op", kind)?;
-    put(alloc, &mut members, "source", source)?;
+    let source = source_text(alloc, source)?;
+    let members = with_texts(alloc, Map::new(alloc), "inputs", inputs)?;
+    let members = with_text(alloc, members, "op", "source")?;
+    let members = with(alloc, members, "source", Value::String(source))?;
     Ok(Value::Object(members))
 }
 
@@ -173,23 +143,14 @@ fn exec_value(alloc: Global, exec: &Exec, inputs: &[Text]) -> Result<Value, Memo
     ensures data { IfOk result (λ v. view v ≡ exec_data inputs.now exec.now) }
     ensures proper { IfOk result (λ _. IsProperExec exec.now) }
 {
-    let binds = parts_value(alloc, exec.binds.as_slice())?;
-    let caches = parts_value(alloc, exec.caches.as_slice())?;
-    let dir = path_to_json(alloc, &exec.dir)?;
-    let env = parts_value(alloc, exec.env.as_slice())?;
-    let inputs = list_to_json(alloc, inputs)?;
-    let kind = literal(alloc, "exec")?;
-    let user = exec.user.to_json(alloc)?;
-    let words = list_to_json(alloc, exec.words.as_slice())?;
-    let mut members = Map::new(alloc);
-    put(alloc, &mut members, "binds", binds)?;
-    put(alloc, &mut members, "caches", caches)?;
-    put(alloc, &mut members, "dir", dir)?;
-    put(alloc, &mut members, "env", env)?;
-    put(alloc, &mut members, "inputs", inputs)?;
-    put(alloc, &mut members, "op", kind)?;
-    put(alloc, &mut members, "user", user)?;
-    put(alloc, &mut members, "words", words)?;
+    let members = with_parts(alloc, Map::new(alloc), "binds", exec.binds.as_slice())?;
+    let members = with_parts(alloc, members, "caches", exec.caches.as_slice())?;
+    let members = with_path(alloc, members, "dir", &exec.dir)?;
+    let members = with_parts(alloc, members, "env", exec.env.as_slice())?;
+    let members = with_texts(alloc, members, "inputs", inputs)?;
+    let members = with_text(alloc, members, "op", "exec")?;
+    let members = with_text(alloc, members, "user", exec.user.as_str())?;
+    let members = with_texts(alloc, members, "words", exec.words.as_slice())?;
     Ok(Value::Object(members))
 }
 
@@ -231,21 +192,15 @@ fn copy_value(alloc: Global, files: &CopyFiles, inputs: &[Text]) -> Result<Value
     ensures data { IfOk result (λ v. view v ≡ copy_data inputs.now files.now) }
     ensures proper { IfOk result (λ _. IsProperCopy files.now) }
 {
-    let action = literal(alloc, "copy")?;
-    let dest = path_to_json(alloc, &files.dest)?;
-    let inputs = list_to_json(alloc, inputs)?;
-    let kind = literal(alloc, "file")?;
-    let sources = parts_value(alloc, files.sources.as_slice())?;
-    let mut members = Map::new(alloc);
-    put(alloc, &mut members, "action", action)?;
-    put(alloc, &mut members, "dest", dest)?;
-    put(alloc, &mut members, "dir", Value::Bool(files.options.into))?;
-    put(alloc, &mut members, "gid", gid_value(files.options.owner))?;
-    put(alloc, &mut members, "inputs", inputs)?;
-    put(alloc, &mut members, "mode", mode_value(files.options.mode))?;
-    put(alloc, &mut members, "op", kind)?;
-    put(alloc, &mut members, "sources", sources)?;
-    put(alloc, &mut members, "uid", uid_value(files.options.owner))?;
+    let members = with_text(alloc, Map::new(alloc), "action", "copy")?;
+    let members = with_path(alloc, members, "dest", &files.dest)?;
+    let members = with(alloc, members, "dir", Value::Bool(files.options.into))?;
+    let members = with(alloc, members, "gid", gid_value(files.options.owner))?;
+    let members = with_texts(alloc, members, "inputs", inputs)?;
+    let members = with(alloc, members, "mode", mode_value(files.options.mode))?;
+    let members = with_text(alloc, members, "op", "file")?;
+    let members = with_parts(alloc, members, "sources", files.sources.as_slice())?;
+    let members = with(alloc, members, "uid", uid_value(files.options.owner))?;
     Ok(Value::Object(members))
 }
 
@@ -255,15 +210,10 @@ fn mkdir_value(alloc: Global, path: &Path, inputs: &[Text]) -> Result<Value, Mem
     ensures data { IfOk result (λ v. view v ≡ mkdir_data inputs.now path.now) }
     ensures clean { IfOk result (λ _. IsClean path.now) }
 {
-    let action = literal(alloc, "mkdir")?;
-    let inputs = list_to_json(alloc, inputs)?;
-    let kind = literal(alloc, "file")?;
-    let path = path_to_json(alloc, path)?;
-    let mut members = Map::new(alloc);
-    put(alloc, &mut members, "action", action)?;
-    put(alloc, &mut members, "inputs", inputs)?;
-    put(alloc, &mut members, "op", kind)?;
-    put(alloc, &mut members, "path", path)?;
+    let members = with_text(alloc, Map::new(alloc), "action", "mkdir")?;
+    let members = with_texts(alloc, members, "inputs", inputs)?;
+    let members = with_text(alloc, members, "op", "file")?;
+    let members = with_path(alloc, members, "path", path)?;
     Ok(Value::Object(members))
 }
 
@@ -272,11 +222,8 @@ fn mkdir_value(alloc: Global, path: &Path, inputs: &[Text]) -> Result<Value, Mem
 fn merge_value(alloc: Global, inputs: &[Text]) -> Result<Value, Memory>
     ensures { IfOk result (λ v. view v ≡ merge_data inputs.now) }
 {
-    let inputs = list_to_json(alloc, inputs)?;
-    let kind = literal(alloc, "merge")?;
-    let mut members = Map::new(alloc);
-    put(alloc, &mut members, "inputs", inputs)?;
-    put(alloc, &mut members, "op", kind)?;
+    let members = with_texts(alloc, Map::new(alloc), "inputs", inputs)?;
+    let members = with_text(alloc, members, "op", "merge")?;
     Ok(Value::Object(members))
 }
 

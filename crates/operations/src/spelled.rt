@@ -512,10 +512,25 @@ pub fn read_spelled(alloc: Global, value: &Value) -> Result<Spelled, ReadFault>
         return Err(Fault::Because(NotRead));
     };
     let op = op_of(alloc, kind, value)?;
-    let inputs = inputs_in(alloc, value)?;
-    if op.is_well_formed(alloc, inputs.len())? {
+    // An operation that isn't handed on is let go by name: the proof would walk all its parts at each end of the function.
+    let inputs = match inputs_in(alloc, value) {
+        Ok(inputs) => inputs,
+        Err(fault) => {
+            drop(op);
+            return Err(fault);
+        }
+    };
+    let is_well_formed = match op.is_well_formed(alloc, inputs.len()) {
+        Ok(is_well_formed) => is_well_formed,
+        Err(_) => {
+            drop(op);
+            return Err(Fault::Memory);
+        }
+    };
+    if is_well_formed {
         Ok(Spelled { op, inputs })
     } else {
+        drop(op);
         Err(Fault::Because(NotRead))
     }
 }
