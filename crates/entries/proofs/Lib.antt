@@ -2,3 +2,4 @@ mod FrontFacts
 pub mod RowFacts
 pub mod ApartFacts
 pub mod WrittenFacts
+mod PrintingFacts

@@ -4,3 +4,4 @@ pub mod Listing
 pub mod PrivateOrder
 pub mod Whole
 pub mod Written
+pub mod PrivatePrinting

@@ -13,9 +13,11 @@
 mod apart;
 pub mod laws;
 mod listing;
+mod printing;
 mod reading;
 mod writing;
 
 pub use listing::Listing;
+pub use printing::with_tree;
 pub use reading::read_content;
 pub use writing::tree_to_json;

@@ -1,4 +1,4 @@
-ghost use Rattle.std.specs.Prelude.{◌≡◌, ◌<◌, ◌+◌, IfOk, map, false};
+ghost use Rattle.std.specs.Prelude.{◌≡◌, ◌<◌, ◌+◌, ◌++◌, IfOk, OnOk, map, false};
 ghost use Rattle.std.specs.String.{string_bytes};
 ghost use Rattle.serde_json.specs.View.{view};
 ghost use Rattle.serde_json.specs.Written.{has_float};
@@ -96,13 +96,21 @@ fn file_object(
 fn mode_text(alloc: Global, mode: Mode) -> Result<String, Memory>
     ensures { IfOk result (λ text. string_bytes text ≡ mode_text mode) }
 {
-    let bits = mode.bits();
     let mut text = String::new(alloc);
+    push_mode(&mut text, mode)?;
+    Ok(text)
+}
+
+/// Writes a mode as four octal digits behind a text.
+pub(crate) fn push_mode(text: &mut String, mode: Mode) -> Result<(), Memory>
+    ensures { OnOk result (string_bytes text.new ≡ string_bytes text.old ++ mode_text mode) }
+{
+    let bits = mode.bits();
     text.push(octal_digit(bits / 512))?;
     text.push(octal_digit(bits / 64 % 8))?;
     text.push(octal_digit(bits / 8 % 8))?;
     text.push(octal_digit(bits % 8))?;
-    Ok(text)
+    Ok(())
 }
 
 /// The character of an octal digit.

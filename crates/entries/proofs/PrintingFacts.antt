@@ -1,0 +1,176 @@
+-- The text of an entry, piece by piece.
+use Rattle.std.proofs.Common.{◌≡◌, ℕ, zero, suc, ◌+◌, ◌/◌, ◌%◌, ◌<◌, ◌≤◌, Bool, true, false, ◌&&◌, List, [], ◌∷◌, ◌++◌, map, slice_index, refl, sym, ap, ◌∙◌, inl, inr, append_assoc, append-nil, arith, codes, decimal, Bor, take, drop, length}
+use Rattle.std.specs.List.{list_all}
+use Rattle.std.proofs.lemmas.Bool.{and_parts, cases_lt}
+use Rattle.std.proofs.lemmas.List.{drop_all, take-append-drop}
+use Rattle.std.proofs.lemmas.Grind.{flat_map-append}
+use Rattle.hex.specs.Hex.{IsBytes, encode_with, encode_lower, lower_digits}
+use Rattle.json.specs.Print.{escape_byte, escape, quoted}
+use Rattle.paths.specs.Path.{rooted, text_of}
+use Rattle.serde_json.specs.Data.{number, unsigned, string, Members, no_members, member}
+use Rattle.serde_json.specs.View.{items_of}
+use Rattle.serde_json.specs.Written.{comma_if, compact_text, items_text, members_text}
+use Rattle.trees.specs.declared.meta.Meta.{Meta}
+use Rattle.trees.specs.declared.entry.Entry.{Entry}
+use Rattle.trees.specs.declared.entry.Entry.TheVariants.{Directory, File}
+use Rattle.entries.specs.Written.{mode_text, entry_data}
+use Rattle.entries.specs.PrivatePrinting.{is_plain, are_plain, end_text, entry_text}
+
+both_hold : (a b : Bool) → a ≡ true → b ≡ true → (a && b) ≡ true
+both_hold true b p q = q
+both_hold false b p q = p
+
+-- ---- what isn't escaped
+
+plain-byte : (b : ℕ) → is_plain b ≡ true → escape_byte b ≡ b ∷ []
+unfolding escape_byte
+plain-byte b h = grind (arith)
+
+pub escape-plain : (s : List ℕ) → list_all is_plain s ≡ true → escape s ≡ s
+escape-plain [] h = refl
+escape-plain (b ∷ s) h =
+    let p = and_parts (is_plain b) (list_all is_plain s) h in
+    ap (λ e. e ++ escape s) (plain-byte b p.0) ∙ ap (λ e. b ∷ e) (escape-plain s p.1)
+
+escape-append : (s t : List ℕ) → escape (s ++ t) ≡ escape s ++ escape t
+escape-append s t = flat_map-append escape_byte s t
+
+escape-rooted : (path : List (List ℕ)) → are_plain path ≡ true → escape (rooted path) ≡ rooted path
+escape-rooted [] h = refl
+escape-rooted (name ∷ path) h =
+    let p = and_parts (list_all is_plain name) (are_plain path) h in
+    ap (λ e. e ++ escape (name ++ rooted path)) (plain-byte 47 refl)
+    ∙ ap (λ e. 47 ∷ e) (escape-append name (rooted path) ∙ ap (λ e. e ++ escape (rooted path)) (escape-plain name p.0) ∙ ap (λ e. name ++ e) (escape-rooted path p.1))
+
+pub escape-path : (path : List (List ℕ)) → are_plain path ≡ true → escape (text_of path) ≡ text_of path
+escape-path [] h = escape-plain (47 ∷ []) refl
+escape-path (name ∷ path) h = escape-rooted (name ∷ path) h
+
+-- ---- digits
+
+-- the digits below a number
+abbrev all_plain : ℕ → Bool
+all_plain zero = true
+all_plain (suc n) = is_plain (slice_index lower_digits n) && all_plain n
+
+all_plain-at : (n d : ℕ) → all_plain n ≡ true → d < n → is_plain (slice_index lower_digits d) ≡ true
+all_plain-at zero d h lt = absurd (omega arith)
+all_plain-at (suc n) d h lt =
+    let p = and_parts (is_plain (slice_index lower_digits n)) (all_plain n) h in
+    elim (cases_lt d n) [
+      | inl below ↦ all_plain-at n d p.1 below
+      | inr top ↦
+          let e : d ≡ n = omega arith in
+          rw e p.0
+    ]
+
+digit-plain : (d : ℕ) → d < 16 → is_plain (slice_index lower_digits d) ≡ true
+digit-plain d lt = all_plain-at 16 d refl lt
+
+octal-plain : (d : ℕ) → d < 8 → is_plain (48 + d) ≡ true
+octal-plain d lt = grind (arith)
+
+pub mode-plain : (mode : ℕ) → mode < 4096 → list_all is_plain (mode_text mode) ≡ true
+mode-plain mode small =
+    both_hold _ _ (octal-plain (mode / 512) (omega arith)) (both_hold _ _ (octal-plain (mode / 64 % 8) (omega arith))
+    (both_hold _ _ (octal-plain (mode / 8 % 8) (omega arith)) (both_hold _ _ (octal-plain (mode % 8) (omega arith)) refl)))
+
+pub hex-plain : (bytes : List ℕ) → IsBytes bytes → list_all is_plain (encode_lower bytes) ≡ true
+unfolding encode_with
+hex-plain [] h = refl
+hex-plain (b ∷ bytes) h =
+    let fits : b < 256 = h 0 in
+    let high : b / 16 < 16 = omega arith in
+    let low : b % 16 < 16 = omega arith in
+    both_hold _ _ (digit-plain (b / 16) high) (both_hold _ _ (digit-plain (b % 16) low) (hex-plain bytes (λ k. h (suc k))))
+
+-- ---- the pieces of an entry
+
+abbrev behind_mode : List ℕ → ℕ → List ℕ
+behind_mode path uid = codes ",\"path\":" ++ (quoted path ++ (codes ",\"uid\":" ++ (decimal uid ++ codes "}")))
+
+abbrev last_members : List ℕ → List ℕ → ℕ → Members
+last_members mode path uid = member (codes "mode") (string mode) (member (codes "path") (string path) (member (codes "uid") (number (unsigned uid)) no_members))
+
+-- what stands in quotes and isn't escaped
+in_quotes : (s rest : List ℕ) → escape s ≡ s → quoted s ++ rest ≡ 34 ∷ (s ++ 34 ∷ rest)
+in_quotes s rest plain = ap (λ e. 34 ∷ ((e ++ 34 ∷ []) ++ rest)) plain ∙ ap (λ e. 34 ∷ e) (append_assoc s (34 ∷ []) rest)
+
+last-text : (mode path : List ℕ) (uid : ℕ) → escape mode ≡ mode
+    → members_text true (last_members mode path uid) ≡ codes ",\"mode\":\"" ++ (mode ++ 34 ∷ behind_mode path uid)
+unfolding escape_byte
+last-text mode path uid plain = ap (λ e. codes ",\"mode\":" ++ e) (in_quotes mode (behind_mode path uid) plain)
+
+end-is : (path : List (List ℕ)) (meta : Meta) → meta.mode < 4096 → members_text true (last_members (mode_text meta.mode) (text_of path) meta.uid) ≡ end_text path meta
+end-is path meta small = last-text (mode_text meta.mode) (text_of path) meta.uid (escape-plain (mode_text meta.mode) (mode-plain meta.mode small))
+
+pub directory-text : (path : List (List ℕ)) (meta : Meta) → meta.mode < 4096
+    → compact_text (entry_data path (Directory meta)) ≡ codes "{\"dir\":true,\"gid\":" ++ (decimal meta.gid ++ end_text path meta)
+unfolding escape_byte
+directory-text path meta small = ap (λ e. codes "{\"dir\":true,\"gid\":" ++ (decimal meta.gid ++ e)) (end-is path meta small)
+
+hex-then : (hex : List ℕ) (gid : ℕ) (rest : List ℕ) → escape hex ≡ hex
+    → codes "{\"gid\":" ++ (decimal gid ++ (codes ",\"hex\":" ++ (quoted hex ++ rest))) ≡ codes "{\"gid\":" ++ (decimal gid ++ (codes ",\"hex\":\"" ++ (hex ++ (codes "\"" ++ rest))))
+hex-then hex gid rest plain = ap (λ e. codes "{\"gid\":" ++ (decimal gid ++ (codes ",\"hex\":" ++ e))) (in_quotes hex rest plain)
+
+pub file-text : (path : List (List ℕ)) (meta : Meta) (bytes : List ℕ) → meta.mode < 4096 → IsBytes bytes
+    → compact_text (entry_data path (File meta bytes)) ≡ codes "{\"gid\":" ++ (decimal meta.gid ++ (codes ",\"hex\":\"" ++ (encode_lower bytes ++ (codes "\"" ++ end_text path meta))))
+unfolding escape_byte
+file-text path meta bytes small fits =
+    ap (λ e. codes "{\"gid\":" ++ (decimal meta.gid ++ (codes ",\"hex\":" ++ (quoted (encode_lower bytes) ++ e)))) (end-is path meta small)
+    ∙ hex-then (encode_lower bytes) meta.gid (end_text path meta) (escape-plain (encode_lower bytes) (hex-plain bytes fits))
+
+-- ---- what is written behind a text
+
+encode-append : (t a b : List ℕ) → encode_with t (a ++ b) ≡ encode_with t a ++ encode_with t b
+unfolding encode_with
+encode-append t [] b = refl
+encode-append t (x ∷ a) b = ap (λ e. slice_index t (x / 16) ∷ slice_index t (x % 16) ∷ e) (encode-append t a b)
+
+-- a piece more of some bytes
+pub piece_more : (old new all rest : List ℕ) (n : ℕ) → old ++ encode_lower rest ≡ all → new ≡ old ++ encode_lower (take n rest) → new ++ encode_lower (drop n rest) ≡ all
+piece_more old new all rest n so written =
+    let front = encode_lower (take n rest) in
+    let behind = encode_lower (drop n rest) in
+    ap (λ t. t ++ behind) written
+    ∙ append_assoc old front behind
+    ∙ ap (λ t. old ++ t) (sym (encode-append lower_digits (take n rest) (drop n rest)) ∙ ap encode_lower (take-append-drop n rest))
+    ∙ so
+
+-- two pieces, one behind the other
+pub more : (old new last a b : List ℕ) → new ≡ old ++ a → last ≡ new ++ b → last ≡ old ++ (a ++ b)
+more old new last a b p q = q ∙ (ap (λ t. t ++ b) p ∙ append_assoc old a b)
+
+-- no byte is left
+pub none_left : (text all rest : List ℕ) → length rest ≡ 0 → text ++ encode_lower rest ≡ all → text ≡ all
+unfolding encode_with
+none_left text all [] none so = sym (append-nil text) ∙ so
+none_left text all (b ∷ rest) none so = absurd (omega arith)
+
+pub plain-path : (old : List ℕ) (path : List (List ℕ)) → are_plain path ≡ true → old ++ (34 ∷ (text_of path ++ 34 ∷ [])) ≡ old ++ compact_text (string (text_of path))
+plain-path old path plain = ap (λ t. old ++ (34 ∷ (t ++ 34 ∷ []))) (sym (escape-path path plain))
+
+-- ---- entries
+
+-- the text of entries from one on, with the closing bracket
+abbrev pub rows_text : Bool → List (List (List ℕ) × Bor Entry) → List ℕ
+rows_text later [] = 93 ∷ []
+rows_text later (row ∷ rows) = (comma_if later ++ entry_text row.0 row.1.now) ++ rows_text true rows
+
+pub rows-are : (later : Bool) (rows : List (List (List ℕ) × Bor Entry))
+    → rows_text later rows ≡ items_text later (items_of (map {A = List (List ℕ) × Entry} (λ row. entry_data row.0 row.1) (map {A = List (List ℕ) × Bor Entry} (λ row. (row.0, row.1.now)) rows)))
+unfolding entry_text
+rows-are later [] = refl
+rows-are later (row ∷ rows) =
+    append_assoc (comma_if later) (compact_text (entry_data row.0 row.1.now)) (rows_text true rows)
+    ∙ ap (λ e. comma_if later ++ (compact_text (entry_data row.0 row.1.now) ++ e)) (rows-are true rows)
+
+-- all entries are written
+pub all_written : (text last old : List ℕ) (later : Bool) (rows : List (List (List ℕ) × Bor Entry)) (i : ℕ) → length rows ≤ i
+    → text ++ rows_text later (drop i rows) ≡ old ++ (91 ∷ rows_text false rows) → last ≡ text ++ 93 ∷ []
+    → last ≡ old ++ (91 ∷ items_text false (items_of (map {A = List (List ℕ) × Entry} (λ row. entry_data row.0 row.1) (map {A = List (List ℕ) × Bor Entry} (λ row. (row.0, row.1.now)) rows))))
+all_written text last old later rows i past so closed =
+    closed
+    ∙ sym (ap (λ rs. text ++ rows_text later rs) (drop_all i rows past))
+    ∙ so
+    ∙ ap (λ t. old ++ (91 ∷ t)) (rows-are false rows)
