@@ -2,8 +2,10 @@ pub mod EnvRows
 pub mod Environment
 pub mod Lines
 pub mod Ports
+pub mod PrivateFields
 pub mod PrivateLines
 pub mod PrivateRows
+pub mod PrivateWriting
 pub mod Reading
 pub mod Rows
 pub mod Stage

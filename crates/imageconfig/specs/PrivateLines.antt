@@ -11,6 +11,7 @@ use Rattle.paths.specs.Reading.{read_from, limit_of}
 use Rattle.expand.specs.Value.{Parts, value}
 use Rattle.instructions.specs.Least.{least}
 use Rattle.instructions.specs.declared.instruction.Assignment.{Assignment}
+use Rattle.instructions.specs.declared.instruction.Command.{Command}
 use Rattle.instructions.specs.declared.instruction.Label.{Label as LabelRow}
 use Rattle.instructions.specs.declared.instruction.InstructionKind.{InstructionKind}
 use Rattle.instructions.specs.declared.instruction.InstructionKind.TheVariants.{Env, Label, Expose, User, Workdir, StopSignal, Volume, Shell, Cmd, Entrypoint}
@@ -108,6 +109,18 @@ path_due before base word R06 = has_no_byte (valued before word)
 path_due before base word R18 = not (is_some (path_of before base word))
 path_due before base word code = false
 
+-- the configuration with the words of a SHELL
+abbrev pub with_shell : Config → List (List ℕ) → Config
+with_shell c words = record c { shell = words }
+
+-- that with those of a CMD
+abbrev pub with_cmd : Config → Command → Config
+with_cmd c command = record c { cmd = words_of c.shell command; cmd_is_own = true }
+
+-- that with those of an ENTRYPOINT
+abbrev pub with_entrypoint : Config → Command → Config
+with_entrypoint c command = record c { entrypoint = words_of c.shell command; cmd = if c.cmd_is_own then c.cmd else [] }
+
 -- the configuration after an instruction, where each text that it evaluates has a value
 abbrev pub applied : Values → Config → InstructionKind → Option Config
 applied before c (Env assignments) = option_map (λ rows. record c { env = put_rows c.env rows }) (assigned_rows before assignments)
@@ -117,9 +130,9 @@ applied before c (User user) = option_map (λ text. record c { user = text }) (v
 applied before c (Workdir path) = option_map (λ dir. record c { working_dir = Some dir }) (path_of before (dir_of c.working_dir) path)
 applied before c (StopSignal signal) = option_map (λ text. record c { stop_signal = text }) (valued before signal)
 applied before c (Volume paths) = option_map (λ texts. record c { volumes = add_names c.volumes texts }) (short_texts before paths)
-applied before c (Shell words) = Some (record c { shell = words })
-applied before c (Cmd command) = Some (record c { cmd = words_of c.shell command; cmd_is_own = true })
-applied before c (Entrypoint command) = Some (record c { entrypoint = words_of c.shell command; cmd = if c.cmd_is_own then c.cmd else [] })
+applied before c (Shell words) = Some (with_shell c words)
+applied before c (Cmd command) = Some (with_cmd c command)
+applied before c (Entrypoint command) = Some (with_entrypoint c command)
 applied before c kind = Some c
 
 -- the codes that are found due

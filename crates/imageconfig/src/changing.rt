@@ -1,21 +1,22 @@
-ghost use Rattle.std.specs.Prelude.{◌≡◌, IfOk, List, ℕ};
+ghost use Rattle.std.specs.Prelude.{◌≡◌, IfOk, List, ℕ, OnOk, OnErr};
 ghost use Rattle.instructions.specs.Instruction.{IsInstruction};
 ghost use Rattle.instructions.specs.Least.{Meets};
+ghost use Rattle.instructions.specs.declared.instruction.InstructionKind.TheVariants as spelled;
 ghost use Rattle.scopes.specs.Scope.{value_in};
-ghost use Rattle.imageconfig.specs.PrivateLines.{path_of, path_due, IsChanged};
+ghost use Rattle.imageconfig.specs.PrivateLines.{path_of, path_due, with_shell, with_cmd, with_entrypoint, IsChanged};
 ghost use Rattle.imageconfig.specs.Steps.{dir_of};
 
 use crate::config::Config;
 use crate::line::{directory, env_rows, label_rows, only_text, port_keys, volume_texts, words_of};
 use expand::Word;
-use instructions::InstructionKind;
+use instructions::{Assignment, Command, InstructionKind, Label};
 use paths::Path;
-use plain::{Exact, Items};
+use plain::{Exact, Items, Memory, Text};
 use scopes::Scope;
 use std::alloc::Global;
 use words::TextFault;
 
-/// Changes a configuration by an instruction; its texts are evaluated first, and one field is changed last.
+/// Changes a configuration by an instruction. Each change evaluates its texts first, and then puts them where they belong.
 pub(crate) fn change(
     alloc: Global,
     config: &mut Config,
@@ -26,60 +27,144 @@ pub(crate) fn change(
     ensures { IsChanged config.old (value_in before.now) kind.now config.new result }
 {
     match kind {
-        InstructionKind::Env { assignments } => {
-            let rows = env_rows(alloc, assignments.as_slice(), before)?;
-            config.env.set_all(rows)?;
-            Ok(())
-        }
-        InstructionKind::Label { labels } => {
-            let rows = label_rows(alloc, labels.as_slice(), before)?;
-            config.labels.set_all(rows)?;
-            Ok(())
-        }
-        InstructionKind::Expose { ports } => {
-            let keys = port_keys(alloc, ports.as_slice(), before)?;
-            config.exposed_ports.add_all(keys)?;
-            Ok(())
-        }
-        InstructionKind::User { user } => {
-            config.user = only_text(alloc, user, before)?;
-            Ok(())
-        }
-        InstructionKind::Workdir { path } => {
-            let path = path_from(alloc, path, &config.working_dir, before)?;
-            config.working_dir = Some(path);
-            Ok(())
-        }
-        InstructionKind::StopSignal { signal } => {
-            config.stop_signal = only_text(alloc, signal, before)?;
-            Ok(())
-        }
-        InstructionKind::Volume { paths } => {
-            let texts = volume_texts(alloc, paths.as_slice(), before)?;
-            config.volumes.add_all(texts)?;
-            Ok(())
-        }
-        InstructionKind::Shell { words } => {
-            config.shell = words.copy(alloc)?;
-            Ok(())
-        }
-        InstructionKind::Cmd { command } => {
-            config.cmd = words_of(alloc, &config.shell, command)?;
-            config.cmd_is_own = true;
-            Ok(())
-        }
-        InstructionKind::Entrypoint { command } => {
-            config.entrypoint = words_of(alloc, &config.shell, command)?;
-            if !config.cmd_is_own {
-                config.cmd = Items::new(alloc);
-            }
-            Ok(())
-        }
+        InstructionKind::Env { assignments } => set_env(alloc, config, assignments, before),
+        InstructionKind::Label { labels } => set_labels(alloc, config, labels, before),
+        InstructionKind::Expose { ports } => add_ports(alloc, config, ports, before),
+        InstructionKind::User { user } => set_user(alloc, config, user, before),
+        InstructionKind::Workdir { path } => set_dir(alloc, config, path, before),
+        InstructionKind::StopSignal { signal } => set_stop_signal(alloc, config, signal, before),
+        InstructionKind::Volume { paths } => add_volumes(alloc, config, paths, before),
+        InstructionKind::Shell { words } => Ok(set_shell(alloc, config, words)?),
+        InstructionKind::Cmd { command } => Ok(set_cmd(alloc, config, command)?),
+        InstructionKind::Entrypoint { command } => Ok(set_entrypoint(alloc, config, command)?),
         InstructionKind::From { .. }
         | InstructionKind::Arg { .. }
         | InstructionKind::Run { .. }
         | InstructionKind::Copy { .. } => Ok(()),
     }
+}
+
+/// An ENV.
+fn set_env(
+    alloc: Global,
+    config: &mut Config,
+    assignments: &Items<Assignment>,
+    before: &Scope,
+) -> Result<(), TextFault>
+    requires { IsInstruction (spelled.Env assignments.now) }
+    ensures { IsChanged config.old (value_in before.now) (spelled.Env assignments.now) config.new result }
+{
+    let rows = env_rows(alloc, assignments.as_slice(), before)?;
+    config.env.set_all(rows)?;
+    Ok(())
+}
+
+/// A LABEL.
+fn set_labels(
+    alloc: Global,
+    config: &mut Config,
+    labels: &Items<Label>,
+    before: &Scope,
+) -> Result<(), TextFault>
+    ensures { IsChanged config.old (value_in before.now) (spelled.Label labels.now) config.new result }
+{
+    let rows = label_rows(alloc, labels.as_slice(), before)?;
+    config.labels.set_all(rows)?;
+    Ok(())
+}
+
+/// An EXPOSE.
+fn add_ports(
+    alloc: Global,
+    config: &mut Config,
+    ports: &Items<Word>,
+    before: &Scope,
+) -> Result<(), TextFault>
+    ensures { IsChanged config.old (value_in before.now) (spelled.Expose ports.now) config.new result }
+{
+    let keys = port_keys(alloc, ports.as_slice(), before)?;
+    config.exposed_ports.add_all(keys)?;
+    Ok(())
+}
+
+/// A USER.
+fn set_user(
+    alloc: Global,
+    config: &mut Config,
+    user: &Word,
+    before: &Scope,
+) -> Result<(), TextFault>
+    ensures { IsChanged config.old (value_in before.now) (spelled.User user.now) config.new result }
+{
+    config.user = only_text(alloc, user, before)?;
+    Ok(())
+}
+
+/// A WORKDIR, against the working directory before the line.
+fn set_dir(alloc: Global, config: &mut Config, path: &Word, before: &Scope) -> Result<(), TextFault>
+    ensures { IsChanged config.old (value_in before.now) (spelled.Workdir path.now) config.new result }
+{
+    let path = path_from(alloc, path, &config.working_dir, before)?;
+    config.working_dir = Some(path);
+    Ok(())
+}
+
+/// A STOPSIGNAL.
+fn set_stop_signal(
+    alloc: Global,
+    config: &mut Config,
+    signal: &Word,
+    before: &Scope,
+) -> Result<(), TextFault>
+    ensures { IsChanged config.old (value_in before.now) (spelled.StopSignal signal.now) config.new result }
+{
+    config.stop_signal = only_text(alloc, signal, before)?;
+    Ok(())
+}
+
+/// A VOLUME.
+fn add_volumes(
+    alloc: Global,
+    config: &mut Config,
+    paths: &Items<Word>,
+    before: &Scope,
+) -> Result<(), TextFault>
+    ensures { IsChanged config.old (value_in before.now) (spelled.Volume paths.now) config.new result }
+{
+    let texts = volume_texts(alloc, paths.as_slice(), before)?;
+    config.volumes.add_all(texts)?;
+    Ok(())
+}
+
+/// A SHELL.
+fn set_shell(alloc: Global, config: &mut Config, words: &Items<Text>) -> Result<(), Memory>
+    ensures ok { OnOk result (config.new ≡ with_shell config.old words.now) }
+    ensures err { OnErr result (config.new ≡ config.old) }
+{
+    config.shell = words.copy(alloc)?;
+    Ok(())
+}
+
+/// A CMD.
+fn set_cmd(alloc: Global, config: &mut Config, command: &Command) -> Result<(), Memory>
+    ensures ok { OnOk result (config.new ≡ with_cmd config.old command.now) }
+    ensures err { OnErr result (config.new ≡ config.old) }
+{
+    config.cmd = words_of(alloc, &config.shell, command)?;
+    config.cmd_is_own = true;
+    Ok(())
+}
+
+/// An ENTRYPOINT.
+fn set_entrypoint(alloc: Global, config: &mut Config, command: &Command) -> Result<(), Memory>
+    ensures ok { OnOk result (config.new ≡ with_entrypoint config.old command.now) }
+    ensures err { OnErr result (config.new ≡ config.old) }
+{
+    config.entrypoint = words_of(alloc, &config.shell, command)?;
+    if !config.cmd_is_own {
+        config.cmd = Items::new(alloc);
+    }
+    Ok(())
 }
 
 /// The path that a word leads to from a working directory.

@@ -1,41 +1,90 @@
 ghost use Rattle.std.specs.Prelude.{◌≡◌, IfOk};
+ghost use Rattle.imageconfig.specs.PrivateFields.{basics_of, lists_of, objects_of, texts_of, together};
 
 use crate::config::Config;
-use crate::fields::{Lists, Objects, Texts};
+use crate::fields::{Basics, Lists, Objects, Texts, put_together};
 use paths::Path;
 use plain::{Exact, Memory};
 use std::alloc::Global;
 
-/// An equal configuration of its own.
+/// An equal configuration of its own. It is copied group by group, so that each step has few values to let go.
 pub(crate) fn copied_config(alloc: Global, config: &Config) -> Result<Config, Memory>
     ensures { IfOk result (λ copied. copied ≡ config.now) }
 {
-    let lists = copied_lists(alloc, config)?;
-    let objects = copied_objects(alloc, config)?;
-    let texts = copied_texts(alloc, config)?;
+    let basics = copied_basics(alloc, config)?;
+    copied_with_basics(alloc, config, basics)
+}
+
+/// The same, with the fields that are always set.
+fn copied_with_basics(alloc: Global, config: &Config, basics: Basics) -> Result<Config, Memory>
+    ensures { IfOk result (λ copied. copied ≡ together basics (texts_of config.now) (objects_of config.now) (lists_of config.now) config.now.cmd_is_own) }
+{
+    match copied_texts(alloc, config) {
+        Ok(texts) => copied_with_texts(alloc, config, basics, texts),
+        Err(memory) => {
+            drop(basics);
+            Err(memory)
+        }
+    }
+}
+
+/// The same, with the fields that are texts.
+fn copied_with_texts(
+    alloc: Global,
+    config: &Config,
+    basics: Basics,
+    texts: Texts,
+) -> Result<Config, Memory>
+    ensures { IfOk result (λ copied. copied ≡ together basics texts (objects_of config.now) (lists_of config.now) config.now.cmd_is_own) }
+{
+    match copied_objects(alloc, config) {
+        Ok(objects) => copied_with_objects(alloc, config, basics, texts, objects),
+        Err(memory) => {
+            drop(basics);
+            drop(texts);
+            Err(memory)
+        }
+    }
+}
+
+/// The same, with the fields that are objects.
+fn copied_with_objects(
+    alloc: Global,
+    config: &Config,
+    basics: Basics,
+    texts: Texts,
+    objects: Objects,
+) -> Result<Config, Memory>
+    ensures { IfOk result (λ copied. copied ≡ together basics texts objects (lists_of config.now) config.now.cmd_is_own) }
+{
+    match copied_lists(alloc, config) {
+        Ok(lists) => Ok(put_together(basics, texts, objects, lists, config.cmd_is_own)),
+        Err(memory) => {
+            drop(basics);
+            drop(texts);
+            drop(objects);
+            Err(memory)
+        }
+    }
+}
+
+/// The fields that are always set.
+fn copied_basics(alloc: Global, config: &Config) -> Result<Basics, Memory>
+    ensures { IfOk result (λ basics. basics ≡ basics_of config.now) }
+{
     let architecture = config.architecture.copy(alloc)?;
     let os = config.os.copy(alloc)?;
     let shell = config.shell.copy(alloc)?;
-    Ok(Config {
+    Ok(Basics {
         architecture,
         os,
-        env: lists.env,
-        user: texts.user,
-        stop_signal: texts.stop_signal,
-        working_dir: texts.working_dir,
-        cmd: lists.cmd,
-        cmd_is_own: config.cmd_is_own,
-        entrypoint: lists.entrypoint,
-        labels: objects.labels,
-        exposed_ports: objects.exposed_ports,
-        volumes: objects.volumes,
         shell,
     })
 }
 
 /// The fields that are lists.
 fn copied_lists(alloc: Global, config: &Config) -> Result<Lists, Memory>
-    ensures { IfOk result (λ l. (l.cmd ≡ config.now.cmd) × ((l.entrypoint ≡ config.now.entrypoint) × (l.env ≡ config.now.env))) }
+    ensures { IfOk result (λ lists. lists ≡ lists_of config.now) }
 {
     let cmd = config.cmd.copy(alloc)?;
     let entrypoint = config.entrypoint.copy(alloc)?;
@@ -49,7 +98,7 @@ fn copied_lists(alloc: Global, config: &Config) -> Result<Lists, Memory>
 
 /// The fields that are objects.
 fn copied_objects(alloc: Global, config: &Config) -> Result<Objects, Memory>
-    ensures { IfOk result (λ m. (m.exposed_ports ≡ config.now.exposed_ports) × ((m.labels ≡ config.now.labels) × (m.volumes ≡ config.now.volumes))) }
+    ensures { IfOk result (λ objects. objects ≡ objects_of config.now) }
 {
     let exposed_ports = config.exposed_ports.copy(alloc)?;
     let labels = config.labels.copy(alloc)?;
@@ -63,7 +112,7 @@ fn copied_objects(alloc: Global, config: &Config) -> Result<Objects, Memory>
 
 /// The fields that are texts.
 fn copied_texts(alloc: Global, config: &Config) -> Result<Texts, Memory>
-    ensures { IfOk result (λ t. (t.stop_signal ≡ config.now.stop_signal) × ((t.user ≡ config.now.user) × (t.working_dir ≡ config.now.working_dir))) }
+    ensures { IfOk result (λ texts. texts ≡ texts_of config.now) }
 {
     let stop_signal = config.stop_signal.copy(alloc)?;
     let user = config.user.copy(alloc)?;

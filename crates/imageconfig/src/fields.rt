@@ -1,4 +1,5 @@
 ghost use Rattle.std.specs.Prelude.{◌≡◌, IfOk};
+ghost use Rattle.imageconfig.specs.PrivateFields.{together};
 ghost use Rattle.imageconfig.specs.Reading.{default_shell, bare};
 
 use crate::config::Config;
@@ -8,6 +9,14 @@ use crate::rows::Rows;
 use paths::Path;
 use plain::{Items, Memory, Text};
 use std::alloc::Global;
+
+/// The fields of a configuration that are always set.
+#[derive(Drop)]
+pub(crate) struct Basics {
+    pub(crate) architecture: Text,
+    pub(crate) os: Text,
+    pub(crate) shell: Items<Text>,
+}
 
 /// The fields of a configuration that are lists.
 #[derive(Drop)]
@@ -31,6 +40,53 @@ pub(crate) struct Texts {
     pub(crate) stop_signal: Text,
     pub(crate) user: Text,
     pub(crate) working_dir: Option<Path>,
+}
+
+/// The configuration of these fields.
+pub(crate) fn put_together(
+    basics: Basics,
+    texts: Texts,
+    objects: Objects,
+    lists: Lists,
+    cmd_is_own: bool,
+) -> Config
+    ensures { result ≡ together basics texts objects lists cmd_is_own }
+{
+    let Basics {
+        architecture,
+        os,
+        shell,
+    } = basics;
+    let Texts {
+        stop_signal,
+        user,
+        working_dir,
+    } = texts;
+    let Objects {
+        exposed_ports,
+        labels,
+        volumes,
+    } = objects;
+    let Lists {
+        cmd,
+        entrypoint,
+        env,
+    } = lists;
+    Config {
+        architecture,
+        os,
+        env,
+        user,
+        stop_signal,
+        working_dir,
+        cmd,
+        cmd_is_own,
+        entrypoint,
+        labels,
+        exposed_ports,
+        volumes,
+        shell,
+    }
 }
 
 /// The words of the shell where no SHELL was given.

@@ -10,7 +10,7 @@ ghost use Rattle.imageconfig.specs.Reading.{set_at, field, cut_row, env_in, memb
 
 use crate::config::Config;
 use crate::environment::Environment;
-use crate::fields::{Lists, Objects, Texts, bare, default_shell};
+use crate::fields::{Basics, Lists, Objects, Texts, bare, default_shell, put_together};
 use crate::names::Names;
 use crate::rows::Rows;
 use paths::Path;
@@ -257,22 +257,24 @@ fn joined(
 ) -> Result<Config, ReadFault>
     ensures { Gives result (Some (joined architecture os lists objects texts)) }
 {
-    let shell = default_shell(alloc)?;
-    Ok(Config {
-        architecture,
-        os,
-        env: lists.env,
-        user: texts.user,
-        stop_signal: texts.stop_signal,
-        working_dir: texts.working_dir,
-        cmd: lists.cmd,
-        cmd_is_own: false,
-        entrypoint: lists.entrypoint,
-        labels: objects.labels,
-        exposed_ports: objects.exposed_ports,
-        volumes: objects.volumes,
-        shell,
-    })
+    match default_shell(alloc) {
+        Ok(shell) => {
+            let basics = Basics {
+                architecture,
+                os,
+                shell,
+            };
+            Ok(put_together(basics, texts, objects, lists, false))
+        }
+        Err(_) => {
+            drop(architecture);
+            drop(os);
+            drop(lists);
+            drop(objects);
+            drop(texts);
+            Err(Fault::Memory)
+        }
+    }
 }
 
 /// The configuration whose `config` this is.

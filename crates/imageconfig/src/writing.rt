@@ -1,8 +1,14 @@
-ghost use Rattle.std.specs.Prelude.{◌≡◌, IfOk, OnOk};
+ghost use Rattle.std.specs.Prelude.{◌≡◌, codes, IfOk, OnOk};
+ghost use Rattle.serde_json.specs.Data.{string};
 ghost use Rattle.serde_json.specs.View.{view, members_view};
-ghost use Rattle.imageconfig.specs.Writing.{put_if, put_dir, put_lists, put_objects, put_texts, settings_data, rootfs_data, config_data};
+ghost use Rattle.strict.specs.Written.{list_data};
+ghost use Rattle.imageconfig.specs.PrivateWriting.{put_settings, put_rootfs, put_config};
+ghost use Rattle.imageconfig.specs.Writing.{is_set, put_if, put_dir, put_lists, put_objects, put_texts, names_data, rows_data, variable_data, settings_data, rootfs_data, config_data};
 
 use crate::config::Config;
+use crate::environment::Environment;
+use crate::names::Names;
+use crate::rows::Rows;
 use paths::Path;
 use plain::{Items, Memory, Text};
 use serde_json::{Map, Value};
@@ -23,6 +29,61 @@ fn put_if(
         put(alloc, members, key, value)?;
     }
     Ok(())
+}
+
+/// Adds a list of texts, where it is set.
+fn put_list(
+    alloc: Global,
+    members: &mut Map<String, Value>,
+    key: &str,
+    list: &Items<Text>,
+) -> Result<(), Memory>
+    ensures { OnOk result (members_view members.new.entries ≡ put_if (is_set list.now) key.now (list_data string list.now) (members_view members.old.entries)) }
+{
+    let value = list_to_json(alloc, list.as_slice())?;
+    put_if(alloc, members, key, !list.is_empty(), value)
+}
+
+/// Adds the environment, where it is set.
+fn put_env(alloc: Global, members: &mut Map<String, Value>, env: &Environment) -> Result<(), Memory>
+    ensures { OnOk result (members_view members.new.entries ≡ put_if (is_set env.now) (codes "Env") (list_data variable_data env.now) (members_view members.old.entries)) }
+{
+    let value = env.to_json(alloc)?;
+    put_if(alloc, members, "Env", !env.is_empty(), value)
+}
+
+/// Adds names, where they are set.
+fn put_names(
+    alloc: Global,
+    members: &mut Map<String, Value>,
+    key: &str,
+    names: &Names,
+) -> Result<(), Memory>
+    ensures { OnOk result (members_view members.new.entries ≡ put_if (is_set names.now) key.now (names_data names.now) (members_view members.old.entries)) }
+{
+    let value = names.to_json(alloc)?;
+    put_if(alloc, members, key, !names.is_empty(), value)
+}
+
+/// Adds the labels, where they are set.
+fn put_labels(alloc: Global, members: &mut Map<String, Value>, labels: &Rows) -> Result<(), Memory>
+    ensures { OnOk result (members_view members.new.entries ≡ put_if (is_set labels.now) (codes "Labels") (rows_data labels.now) (members_view members.old.entries)) }
+{
+    let value = labels.to_json(alloc)?;
+    put_if(alloc, members, "Labels", !labels.is_empty(), value)
+}
+
+/// Adds a text, where it is set.
+fn put_text(
+    alloc: Global,
+    members: &mut Map<String, Value>,
+    key: &str,
+    text: &Text,
+) -> Result<(), Memory>
+    ensures { OnOk result (members_view members.new.entries ≡ put_if (is_set text.now) key.now (string text.now) (members_view members.old.entries)) }
+{
+    let value = text.to_json(alloc)?;
+    put_if(alloc, members, key, text.len() != 0, value)
 }
 
 /// Adds the working directory, where it is set.
@@ -48,18 +109,10 @@ fn put_dir(
 fn put_lists(alloc: Global, members: &mut Map<String, Value>, config: &Config) -> Result<(), Memory>
     ensures { OnOk result (members_view members.new.entries ≡ put_lists config.now (members_view members.old.entries)) }
 {
-    let cmd = list_to_json(alloc, config.cmd.as_slice())?;
-    let entrypoint = list_to_json(alloc, config.entrypoint.as_slice())?;
-    let env = config.env.to_json(alloc)?;
-    put_if(alloc, members, "Cmd", !config.cmd.is_empty(), cmd)?;
-    put_if(
-        alloc,
-        members,
-        "Entrypoint",
-        !config.entrypoint.is_empty(),
-        entrypoint,
-    )?;
-    put_if(alloc, members, "Env", !config.env.is_empty(), env)
+    put_list(alloc, members, "Cmd", &config.cmd)?;
+    put_list(alloc, members, "Entrypoint", &config.entrypoint)?;
+    put_env(alloc, members, &config.env)?;
+    Ok(())
 }
 
 /// Adds the fields that are objects, as far as they are set.
@@ -70,24 +123,9 @@ fn put_objects(
 ) -> Result<(), Memory>
     ensures { OnOk result (members_view members.new.entries ≡ put_objects config.now (members_view members.old.entries)) }
 {
-    let exposed_ports = config.exposed_ports.to_json(alloc)?;
-    let labels = config.labels.to_json(alloc)?;
-    let volumes = config.volumes.to_json(alloc)?;
-    put_if(
-        alloc,
-        members,
-        "ExposedPorts",
-        !config.exposed_ports.is_empty(),
-        exposed_ports,
-    )?;
-    put_if(alloc, members, "Labels", !config.labels.is_empty(), labels)?;
-    put_if(
-        alloc,
-        members,
-        "Volumes",
-        !config.volumes.is_empty(),
-        volumes,
-    )?;
+    put_names(alloc, members, "ExposedPorts", &config.exposed_ports)?;
+    put_labels(alloc, members, &config.labels)?;
+    put_names(alloc, members, "Volumes", &config.volumes)?;
     Ok(())
 }
 
@@ -95,17 +133,24 @@ fn put_objects(
 fn put_texts(alloc: Global, members: &mut Map<String, Value>, config: &Config) -> Result<(), Memory>
     ensures { OnOk result (members_view members.new.entries ≡ put_texts config.now (members_view members.old.entries)) }
 {
-    let stop_signal = config.stop_signal.to_json(alloc)?;
-    let user = config.user.to_json(alloc)?;
-    put_if(
-        alloc,
-        members,
-        "StopSignal",
-        config.stop_signal.len() != 0,
-        stop_signal,
-    )?;
-    put_if(alloc, members, "User", config.user.len() != 0, user)?;
-    put_dir(alloc, members, &config.working_dir)
+    put_text(alloc, members, "StopSignal", &config.stop_signal)?;
+    put_text(alloc, members, "User", &config.user)?;
+    put_dir(alloc, members, &config.working_dir)?;
+    Ok(())
+}
+
+/// Adds the fields that are set.
+fn put_settings(
+    alloc: Global,
+    members: &mut Map<String, Value>,
+    config: &Config,
+) -> Result<(), Memory>
+    ensures { OnOk result (members_view members.new.entries ≡ put_settings config.now (members_view members.old.entries)) }
+{
+    put_lists(alloc, members, config)?;
+    put_objects(alloc, members, config)?;
+    put_texts(alloc, members, config)?;
+    Ok(())
 }
 
 /// `config`: the fields that are set.
@@ -114,27 +159,51 @@ fn settings_value(alloc: Global, config: &Config) -> Result<Value, Memory>
     ensures { IfOk result (λ v. view v ≡ settings_data config.now) }
 {
     let mut members = Map::new(alloc);
-    put_lists(alloc, &mut members, config)?;
-    put_objects(alloc, &mut members, config)?;
-    put_texts(alloc, &mut members, config)?;
+    put_settings(alloc, &mut members, config)?;
     Ok(Value::Object(members))
+}
+
+/// Adds what `rootfs` has, without layers.
+fn put_rootfs(alloc: Global, members: &mut Map<String, Value>) -> Result<(), Memory>
+    ensures { OnOk result (members_view members.new.entries ≡ put_rootfs (members_view members.old.entries)) }
+{
+    put(alloc, members, "diff_ids", Value::Array(Vec::new(alloc)))?;
+    put(
+        alloc,
+        members,
+        "type",
+        Value::String(String::from_str(alloc, "layers")?),
+    )?;
+    Ok(())
 }
 
 /// `rootfs`, without layers.
 fn rootfs_value(alloc: Global) -> Result<Value, Memory>
     ensures { IfOk result (λ v. view v ≡ rootfs_data) }
 {
-    let none: Items<Text> = Items::new(alloc);
-    let diff_ids = list_to_json(alloc, none.as_slice())?;
     let mut members = Map::new(alloc);
-    put(alloc, &mut members, "diff_ids", diff_ids)?;
+    put_rootfs(alloc, &mut members)?;
+    Ok(Value::Object(members))
+}
+
+/// Adds what a configuration has.
+fn put_config(
+    alloc: Global,
+    members: &mut Map<String, Value>,
+    config: &Config,
+) -> Result<(), Memory>
+    ensures { OnOk result (members_view members.new.entries ≡ put_config config.now (members_view members.old.entries)) }
+{
     put(
         alloc,
-        &mut members,
-        "type",
-        Value::String(String::from_str(alloc, "layers")?),
+        members,
+        "architecture",
+        config.architecture.to_json(alloc)?,
     )?;
-    Ok(Value::Object(members))
+    put(alloc, members, "config", settings_value(alloc, config)?)?;
+    put(alloc, members, "os", config.os.to_json(alloc)?)?;
+    put(alloc, members, "rootfs", rootfs_value(alloc)?)?;
+    Ok(())
 }
 
 /// The configuration as JSON.
@@ -142,14 +211,7 @@ fn rootfs_value(alloc: Global) -> Result<Value, Memory>
 pub(crate) fn config_value(alloc: Global, config: &Config) -> Result<Value, Memory>
     ensures { IfOk result (λ v. view v ≡ config_data config.now) }
 {
-    let architecture = config.architecture.to_json(alloc)?;
-    let settings = settings_value(alloc, config)?;
-    let os = config.os.to_json(alloc)?;
-    let rootfs = rootfs_value(alloc)?;
     let mut members = Map::new(alloc);
-    put(alloc, &mut members, "architecture", architecture)?;
-    put(alloc, &mut members, "config", settings)?;
-    put(alloc, &mut members, "os", os)?;
-    put(alloc, &mut members, "rootfs", rootfs)?;
+    put_config(alloc, &mut members, config)?;
     Ok(Value::Object(members))
 }
