@@ -1,1 +1,2 @@
 mod KeyFacts
+mod RootedFacts
