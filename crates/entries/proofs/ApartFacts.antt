@@ -1,6 +1,6 @@
 -- Among rows that are sorted by their paths, where two clash, two neighbours do; and rows clash in whatever order they are.
-use Rattle.std.specs.Prelude.{◌≡◌, ℕ, zero, suc, ◌+◌, ◌<◌, ◌≤◌, Bool, true, false, not, ◌&&◌, ◌||◌, Some, None, List, [], ◌∷◌, length, map, IsPermutation, IsSortedBy}
-use Rattle.std.proofs.Common.{sym, ap, ◌∙◌, ◌⊎◌, subst, true≢false, arith, inl, inr, refl, get_or, eqb}
+use Rattle.std.specs.Prelude.{◌≡◌, ℕ, zero, suc, ◌+◌, ◌<◌, ◌≤◌, Bool, true, false, not, ◌&&◌, ◌||◌, Option, Some, None, List, [], ◌∷◌, length, map, IsPermutation, IsSortedBy}
+use Rattle.std.proofs.Common.{add-one, sym, ap, ◌∙◌, ◌⊎◌, subst, true≢false, arith, inl, inr, refl, get_or, eqb}
 use Rattle.std.specs.declared.cmp.Ordering.{Ordering}
 use Rattle.std.specs.declared.cmp.Ordering.TheVariants.{Less, Equal, Greater}
 use Rattle.std.specs.Ordering.{eq_by_cmp, is_eq, is_lt, ordering_then, ordering_reverse}
@@ -19,7 +19,7 @@ use Rattle.paths.proofs.FrontLaws.{name_same, name_itself, path_same, path_itsel
 use Rattle.trees.specs.TreeMap.{is_file}
 use Rattle.entries.specs.Row.{Row}
 use Rattle.entries.specs.Listing.{is_in_way, clash, are_apart}
-use Rattle.entries.specs.PrivateOrder.{fits_after}
+use Rattle.entries.specs.PrivateOrder.{fits_after, follows, in_order_after}
 
 -- a path doesn't stand before another
 abbrev pub NotBefore : List (List ℕ) → List (List ℕ) → Type 0
@@ -275,3 +275,51 @@ sorted-map f [] up k d l m = absurd (omega arith)
 sorted-map f (x ∷ xs) up k d l m =
     let same : length (map f (x ∷ xs)) ≡ length (x ∷ xs) = length-map (x ∷ xs) f in
     (λ i. row_lt (get-map f (x ∷ xs) (k + 1) d x (omega arith) i) (get-map f (x ∷ xs) k d x (omega arith) i)) ∙ up k x l (omega arith)
+
+-- of two orderings that are each other turned round, one is less at most
+less-once : (r s : Ordering) → r ≡ ordering_reverse s → is_lt r ≡ true → is_lt s ≡ false
+less-once r Less e h = absurd (true≢false (sym h ∙ ap (λ o. is_lt o) e))
+less-once r Equal e h = refl
+less-once r Greater e h = refl
+
+no-return : (p q : List (List ℕ)) → is_lt (path_cmp p q) ≡ true → NotBefore q p
+no-return p q h = less-once (path_cmp p q) (path_cmp q p) (path_cmp_total.antisymm p q) h
+
+-- a row that follows another one doesn't clash with it
+follows-fits : (x y : Row) → follows x y ≡ true → clash x y ≡ false
+follows-fits x y h = by (clash x y) refl
+  where
+    less : is_lt (path_cmp x.0 y.0) ≡ true
+    less = both_first (is_lt (path_cmp x.0 y.0)) (not (is_in_way x y)) h
+
+    by : (b : Bool) → clash x y ≡ b → b ≡ false
+    by true e = elim (clash-how x y e) [
+      | inl same ↦ absurd (true≢false (sym less ∙ (λ k. is_lt (path_cmp (same k) (sym same k))) ∙ no-return x.0 y.0 less))
+      | inr ways ↦ elim ways [
+        | inl way ↦ absurd (true≢false (sym way ∙ not-true (is_in_way x y) (both_second (is_lt (path_cmp x.0 y.0)) (not (is_in_way x y)) h)))
+        | inr way ↦ absurd (true≢false (sym (front-before y.0 x.0 (both_second (is_file (Some y.1)) (is_front y.0 x.0) way)) ∙ no-return x.0 y.0 less))
+      ]
+    ]
+    by false e = refl
+
+order-fits : (before : Option Row) (rows : List Row) → in_order_after before rows ≡ true → fits_after before rows ≡ true
+order-fits before [] h = refl
+order-fits None (row ∷ rows) h = order-fits (Some row) rows h
+order-fits (Some last) (row ∷ rows) h =
+    both_hold (not (clash last row)) (fits_after (Some row) rows)
+    (ap (λ b. not b) (follows-fits last row (both_first (follows last row) (in_order_after (Some row) rows) h)))
+    (order-fits (Some row) rows (both_second (follows last row) (in_order_after (Some row) rows) h))
+
+order-rises : (x : Row) (rows : List Row) → in_order_after (Some x) rows ≡ true → (k : ℕ) (d : Row) → suc k < length (x ∷ rows) → row_lt (get_or (x ∷ rows) (suc k) d) (get_or (x ∷ rows) k d) ≡ false
+order-rises x [] h k d less = absurd (omega arith)
+order-rises x (y ∷ rows) h zero d less =
+    no-return x.0 y.0 (both_first (is_lt (path_cmp x.0 y.0)) (not (is_in_way x y)) (both_first (follows x y) (in_order_after (Some y) rows) h))
+order-rises x (y ∷ rows) h (suc k) d less = order-rises y rows (both_second (follows x y) (in_order_after (Some y) rows) h) k d (omega arith)
+
+order-sorted : (rows : List Row) → in_order_after None rows ≡ true → IsSortedBy row_lt rows
+order-sorted [] h k d l m = absurd (omega arith)
+order-sorted (x ∷ rows) h k d l m = rw add-one (order-rises x rows h k d (omega arith))
+
+-- rows that follow one another are apart
+pub order-apart : (rows : List Row) → in_order_after None rows ≡ true → are_apart rows ≡ true
+order-apart rows h = sym (fits-apart rows (sorted-order rows (order-sorted rows h))) ∙ order-fits None rows h

@@ -1,11 +1,12 @@
-// Whether rows are those of one tree. They are sorted by their paths, as they are lent: where two clash, two neighbours do.
+// Whether rows are those of one tree. Where two clash, two neighbours do once rows are sorted by their paths. Most lists are
+// written in that order, so rows are sorted, as they are lent, only where they don't follow one another already.
 
 ghost use Rattle.std.specs.Prelude.{◌≡◌, ◌||◌, IfOk, Some, None, map};
 ghost use Rattle.std.specs.List.{list_any};
 ghost use Rattle.paths.specs.Fronts.{is_front};
 ghost use Rattle.trees.specs.TreeMap.{is_file};
 ghost use Rattle.entries.specs.Listing.{is_in_way, clash, are_apart, is_root, is_root_file, is_listing};
-ghost use Rattle.entries.specs.PrivateOrder.{fits_after};
+ghost use Rattle.entries.specs.PrivateOrder.{fits_after, follows, in_order_after};
 
 use paths::Path;
 use plain::Memory;
@@ -77,10 +78,36 @@ fn lent(alloc: Global, rows: &[(Path, Entry)]) -> Result<Vec<&(Path, Entry)>, Me
     Ok(lent)
 }
 
+/// Whether a row comes after another, and not below it where that is a file.
+fn follows(last: &(Path, Entry), row: &(Path, Entry)) -> bool
+    ensures { result ≡ follows last.now row.now }
+{
+    last.0.cmp(&row.0).is_lt() && !is_in_way(last, row)
+}
+
+/// Whether each row follows the one before it.
+fn are_in_order(rows: &[(Path, Entry)]) -> bool
+    ensures { result ≡ in_order_after None rows.now }
+{
+    let mut before: Option<&(Path, Entry)> = None;
+    for row in rows {
+        if let Some(last) = before {
+            if !follows(last, row) {
+                return false;
+            }
+        }
+        before = Some(row);
+    }
+    true
+}
+
 /// Whether no two rows clash.
 fn are_apart(alloc: Global, rows: &[(Path, Entry)]) -> Result<bool, Memory>
     ensures { IfOk result (λ apart. apart ≡ are_apart rows.now) }
 {
+    if are_in_order(rows) {
+        return Ok(true);
+    }
     let mut sorted = lent(alloc, rows)?;
     sorted.sort_unstable_by(|row, other| row.0.cmp(&other.0));
     Ok(neighbours_fit(sorted.as_slice()))

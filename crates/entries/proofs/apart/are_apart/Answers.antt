@@ -1,11 +1,14 @@
-use Rattle.std.proofs.Common.{ap, ◌∙◌, map, Bor, subst, rules}
+use Rattle.std.proofs.Common.{ap, sym, ◌∙◌, map, Bor, subst, rules}
 use Rattle.std.specs.Prelude.{◌≡◌, List, None, IsPermutation, IsSortedBy}
 use Rattle.std.proofs.lemmas.List.Sorted.{IsPermutation-map, answers_always, ranks_by}
 use Rattle.paths.specs.OrderLaws.{path_cmp_total}
 use Rattle.entries.specs.Row.{Row}
 use Rattle.entries.specs.PrivateOrder.{fits_after}
-use Rattle.entries.proofs.ApartFacts.{neighbours-tell, row_lt, sorted-map}
+use Rattle.entries.proofs.ApartFacts.{neighbours-tell, order-apart, row_lt, sorted-map}
 use Rattle.entries.proofs.apart.are_apart.Goals as goal
+
+pub returns-then-are_in_order : goal.returns-then-are_in_order
+returns-then-are_in_order c = sym (order-apart c.args.rows.now (sym c.are_in_order.ensures ∙ c.if-are_in_order.true))
 
 pub returns : goal.returns
 returns c =
