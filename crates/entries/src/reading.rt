@@ -155,7 +155,7 @@ fn read_row(alloc: Global, value: &Value) -> Result<(Path, Entry), ReadFault>
 fn read_each(alloc: Global, values: &[Value]) -> Result<Items<(Path, Entry)>, ReadFault>
     ensures { Gives result (all_in row_in (items_view values.now)) }
 {
-    let mut rows = Items::new(alloc);
+    let mut rows = Items::from_vec(Vec::with_capacity(alloc, values.len())?);
     for value in values {
         rows.push(read_row(alloc, value)?)?;
     }
