@@ -1,18 +1,28 @@
--- The text of a value in which no number is a float.
-use Rattle.std.proofs.Common.{◌≡◌, ℕ, false, List, refl}
+-- The texts of answers.
+use Rattle.std.proofs.Common.{◌≡◌, ℕ, false, List, [], ◌++◌, refl, ap, ◌∙◌, append_assoc, codes}
 use Rattle.serde_json.specs.Data.{Data}
-use Rattle.serde_json.specs.Written.{has_float}
+use Rattle.serde_json.specs.Written.{has_float, compact_text}
+use Rattle.serde_json.proofs.OnLiterals.{serde_json_on_literals}
 use Rattle.plain.specs.declared.refusal.Refusal.{Refusal}
 use Rattle.trees.specs.declared.entry.Entry.{Entry}
 use Rattle.trees.specs.declared.cause.Cause.{Cause}
-use Rattle.entries.proofs.WrittenFacts.{tree-plain}
-use Rattle.bundle.specs.Answer.{built_data, failed_data, refused_data}
+use Rattle.entries.specs.Written.{tree_data}
+use Rattle.bundle.specs.Answer.{built_data, built_text, failed_data, refused_data}
+
+-- the pieces of an answer are its text
+pub built-text : (config : Data) (entries : List (List (List ℕ) × Entry))
+    → codes "{\"config\":" ++ (compact_text config ++ (codes ",\"result\":\"built\",\"tree\":" ++ (compact_text (tree_data entries) ++ codes "}"))) ≡ built_text config entries
+unfolding built_data serde_json_on_literals
+built-text config entries = refl
+
+-- five pieces, one behind the other
+pub in_a_row : (none first second third fourth fifth a b c d : List ℕ) → none ≡ [] → first ≡ none ++ a → second ≡ first ++ b → third ≡ second ++ c → fourth ≡ third ++ d
+    → fifth ≡ fourth ++ codes "}" → fifth ≡ a ++ (b ++ (c ++ (d ++ codes "}")))
+in_a_row none first second third fourth fifth a b c d z p q r s t =
+    t ∙ ap (λ e. e ++ codes "}") (s ∙ ap (λ e. e ++ d) (r ∙ ap (λ e. e ++ c) (q ∙ ap (λ e. e ++ b) (p ∙ ap (λ e. e ++ a) z))))
+    ∙ simp append_assoc
 
 -- no answer holds a float
-pub built_is_plain : (config : Data) (entries : List (List (List ℕ) × Entry)) → has_float config ≡ false → has_float (built_data config entries) ≡ false
-unfolding built_data
-built_is_plain config entries plain = rw (plain, tree-plain entries)
-
 pub failed_is_plain : (line : ℕ) (cause : Cause) → has_float (failed_data line cause) ≡ false
 unfolding failed_data
 failed_is_plain line cause = refl

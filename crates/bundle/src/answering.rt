@@ -1,9 +1,9 @@
 ghost use Rattle.std.specs.Prelude.{◌≡◌, IfOk, false, map};
 ghost use Rattle.serde_json.specs.Written.{has_float};
 ghost use Rattle.serde_json.specs.View.{view};
-ghost use Rattle.bundle.specs.Answer.{built_data, failed_data, refused_data, built_text, failed_text, refused_text};
+ghost use Rattle.bundle.specs.Answer.{failed_data, refused_data, built_text, failed_text, refused_text};
 
-use entries::tree_to_json;
+use entries::with_tree;
 use paths::Path;
 use plain::{Memory, Refusal, Text};
 use serde_json::{Value, json};
@@ -21,8 +21,13 @@ pub fn built_answer(
     ensures { IfOk result (λ text. text
         ≡ built_text (view config) (map (λ row. (row.0, row.1.now)) entries.now)) }
 {
-    let answer = built_value(alloc, config, entries)?;
-    let text = answer.to_string(alloc)?;
+    let config = config.to_string(alloc)?;
+    let mut text = String::new(alloc);
+    text.push_str("{\"config\":")?;
+    text.push_str(config.as_str())?;
+    text.push_str(",\"result\":\"built\",\"tree\":")?;
+    let mut text = with_tree(alloc, Text::from_string(text), entries)?.into_string();
+    text.push_str("}")?;
     Ok(Text::from_string(text))
 }
 
@@ -42,15 +47,6 @@ pub fn refused_answer(alloc: Global, refusal: Refusal) -> Result<Text, Memory>
     let answer = refused_value(alloc, refusal)?;
     let text = answer.to_string(alloc)?;
     Ok(Text::from_string(text))
-}
-
-/// The answer of a build that gave a tree, as JSON.
-#[tactic(auto, unfolding(crate::specs::Answer::built_data))]
-fn built_value(alloc: Global, config: Value, entries: &[(Path, &Entry)]) -> Result<Value, Memory>
-    ensures { IfOk result (λ v. view v ≡ built_data (view config) (map (λ row. (row.0, row.1.now)) entries.now)) }
-{
-    let tree = tree_to_json(alloc, entries)?;
-    Ok(json!(in alloc; {"config": config, "result": "built", "tree": tree})?)
 }
 
 /// The answer of a build in which an instruction failed, as JSON.
