@@ -1,5 +1,5 @@
 // Going through the instructions of a file.
-ghost use Rattle.std.specs.Prelude.{◌≡◌, ◌≤◌, ◌∷◌, [], option_map, length, IfOk};
+ghost use Rattle.std.specs.Prelude.{◌≡◌, ◌≤◌, ◌∷◌, ◌++◌, [], Some, option_map, length, IfOk};
 ghost use Rattle.std.specs.FinMap.{get as arg_value};
 ghost use Rattle.plain.specs.Limits.{most_stages};
 ghost use Rattle.instructions.specs.Least.{Meets};
@@ -141,6 +141,63 @@ pub(crate) fn with_last(
     Ok(stages)
 }
 
+/// The names with one more.
+fn with_name(
+    alloc: Global,
+    names: Items<Option<Text>>,
+    name: &Option<Text>,
+) -> Result<Items<Option<Text>>, Memory>
+    ensures { IfOk result (λ all. all ≡ names ++ name.now ∷ []) }
+{
+    let mut names = names;
+    let name = name.copy(alloc)?;
+    names.push(name)?;
+    Ok(names)
+}
+
+/// What is known where a stage begins: all before it are whole.
+///
+/// What isn't handed on is let go by name here and below: the proof would walk all its parts at each end of the function.
+fn with_stage(
+    alloc: Global,
+    draft: Draft,
+    stage: ResolvedStage,
+    name: &Option<Text>,
+) -> Result<Draft, Memory>
+    ensures { IfOk result (λ all. all ≡ record { outer = draft.outer; names = draft.names ++ name.now ∷ []; stages = with_last draft.stages draft.last; last = Some stage }) }
+{
+    let Draft {
+        outer,
+        names,
+        stages,
+        last,
+    } = draft;
+    let stages = match with_last(stages, last) {
+        Ok(stages) => stages,
+        Err(memory) => {
+            drop(outer);
+            drop(names);
+            drop(stage);
+            return Err(memory);
+        }
+    };
+    let names = match with_name(alloc, names, name) {
+        Ok(names) => names,
+        Err(memory) => {
+            drop(outer);
+            drop(stages);
+            drop(stage);
+            return Err(memory);
+        }
+    };
+    Ok(Draft {
+        outer,
+        names,
+        stages,
+        last: Some(stage),
+    })
+}
+
 /// A FROM.
 fn begin<C>(
     alloc: Global,
@@ -153,28 +210,27 @@ fn begin<C>(
     requires { length draft.names ≤ most_stages }
     ensures { Meets (Some (draft_begun (names_in images.now) draft line image.now name.now)) (base_due (names_in images.now) draft.names (base_text draft.outer image.now) name.now) result }
 {
-    let Draft {
-        outer,
-        mut names,
-        stages,
-        last,
-    } = draft;
-    let base = base(alloc, images, &outer, names.as_slice(), image, name)?;
-    let stages = with_last(stages, last)?;
-    let name = name.copy(alloc)?;
-    names.push(name)?;
+    let base = match base(
+        alloc,
+        images,
+        &draft.outer,
+        draft.names.as_slice(),
+        image,
+        name,
+    ) {
+        Ok(base) => base,
+        Err(fault) => {
+            drop(draft);
+            return Err(fault);
+        }
+    };
     let instructions = Items::new(alloc);
     let stage = ResolvedStage {
         line,
         base,
         instructions,
     };
-    Ok(Draft {
-        outer,
-        names,
-        stages,
-        last: Some(stage),
-    })
+    Ok(with_stage(alloc, draft, stage, name)?)
 }
 
 /// An instruction before the first FROM.
@@ -234,7 +290,12 @@ fn extend<C>(
     } = draft;
     let origins = match inner_origins(alloc, images, names.as_slice(), &instruction.kind) {
         Ok(origins) => origins,
-        Err(fault) => return Err(fault),
+        Err(fault) => {
+            drop(instruction);
+            drop(stages);
+            drop(last);
+            return Err(fault);
+        }
     };
     let resolved = ResolvedInstruction {
         instruction,
@@ -286,7 +347,9 @@ fn add_other<C>(
     ensures { Meets (Some (draft_other (names_in images.now) (arg_value args.now) draft draft.names instruction)) (other_due (names_in images.now) (arg_value args.now) draft.outer draft.names instruction.kind) result }
 {
     if draft.names.is_empty() {
-        declare(alloc, draft, &instruction.kind, args)
+        let declared = declare(alloc, draft, &instruction.kind, args);
+        drop(instruction);
+        declared
     } else {
         extend(alloc, draft, images, instruction)
     }
@@ -304,7 +367,11 @@ fn add<C>(
     ensures { Meets (Some (draft_after (names_in images.now) (arg_value args.now) draft instruction)) (kind_due (names_in images.now) (arg_value args.now) draft.outer draft.names instruction.kind) result }
 {
     match begun(&instruction.kind) {
-        Some((image, name)) => begin(alloc, draft, images, instruction.line, image, name),
+        Some((image, name)) => {
+            let begun = begin(alloc, draft, images, instruction.line, image, name);
+            drop(instruction);
+            begun
+        }
         None => add_other(alloc, draft, images, args, instruction),
     }
 }

@@ -4,8 +4,8 @@ use Rattle.stages.proofs.resolving.add_other.Goals as goal
 
 pub returns-then-is_empty : goal.returns-then-is_empty
 returns-then-is_empty g c =
-    other_outer _ _ c.args.draft c.args.instruction c.declare.result (empty_is c.args.draft.names (sym c.is_empty.ensures ∙ c.if-is_empty.true))
-    c.declare.ensures
+    other_outer _ _ c.args.draft c.args.instruction c.declare-declared.result (empty_is c.args.draft.names (sym c.is_empty.ensures ∙ c.if-is_empty.true))
+    c.declare-declared.ensures
 
 pub returns-else-is_empty : goal.returns-else-is_empty
 returns-else-is_empty g c =
