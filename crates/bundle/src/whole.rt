@@ -4,9 +4,9 @@ ghost use Rattle.plain.specs.declared.refusal.Code.TheVariants.{R19};
 ghost use Rattle.serde_json.specs.View.{view};
 ghost use Rattle.strict.specs.Gives.{Gives};
 ghost use Rattle.bundle.specs.Parts.{parts_within, parts_of};
-ghost use Rattle.bundle.specs.Reading.{is_ignore_path, bytes_in, ignore_bytes, told_line, Completes, ReadsBundle};
+ghost use Rattle.bundle.specs.Reading.{is_ignore_path, bytes_in, ignore_bytes, told_line, IsBundle, Completes, ReadsBundle};
 
-use crate::parts::{Parts, read_parts};
+use crate::parts::{Files, Named, Parts, read_parts};
 use cachemounts::CacheStore;
 use contexts::Context;
 use entries::Listing;
@@ -96,6 +96,56 @@ fn filtered(
     Ok(context.into_tree())
 }
 
+/// The bundle of these files and of what a build may name, its context filtered.
+fn complete_filtered<C: Drop>(
+    alloc: Global,
+    rt: &(impl Threads + Sync),
+    files: Files,
+    named: Named<C>,
+    ignore: Ignore,
+) -> Result<Bundle<C>, Memory>
+    ensures { IfOk result (λ bundle. IsBundle (record { files = files; named = named }) ignore bundle) }
+{
+    let Files {
+        dockerfile,
+        context,
+        target,
+    } = files;
+    let Named {
+        images,
+        args,
+        caches,
+    } = named;
+    match filtered(alloc, rt, context, ignore) {
+        Ok(context) => match CacheStore::with_common(alloc, caches.into_vec()) {
+            Ok(caches) => Ok(Bundle {
+                dockerfile,
+                context,
+                images,
+                args,
+                caches,
+                target,
+            }),
+            Err(memory) => {
+                drop(dockerfile);
+                drop(context);
+                drop(images);
+                drop(args);
+                drop(target);
+                Err(memory)
+            }
+        },
+        Err(memory) => {
+            drop(dockerfile);
+            drop(images);
+            drop(args);
+            drop(caches);
+            drop(target);
+            Err(memory)
+        }
+    }
+}
+
 /// The bundle of its parts.
 fn complete<C: Drop>(
     alloc: Global,
@@ -105,21 +155,19 @@ fn complete<C: Drop>(
     ensures { Completes parts result }
 {
     let Parts { files, named } = parts;
-    let ignore = match Ignore::read(alloc, ignore_bytes(files.context.rows())) {
-        Ok(ignore) => ignore,
-        Err(Fault::Because(bad)) => return Err(Fault::Because(bad_ignore(bad.number))),
-        Err(Fault::Memory) => return Err(Fault::Memory),
-    };
-    let context = filtered(alloc, rt, files.context, ignore)?;
-    let caches = CacheStore::with_common(alloc, named.caches.into_vec())?;
-    Ok(Bundle {
-        dockerfile: files.dockerfile,
-        context,
-        images: named.images,
-        args: named.args,
-        caches,
-        target: files.target,
-    })
+    match Ignore::read(alloc, ignore_bytes(files.context.rows())) {
+        Ok(ignore) => Ok(complete_filtered(alloc, rt, files, named, ignore)?),
+        Err(Fault::Because(bad)) => {
+            drop(files);
+            drop(named);
+            Err(Fault::Because(bad_ignore(bad.number)))
+        }
+        Err(Fault::Memory) => {
+            drop(files);
+            drop(named);
+            Err(Fault::Memory)
+        }
+    }
 }
 
 /// The parts of a bundle of at most so many bytes.
