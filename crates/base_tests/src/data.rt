@@ -50,7 +50,7 @@ fn texts_are_strings(rt: HostRuntime) -> Result<(), Fail> {
     expect_copied(&rt, rt.alloc(), &word)?;
     assert_eq!(rt; word.len(), 3);
     assert_eq!(rt; word.as_str(), "né");
-    assert_eq!(rt; word.into_string().as_str(), "né");
+    assert_eq!(rt; word.into_string(rt.alloc())?.as_str(), "né");
     Ok(())
 }
 

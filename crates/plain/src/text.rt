@@ -2,28 +2,46 @@ ghost use Rattle.std.specs.Prelude.{◌≡◌, length, IfOk};
 ghost use Rattle.std.specs.String.{string_bytes};
 
 use crate::{Exact, Memory};
+use arrayvec::ArrayString;
 use std::alloc::Global;
 use std::cmp::Ordering;
 use std::marker::Model;
 
+/// The most bytes of a text that lies in the value itself: with more, a `Text` would take more than 32 bytes.
+const SHORT: usize = 16;
+
+/// Where a text's bytes lie: a short one's in the value itself, which takes no memory of its own and no step through a pointer.
+#[derive(Debug, Drop)]
+enum Held {
+    Short(ArrayString<SHORT>),
+    Long(String),
+}
+
 /// A text, which contracts see as the list of its bytes in UTF-8. Texts are ordered by their bytes.
 ///
 /// It is the one type of text of the workspace: a `String` in a field would show its capacity.
-#[derive(Debug, Drop)]
+#[derive(Debug)]
 pub struct Text {
-    text: String,
+    held: Held,
+}
+
+/// A text ends by a call, so that no proof above goes by where its bytes lie at each place where a text is let go.
+impl Drop for Text {
+    fn drop(self) {
+        let Text { held: _ } = self;
+    }
 }
 
 impl Model for Text {
     ghost use Rattle.std.specs.Prelude.{List, ℕ};
     ghost use Rattle.std.specs.Coded.{coded_list, coded_ℕ};
-    ghost use Rattle.std.specs.String.{string_bytes};
+    ghost use Rattle.plain.specs.PrivateHeld.{bytes_of};
 
     ghost Value = { List ℕ };
 
     ghost coded = { coded_list coded_ℕ };
 
-    ghost view = { λ t. string_bytes t.text };
+    ghost view = { λ t. bytes_of t.held };
 }
 
 impl Text {
@@ -31,37 +49,51 @@ impl Text {
     pub fn from_string(text: String) -> Text
         ensures { result ≡ string_bytes text }
     {
-        Text { text }
+        Text {
+            held: Held::Long(text),
+        }
     }
 
-    /// A copy of a text.
+    /// A copy of a text. A short one takes no memory.
     pub fn from_str(alloc: Global, text: &str) -> Result<Text, Memory>
         ensures { IfOk result (λ copied. copied ≡ text.now) }
     {
-        let text = String::from_str(alloc, text)?;
-        Ok(Text { text })
+        let held = match ArrayString::from(text) {
+            Ok(short) => Held::Short(short),
+            Err(_) => Held::Long(String::from_str(alloc, text)?),
+        };
+        Ok(Text { held })
     }
 
-    /// The text as a `String`. It takes no memory.
-    pub fn into_string(self) -> String
-        ensures { string_bytes result ≡ self }
+    /// The text as a `String`. It takes memory for a text that lies in the value itself.
+    pub fn into_string(self, alloc: Global) -> Result<String, Memory>
+        ensures { IfOk result (λ text. string_bytes text ≡ self) }
     {
-        let Text { text } = self;
-        text
+        let Text { held } = self;
+        match held {
+            Held::Short(text) => Ok(String::from_str(alloc, text.as_str())?),
+            Held::Long(text) => Ok(text),
+        }
     }
 
     /// The text, lent.
     pub fn as_str(&self) -> &str
         ensures { result.now ≡ self.now }
     {
-        self.text.as_str()
+        match &self.held {
+            Held::Short(text) => text.as_str(),
+            Held::Long(text) => text.as_str(),
+        }
     }
 
     /// How many bytes the text has.
     pub fn len(&self) -> usize
         ensures { result ≡ length self.now }
     {
-        self.text.len()
+        match &self.held {
+            Held::Short(text) => text.len(),
+            Held::Long(text) => text.len(),
+        }
     }
 }
 
