@@ -106,7 +106,7 @@ fn step_in_name(
 {
     match character.sign() {
         Sign::Letter | Sign::Digit => {
-            let name = longer(name, character.value())?;
+            let name = longer(alloc, name, character.value())?;
             Ok(Some(Reading::new(depth, Begun::InName(name))))
         }
         _ => {
@@ -148,7 +148,7 @@ fn step_in_braced_name(
 {
     match character.sign() {
         Sign::Letter | Sign::Digit => {
-            let name = longer(name, character.value())?;
+            let name = longer(alloc, name, character.value())?;
             Ok(Some(Reading::new(depth, Begun::InBracedName(name))))
         }
         Sign::Colon => Ok(Some(Reading::new(depth, Begun::AfterColon(name)))),
@@ -207,15 +207,15 @@ fn one_letter(alloc: Global, letter: char) -> Result<Text, Memory>
     requires { letter < 128 }
     ensures { IfOk result (λ name. name ≡ letter ∷ []) }
 {
-    longer(Text::from_string(String::new(alloc)), letter)
+    longer(alloc, Text::from_string(String::new(alloc)), letter)
 }
 
 /// A name with one more character.
-fn longer(name: Text, character: char) -> Result<Text, Memory>
+fn longer(alloc: Global, name: Text, character: char) -> Result<Text, Memory>
     requires { character < 128 }
     ensures { IfOk result (λ longer. longer ≡ name ++ character ∷ []) }
 {
-    let mut text = name.into_string();
+    let mut text = name.into_string(alloc)?;
     text.push(character)?;
     Ok(Text::from_string(text))
 }

@@ -1,5 +1,5 @@
 -- The members of a configuration in JSON, put one after another onto those that are there.
-use Rattle.std.specs.Prelude.{ℕ, List, [], codes}
+use Rattle.std.specs.Prelude.{[], codes}
 use Rattle.serde_json.specs.Data.{string, Members, put}
 use Rattle.strict.specs.Written.{list_data}
 use Rattle.imageconfig.specs.declared.config.Config.{Config}

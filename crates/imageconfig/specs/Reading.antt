@@ -146,15 +146,19 @@ joined architecture os lists objects texts = record {
   shell = default_shell;
 }
 
--- the configuration whose fields are read
-unfoldable pub fields_in : List ℕ → List ℕ → Data → Option Config
-fields_in architecture os d =
+-- the fields of `config`, in these groups
+unfoldable pub groups_in : Data → Option (Lists × Objects × Texts)
+groups_in d =
     option_and_then (λ lists.
     option_and_then (λ objects.
-    option_map (λ texts. joined architecture os lists objects texts)
+    option_map (λ texts. (lists, objects, texts))
     (texts_in d))
     (objects_in d))
     (lists_in d)
+
+-- the configuration whose fields are read
+unfoldable pub fields_in : List ℕ → List ℕ → Data → Option Config
+fields_in architecture os d = option_map (λ groups. joined architecture os groups.0 groups.1 groups.2) (groups_in d)
 
 -- `config`, which is an object
 abbrev pub settings_in : List ℕ → List ℕ → Data → Option Config

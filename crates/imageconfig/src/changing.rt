@@ -55,7 +55,7 @@ fn set_env(
     ensures { IsChanged config.old (value_in before.now) (spelled.Env assignments.now) config.new result }
 {
     let rows = env_rows(alloc, assignments.as_slice(), before)?;
-    config.env.set_all(rows)?;
+    config.env.set_all(alloc, rows)?;
     Ok(())
 }
 
@@ -69,7 +69,7 @@ fn set_labels(
     ensures { IsChanged config.old (value_in before.now) (spelled.Label labels.now) config.new result }
 {
     let rows = label_rows(alloc, labels.as_slice(), before)?;
-    config.labels.set_all(rows)?;
+    config.labels.set_all(alloc, rows)?;
     Ok(())
 }
 
@@ -83,7 +83,7 @@ fn add_ports(
     ensures { IsChanged config.old (value_in before.now) (spelled.Expose ports.now) config.new result }
 {
     let keys = port_keys(alloc, ports.as_slice(), before)?;
-    config.exposed_ports.add_all(keys)?;
+    config.exposed_ports.add_all(alloc, keys)?;
     Ok(())
 }
 
@@ -132,7 +132,7 @@ fn add_volumes(
     ensures { IsChanged config.old (value_in before.now) (spelled.Volume paths.now) config.new result }
 {
     let texts = volume_texts(alloc, paths.as_slice(), before)?;
-    config.volumes.add_all(texts)?;
+    config.volumes.add_all(alloc, texts)?;
     Ok(())
 }
 

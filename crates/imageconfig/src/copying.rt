@@ -101,13 +101,24 @@ fn copied_objects(alloc: Global, config: &Config) -> Result<Objects, Memory>
     ensures { IfOk result (λ objects. objects ≡ objects_of config.now) }
 {
     let exposed_ports = config.exposed_ports.copy(alloc)?;
-    let labels = config.labels.copy(alloc)?;
-    let volumes = config.volumes.copy(alloc)?;
-    Ok(Objects {
-        exposed_ports,
-        labels,
-        volumes,
-    })
+    match config.labels.copy(alloc) {
+        Ok(labels) => match config.volumes.copy(alloc) {
+            Ok(volumes) => Ok(Objects {
+                exposed_ports,
+                labels,
+                volumes,
+            }),
+            Err(memory) => {
+                drop(exposed_ports);
+                drop(labels);
+                Err(memory)
+            }
+        },
+        Err(memory) => {
+            drop(exposed_ports);
+            Err(memory)
+        }
+    }
 }
 
 /// The fields that are texts.

@@ -90,12 +90,12 @@ impl Environment {
     }
 
     /// Gives names values. After `Memory` the environment is as it was.
-    pub(crate) fn set_all(&mut self, rows: Items<(Text, Text)>) -> Result<(), Memory>
+    pub(crate) fn set_all(&mut self, alloc: Global, rows: Items<(Text, Text)>) -> Result<(), Memory>
         requires { list_all is_environment_name (names_of rows) ≡ true }
         ensures ok { OnOk result (self.new ≡ put_rows self.old rows) }
         ensures err { OnErr result (self.new ≡ self.old) }
     {
-        self.rows.set_all(rows)
+        self.rows.set_all(alloc, rows)
     }
 
     /// The variables as a list of texts `NAME=VALUE`.

@@ -9,7 +9,7 @@ ghost use Rattle.instructions.specs.Least.{Meets};
 ghost use Rattle.scopes.specs.Scope.{value_in, is_environment_name};
 ghost use Rattle.imageconfig.specs.Lines.{words_of};
 ghost use Rattle.imageconfig.specs.Rows.{names_of};
-ghost use Rattle.imageconfig.specs.PrivateLines.{valued, has_no_byte, row_of, assigned_values, assigned_rows, assigned_due, labelled_values, labelled_rows, labelled_due, short_texts, exposed_keys, exposed_due, mounted_due, single_due, path_of, path_due};
+ghost use Rattle.imageconfig.specs.PrivateLines.{valued, has_no_byte, row_with, row_of, assigned_values, assigned_rows, assigned_due, labelled_values, labelled_rows, labelled_due, short_texts, exposed_keys, exposed_due, mounted_due, single_due, path_of, path_due};
 
 use crate::ports::{have_bad_port, keys_of};
 use crate::values::{have_empty, is_empty, present, value_of, values_of};
@@ -22,7 +22,18 @@ use scopes::laws::names_fit_environments;
 use std::alloc::Global;
 use words::TextFault;
 
+/// The row of a name and a value, where both are there.
+fn row_with(name: Option<Text>, value: Option<Text>) -> Option<(Text, Text)>
+    ensures { result ≡ row_with name value }
+{
+    match (name, value) {
+        (Some(name), Some(value)) => Some((name, value)),
+        _ => None,
+    }
+}
+
 /// The rows of pairs, where all are there.
+#[tactic(auto, using(options::proofs::ListLaws::behind_none, options::proofs::ListLaws::behind_some))]
 fn rows_of(
     alloc: Global,
     pairs: Items<(Option<Text>, Option<Text>)>,
@@ -31,9 +42,9 @@ fn rows_of(
 {
     let mut rows = Items::new(alloc);
     for (name, value) in pairs.into_vec() {
-        match (name, value) {
-            (Some(name), Some(value)) => rows.push((name, value))?,
-            _ => return Ok(None),
+        match row_with(name, value) {
+            Some(row) => rows.push(row)?,
+            None => return Ok(None),
         }
     }
     Ok(Some(rows))

@@ -54,16 +54,16 @@ impl Names {
     {
         let names = listed(alloc, &self.set)?;
         let mut copied = Names::new(alloc);
-        copied.add_all(names)?;
+        copied.add_all(alloc, names)?;
         Ok(copied)
     }
 
     /// Adds names, but for those that are there. After `Memory` the names are as they were.
-    pub(crate) fn add_all(&mut self, names: Items<Text>) -> Result<(), Memory>
+    pub(crate) fn add_all(&mut self, alloc: Global, names: Items<Text>) -> Result<(), Memory>
         ensures ok { OnOk result (self.new ≡ add_names self.old names) }
         ensures err { OnErr result (self.new ≡ self.old) }
     {
-        let names = names.into_vec();
+        let names = strings(alloc, names)?;
         self.set.reserve(names.len())?;
         fill(&mut self.set, names);
         Ok(())
@@ -79,13 +79,24 @@ impl Names {
     }
 }
 
+/// Names as keys of a set. That takes memory, and so comes before there is a change that could stop halfway.
+fn strings(alloc: Global, names: Items<Text>) -> Result<Vec<String>, Memory>
+    ensures { IfOk result (λ strings. map string_bytes strings.items ≡ names) }
+{
+    let mut strings = Vec::new(alloc);
+    for name in names.into_vec() {
+        strings.push(name.into_string(alloc)?)?;
+    }
+    Ok(strings)
+}
+
 /// Adds names, for which there is room.
-fn fill(set: &mut IndexSet<String>, names: Vec<Text>)
+fn fill(set: &mut IndexSet<String>, names: Vec<String>)
     requires room { length names.items ≤ spare set.old }
-    ensures { map string_bytes set.new.keys ≡ add_names (map string_bytes set.old.keys) names.items }
+    ensures { map string_bytes set.new.keys ≡ add_names (map string_bytes set.old.keys) (map string_bytes names.items) }
 {
     for name in names {
-        set.insert(name.into_string()).unwrap();
+        set.insert(name).unwrap();
     }
 }
 

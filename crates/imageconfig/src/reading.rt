@@ -6,7 +6,7 @@ ghost use Rattle.options.specs.Lists.{all_some};
 ghost use Rattle.paths.specs.Reading.{is_absolute};
 ghost use Rattle.strict.specs.Gives.{Gives};
 ghost use Rattle.strict.specs.Strict.{list_in};
-ghost use Rattle.imageconfig.specs.Reading.{set_at, field, cut_row, env_in, member_keys, names_in, labels_in, dir_of_text, dir_in, lists_in, objects_in, texts_in, joined, fields_in, settings_in, rootfs_in, config_in};
+ghost use Rattle.imageconfig.specs.Reading.{set_at, field, cut_row, env_in, member_keys, names_in, labels_in, dir_of_text, dir_in, lists_in, objects_in, texts_in, groups_in, joined, fields_in, settings_in, rootfs_in, config_in};
 
 use crate::config::Config;
 use crate::environment::Environment;
@@ -118,7 +118,7 @@ fn read_names(alloc: Global, value: &Value) -> Result<Names, ReadFault>
     };
     let keys = member_keys(alloc, members)?;
     let mut names = Names::new(alloc);
-    names.add_all(keys)?;
+    names.add_all(alloc, keys)?;
     Ok(names)
 }
 
@@ -139,7 +139,7 @@ fn read_labels(alloc: Global, value: &Value) -> Result<Rows, ReadFault>
 {
     let texts = read_rows::<Text>(alloc, value)?;
     let mut rows = Rows::new(alloc);
-    rows.set_all(texts)?;
+    rows.set_all(alloc, texts)?;
     Ok(rows)
 }
 
@@ -222,13 +222,24 @@ fn read_objects(alloc: Global, value: &Value) -> Result<Objects, ReadFault>
     ensures { Gives result (objects_in (view value.now)) }
 {
     let exposed_ports = names_at(alloc, value, "ExposedPorts")?;
-    let labels = labels_at(alloc, value, "Labels")?;
-    let volumes = names_at(alloc, value, "Volumes")?;
-    Ok(Objects {
-        exposed_ports,
-        labels,
-        volumes,
-    })
+    match labels_at(alloc, value, "Labels") {
+        Ok(labels) => match names_at(alloc, value, "Volumes") {
+            Ok(volumes) => Ok(Objects {
+                exposed_ports,
+                labels,
+                volumes,
+            }),
+            Err(fault) => {
+                drop(exposed_ports);
+                drop(labels);
+                Err(fault)
+            }
+        },
+        Err(fault) => {
+            drop(exposed_ports);
+            Err(fault)
+        }
+    }
 }
 
 /// The fields of `config` that are texts.
@@ -292,6 +303,28 @@ fn read_settings(
     }
 }
 
+/// The fields of `config`, in their groups.
+#[tactic(auto, unfolding(crate::specs::Reading::groups_in))]
+fn read_groups(alloc: Global, value: &Value) -> Result<(Lists, Objects, Texts), ReadFault>
+    ensures { Gives result (groups_in (view value.now)) }
+{
+    let lists = read_lists(alloc, value)?;
+    match read_objects(alloc, value) {
+        Ok(objects) => match read_texts(alloc, value) {
+            Ok(texts) => Ok((lists, objects, texts)),
+            Err(fault) => {
+                drop(lists);
+                drop(objects);
+                Err(fault)
+            }
+        },
+        Err(fault) => {
+            drop(lists);
+            Err(fault)
+        }
+    }
+}
+
 /// The configuration whose fields are read.
 #[tactic(auto, unfolding(crate::specs::Reading::fields_in))]
 fn read_fields(
@@ -302,11 +335,13 @@ fn read_fields(
 ) -> Result<Config, ReadFault>
     ensures { Gives result (fields_in architecture os (view value.now)) }
 {
-    let lists = read_lists(alloc, value)?;
-    let objects = read_objects(alloc, value)?;
-    match read_texts(alloc, value) {
-        Ok(texts) => joined(alloc, architecture, os, lists, objects, texts),
-        Err(fault) => Err(fault),
+    match read_groups(alloc, value) {
+        Ok((lists, objects, texts)) => joined(alloc, architecture, os, lists, objects, texts),
+        Err(fault) => {
+            drop(architecture);
+            drop(os);
+            Err(fault)
+        }
     }
 }
 

@@ -59,7 +59,7 @@ impl Rows {
     {
         let rows = listed(alloc, &self.map)?;
         let mut copied = Rows::new(alloc);
-        copied.set_all(rows)?;
+        copied.set_all(alloc, rows)?;
         Ok(copied)
     }
 
@@ -76,7 +76,7 @@ impl Rows {
     {
         let mut map = IndexMap::new(alloc);
         for (name, value) in rows.into_vec() {
-            let name = name.into_string();
+            let name = name.into_string(alloc)?;
             if has(&map, name.as_str()) {
                 return Err(Fault::Because(NotRead));
             }
@@ -86,11 +86,11 @@ impl Rows {
     }
 
     /// Gives names values. After `Memory` the rows are as they were.
-    pub(crate) fn set_all(&mut self, rows: Items<(Text, Text)>) -> Result<(), Memory>
+    pub(crate) fn set_all(&mut self, alloc: Global, rows: Items<(Text, Text)>) -> Result<(), Memory>
         ensures ok { OnOk result (self.new ≡ put_rows self.old rows) }
         ensures err { OnErr result (self.new ≡ self.old) }
     {
-        let rows = rows.into_vec();
+        let rows = keyed(alloc, rows)?;
         self.map.reserve(rows.len())?;
         fill(&mut self.map, rows);
         Ok(())
@@ -121,13 +121,24 @@ impl Rows {
     }
 }
 
+/// Rows whose names are keys of a map. That takes memory, and so comes before there is a change that could stop halfway.
+fn keyed(alloc: Global, rows: Items<(Text, Text)>) -> Result<Vec<(String, Text)>, Memory>
+    ensures { IfOk result (λ keyed. rows_of keyed.items ≡ rows) }
+{
+    let mut keyed = Vec::new(alloc);
+    for (name, value) in rows.into_vec() {
+        keyed.push((name.into_string(alloc)?, value))?;
+    }
+    Ok(keyed)
+}
+
 /// Gives names values, for which there is room.
-fn fill(map: &mut IndexMap<String, Text>, rows: Vec<(Text, Text)>)
+fn fill(map: &mut IndexMap<String, Text>, rows: Vec<(String, Text)>)
     requires room { length rows.items ≤ spare map.old }
-    ensures { rows_of map.new.entries ≡ put_rows (rows_of map.old.entries) rows.items }
+    ensures { rows_of map.new.entries ≡ put_rows (rows_of map.old.entries) (rows_of rows.items) }
 {
     for (name, value) in rows {
-        map.insert(name.into_string(), value).unwrap();
+        map.insert(name, value).unwrap();
     }
 }
 
@@ -146,16 +157,23 @@ fn has(map: &IndexMap<String, Text>, name: &str) -> bool
     map.contains_key(name)
 }
 
+/// A text `NAME=VALUE`.
+fn variable_value(alloc: Global, name: &str, value: &str) -> Result<Value, Memory>
+    ensures { IfOk result (λ v. view v ≡ variable_data (name.now, value.now)) }
+{
+    let mut text = String::from_str(alloc, name)?;
+    text.push('=')?;
+    text.push_str(value)?;
+    Ok(Value::String(text))
+}
+
 /// A text `NAME=VALUE` for each entry.
 fn texts(alloc: Global, entries: &IndexMap<String, Text>) -> Result<Vec<Value>, Memory>
     ensures { IfOk result (λ values. items_view values.items ≡ items_of (map variable_data (rows_of entries.now.entries))) }
 {
     let mut values = Vec::new(alloc);
     for (name, value) in entries.iter() {
-        let mut text = String::from_str(alloc, name.as_str())?;
-        text.push('=')?;
-        text.push_str(value.as_str())?;
-        values.push(Value::String(text))?;
+        values.push(variable_value(alloc, name.as_str(), value.as_str())?)?;
     }
     Ok(values)
 }

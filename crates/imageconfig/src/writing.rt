@@ -99,7 +99,7 @@ fn put_dir(
             alloc,
             members,
             "WorkingDir",
-            Value::String(path.text(alloc)?.into_string()),
+            Value::String(path.text(alloc)?.into_string(alloc)?),
         ),
         None => Ok(()),
     }

@@ -8,7 +8,14 @@ use Rattle.std.specs.String.{string_bytes}
 use Rattle.scopes.specs.Scope.{env_row}
 use Rattle.scopes.specs.declared.declaration.Declaration.{Declaration}
 use Rattle.scopes.specs.declared.declaration.Declaration.TheVariants.{Env, Arg}
+use Rattle.scopes.specs.declared.maps.Keyed.{Keyed}
+use Rattle.scopes.specs.declared.maps.Keyed.TheVariants as keyed
 use Rattle.plain.specs.declared.variable.Variable.{Variable}
+
+-- the declaration whose name is a key
+abbrev pub declaration_of : Keyed → Declaration
+declaration_of (keyed.Env name text) = Env (string_bytes name) text
+declaration_of (keyed.Arg name value) = Arg (string_bytes name) value
 
 -- the ENV of each entry of one map, then the ARG of each of the other
 abbrev pub declared : {Z : Type 0} → List (String Z × List ℕ) → List (String Z × Option (List ℕ)) → List Declaration

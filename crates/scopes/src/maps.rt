@@ -1,15 +1,22 @@
 // The two maps of a scope: what ENVs set, and what ARGs declare.
 
-ghost use Rattle.std.specs.Prelude.{◌≡◌, ◌+◌, ◌≤◌, ◌∷◌, ◌++◌, [], length, OnOk, IfOk};
+ghost use Rattle.std.specs.Prelude.{◌≡◌, ◌+◌, ◌≤◌, ◌∷◌, ◌++◌, [], length, map, OnOk, IfOk};
 ghost use Rattle.std.specs.String.{string_bytes};
 ghost use Rattle.indexmap.specs.IndexMap.{spare};
 ghost use Rattle.scopes.specs.Scope.{kept, env_names, arg_names};
-ghost use Rattle.scopes.specs.PrivateMaps.{declared, variable_rows, argument_rows};
+ghost use Rattle.scopes.specs.PrivateMaps.{declaration_of, declared, variable_rows, argument_rows};
 
 use crate::declaration::Declaration;
 use indexmap::IndexMap;
 use plain::{Exact, Items, Memory, Text, Variable};
 use std::alloc::Global;
+
+/// A declaration whose name is a key of the maps, so that adding it takes no memory but the maps' own.
+#[derive(Drop)]
+pub(crate) enum Keyed {
+    Env { name: String, value: Text },
+    Arg { name: String, value: Option<Text> },
+}
 
 /// How many of the declarations are ENVs. The others are ARGs.
 pub(crate) fn env_count(line: &[Declaration]) -> usize
@@ -25,16 +32,43 @@ pub(crate) fn env_count(line: &[Declaration]) -> usize
     count
 }
 
+/// Declarations whose names are keys. That takes memory, and so comes before there is a change that could stop halfway.
+pub(crate) fn with_keys(alloc: Global, line: Vec<Declaration>) -> Result<Vec<Keyed>, Memory>
+    ensures { IfOk result (λ keyed. map declaration_of keyed.items ≡ line.items) }
+{
+    let mut keyed = Vec::new(alloc);
+    for declaration in line {
+        keyed.push(with_key(alloc, declaration)?)?;
+    }
+    Ok(keyed)
+}
+
+/// A declaration whose name is a key.
+fn with_key(alloc: Global, declaration: Declaration) -> Result<Keyed, Memory>
+    ensures { IfOk result (λ keyed. declaration_of keyed ≡ declaration) }
+{
+    match declaration {
+        Declaration::Env { name, value } => {
+            let name = name.into_string(alloc)?;
+            Ok(Keyed::Env { name, value })
+        }
+        Declaration::Arg { name, value } => {
+            let name = name.into_string(alloc)?;
+            Ok(Keyed::Arg { name, value })
+        }
+    }
+}
+
 /// Adds declarations, one after another.
 pub(crate) fn put_all(
     variables: &mut IndexMap<String, Text>,
     arguments: &mut IndexMap<String, Option<Text>>,
-    line: Vec<Declaration>,
+    line: Vec<Keyed>,
 )
     requires kept { kept (declared variables.old.entries arguments.old.entries) ≡ declared variables.old.entries arguments.old.entries }
-    requires variables { length (env_names line.items) ≤ spare variables.old }
-    requires arguments { length (arg_names line.items) ≤ spare arguments.old }
-    ensures { declared variables.new.entries arguments.new.entries ≡ kept (declared variables.old.entries arguments.old.entries ++ line.items) }
+    requires variables { length (env_names (map declaration_of line.items)) ≤ spare variables.old }
+    requires arguments { length (arg_names (map declaration_of line.items)) ≤ spare arguments.old }
+    ensures { declared variables.new.entries arguments.new.entries ≡ kept (declared variables.old.entries arguments.old.entries ++ map declaration_of line.items) }
 {
     for declaration in line {
         put(variables, arguments, declaration);
@@ -45,21 +79,20 @@ pub(crate) fn put_all(
 fn put(
     variables: &mut IndexMap<String, Text>,
     arguments: &mut IndexMap<String, Option<Text>>,
-    declaration: Declaration,
+    declaration: Keyed,
 )
     requires kept { kept (declared variables.old.entries arguments.old.entries) ≡ declared variables.old.entries arguments.old.entries }
-    requires variables { length (env_names (declaration ∷ [])) ≤ spare variables.old }
-    requires arguments { length (arg_names (declaration ∷ [])) ≤ spare arguments.old }
-    ensures put { declared variables.new.entries arguments.new.entries ≡ kept (declared variables.old.entries arguments.old.entries ++ declaration ∷ []) }
-    ensures variables { spare variables.old ≤ spare variables.new + length (env_names (declaration ∷ [])) }
-    ensures arguments { spare arguments.old ≤ spare arguments.new + length (arg_names (declaration ∷ [])) }
+    requires variables { length (env_names (declaration_of declaration ∷ [])) ≤ spare variables.old }
+    requires arguments { length (arg_names (declaration_of declaration ∷ [])) ≤ spare arguments.old }
+    ensures put { declared variables.new.entries arguments.new.entries ≡ kept (declared variables.old.entries arguments.old.entries ++ declaration_of declaration ∷ []) }
+    ensures variables { spare variables.old ≤ spare variables.new + length (env_names (declaration_of declaration ∷ [])) }
+    ensures arguments { spare arguments.old ≤ spare arguments.new + length (arg_names (declaration_of declaration ∷ [])) }
 {
     match declaration {
-        Declaration::Env { name, value } => {
-            variables.insert(name.into_string(), value).unwrap();
+        Keyed::Env { name, value } => {
+            variables.insert(name, value).unwrap();
         }
-        Declaration::Arg { name, value } => {
-            let name = name.into_string();
+        Keyed::Arg { name, value } => {
             if value.is_some() || !arguments.contains_key(name.as_str()) {
                 arguments.insert(name, value).unwrap();
             }

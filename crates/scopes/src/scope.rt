@@ -7,7 +7,7 @@ ghost use Rattle.scopes.specs.declared.declaration.Declaration.TheVariants.{Env}
 use crate::args::Args;
 use crate::declaration::Declaration;
 use crate::evaluate::{argument_declarations, assignment_declarations};
-use crate::maps::{env_count, listed, push_arguments, push_variables, put_all};
+use crate::maps::{env_count, listed, push_arguments, push_variables, put_all, with_keys};
 use expand::Lookup;
 use indexmap::IndexMap;
 use instructions::{Argument, Assignment};
@@ -67,7 +67,7 @@ impl Scope {
         ensures { Declares self.old (arg_line (value_in self.old) (arg_value args.now) (value_in outer.now) arguments.now) (arg_texts (value_in self.old) (arg_value args.now) arguments.now) self.new result }
     {
         let line = argument_declarations(alloc, arguments, self, args, outer)?;
-        self.add(line)?;
+        self.add(alloc, line)?;
         Ok(())
     }
 
@@ -79,7 +79,7 @@ impl Scope {
         ensures { Declares self.old (env_line (value_in self.old) assignments.now) (env_texts (value_in self.old) assignments.now) self.new result }
     {
         let line = assignment_declarations(alloc, assignments, self)?;
-        self.add(line)?;
+        self.add(alloc, line)?;
         Ok(())
     }
 
@@ -92,18 +92,20 @@ impl Scope {
         let name = Text::from_str(alloc, name)?;
         let value = Text::from_str(alloc, value)?;
         line.push(Declaration::Env { name, value })?;
-        self.add(line)
+        self.add(alloc, line)
     }
 
     /// Adds declarations. After `Memory` the scope is as it was.
-    fn add(&mut self, line: Items<Declaration>) -> Result<(), Memory>
+    fn add(&mut self, alloc: Global, line: Items<Declaration>) -> Result<(), Memory>
         ensures ok { OnOk result (self.new ≡ kept (self.old ++ line)) }
         ensures err { OnErr result (self.new ≡ self.old) }
     {
         let line = line.into_vec();
         let variables = env_count(line.as_slice());
+        let arguments = line.len() - variables;
+        let line = with_keys(alloc, line)?;
         self.variables.reserve(variables)?;
-        self.arguments.reserve(line.len() - variables)?;
+        self.arguments.reserve(arguments)?;
         put_all(&mut self.variables, &mut self.arguments, line);
         Ok(())
     }
@@ -136,7 +138,7 @@ impl Scope {
     {
         let line = listed(alloc, &self.variables, &self.arguments)?;
         let mut copied = Scope::new(alloc);
-        copied.add(line)?;
+        copied.add(alloc, line)?;
         Ok(copied)
     }
 }

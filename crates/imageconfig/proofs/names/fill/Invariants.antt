@@ -6,6 +6,6 @@ use Rattle.imageconfig.proofs.names.fill.Given as goal
 
 abbrev pub invariant-loop-name : goal.invariant-loop-name
 invariant-loop-name l = record {
-  names : add_names (map string_bytes l.set.keys) l.name-iterator.rest.items ≡ add_names (map string_bytes l.initial.set.keys) l.initial.name-iterator.rest.items;
+  names : add_names (map string_bytes l.set.keys) (map string_bytes l.name-iterator.rest.items) ≡ add_names (map string_bytes l.initial.set.keys) (map string_bytes l.initial.name-iterator.rest.items);
   room : length l.name-iterator.rest.items ≤ spare l.set;
 }

@@ -6,6 +6,6 @@ use Rattle.imageconfig.proofs.rows.fill.Given as goal
 
 abbrev pub invariant-loop-name : goal.invariant-loop-name
 invariant-loop-name l = record {
-  rows : put_rows (rows_of l.map.entries) l.name-iterator.rest.items ≡ put_rows (rows_of l.initial.map.entries) l.initial.name-iterator.rest.items;
+  rows : put_rows (rows_of l.map.entries) (rows_of l.name-iterator.rest.items) ≡ put_rows (rows_of l.initial.map.entries) (rows_of l.initial.name-iterator.rest.items);
   room : length l.name-iterator.rest.items ≤ spare l.map;
 }
