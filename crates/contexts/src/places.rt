@@ -1,12 +1,11 @@
-ghost use Rattle.std.specs.Prelude.{◌≡◌, ◌<◌, ◌↔◌, ◌⊎◌, ℕ, true, List, [], None, IsTrue, IfOk, OnOk, is_some, length, get_or};
+ghost use Rattle.std.specs.Prelude.{◌≡◌, ◌<◌, ◌↔◌, ◌⊎◌, true, [], IsTrue, IfOk, is_some, length, get_or};
 ghost use Rattle.std.specs.FinMap.{get};
-ghost use Rattle.trees.specs.Put.{cause_at, planted};
-ghost use Rattle.trees.specs.TreeMap.{directory_meta, IsTree};
+ghost use Rattle.trees.specs.TreeMap.{IsTree};
 ghost use Rattle.contexts.specs.Context.{IsListing, owned, owned_meta};
 ghost use Rattle.contexts.specs.PrivatePlaces.{IsPlaced, AreFolders, HasModes, AreApart};
 
 use paths::Path;
-use plain::{Fault, Memory};
+use plain::Memory;
 use std::alloc::Global;
 use trees::{Entry, Meta, Tree};
 
@@ -28,18 +27,6 @@ fn owned_meta(meta: Meta) -> Meta
         mode: meta.mode,
         uid: 0,
         gid: 0,
-    }
-}
-
-/// Puts an entry where nothing stands in its way.
-fn place(alloc: Global, tree: &mut Tree, path: &Path, entry: Entry) -> Result<(), Memory>
-    requires { cause_at (get tree.old) path.now entry ≡ None }
-    ensures { OnOk result ((q : List (List ℕ)) → get tree.new q ≡ planted (get tree.old) path.now directory_meta entry q) }
-{
-    match tree.put(alloc, path, entry) {
-        Ok(()) => Ok(()),
-        Err(Fault::Memory) => Err(Memory),
-        Err(Fault::Because(_)) => unreachable!(),
     }
 }
 
@@ -67,7 +54,7 @@ pub(crate) fn place_rows(
     let mut folders = Vec::new(alloc);
     while let Some((path, entry)) = left.pop() {
         if is_wanted(flags, left.len(), &path) {
-            place(alloc, &mut tree, &path, owned(entry))?;
+            tree.place(alloc, &path, owned(entry))?;
         } else if let Entry::Directory(meta) = entry {
             folders.push((path, meta))?;
         }
@@ -97,7 +84,7 @@ pub(crate) fn set_modes(
     let mut left = folders;
     while let Some((path, meta)) = left.pop() {
         if stands(&tree, &path) {
-            place(alloc, &mut tree, &path, Entry::Directory(owned_meta(meta)))?;
+            tree.place(alloc, &path, Entry::Directory(owned_meta(meta)))?;
         }
     }
     Ok(tree)

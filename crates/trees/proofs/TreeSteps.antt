@@ -1,21 +1,19 @@
 -- From the steps of a tree's code to what its calls promise.
-use Rattle.std.specs.Prelude.{◌≡◌, ℕ, Bool, true, false, Option, Some, None, Ok, Err, List, []}
+use Rattle.std.specs.Prelude.{◌≡◌, ℕ, Bool, true, false, Some, None, Result, Ok, Err, OnOk, OnErr, List, []}
 use Rattle.std.proofs.Common.{sym, ap, refl, ◌∙◌, subst, true≢false}
 use Rattle.std.specs.FinMap.{get, empty, insert}
 use Rattle.paths.specs.Path.{IsClean}
 use Rattle.trees.specs.declared.meta.Meta.{Meta}
 use Rattle.trees.specs.declared.entry.Entry.{Entry}
 use Rattle.trees.specs.declared.entry.Entry.TheVariants.{Directory, File}
-use Rattle.trees.specs.declared.cause.Cause.{Cause}
 use Rattle.trees.specs.declared.cause.Cause.TheVariants.{F1, F2}
 use Rattle.trees.specs.TreeMap.{TreeMap, IsTree, is_directory, is_file, meta_of, empty_tree, directory_meta}
 use Rattle.trees.specs.Subtree.{subtree}
 use Rattle.trees.specs.PrivateNode.{IsBelow}
 use Rattle.trees.proofs.SubtreeLaws.{subtree-missing, subtree-file, subtree-directory, own-below, below-IsTree}
-use Rattle.trees.specs.Put.{placed, cause_at, put_into}
+use Rattle.trees.specs.Put.{placed, cause_at}
 use Rattle.trees.specs.PrivateNode.{NodeValue, map_of, IsPlanted}
 use Rattle.trees.proofs.TreeLaws.{same_tree, get-placed, free-from_cause, placed-IsTree, empty-IsTree}
-use Rattle.trees.proofs.CauseLaws.{tree_or-none}
 use Rattle.trees.proofs.NodeLaws.{get-map_of_root}
 
 -- where an entry was put stands the tree after a placement
@@ -26,16 +24,15 @@ IsTree-planted : (old new : TreeMap) (path : List (List ℕ)) (parent : Meta) (e
 IsTree-planted old new path parent entry tree clean none h =
     subst IsTree (sym (placed-from_planted old new path parent entry h)) (placed-IsTree parent old path entry tree clean (free-from_cause (get old) path entry none))
 
--- a placement for which no cause was told, a and b being the path as it was lent twice
-pub put-kept : (old new : TreeMap) (a b : List (List ℕ)) (parent : Meta) (entry : Entry) (told : Option Cause) → a ≡ b → IsTree old → IsClean b → told ≡ cause_at (get old) a entry → told ≡ None → IsPlanted (get old) new b parent entry → IsTree new
-put-kept old new a b parent entry told same tree clean is none h = IsTree-planted old new b parent entry tree clean (ap (λ p. cause_at (get old) p entry) (sym same) ∙ sym is ∙ none) h
+-- a placement in whose way nothing stands, a being the path as it was lent
+pub place-kept : {E : Type 0} (old new value : TreeMap) (path a : List (List ℕ)) (parent : Meta) (entry : Entry) (result : Result (Unit {0}) E) → old ≡ value → a ≡ path → IsTree old → IsClean path → cause_at (get value) path entry ≡ None → OnOk result (IsPlanted (get old) new a parent entry) → OnErr result (new ≡ old)
+    → IsTree new
+place-kept old new value path a parent entry (Ok done) view same tree clean free h kept =
+    IsTree-planted old new a parent entry tree (subst IsClean (sym same) clean) ((λ i. cause_at (get (view i)) (same i) entry) ∙ free) h
+place-kept old new value path a parent entry (Err why) view same tree clean free h kept = subst IsTree (sym kept) tree
 
-pub put-done : (old new value : TreeMap) (path a b : List (List ℕ)) (parent : Meta) (entry : Entry) (told : Option Cause) → old ≡ value → a ≡ path → b ≡ path → parent ≡ directory_meta → told ≡ cause_at (get old) a entry → told ≡ None → IsPlanted (get old) new b parent entry
-    → put_into value path entry ≡ Ok new
-put-done old new value path a b parent entry told view first second meta is none h =
-    tree_or-none (cause_at (get value) path entry) (placed directory_meta value path entry) new
-    ((λ i. cause_at (get (sym view i)) (sym first i) entry) ∙ sym is ∙ none)
-    (placed-from_planted old new b parent entry h ∙ (λ i. placed (meta i) (view i) (second i) entry))
+pub place-done : (old new value : TreeMap) (path a : List (List ℕ)) (parent : Meta) (entry : Entry) → old ≡ value → a ≡ path → parent ≡ directory_meta → IsPlanted (get old) new a parent entry → new ≡ placed directory_meta value path entry
+place-done old new value path a parent entry view same meta h = placed-from_planted old new a parent entry h ∙ (λ i. placed (meta i) (view i) (same i) entry)
 
 -- a leaf that is a plain directory stands for the empty tree
 pub leaf-empty : (leaf : NodeValue) → leaf.top ≡ Directory directory_meta → leaf.below ≡ empty → map_of leaf ≡ empty_tree

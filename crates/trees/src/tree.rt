@@ -1,10 +1,10 @@
-ghost use Rattle.std.specs.Prelude.{◌≡◌, Some, None, [], IfOk, MatchOption, option_copied};
+ghost use Rattle.std.specs.Prelude.{◌≡◌, Some, None, [], IfOk, OnOk, OnErr, MatchOption, option_copied};
 ghost use Rattle.std.specs.FinMap.{get, entries};
 ghost use Rattle.trees.specs.declared.entry.Entry.TheVariants.{Directory};
-ghost use Rattle.trees.specs.TreeMap.{IsTree, empty_tree};
+ghost use Rattle.trees.specs.TreeMap.{IsTree, directory_meta, empty_tree};
 ghost use Rattle.trees.specs.Cause.{GivesTree, ChangesTree};
 ghost use Rattle.trees.specs.Rows.{lent_rows};
-ghost use Rattle.trees.specs.Put.{put_into};
+ghost use Rattle.trees.specs.Put.{cause_at, placed, put_into};
 ghost use Rattle.trees.specs.Make.{made};
 ghost use Rattle.trees.specs.Remove.{removed};
 ghost use Rattle.trees.specs.Subtree.{subtree};
@@ -116,11 +116,24 @@ impl Tree {
         match cause_at(&self.root, path.components(), &entry) {
             Some(cause) => Err(Fault::Because(cause)),
             None => {
-                self.root
-                    .plant(alloc, path.components(), Meta::directory(), entry)?;
+                self.place(alloc, path, entry)?;
                 Ok(())
             }
         }
+    }
+
+    /// Puts one entry at a path as [`put`](Tree::put) does, in one walk down the tree, where nothing stands in its way: no file
+    /// stands on the way to the path, and what stands there, if anything does, is of the entry's kind.
+    ///
+    /// The caller knows that of what it placed before, as of the rows of one tree's list in whatever order; where it doesn't, `put`
+    /// looks first. Where there is no memory, nothing has changed.
+    pub fn place(&mut self, alloc: Global, path: &Path, entry: Entry) -> Result<(), Memory>
+        requires { cause_at (get self.old) path.now entry ≡ None }
+        ensures ok { OnOk result (self.new ≡ placed directory_meta self.old path.now entry) }
+        ensures err { OnErr result (self.new ≡ self.old) }
+    {
+        self.root
+            .plant(alloc, path.components(), Meta::directory(), entry)
     }
 
     /// Makes a directory with its parents, 0755 and 0:0, where nothing stands; where a directory stands, nothing changes.

@@ -2,9 +2,10 @@ use Rattle.std.proofs.Common.{◌≡◌, ◌∙◌, ◌⊎◌, [], ℕ, true, tr
 use Rattle.std.specs.FinMap.{get}
 use Rattle.paths.specs.Path.{IsClean}
 use Rattle.trees.specs.Put.{cause_at, planted}
-use Rattle.trees.specs.TreeMap.{directory_meta}
+use Rattle.trees.specs.TreeMap.{TreeMap, directory_meta}
 use Rattle.trees.specs.declared.entry.Entry.{Entry}
 use Rattle.contexts.specs.Context.{Row}
+use Rattle.trees.proofs.TreeLaws.{get-placed}
 use Rattle.contexts.specs.PrivatePlaces.{IsPlaced, AreFolders, Wanted}
 use Rattle.contexts.proofs.Rows.{front-all, front-less, front-at, length-more, get-within}
 use Rattle.contexts.proofs.Placing.{placed-start, no-cause, placed-skip, placed-more}
@@ -69,7 +70,7 @@ loop-path-preserved-then-is_wanted c =
     let wants : Wanted flags (length k) row = subst (λ (n : ℕ). (c.in-Some.path ≡ []) ⊎ (get_or flags n true ≡ true)) at (c.is_wanted.ensures.0 c.if-is_wanted.true) in
     record {
       front = less;
-      placed = placed-more rows flags c.requires.listing (length k) row here c.loop-path.tree placed wants c.place.new.tree (λ q. c.in_ok-place.ensures q ∙ ap (λ (x : Entry). planted (get c.loop-path.tree) c.in-Some.path directory_meta x q) c.owned.ensures);
+      placed = placed-more rows flags c.requires.listing (length k) row here c.loop-path.tree placed wants c.place.new.self (λ q. ap (λ (t : TreeMap). get t q) c.in_ok-place.ensures.ok ∙ get-placed directory_meta c.loop-path.tree c.in-Some.path c.owned.result q ∙ ap (λ (x : Entry). planted (get c.loop-path.tree) c.in-Some.path directory_meta x q) c.owned.ensures);
       folders = folders-skip rows flags c.requires.listing (length k) row here c.loop-path.folders.items folders (λ meta off is. off wants);
     }
 

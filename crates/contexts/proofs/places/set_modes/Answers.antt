@@ -6,6 +6,7 @@ use Rattle.trees.specs.Put.{cause_at, planted}
 use Rattle.trees.specs.TreeMap.{TreeMap, directory_meta}
 use Rattle.trees.specs.declared.entry.Entry.TheVariants.{Directory}
 use Rattle.trees.specs.declared.meta.Meta.{Meta}
+use Rattle.trees.proofs.TreeLaws.{get-placed}
 use Rattle.contexts.specs.PrivatePlaces.{HasModes}
 use Rattle.contexts.proofs.Rows.{front-all, front-less, front-at, length-more}
 use Rattle.contexts.proofs.Folders.{modes-start, modes-skip, modes-more, modes-no-cause}
@@ -42,8 +43,8 @@ loop-path-preserved c =
       front = front-less c.loop-path.left.items k folders folder e c.loop-path.invariant.front;
       modes = elim c.if-stands.branch [
         | then-stands+in_ok-place w ↦ subst (λ (t : TreeMap). HasModes folders (length k) c.args.before t) (sym w.tree-is)
-            (modes-more folders c.args.before c.requires (length k) folder here c.loop-path.tree modes c.stands.ensures.tree (sym c.stands.ensures.value ∙ w.if-stands.true) w.place.new.tree
-            (λ q. w.in_ok-place.ensures q ∙ ap (λ m. planted (get c.loop-path.tree) c.in-Some.path directory_meta (Directory m) q) w.owned_meta.ensures))
+            (modes-more folders c.args.before c.requires (length k) folder here c.loop-path.tree modes c.stands.ensures.tree (sym c.stands.ensures.value ∙ w.if-stands.true) w.place.new.self
+            (λ q. ap (λ (t : TreeMap). get t q) w.in_ok-place.ensures.ok ∙ get-placed directory_meta c.loop-path.tree c.in-Some.path (Directory w.owned_meta.result) q ∙ ap (λ m. planted (get c.loop-path.tree) c.in-Some.path directory_meta (Directory m) q) w.owned_meta.ensures))
         | else-stands w ↦ subst (λ (t : TreeMap). HasModes folders (length k) c.args.before t) (sym w.tree-is)
             (modes-skip folders c.args.before c.requires (length k) folder here c.loop-path.tree modes (sym c.stands.ensures.value ∙ w.if-stands.false))
       ];
