@@ -2,3 +2,4 @@ pub mod AnswerLemmas
 mod ListingFacts
 mod RestFacts
 mod WholeFacts
+mod MemberFacts

@@ -36,10 +36,14 @@ or_none none one (Some d) = one d
 abbrev pub files_with : List ℕ → List Row → Option (List ℕ) → Files
 files_with dockerfile context target = record { dockerfile = dockerfile; context = context; target = target }
 
+-- the same, by what stands at their keys: the Dockerfile has to be there
+abbrev pub files_at : Option Data → Option Data → Option Data → Option Files
+files_at dockerfile context target =
+    option_and_then (λ dockerfile. option_and_then (λ context. option_map (λ target. files_with dockerfile context target) (at_most_one as_str target)) (or_none [] listing_in context))
+    (option_and_then dockerfile_in dockerfile)
+
 unfoldable pub files_in : Data → Option Files
-files_in d =
-    option_and_then (λ dockerfile. option_and_then (λ context. option_map (λ target. files_with dockerfile context target) (at_most_one as_str (get (codes "target") d)))
-    (or_none [] listing_in (get (codes "context") d))) (option_and_then dockerfile_in (get (codes "dockerfile") d))
+files_in d = files_at (get (codes "dockerfile") d) (get (codes "context") d) (get (codes "target") d)
 
 -- an image: its configuration, read as `config` reads it, and the list of its tree's entries
 abbrev pub image_with : {C : Type 0} → C → List Row → ListedImage C
@@ -83,10 +87,14 @@ caches_in d = option_map (λ rows. map cache_row rows) (rows_in listing_in d)
 abbrev pub named_with : {C : Type 0} → ImagesValue C → BuildArguments → List (List ℕ × TreeMap) → Named C
 named_with images args caches = record { images = images; args = args; caches = caches }
 
+-- the same, by what stands at their keys, each of which may be missing
+abbrev pub named_at : {C : Type 0} → (Data → Option C) → Option Data → Option Data → Option Data → Option (Named C)
+named_at config images args caches =
+    option_and_then (λ images. option_and_then (λ args. option_map (λ caches. named_with images args caches) (or_none [] caches_in caches)) (or_none empty args_in args))
+    (or_none empty (images_in config) images)
+
 unfoldable pub named_in : {C : Type 0} → (Data → Option C) → Data → Option (Named C)
-named_in config d =
-    option_and_then (λ images. option_and_then (λ args. option_map (λ caches. named_with images args caches) (or_none [] caches_in (get (codes "caches") d)))
-    (or_none empty args_in (get (codes "args") d))) (or_none empty (images_in config) (get (codes "images") d))
+named_in config d = named_at config (get (codes "images") d) (get (codes "args") d) (get (codes "caches") d)
 
 -- the bundle that a value is
 abbrev pub parts_with : {C : Type 0} → Files → Named C → Parts C

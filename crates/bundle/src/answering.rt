@@ -26,7 +26,7 @@ pub fn built_answer(
     text.push_str("{\"config\":")?;
     text.push_str(config.as_str())?;
     text.push_str(",\"result\":\"built\",\"tree\":")?;
-    let mut text = with_tree(alloc, Text::from_string(text), entries)?.into_string();
+    let mut text = with_tree(alloc, Text::from_string(text), entries)?.into_string(alloc)?;
     text.push_str("}")?;
     Ok(Text::from_string(text))
 }

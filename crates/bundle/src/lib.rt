@@ -14,6 +14,7 @@
 
 mod answering;
 mod parts;
+mod taking;
 mod whole;
 
 pub use answering::{built_answer, failed_answer, refused_answer};

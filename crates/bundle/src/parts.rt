@@ -1,23 +1,25 @@
-// What a bundle says, key by key. Its context is a list of entries here, which its ignore file filters later.
+// What a bundle says, key by key. Its context is a list of entries here, which its ignore file filters later. What stands at a key is given
+// away, so that a list is let go of as it is read.
 
-ghost use Rattle.std.specs.Prelude.{◌≡◌, [], codes, map, IfOk};
+ghost use Rattle.std.specs.Prelude.{◌≡◌, [], codes, map, option_map, IfOk};
 ghost use Rattle.std.specs.List.{list_all};
 ghost use Rattle.std.specs.Option.{option_and_then};
 ghost use Rattle.std.specs.FinMap.{empty, from_entries};
 ghost use Rattle.serde_json.specs.View.{view};
-ghost use Rattle.serde_json.specs.Find.{get};
+ghost use Rattle.serde_json.specs.Find.{get, as_str};
 ghost use Rattle.strict.specs.Gives.{Gives};
 ghost use Rattle.strict.specs.Strict.{at_most_one};
 ghost use Rattle.entries.specs.Listing.{listing_in};
-ghost use Rattle.bundle.specs.Parts.{or_none, dockerfile_in, files_in, is_image_name, images_of, images_in, args_in, cache_row, caches_in, named_in, parts_in};
+ghost use Rattle.bundle.specs.Parts.{or_none, dockerfile_in, files_at, is_image_name, images_of, images_in, args_in, cache_row, caches_in, named_at, parts_with, parts_in};
 
+use crate::taking::{Members, TakenFromJson, take_from, take_rows};
 use entries::{Listing, read_content};
 use plain::{Bytes, Exact, Fault, Items, Memory, Text};
 use plans::{Image, Images};
 use scopes::Args;
 use serde_json::Value;
 use std::alloc::Global;
-use strict::{FromJson, NotRead, ReadFault, is_strict, one_at, optional_at, read_rows};
+use strict::{FromJson, NotRead, ReadFault, is_strict, one_at, read_rows};
 use trees::Tree;
 
 /// The files of a build and its target.
@@ -54,19 +56,29 @@ pub struct ListedImage<C> {
     pub tree: Listing,
 }
 
-impl<C: FromJson> FromJson for ListedImage<C> {
+impl<C: FromJson> TakenFromJson for ListedImage<C> {
     ghost use Rattle.bundle.specs.Parts.{image_in};
 
     ghost reading = { image_in C.reading };
 
     #[tactic(auto, unfolding(crate::specs::Parts::image_in))]
-    fn from_json(alloc: Global, value: &Value) -> Result<ListedImage<C>, ReadFault> {
-        if !is_strict(value, &["config", "tree"]) {
+    fn taken_from_json(alloc: Global, value: Value) -> Result<ListedImage<C>, ReadFault> {
+        if !is_strict(&value, &["config", "tree"]) {
             return Err(Fault::Because(NotRead));
         }
-        let config: C = one_at(alloc, value, "config")?;
-        let tree: Listing = one_at(alloc, value, "tree")?;
+        let config: C = one_at(alloc, &value, "config")?;
+        let tree = take_tree(alloc, value)?;
         Ok(ListedImage { config, tree })
+    }
+}
+
+/// The entries of an image's tree.
+fn take_tree(alloc: Global, value: Value) -> Result<Listing, ReadFault>
+    ensures { Gives result (option_and_then listing_in (get (codes "tree") (view value))) }
+{
+    match take_from(value, "tree") {
+        Some(value) => Listing::taken(alloc, value),
+        None => Err(Fault::Because(NotRead)),
     }
 }
 
@@ -81,34 +93,48 @@ fn read_dockerfile(alloc: Global, value: &Value) -> Result<Bytes, ReadFault>
     read_content(alloc, value)
 }
 
-/// The Dockerfile that stands in an object.
-fn dockerfile_at(alloc: Global, value: &Value) -> Result<Bytes, ReadFault>
-    ensures { Gives result (option_and_then dockerfile_in (get (codes "dockerfile") (view value.now))) }
+/// The Dockerfile, which has to be there.
+fn dockerfile_of(alloc: Global, value: Option<Value>) -> Result<Bytes, ReadFault>
+    ensures { Gives result (option_and_then dockerfile_in (option_map view value)) }
 {
-    match value.get("dockerfile") {
-        Some(value) => read_dockerfile(alloc, value),
+    match value {
+        Some(value) => read_dockerfile(alloc, &value),
         None => Err(Fault::Because(NotRead)),
     }
 }
 
-/// The context that stands in an object, the empty list where none does.
-fn context_at(alloc: Global, value: &Value) -> Result<Listing, ReadFault>
-    ensures { Gives result (or_none [] listing_in (get (codes "context") (view value.now))) }
+/// The context, the empty list where there is none.
+fn context_of(alloc: Global, value: Option<Value>) -> Result<Listing, ReadFault>
+    ensures { Gives result (or_none [] listing_in (option_map view value)) }
 {
-    match value.get("context") {
-        Some(value) => Listing::from_json(alloc, value),
+    match value {
+        Some(value) => Listing::taken(alloc, value),
         None => Ok(Listing::empty(alloc)),
     }
 }
 
-/// The Dockerfile, the context and the target.
-#[tactic(auto, unfolding(crate::specs::Parts::files_in))]
-fn read_files(alloc: Global, value: &Value) -> Result<Files, ReadFault>
-    ensures { Gives result (files_in (view value.now)) }
+/// The target, if there is one.
+fn target_of(alloc: Global, value: Option<Value>) -> Result<Option<Text>, ReadFault>
+    ensures { Gives result (at_most_one as_str (option_map view value)) }
 {
-    let dockerfile = dockerfile_at(alloc, value)?;
-    let context = context_at(alloc, value)?;
-    let target: Option<Text> = optional_at(alloc, value, "target")?;
+    match value {
+        Some(value) => Ok(Some(Text::from_json(alloc, &value)?)),
+        None => Ok(None),
+    }
+}
+
+/// The Dockerfile, the context and the target.
+fn files_of(
+    alloc: Global,
+    dockerfile: Option<Value>,
+    context: Option<Value>,
+    target: Option<Value>,
+) -> Result<Files, ReadFault>
+    ensures { Gives result (files_at (option_map view dockerfile) (option_map view context) (option_map view target)) }
+{
+    let dockerfile = dockerfile_of(alloc, dockerfile)?;
+    let context = context_of(alloc, context)?;
+    let target = target_of(alloc, target)?;
     Ok(Files {
         dockerfile,
         context,
@@ -154,10 +180,10 @@ fn images_of<C: Drop>(
 
 /// The images that a value is, each under its name.
 #[tactic(auto, unfolding(crate::specs::Parts::images_in))]
-fn read_images<C: FromJson>(alloc: Global, value: &Value) -> Result<Images<C>, ReadFault>
-    ensures { Gives result (images_in C.reading (view value.now)) }
+fn take_images<C: FromJson>(alloc: Global, value: Value) -> Result<Images<C>, ReadFault>
+    ensures { Gives result (images_in C.reading (view value)) }
 {
-    let rows: Items<(Text, ListedImage<C>)> = read_rows(alloc, value)?;
+    let rows: Items<(Text, ListedImage<C>)> = take_rows(alloc, value)?;
     if !are_image_names(rows.as_slice()) {
         return Err(Fault::Because(NotRead));
     }
@@ -198,51 +224,55 @@ fn caches_of(alloc: Global, rows: Items<(Text, Listing)>) -> Result<Items<(Text,
 
 /// What caches hold at first, by their ids.
 #[tactic(auto, unfolding(crate::specs::Parts::caches_in))]
-fn read_caches(alloc: Global, value: &Value) -> Result<Items<(Text, Tree)>, ReadFault>
-    ensures { Gives result (caches_in (view value.now)) }
+fn take_caches(alloc: Global, value: Value) -> Result<Items<(Text, Tree)>, ReadFault>
+    ensures { Gives result (caches_in (view value)) }
 {
-    let rows: Items<(Text, Listing)> = read_rows(alloc, value)?;
+    let rows: Items<(Text, Listing)> = take_rows(alloc, value)?;
     Ok(caches_of(alloc, rows)?)
 }
 
-/// The images that stand in an object, none where there is no such key.
-fn images_at<C: FromJson>(alloc: Global, value: &Value) -> Result<Images<C>, ReadFault>
-    ensures { Gives result (or_none empty (images_in C.reading) (get (codes "images") (view value.now))) }
+/// The images by their names, none where there is no such key.
+fn named_images<C: FromJson>(alloc: Global, value: Option<Value>) -> Result<Images<C>, ReadFault>
+    ensures { Gives result (or_none empty (images_in C.reading) (option_map view value)) }
 {
-    match value.get("images") {
-        Some(value) => read_images(alloc, value),
+    match value {
+        Some(value) => take_images(alloc, value),
         None => Ok(Images::new(alloc)),
     }
 }
 
-/// The build arguments that stand in an object, none where there is no such key.
-fn args_at(alloc: Global, value: &Value) -> Result<Args, ReadFault>
-    ensures { Gives result (or_none empty args_in (get (codes "args") (view value.now))) }
+/// The build arguments by their names, none where there is no such key.
+fn named_args(alloc: Global, value: Option<Value>) -> Result<Args, ReadFault>
+    ensures { Gives result (or_none empty args_in (option_map view value)) }
 {
-    match value.get("args") {
-        Some(value) => read_args(alloc, value),
+    match value {
+        Some(value) => read_args(alloc, &value),
         None => Ok(Args::new(alloc)),
     }
 }
 
-/// What caches hold at first, as it stands in an object: nothing where there is no such key.
-fn caches_at(alloc: Global, value: &Value) -> Result<Items<(Text, Tree)>, ReadFault>
-    ensures { Gives result (or_none [] caches_in (get (codes "caches") (view value.now))) }
+/// What caches hold at first, by their ids: nothing where there is no such key.
+fn named_caches(alloc: Global, value: Option<Value>) -> Result<Items<(Text, Tree)>, ReadFault>
+    ensures { Gives result (or_none [] caches_in (option_map view value)) }
 {
-    match value.get("caches") {
-        Some(value) => read_caches(alloc, value),
+    match value {
+        Some(value) => take_caches(alloc, value),
         None => Ok(Items::new(alloc)),
     }
 }
 
 /// What a build may name.
-#[tactic(auto, unfolding(crate::specs::Parts::named_in))]
-fn read_named<C: FromJson>(alloc: Global, value: &Value) -> Result<Named<C>, ReadFault>
-    ensures { Gives result (named_in C.reading (view value.now)) }
+fn named_of<C: FromJson>(
+    alloc: Global,
+    images: Option<Value>,
+    args: Option<Value>,
+    caches: Option<Value>,
+) -> Result<Named<C>, ReadFault>
+    ensures { Gives result (named_at C.reading (option_map view images) (option_map view args) (option_map view caches)) }
 {
-    let images = images_at(alloc, value)?;
-    let args = args_at(alloc, value)?;
-    let caches = caches_at(alloc, value)?;
+    let images = named_images(alloc, images)?;
+    let args = named_args(alloc, args)?;
+    let caches = named_caches(alloc, caches)?;
     Ok(Named {
         images,
         args,
@@ -250,13 +280,44 @@ fn read_named<C: FromJson>(alloc: Global, value: &Value) -> Result<Named<C>, Rea
     })
 }
 
+/// The bundle of these values, each of which stood at its key.
+fn parts_from<C: FromJson>(alloc: Global, members: Members) -> Result<Parts<C>, ReadFault>
+    ensures { Gives result (option_and_then
+        (λ files. option_map (λ named. parts_with files named) (named_at C.reading (option_map view members.images) (option_map view members.args) (option_map view members.caches)))
+        (files_at (option_map view members.dockerfile) (option_map view members.context) (option_map view members.target))) }
+{
+    let Members {
+        args,
+        caches,
+        context,
+        dockerfile,
+        images,
+        target,
+    } = members;
+    match files_of(alloc, dockerfile, context, target) {
+        Ok(files) => match named_of(alloc, images, args, caches) {
+            Ok(named) => Ok(Parts { files, named }),
+            Err(fault) => {
+                drop(files);
+                Err(fault)
+            }
+        },
+        Err(fault) => {
+            drop(images);
+            drop(args);
+            drop(caches);
+            Err(fault)
+        }
+    }
+}
+
 /// The bundle that a value is.
 #[tactic(auto, unfolding(crate::specs::Parts::parts_in))]
-pub(crate) fn read_parts<C: FromJson>(alloc: Global, value: &Value) -> Result<Parts<C>, ReadFault>
-    ensures { Gives result (parts_in C.reading (view value.now)) }
+pub(crate) fn take_parts<C: FromJson>(alloc: Global, value: Value) -> Result<Parts<C>, ReadFault>
+    ensures { Gives result (parts_in C.reading (view value)) }
 {
     if !is_strict(
-        value,
+        &value,
         &[
             "args",
             "caches",
@@ -268,7 +329,5 @@ pub(crate) fn read_parts<C: FromJson>(alloc: Global, value: &Value) -> Result<Pa
     ) {
         return Err(Fault::Because(NotRead));
     }
-    let files = read_files(alloc, value)?;
-    let named = read_named(alloc, value)?;
-    Ok(Parts { files, named })
+    parts_from(alloc, Members::taken(value))
 }

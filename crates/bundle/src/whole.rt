@@ -6,7 +6,7 @@ ghost use Rattle.strict.specs.Gives.{Gives};
 ghost use Rattle.bundle.specs.Parts.{parts_within, parts_of};
 ghost use Rattle.bundle.specs.Reading.{is_ignore_path, bytes_in, ignore_bytes, told_line, IsBundle, Completes, ReadsBundle};
 
-use crate::parts::{Files, Named, Parts, read_parts};
+use crate::parts::{Files, Named, Parts, take_parts};
 use cachemounts::CacheStore;
 use contexts::Context;
 use entries::Listing;
@@ -182,7 +182,7 @@ fn parts_within<C: FromJson>(
         return Err(Fault::Because(NotRead));
     }
     match Value::from_slice(alloc, bytes) {
-        Ok(value) => read_parts(alloc, &value),
+        Ok(value) => take_parts(alloc, value),
         Err(e) => {
             if e.is_memory() {
                 Err(Fault::Memory)

@@ -1,5 +1,6 @@
 mod FrontFacts
 pub mod RowFacts
 pub mod ApartFacts
+mod FingerprintFacts
 pub mod WrittenFacts
 mod PrintingFacts

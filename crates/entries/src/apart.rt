@@ -1,5 +1,6 @@
 // Whether rows are those of one tree. Where two clash, two neighbours do once rows are sorted by their paths. Most lists are
-// written in that order, so rows are sorted, as they are lent, only where they don't follow one another already.
+// written in that order, so rows are sorted, as they are lent, only where they don't follow one another already and fingerprints
+// don't tell them apart.
 
 ghost use Rattle.std.specs.Prelude.{◌≡◌, ◌||◌, IfOk, Some, None, map};
 ghost use Rattle.std.specs.List.{list_any};
@@ -8,6 +9,7 @@ ghost use Rattle.trees.specs.TreeMap.{is_file};
 ghost use Rattle.entries.specs.Listing.{is_in_way, clash, are_apart, is_root, is_root_file, is_listing};
 ghost use Rattle.entries.specs.PrivateOrder.{fits_after, follows, in_order_after};
 
+use crate::fingerprint::are_told_apart;
 use paths::Path;
 use plain::Memory;
 use std::alloc::Global;
@@ -21,7 +23,7 @@ fn is_front(front: &Path, path: &Path) -> bool
 }
 
 /// Whether an entry is a file.
-fn is_file(entry: &Entry) -> bool
+pub(crate) fn is_file(entry: &Entry) -> bool
     ensures { result ≡ is_file (Some entry.now) }
 {
     match entry {
@@ -106,6 +108,9 @@ fn are_apart(alloc: Global, rows: &[(Path, Entry)]) -> Result<bool, Memory>
     ensures { IfOk result (λ apart. apart ≡ are_apart rows.now) }
 {
     if are_in_order(rows) {
+        return Ok(true);
+    }
+    if are_told_apart(alloc, rows)? {
         return Ok(true);
     }
     let mut sorted = lent(alloc, rows)?;

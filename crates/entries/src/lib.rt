@@ -5,12 +5,13 @@
 // in the crate `strict`. What a list is for, as a build's context or an image, is said by the crates that have it.
 //
 // ```
-// let listing = Listing::from_json(alloc, &value)?;      // of [{"path":"/a","text":"hi"}]
+// let listing = Listing::taken(alloc, value)?;           // of [{"path":"/a","text":"hi"}]
 // let tree = listing.into_tree(alloc)?;                  // the root, 0755, and /a, 0644
 // ```
 #![tactic(auto)]
 
 mod apart;
+mod fingerprint;
 pub mod laws;
 mod listing;
 mod printing;

@@ -1,18 +1,17 @@
-ghost use Rattle.std.specs.Prelude.{◌≡◌, [], None, true, IfOk, OnOk};
-ghost use Rattle.std.specs.FinMap.{get};
-ghost use Rattle.trees.specs.Put.{cause_at, placed};
-ghost use Rattle.trees.specs.TreeMap.{directory_meta};
-ghost use Rattle.entries.specs.Listing.{is_listing};
+ghost use Rattle.std.specs.Prelude.{◌≡◌, [], true, IfOk};
+ghost use Rattle.serde_json.specs.View.{view};
+ghost use Rattle.strict.specs.Gives.{Gives};
+ghost use Rattle.entries.specs.Listing.{is_listing, listing_in};
 ghost use Rattle.entries.specs.Whole.{tree_of};
 
 use crate::apart::is_listing;
-use crate::reading::read_rows;
+use crate::reading::take_rows;
 use paths::Path;
 use plain::{Fault, Items, Memory};
 use serde_json::Value;
 use std::alloc::Global;
 use std::marker::Model;
-use strict::{FromJson, NotRead, ReadFault};
+use strict::{NotRead, ReadFault};
 use trees::{Entry, Tree};
 
 /// A list of a tree's entries with their paths, as it was written: no path stands in it twice, no file stands on the way to another entry,
@@ -36,23 +35,21 @@ impl Model for Listing {
     ghost invariant = { λ l. is_listing l.rows ≡ true };
 }
 
-impl FromJson for Listing {
-    ghost use Rattle.entries.specs.Listing.{listing_in};
-
-    ghost reading = { listing_in };
-
+impl Listing {
+    /// The list that a value is. `NotRead` where it is none. The value is let go of in parts, each once its rows are made, so that value and
+    /// list aren't both whole at any time.
     #[tactic(auto, unfolding(crate::specs::Listing::listing_in))]
-    fn from_json(alloc: Global, value: &Value) -> Result<Listing, ReadFault> {
-        let rows = read_rows(alloc, value)?;
+    pub fn taken(alloc: Global, value: Value) -> Result<Listing, ReadFault>
+        ensures { Gives result (listing_in (view value)) }
+    {
+        let rows = take_rows(alloc, value)?;
         if is_listing(alloc, rows.as_slice())? {
             Ok(Listing { rows })
         } else {
             Err(Fault::Because(NotRead))
         }
     }
-}
 
-impl Listing {
     /// The empty list, that of the empty tree. It takes no memory.
     #[tactic(auto, unfolding(crate::specs::Listing::is_listing))]
     pub fn empty(alloc: Global) -> Listing
@@ -88,20 +85,8 @@ impl Listing {
         let mut left = self.into_rows();
         let mut tree = Tree::empty(alloc);
         while let Some((path, entry)) = left.pop() {
-            place(alloc, &mut tree, &path, entry)?;
+            tree.place(alloc, &path, entry)?;
         }
         Ok(tree)
-    }
-}
-
-/// Puts an entry where nothing stands in its way.
-fn place(alloc: Global, tree: &mut Tree, path: &Path, entry: Entry) -> Result<(), Memory>
-    requires { cause_at (get tree.old) path.now entry ≡ None }
-    ensures { OnOk result (tree.new ≡ placed directory_meta tree.old path.now entry) }
-{
-    match tree.put(alloc, path, entry) {
-        Ok(()) => Ok(()),
-        Err(Fault::Memory) => Err(Memory),
-        Err(Fault::Because(_)) => unreachable!(),
     }
 }

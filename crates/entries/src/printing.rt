@@ -26,7 +26,7 @@ pub fn with_tree(alloc: Global, text: Text, entries: &[(Path, &Entry)]) -> Resul
     ensures { IfOk result (λ whole. whole
         ≡ text ++ compact_text (tree_data (map (λ row. (row.0, row.1.now)) entries.now))) }
 {
-    let mut text = text.into_string();
+    let mut text = text.into_string(alloc)?;
     push_tree(alloc, &mut text, entries)?;
     Ok(Text::from_string(text))
 }
@@ -156,7 +156,7 @@ fn push_path(alloc: Global, text: &mut String, path: &Path) -> Result<(), Memory
     if are_plain(path) {
         push_plain_path(text, path)
     } else {
-        let value = Value::String(path.text(alloc)?.into_string());
+        let value = Value::String(path.text(alloc)?.into_string(alloc)?);
         let quoted = value.to_string(alloc)?;
         text.push_str(quoted.as_str())?;
         Ok(())

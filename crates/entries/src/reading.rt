@@ -151,24 +151,33 @@ fn read_row(alloc: Global, value: &Value) -> Result<(Path, Entry), ReadFault>
     }
 }
 
-/// What each of some values is.
-fn read_each(alloc: Global, values: &[Value]) -> Result<Items<(Path, Entry)>, ReadFault>
-    ensures { Gives result (all_in row_in (items_view values.now)) }
+/// How many values are let go of at once. Those that stand behind one another lie together, so what they leave is room in one piece, in which
+/// the next rows lie close to each other.
+const MOST_SPENT: usize = 1024;
+
+/// What each of some values is. They are let go of in parts, each once its rows are made.
+fn take_each(alloc: Global, values: Vec<Value>) -> Result<Items<(Path, Entry)>, ReadFault>
+    ensures { Gives result (all_in row_in (items_view values.items)) }
 {
     let mut rows = Items::from_vec(Vec::with_capacity(alloc, values.len())?);
+    let mut spent = Vec::new(alloc);
     for value in values {
-        rows.push(read_row(alloc, value)?)?;
+        rows.push(read_row(alloc, &value)?)?;
+        spent.push(value)?;
+        if spent.len() == MOST_SPENT {
+            spent = Vec::new(alloc);
+        }
     }
     Ok(rows)
 }
 
 /// A list of entries with their paths, as it is written.
 #[tactic(auto, unfolding(strict::specs::Strict::list_in))]
-pub(crate) fn read_rows(alloc: Global, value: &Value) -> Result<Items<(Path, Entry)>, ReadFault>
-    ensures { Gives result (rows_of (view value.now)) }
+pub(crate) fn take_rows(alloc: Global, value: Value) -> Result<Items<(Path, Entry)>, ReadFault>
+    ensures { Gives result (rows_of (view value)) }
 {
-    let Some(values) = value.as_array() else {
+    let Value::Array(values) = value else {
         return Err(Fault::Because(NotRead));
     };
-    read_each(alloc, values.as_slice())
+    take_each(alloc, values)
 }

@@ -46,7 +46,7 @@ fn entry_value(alloc: Global, path: &Path, entry: &Entry) -> Result<Value, Memor
 fn directory_value(alloc: Global, path: &Path, meta: Meta) -> Result<Value, Memory>
     ensures { IfOk result (λ v. view v ≡ entry_data path.now (Directory meta)) }
 {
-    let path = path.text(alloc)?.into_string();
+    let path = path.text(alloc)?.into_string(alloc)?;
     let mode = mode_text(alloc, meta.mode)?;
     let value = directory_object(alloc, meta, mode, path)?;
     Ok(value)
@@ -70,7 +70,7 @@ fn directory_object(
 fn file_value(alloc: Global, path: &Path, meta: Meta, bytes: &[u8]) -> Result<Value, Memory>
     ensures { IfOk result (λ v. view v ≡ entry_data path.now (File meta bytes.now)) }
 {
-    let path = path.text(alloc)?.into_string();
+    let path = path.text(alloc)?.into_string(alloc)?;
     let mode = mode_text(alloc, meta.mode)?;
     let hex = hex::encode(alloc, bytes)?;
     let value = file_object(alloc, meta, hex, mode, path)?;

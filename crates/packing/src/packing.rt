@@ -58,16 +58,16 @@ fn write_found<W: CountedWrite>(
     let Some(text) = folder.bundle(alloc)? else {
         return Err(PackFault::Ended);
     };
-    let line = line_of(text)?;
+    let line = line_of(alloc, text)?;
     write_all(output, line.as_str().as_bytes())?;
     Ok(Status::Built)
 }
 
 /// A text with an LF behind it.
-fn line_of(text: Text) -> Result<Text, Memory>
+fn line_of(alloc: Global, text: Text) -> Result<Text, Memory>
     ensures { IfOk result (λ line. line ≡ text ++ 10 ∷ []) }
 {
-    let mut line = text.into_string();
+    let mut line = text.into_string(alloc)?;
     line.push('\n')?;
     Ok(Text::from_string(line))
 }

@@ -18,10 +18,10 @@ returns c =
     let second : string_bytes c.push_str-2.new.self ≡ string_bytes c.push_str.new.self ++ config =
     c.in_ok-push_str-2.ensures.bytes ∙ ap (λ t. string_bytes c.push_str.new.self ++ t) lent in
     let third : string_bytes c.push_str-3.new.self ≡ string_bytes c.push_str-2.new.self ++ codes ",\"result\":\"built\",\"tree\":" = c.in_ok-push_str-3.ensures.bytes in
-    let fourth : string_bytes c.into_string-text.result ≡ string_bytes c.push_str-3.new.self ++ tree =
-    c.into_string-text.ensures ∙ (c.in_ok-with_tree.ensures ∙ ap (λ t. t ++ tree) c.from_string.ensures) in
-    let fifth : string_bytes c.push_str-4.new.self ≡ string_bytes c.into_string-text.result ++ codes "}" = c.in_ok-push_str-4.ensures.bytes in
+    let fourth : string_bytes c.in_ok-text.text ≡ string_bytes c.push_str-3.new.self ++ tree =
+    c.in_ok-text.ensures ∙ (c.in_ok-with_tree.ensures ∙ ap (λ t. t ++ tree) c.from_string.ensures) in
+    let fifth : string_bytes c.push_str-4.new.self ≡ string_bytes c.in_ok-text.text ++ codes "}" = c.in_ok-push_str-4.ensures.bytes in
     c.from_string-2.ensures
     ∙ (in_a_row (string_bytes c.new-text.result) (string_bytes c.push_str.new.self) (string_bytes c.push_str-2.new.self) (string_bytes c.push_str-3.new.self)
-    (string_bytes c.into_string-text.result) (string_bytes c.push_str-4.new.self) (codes "{\"config\":") config (codes ",\"result\":\"built\",\"tree\":") tree none first second third fourth fifth
+    (string_bytes c.in_ok-text.text) (string_bytes c.push_str-4.new.self) (codes "{\"config\":") config (codes ",\"result\":\"built\",\"tree\":") tree none first second third fourth fifth
     ∙ built-text (view c.args.config) entries)

@@ -11,7 +11,7 @@ returns-then-bytes-most g c = within-long g.C.FromJson.reading c.args.most c.arg
 pub returns-in-Ok : goal.returns-in-Ok
 returns-in-Ok g c =
     let is = within-read g.C.FromJson.reading c.args.most c.args.bytes.now (view c.in-Ok.value) (omega arith) c.in-Ok.ensures.ok.0 c.in-Ok.ensures.ok.1 in
-    rw is c.read_parts.ensures
+    rw is c.take_parts.ensures
 
 pub returns-else-is_memory : goal.returns-else-is_memory
 returns-else-is_memory g c =

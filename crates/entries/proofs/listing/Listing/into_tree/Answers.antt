@@ -17,7 +17,7 @@ place-requires c =
 pub loop-path-preserved : goal.loop-path-preserved
 loop-path-preserved c =
     let row : Row = (c.in-Some.path, c.in-Some.entry) in
-    rest-more c.args.self c.loop-path.left.items c.pop.new.self.items row c.in-Some.ensures.items c.loop-path.tree c.loop-path.invariant c.place.new.tree c.in_ok-place.ensures
+    rest-more c.args.self c.loop-path.left.items c.pop.new.self.items row c.in-Some.ensures.items c.loop-path.tree c.loop-path.invariant c.place.new.self c.in_ok-place.ensures.ok
 
 pub returns : goal.returns
 returns c =
