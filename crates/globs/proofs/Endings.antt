@@ -6,20 +6,21 @@ use Rattle.std.specs.Str.{chars, IsUtf8}
 use Rattle.std.specs.Str.Pattern.{HasSuffixMatch, FindsTextSuffix}
 use Rattle.std.proofs.Math.Utf8.{encodes}
 use Rattle.std.proofs.lemmas.Str.{chars-encodes, chars-append, encodes-append, IsUtf8-take}
+use Rattle.globs.specs.declared.part.Part.{Part}
 use Rattle.globs.specs.declared.part.Part.TheVariants.{AnyRun, Exactly}
 use Rattle.globs.specs.Component.{RelatesToName}
 use Rattle.globs.specs.Grammar.{is_spelled_out}
-use Rattle.globs.specs.Reading.{sign_at, step, run, start, finished, parts_of}
+use Rattle.globs.specs.Reading.{sign_at, step, run, finished, parts_of}
 use Rattle.globs.specs.PrivateShape.{ending_parts}
 use Rattle.globs.proofs.PlainNames.{outside_with, run-plain, plain-made, plain-only}
 
-step-star : step start 42 ≡ Some (outside_with (AnyRun ∷ []))
+pub step-star : (parts : List Part) → step (outside_with parts) 42 ≡ Some (outside_with (parts ++ AnyRun ∷ []))
 unfolding sign_at
-step-star = refl
+step-star parts = refl
 
 parts_of-ending : (cs : List ℕ) → is_spelled_out cs ≡ true → parts_of (42 ∷ cs) ≡ Some (AnyRun ∷ map (λ c. Exactly c) cs)
 parts_of-ending cs h =
-    ap (λ first. option_and_then finished (option_and_then (λ next. run next cs) first)) step-star ∙ ap (λ found. option_and_then finished found) (run-plain (AnyRun ∷ []) cs h)
+    ap (λ first. option_and_then finished (option_and_then (λ next. run next cs) first)) (step-star []) ∙ ap (λ found. option_and_then finished found) (run-plain (AnyRun ∷ []) cs h)
 
 pub parts-behind : (text rest : List ℕ) (c : ℕ) (plain : Bool) → chars text ≡ c ∷ chars rest → c ≡ 42 → plain ≡ is_spelled_out (chars rest) → plain ≡ true → parts_of (chars text) ≡ Some (ending_parts rest)
 parts-behind text rest c plain e star is h = ap parts_of (e ∙ ap (λ d. d ∷ chars rest) star) ∙ parts_of-ending (chars rest) (sym is ∙ h)

@@ -3,6 +3,7 @@ pub mod Tests
 mod Characters
 mod PlainNames
 mod Endings
+mod Beginnings
 mod Texts
 mod Spelling
 mod Relating

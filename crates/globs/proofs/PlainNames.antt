@@ -19,13 +19,17 @@ use Rattle.globs.proofs.Spelling.{says, plain-by, outside-plain}
 abbrev pub outside_with : List Part → Reading
 outside_with parts = record { parts = parts; negated = false; ranges = []; state = Outside }
 
-pub run-plain : (parts : List Part) (cs : List ℕ) → is_spelled_out cs ≡ true → run (outside_with parts) cs ≡ Some (outside_with (parts ++ map (λ c. Exactly c) cs))
-run-plain parts [] h = ap (λ l. Some (outside_with l)) (sym (append-nil parts))
-run-plain parts (c ∷ cs) h =
+-- what a plain text leads to, with more behind it
+pub run-plain-then : (parts : List Part) (cs ds : List ℕ) → is_spelled_out cs ≡ true → run (outside_with parts) (cs ++ ds) ≡ run (outside_with (parts ++ map (λ c. Exactly c) cs)) ds
+run-plain-then parts [] ds h = ap (λ l. run (outside_with l) ds) (sym (append-nil parts))
+run-plain-then parts (c ∷ cs) ds h =
     let both = and_parts (is_none_of (codes "*?[\\") c) (is_spelled_out cs) h in
-    ap (λ r. run r cs) (outside-plain (sign_at c) (outside_with parts) c (plain-by (sign_at c) c (says c) both.0))
-    ∙ run-plain (parts ++ Exactly c ∷ []) cs both.1
-    ∙ ap (λ l. Some (outside_with l)) (append_assoc parts (Exactly c ∷ []) (map (λ c. Exactly c) cs))
+    ap (λ r. run r (cs ++ ds)) (outside-plain (sign_at c) (outside_with parts) c (plain-by (sign_at c) c (says c) both.0))
+    ∙ run-plain-then (parts ++ Exactly c ∷ []) cs ds both.1
+    ∙ ap (λ l. run (outside_with l) ds) (append_assoc parts (Exactly c ∷ []) (map (λ c. Exactly c) cs))
+
+pub run-plain : (parts : List Part) (cs : List ℕ) → is_spelled_out cs ≡ true → run (outside_with parts) cs ≡ Some (outside_with (parts ++ map (λ c. Exactly c) cs))
+run-plain parts cs h = ap (λ l. run (outside_with parts) l) (sym (append-nil cs)) ∙ run-plain-then parts cs [] h
 
 pub parts_of-plain : (cs : List ℕ) → is_spelled_out cs ≡ true → parts_of cs ≡ Some (map (λ c. Exactly c) cs)
 parts_of-plain cs h = ap (λ found. option_and_then finished found) (run-plain [] cs h)

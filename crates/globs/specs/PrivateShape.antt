@@ -1,17 +1,22 @@
 -- How a component's pattern is kept.
-use Rattle.std.specs.Prelude.{ℕ, List, ◌∷◌}
+use Rattle.std.specs.Prelude.{ℕ, List, [], ◌∷◌, ◌++◌}
 use Rattle.globs.specs.declared.part.Part.{Part}
 use Rattle.globs.specs.declared.part.Part.TheVariants.{AnyRun}
 use Rattle.globs.specs.declared.component.Shape.{Shape}
-use Rattle.globs.specs.declared.component.Shape.TheVariants.{Plain, Ending, Parts}
+use Rattle.globs.specs.declared.component.Shape.TheVariants.{Plain, Ending, Beginning, Parts}
 use Rattle.globs.specs.Component.{plain_parts}
 
 -- the parts of a `*` and of a plain text behind it
 abbrev pub ending_parts : List ℕ → List Part
 ending_parts text = AnyRun ∷ plain_parts text
 
+-- the parts of a plain text and of a `*` behind it
+abbrev pub beginning_parts : List ℕ → List Part
+beginning_parts text = plain_parts text ++ AnyRun ∷ []
+
 -- the parts of a component's pattern
 abbrev pub parts_in : Shape → List Part
 parts_in (Plain name) = plain_parts name
 parts_in (Ending text) = ending_parts text
+parts_in (Beginning text) = beginning_parts text
 parts_in (Parts parts) = parts

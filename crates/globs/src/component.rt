@@ -2,12 +2,12 @@ ghost use Rattle.std.specs.Prelude.{◌≡◌, ◌↔◌, IsTrue, Some, IfOk, If
 ghost use Rattle.std.specs.Str.{chars};
 ghost use Rattle.globs.specs.Component.{RelatesToName, relates_to_name, plain_parts, IsOnlyName};
 ghost use Rattle.globs.specs.Grammar.{is_spelled_out};
-ghost use Rattle.globs.specs.PrivateShape.{ending_parts};
+ghost use Rattle.globs.specs.PrivateShape.{ending_parts, beginning_parts};
 ghost use Rattle.globs.specs.Reading.{parts_of};
 
 use crate::part::{Part, name_can_be_cut};
 use crate::reading::read_parts;
-use crate::text::first_and_rest;
+use crate::text::{first_and_rest, last_and_front};
 use plain::{Items, Memory, Text};
 use std::alloc::Global;
 use std::marker::Model;
@@ -18,13 +18,16 @@ pub struct Component {
     shape: Shape,
 }
 
-/// How a component's pattern is kept. Most are plain names, or a `*` and a plain ending: these are compared by their bytes.
+/// How a component's pattern is kept. Most are plain names, or have a `*` before or behind a plain text alone: these are compared by their
+/// bytes.
 #[derive(Debug, Drop)]
 pub(crate) enum Shape {
     /// Just this name.
     Plain(Text),
     /// A `*`, and this text behind it.
     Ending(Text),
+    /// This text, and a `*` behind it.
+    Beginning(Text),
     /// These parts.
     Parts(Items<Part>),
 }
@@ -68,6 +71,13 @@ fn is_ending(own: &str, name: &str) -> bool
     name.ends_with(own)
 }
 
+/// Whether a name is one that this text and a `*` behind it stand for.
+fn is_beginning(own: &str, name: &str) -> bool
+    ensures { IsTrue result ↔ RelatesToName (beginning_parts own.now) name.now }
+{
+    name.starts_with(own)
+}
+
 /// What stands behind the `*` that a pattern's text begins with, where that is spelled out; none for others.
 fn plain_ending(text: &str) -> Option<&str>
     ensures { IfSome result (λ rest. parts_of (chars text.now) ≡ Some (ending_parts rest.now)) }
@@ -76,6 +86,21 @@ fn plain_ending(text: &str) -> Option<&str>
         Some((character, rest)) => {
             if character == '*' && is_spelled_out(rest) {
                 return Some(rest);
+            }
+            None
+        }
+        None => None,
+    }
+}
+
+/// What stands before the `*` that a pattern's text ends in, where that is spelled out; none for others.
+fn plain_beginning(text: &str) -> Option<&str>
+    ensures { IfSome result (λ front. parts_of (chars text.now) ≡ Some (beginning_parts front.now)) }
+{
+    match last_and_front(text) {
+        Some((character, front)) => {
+            if character == '*' && is_spelled_out(front) {
+                return Some(front);
             }
             None
         }
@@ -100,6 +125,12 @@ impl Component {
                 shape: Shape::Ending(own),
             }));
         }
+        if let Some(beginning) = plain_beginning(text) {
+            let own = Text::from_str(alloc, beginning)?;
+            return Ok(Some(Component {
+                shape: Shape::Beginning(own),
+            }));
+        }
         match read_parts(alloc, text)? {
             Some(parts) => Ok(Some(Component {
                 shape: Shape::Parts(parts),
@@ -115,6 +146,7 @@ impl Component {
         match &self.shape {
             Shape::Plain(own) => is_name(own.as_str(), name.as_str()),
             Shape::Ending(own) => is_ending(own.as_str(), name.as_str()),
+            Shape::Beginning(own) => is_beginning(own.as_str(), name.as_str()),
             Shape::Parts(parts) => name_can_be_cut(parts.as_slice(), name.as_str()),
         }
     }
@@ -125,7 +157,7 @@ impl Component {
     {
         match &self.shape {
             Shape::Plain(own) => Some(own.as_str()),
-            Shape::Ending(_) | Shape::Parts(_) => None,
+            Shape::Ending(_) | Shape::Beginning(_) | Shape::Parts(_) => None,
         }
     }
 }

@@ -1,7 +1,8 @@
 ghost use Rattle.std.specs.Prelude.{◌≡◌, IfOk, OnOk};
 ghost use Rattle.std.specs.Str.{chars};
-ghost use Rattle.globs.specs.Reading.{parts_of, start, finished, outside};
-ghost use Rattle.globs.specs.PrivateReading.{Steps, StepsBetween};
+ghost use Rattle.globs.specs.Reading.{parts_of, start, finished, outside, opened, low, dashed, with_range};
+ghost use Rattle.globs.specs.PrivateReading.{Goes, Steps, StepsBetween};
+ghost use Rattle.globs.specs.declared.reading.State.TheVariants.{Between};
 
 use crate::part::{Part, Range};
 use crate::sign::{Sign, sign_of};
@@ -66,53 +67,84 @@ impl Reading {
                 self.state = State::Outside;
                 Ok(true)
             }
+            State::Opened => self.step_opened(alloc, sign, character),
+            State::Between => self.step_between(alloc, sign, character),
             State::EscapedLow => {
                 self.state = State::Low(character);
                 Ok(true)
             }
-            State::Dash(low) => match sign {
-                Sign::Backslash => {
-                    self.state = State::EscapedHigh(low);
-                    Ok(true)
-                }
-                Sign::Hyphen | Sign::Close => Ok(false),
-                _ => {
-                    self.ranges.push(Range {
-                        low,
-                        high: character,
-                    })?;
-                    self.state = State::Between;
-                    Ok(true)
-                }
-            },
-            State::EscapedHigh(low) => {
-                self.ranges.push(Range {
-                    low,
-                    high: character,
-                })?;
+            State::Low(first) => self.step_low(alloc, first, sign, character),
+            State::Dash(first) => self.step_dashed(first, sign, character),
+            State::EscapedHigh(first) => {
+                self.end_range(first, character)?;
+                Ok(true)
+            }
+        }
+    }
+
+    /// Goes on by one character right behind the `[` of a class; answers false where none of its kind may stand.
+    fn step_opened(&mut self, alloc: Global, sign: Sign, character: char) -> Result<bool, Memory>
+        ensures { IfOk result (λ fine. Goes (opened self.old sign character) self.new fine) }
+    {
+        match sign {
+            Sign::Caret => {
+                self.negated = true;
                 self.state = State::Between;
                 Ok(true)
             }
-            State::Opened => match sign {
-                Sign::Caret => {
-                    self.negated = true;
-                    self.state = State::Between;
-                    Ok(true)
-                }
-                _ => self.step_between(alloc, sign, character),
-            },
-            State::Between => self.step_between(alloc, sign, character),
-            State::Low(low) => match sign {
-                Sign::Hyphen => {
-                    self.state = State::Dash(low);
-                    Ok(true)
-                }
-                _ => {
-                    self.ranges.push(Range { low, high: low })?;
-                    self.step_between(alloc, sign, character)
-                }
-            },
+            _ => self.step_between(alloc, sign, character),
         }
+    }
+
+    /// Goes on by one character behind the first of an item; answers false where none of its kind may stand.
+    fn step_low(
+        &mut self,
+        alloc: Global,
+        first: char,
+        sign: Sign,
+        character: char,
+    ) -> Result<bool, Memory>
+        ensures { IfOk result (λ fine. Goes (low self.old first sign character) self.new fine) }
+    {
+        match sign {
+            Sign::Hyphen => {
+                self.state = State::Dash(first);
+                Ok(true)
+            }
+            _ => {
+                self.ranges.push(Range {
+                    low: first,
+                    high: first,
+                })?;
+                self.step_between(alloc, sign, character)
+            }
+        }
+    }
+
+    /// Goes on by one character behind the `-` of a range; answers false where none of its kind may stand.
+    fn step_dashed(&mut self, first: char, sign: Sign, character: char) -> Result<bool, Memory>
+        ensures { IfOk result (λ fine. Goes (dashed self.old first sign character) self.new fine) }
+    {
+        match sign {
+            Sign::Backslash => {
+                self.state = State::EscapedHigh(first);
+                Ok(true)
+            }
+            Sign::Hyphen | Sign::Close => Ok(false),
+            _ => {
+                self.end_range(first, character)?;
+                Ok(true)
+            }
+        }
+    }
+
+    /// Ends a range: behind it another item may begin.
+    fn end_range(&mut self, low: char, high: char) -> Result<(), Memory>
+        ensures { OnOk result (self.new ≡ with_range self.old low high Between) }
+    {
+        self.ranges.push(Range { low, high })?;
+        self.state = State::Between;
+        Ok(())
     }
 
     /// Goes on by one character outside of classes.

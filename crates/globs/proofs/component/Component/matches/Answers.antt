@@ -1,6 +1,6 @@
 use Rattle.std.proofs.Common.{◌≡◌, ◌∙◌}
 use Rattle.globs.specs.Component.{plain_parts, relates_to_name}
-use Rattle.globs.specs.PrivateShape.{ending_parts}
+use Rattle.globs.specs.PrivateShape.{ending_parts, beginning_parts}
 use Rattle.globs.proofs.Tests.{matched}
 use Rattle.globs.proofs.component.Component.matches.Goals as goal
 
@@ -13,6 +13,11 @@ pub returns-in-Ending : goal.returns-in-Ending
 returns-in-Ending c =
     let parts : ending_parts c.as_str-in-Ending.result.now ≡ c.args.self.now = cc in
     matched _ (ending_parts c.as_str-in-Ending.result.now) c.as_str-in-Ending-2.result.now c.is_ending.ensures ∙ (λ i. relates_to_name (parts i) (c.as_str-in-Ending-2.ensures i))
+
+pub returns-in-Beginning : goal.returns-in-Beginning
+returns-in-Beginning c =
+    let parts : beginning_parts c.as_str-in-Beginning.result.now ≡ c.args.self.now = cc in
+    matched _ (beginning_parts c.as_str-in-Beginning.result.now) c.as_str-in-Beginning-2.result.now c.is_beginning.ensures ∙ (λ i. relates_to_name (parts i) (c.as_str-in-Beginning-2.ensures i))
 
 pub returns-in-Parts : goal.returns-in-Parts
 returns-in-Parts c =
