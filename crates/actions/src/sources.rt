@@ -40,7 +40,10 @@ fn short_body(alloc: Global, body: Body, scope: &Scope) -> Result<Option<Text>, 
 fn content_of(alloc: Global, text: Text) -> Result<Content, Memory>
     ensures { IfOk result (λ content. content ≡ text) }
 {
-    Content::new(alloc, Bytes::from_vec(text.into_string().into_bytes()))
+    Content::new(
+        alloc,
+        Bytes::from_vec(text.into_string(alloc)?.into_bytes()),
+    )
 }
 
 /// A source with its text expanded, or none where it is past the limits.

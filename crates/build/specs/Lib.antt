@@ -6,4 +6,5 @@ pub mod Meaning
 pub mod Messages
 pub mod PrivateAsking
 pub mod PrivateShowing
+pub mod PrivateTelling
 pub mod Telling

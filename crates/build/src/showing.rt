@@ -31,7 +31,7 @@ pub(crate) fn show_bundle(
         }
         Err(Fault::Because(refusal)) => {
             let text = refused_answer(alloc, refusal)?;
-            Ok(line_of(Status::Refused, text)?)
+            Ok(line_of(alloc, Status::Refused, text)?)
         }
         Err(Fault::Memory) => Err(BuildFault::Memory),
     }
@@ -50,7 +50,7 @@ fn show_file(alloc: Global, evaluated: Evaluated) -> Result<Told, BuildFault>
     } = evaluated;
     let plan = lower_program(alloc, rows, target, config, sources)?;
     match draw(alloc, plan) {
-        Ok(text) => Ok(line_of(Status::Built, text)?),
+        Ok(text) => Ok(line_of(alloc, Status::Built, text)?),
         Err(Fault::Because(Clash)) => Err(BuildFault::Clash),
         Err(Fault::Memory) => Err(BuildFault::Memory),
     }

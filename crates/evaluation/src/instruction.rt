@@ -163,6 +163,8 @@ fn copy(
 
 /// What an instruction does to the tree, under what it left. RUN and COPY leave what they found, and WORKDIR makes the directory that it
 /// left.
+///
+/// What isn't handed on is let go by name: the proof would walk all its cases at the end of the function.
 fn act(
     alloc: Global,
     state: &State,
@@ -185,6 +187,8 @@ fn act(
             Ok(Some(action))
         }
         InstructionKind::Workdir { .. } => {
+            drop(kind);
+            drop(origins);
             let path = state.config.dir(alloc)?;
             Ok(Some(Action::MakeDirs { path }))
         }
@@ -198,7 +202,11 @@ fn act(
         | InstructionKind::Volume { .. }
         | InstructionKind::Shell { .. }
         | InstructionKind::Cmd { .. }
-        | InstructionKind::Entrypoint { .. } => Ok(None),
+        | InstructionKind::Entrypoint { .. } => {
+            drop(kind);
+            drop(origins);
+            Ok(None)
+        }
     }
 }
 

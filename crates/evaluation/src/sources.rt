@@ -1,12 +1,30 @@
-ghost use Rattle.std.specs.Prelude.{◌≤◌, length, IfOk};
-ghost use Rattle.std.specs.FinMap.{len};
+ghost use Rattle.std.specs.Prelude.{◌≡◌, ◌≤◌, length, IfOk};
+ghost use Rattle.std.specs.FinMap.{insert, len};
 ghost use Rattle.evaluation.specs.Images.{AreSources};
 
 use imageconfig::Config;
 use plain::{Memory, Text};
-use plans::{Images, Sources};
+use plans::{Image, Images, Sources};
 use std::alloc::Global;
 use trees::Tree;
+
+/// The sources with the tree of an image. Its configuration is let go.
+///
+/// It takes the sources and gives them back, so that the loop below holds nothing that is half moved out: that is dear to prove.
+fn with_image(sources: Sources, name: Text, image: Image<Config>) -> Result<Sources, Memory>
+    ensures { IfOk result (λ more. more ≡ record sources { images = insert sources.images name image.tree }) }
+{
+    let Image { config, tree } = image;
+    drop(config);
+    let mut sources = sources;
+    match sources.add_image(name, tree) {
+        Ok(()) => Ok(sources),
+        Err(memory) => {
+            drop(sources);
+            Err(memory)
+        }
+    }
+}
 
 /// The context, and the trees of the images of these names. Trees of other images are dropped. A name without an image doesn't come, since
 /// `stages` refuses it.
@@ -23,9 +41,16 @@ pub(crate) fn sources_of(
     let mut sources = Sources::new(alloc, context);
     for name in names {
         match images.take(&name) {
-            Some(image) => sources.add_image(name, image.tree)?,
-            None => {}
+            Some(image) => match with_image(sources, name, image) {
+                Ok(more) => sources = more,
+                Err(memory) => {
+                    drop(images);
+                    return Err(memory);
+                }
+            },
+            None => drop(name),
         }
     }
+    drop(images);
     Ok(sources)
 }

@@ -12,6 +12,7 @@ pub mod Least
 pub mod Names
 pub mod OneWord
 pub mod Parsing
+pub mod PrivateCopy
 pub mod PrivateLent
 pub mod Run
 pub mod Shell

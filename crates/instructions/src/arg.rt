@@ -4,6 +4,7 @@ ghost use Rattle.instructions.specs.Arg.{argument_cut, argument_of, arguments_of
 ghost use Rattle.instructions.specs.Least.{Meets};
 ghost use Rattle.instructions.specs.PrivateLent.{lent_texts, lent_argument, lent_arguments};
 
+use crate::expanded::are_none;
 use crate::{Argument, InstructionKind};
 use ascii::is_name;
 use expand::{Kind, Word};
@@ -90,7 +91,7 @@ pub(crate) fn read_arg(
     ensures { Meets (arg_read escape text.now) (arg_due escape text.now) result }
 {
     let words = split(alloc, escape, text)?;
-    if words.is_empty() {
+    if are_none(&words) {
         return Err(Fault::Because(Code::R06));
     }
     closed(escape, text)?;

@@ -4,9 +4,10 @@ ghost use Rattle.expand.specs.Word.{Finds};
 ghost use Rattle.instructions.specs.Copy.{pattern_of, body_of, document_of, source_of, left_behind, sources, arguments_of, are_all_sources, are_refused, copy_read, copy_due};
 ghost use Rattle.instructions.specs.Expanded.{kind_of};
 ghost use Rattle.instructions.specs.Least.{Meets};
+ghost use Rattle.instructions.specs.PrivateCopy.{parts_read, parts_due};
 ghost use Rattle.instructions.specs.PrivateLent.{lent_texts};
 
-use crate::expanded::{kind_of, texts};
+use crate::expanded::{are_too_few, kind_of, texts};
 use crate::{Body, InstructionKind, Source};
 use expand::{Kind, Word};
 use lines::{Escape, Heredoc, is_mark};
@@ -136,6 +137,41 @@ fn read_arguments(
     Ok((sources, destination))
 }
 
+/// The COPY of these texts, which stand behind these flags.
+fn read_parts(
+    alloc: Global,
+    is_list: bool,
+    escape: Escape,
+    heredocs: &[Heredoc],
+    rest: &str,
+    texts: &[&str],
+    flags: &[Flag],
+) -> Result<InstructionKind, TextFault>
+    ensures { Meets (parts_read is_list escape heredocs.now (lent_texts texts.now) flags.now) (parts_due is_list escape heredocs.now rest.now (lent_texts texts.now) flags.now) result }
+{
+    if are_too_few(texts) {
+        return Err(Fault::Because(Code::R06));
+    }
+    if !are_copy_flags(flags) {
+        return Err(Fault::Because(Code::R07));
+    }
+    if are_refused(is_list, heredocs, texts, flags) {
+        return Err(Fault::Because(Code::R08));
+    }
+    if !is_list {
+        closed(escape, rest)?;
+    }
+    let (sources, destination) = read_arguments(alloc, is_list, escape, heredocs, texts)?;
+    let Some(flags) = copy_flags(alloc, flags)? else {
+        return Err(Fault::Because(Code::R16));
+    };
+    Ok(InstructionKind::Copy {
+        sources,
+        destination,
+        flags,
+    })
+}
+
 /// COPY: flags, then sources and a destination, as words or as a list in JSON.
 pub(crate) fn read_copy(
     alloc: Global,
@@ -149,25 +185,13 @@ pub(crate) fn read_copy(
     let form = json_form(alloc, rest)?;
     let is_list = form.is_some();
     let texts = texts(alloc, escape, rest, &form)?;
-    if texts.len() < 2 {
-        return Err(Fault::Because(Code::R06));
-    }
-    if !are_copy_flags(flags.as_slice()) {
-        return Err(Fault::Because(Code::R07));
-    }
-    if are_refused(is_list, heredocs, &texts, flags.as_slice()) {
-        return Err(Fault::Because(Code::R08));
-    }
-    if !is_list {
-        closed(escape, rest)?;
-    }
-    let (sources, destination) = read_arguments(alloc, is_list, escape, heredocs, &texts)?;
-    let Some(flags) = copy_flags(alloc, flags.as_slice())? else {
-        return Err(Fault::Because(Code::R16));
-    };
-    Ok(InstructionKind::Copy {
-        sources,
-        destination,
-        flags,
-    })
+    read_parts(
+        alloc,
+        is_list,
+        escape,
+        heredocs,
+        rest,
+        &texts,
+        flags.as_slice(),
+    )
 }

@@ -1,7 +1,7 @@
 ghost use Rattle.std.specs.Prelude.{◌≡◌, Some, option_map, IfOk};
 ghost use Rattle.words.specs.Pairs.{pair};
 ghost use Rattle.expand.specs.Word.{Finds};
-ghost use Rattle.instructions.specs.Env.{pairs_among, pair_alone, assignment_of, assignments_of, has_bad_name, env_read, env_due};
+ghost use Rattle.instructions.specs.Env.{pairs_among, pair_alone, pairs_in, has_pairs, assignment_of, assignments_of, has_bad_name, env_read, env_due};
 ghost use Rattle.instructions.specs.Least.{Meets};
 ghost use Rattle.instructions.specs.PrivateLent.{lent_texts, lent_pair, lent_pairs};
 
@@ -92,6 +92,29 @@ fn has_bad_name(pairs: &[(&str, &str)]) -> bool
     false
 }
 
+/// The names and values of a text behind ENV.
+fn pairs_in<'a>(
+    alloc: Global,
+    escape: Escape,
+    text: &'a str,
+) -> Result<Option<Vec<(&'a str, &'a str)>>, Memory>
+    ensures { IfOk result (λ found. option_map (λ pairs. lent_pairs pairs.items) found ≡ pairs_in escape text.now) }
+{
+    let (name, value) = first_piece(text);
+    if pair(name).is_none() {
+        return pair_alone(alloc, name, value);
+    }
+    let words = split(alloc, escape, text)?;
+    pairs_among(alloc, &words)
+}
+
+/// Whether the first piece of a text has an `=`.
+fn has_pairs(text: &str) -> bool
+    ensures { result ≡ has_pairs text.now }
+{
+    pair(first_piece(text).0).is_some()
+}
+
 /// ENV: `name=value`, one or more of them, or `name value`.
 pub(crate) fn read_env(
     alloc: Global,
@@ -100,18 +123,10 @@ pub(crate) fn read_env(
 ) -> Result<InstructionKind, TextFault>
     ensures { Meets (env_read escape text.now) (env_due escape text.now) result }
 {
-    let (name, value) = first_piece(text);
-    let has_pairs = pair(name).is_some();
-    let pairs = if has_pairs {
-        let words = split(alloc, escape, text)?;
-        pairs_among(alloc, &words)?
-    } else {
-        pair_alone(alloc, name, value)?
-    };
-    let Some(pairs) = pairs else {
+    let Some(pairs) = pairs_in(alloc, escape, text)? else {
         return Err(Fault::Because(Code::R06));
     };
-    if has_pairs {
+    if has_pairs(text) {
         closed(escape, text)?;
     }
     let assignments = read_assignments(alloc, escape, &pairs)?;

@@ -1,4 +1,4 @@
-ghost use Rattle.std.specs.Prelude.{◌≡◌, IfOk};
+ghost use Rattle.std.specs.Prelude.{◌≡◌, ◌==◌, length, nat_lt, IfOk};
 ghost use Rattle.expand.specs.Word.{Finds};
 ghost use Rattle.instructions.specs.Expanded.{all_words, texts_by, kind_of};
 ghost use Rattle.instructions.specs.PrivateLent.{lent_texts};
@@ -43,6 +43,23 @@ pub(crate) fn texts<'a>(
         texts.push(string.as_str())?;
     }
     Ok(texts)
+}
+
+/// Whether there is no text.
+#[tactic(auto, using(crate::proofs::TextLemmas::length_lent))]
+pub(crate) fn are_none(texts: &[&str]) -> bool
+    ensures { result ≡ (length (lent_texts texts.now) == 0) }
+{
+    texts.is_empty()
+}
+
+/// Whether there are fewer than two texts.
+#[tactic(auto, using(crate::proofs::TextLemmas::length_lent))]
+pub(crate) fn are_too_few(texts: &[&str]) -> bool
+    ensures lent { result ≡ nat_lt (length (lent_texts texts.now)) 2 }
+    ensures count { result ≡ nat_lt (length texts.now) 2 }
+{
+    texts.len() < 2
 }
 
 /// What quotes do in the texts of a list in JSON, and in words.

@@ -2,7 +2,7 @@ ghost use Rattle.instructions.specs.Expose.{expose_read, expose_due};
 ghost use Rattle.instructions.specs.Least.{Meets};
 
 use crate::InstructionKind;
-use crate::expanded::all_words;
+use crate::expanded::{all_words, are_none};
 use expand::Kind;
 use lines::Escape;
 use plain::{Code, Fault};
@@ -18,7 +18,7 @@ pub(crate) fn read_expose(
     ensures { Meets (expose_read escape text.now) (expose_due escape text.now) result }
 {
     let words = split(alloc, escape, text)?;
-    if words.is_empty() {
+    if are_none(&words) {
         return Err(Fault::Because(Code::R06));
     }
     closed(escape, text)?;

@@ -1,4 +1,5 @@
-ghost use Rattle.std.specs.Prelude.{◌≡◌, option_map, IfOk};
+ghost use Rattle.std.specs.Prelude.{◌≡◌, ◌==◌, not, length, option_map, IfOk};
+ghost use Rattle.words.specs.Flag.{flags, behind_flags};
 ghost use Rattle.instructions.specs.From.{from_read, from_due, stage_words, is_bad_name};
 ghost use Rattle.instructions.specs.Least.{Meets};
 ghost use Rattle.instructions.specs.PrivateLent.{lent_texts};
@@ -48,6 +49,16 @@ fn copied_name(alloc: Global, name: Option<&str>) -> Result<Option<Text>, Memory
     }
 }
 
+/// Whether a text begins with flags, and what stands behind them.
+fn cut_flags<'a>(alloc: Global, text: &'a str) -> Result<(bool, &'a str), Memory>
+    ensures { IfOk result (λ cut. (cut.0 ≡ not (length (flags text.now) == 0)) × (cut.1.now ≡ behind_flags text.now)) }
+{
+    let (flags, rest) = flags(alloc, text)?;
+    let has_flags = !flags.is_empty();
+    drop(flags);
+    Ok((has_flags, rest))
+}
+
 /// FROM: `image` or `image AS name`.
 pub(crate) fn read_from(
     alloc: Global,
@@ -56,12 +67,12 @@ pub(crate) fn read_from(
 ) -> Result<InstructionKind, TextFault>
     ensures { Meets (from_read escape text.now) (from_due escape text.now) result }
 {
-    let (flags, rest) = flags(alloc, text)?;
+    let (has_flags, rest) = cut_flags(alloc, text)?;
     let words = split(alloc, escape, rest)?;
     let Some((image, name)) = stage_words(&words) else {
         return Err(Fault::Because(Code::R06));
     };
-    if !flags.is_empty() {
+    if has_flags {
         return Err(Fault::Because(Code::R07));
     }
     closed(escape, rest)?;

@@ -2,7 +2,7 @@ ghost use Rattle.instructions.specs.Least.{Meets};
 ghost use Rattle.instructions.specs.Volume.{volume_read, volume_due};
 
 use crate::InstructionKind;
-use crate::expanded::{all_words, kind_of, texts};
+use crate::expanded::{all_words, are_none, kind_of, texts};
 use lines::Escape;
 use plain::{Code, Fault};
 use std::alloc::Global;
@@ -19,7 +19,7 @@ pub(crate) fn read_volume(
     let form = json_form(alloc, text)?;
     let is_list = form.is_some();
     let texts = texts(alloc, escape, text, &form)?;
-    if texts.is_empty() {
+    if are_none(&texts) {
         return Err(Fault::Because(Code::R06));
     }
     if !is_list {

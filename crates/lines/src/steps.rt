@@ -202,10 +202,10 @@ fn close_line(alloc: Global, state: FileState, number: u32, text: &str) -> Resul
 }
 
 /// A text with another one at its end.
-fn append(text: Text, more: &str) -> Result<Text, Memory>
+fn append(alloc: Global, text: Text, more: &str) -> Result<Text, Memory>
     ensures { IfOk result (λ both. both ≡ text ++ more.now) }
 {
-    let mut text = text.into_string();
+    let mut text = text.into_string(alloc)?;
     match text.push_str(more) {
         Ok(()) => Ok(Text::from_string(text)),
         Err(_) => {
@@ -227,11 +227,11 @@ fn join_line(
 {
     match continued_part(state.escape, line) {
         Some(part) => {
-            let text = append(before, part)?;
+            let text = append(alloc, before, part)?;
             Ok(at_position(state, Position::Within(Pending { number, text })))
         }
         None => {
-            let text = append(before, line)?;
+            let text = append(alloc, before, line)?;
             close_line(alloc, state, number, trimmed(text.as_str()))
         }
     }
@@ -312,15 +312,20 @@ fn close_heredoc(alloc: Global, state: FileState, unclosed: Unclosed) -> Result<
 }
 
 /// A text with a line and its LF at its end.
-fn append_line(text: Text, line: &str) -> Result<Text, Memory>
+fn append_line(alloc: Global, text: Text, line: &str) -> Result<Text, Memory>
     ensures { IfOk result (λ both. both ≡ text ++ (line.now ++ 10 ∷ [])) }
 {
-    let text = append(text, line)?;
-    append(text, "\n")
+    let text = append(alloc, text, line)?;
+    append(alloc, text, "\n")
 }
 
 /// Adds a line with its LF to the body of the heredoc that is read.
-fn grow_body(state: FileState, unclosed: Unclosed, line: &str) -> Result<FileState, Memory>
+fn grow_body(
+    alloc: Global,
+    state: FileState,
+    unclosed: Unclosed,
+    line: &str,
+) -> Result<FileState, Memory>
     ensures { IfOk result (λ r. r ≡ grow_body state unclosed line.now) }
 {
     let Unclosed {
@@ -331,7 +336,7 @@ fn grow_body(state: FileState, unclosed: Unclosed, line: &str) -> Result<FileSta
         mark,
         body,
     } = unclosed;
-    match append_line(body, line) {
+    match append_line(alloc, body, line) {
         Ok(body) => {
             let unclosed = Unclosed {
                 number,
@@ -405,7 +410,7 @@ fn read_body_line(
         return close_heredoc(alloc, state, unclosed);
     }
     let kept = body_line(&unclosed.mark, line);
-    grow_body(state, unclosed, kept)
+    grow_body(alloc, state, unclosed, kept)
 }
 
 /// Reads the next line of the file.

@@ -79,7 +79,7 @@ fn path_to_json(alloc: Global, path: &Path) -> Result<Value, Memory>
     ensures clean { IsClean path.now }
 {
     let _clean = path.components();
-    Ok(Value::String(path.text(alloc)?.into_string()))
+    Ok(Value::String(path.text(alloc)?.into_string(alloc)?))
 }
 
 /// The members with a path at a key, by its text.

@@ -1,6 +1,6 @@
 -- What the code has of a file, instruction by instruction.
 use Rattle.std.proofs.Common.{◌≡◌, ◌<◌, ◌||◌, ℕ, Bool, true, false, List, [], ◌∷◌, ◌++◌, Option, Some, None, length, refl, sym, ap, ◌∙◌, subst, arith, if◌then◌else◌}
-use Rattle.std.specs.Prelude.{◌==◌, nat_le, Result, Err}
+use Rattle.std.specs.Prelude.{◌==◌, nat_le, Result, Ok, Err}
 use Rattle.std.specs.List.{All, cons_option}
 use Rattle.std.specs.Option.{option_map}
 use Rattle.std.proofs.lemmas.Bool.{true≢false, leb-false, eqb-true}
@@ -16,14 +16,16 @@ use Rattle.rows.specs.declared.row.Origin.{Origin}
 use Rattle.instructions.specs.Least.{least, Meets}
 use Rattle.instructions.specs.declared.instruction.Argument.{Argument}
 use Rattle.instructions.specs.declared.instruction.Instruction.{Instruction}
+use Rattle.instructions.specs.declared.instruction.InstructionKind.{InstructionKind}
 use Rattle.scopes.specs.Scope.{value_in, kept}
-use Rattle.scopes.specs.Evaluate.{Values, arg_line}
+use Rattle.scopes.specs.Evaluate.{Values, Declares, arg_line, arg_texts, is_one_long}
+use Rattle.scopes.specs.declared.declaration.Declaration.{Declaration}
 use Rattle.stages.specs.declared.resolving.Draft.{Draft}
 use Rattle.stages.specs.declared.stage.ResolvedInstruction.{ResolvedInstruction}
 use Rattle.stages.specs.declared.stage.ResolvedStage.{ResolvedStage}
 use Rattle.stages.specs.Naming.{Names, Known, origins_of, leads_nowhere}
 use Rattle.stages.specs.Before.{begun, declared_by, stage_names, all_but_last, outer_scope}
-use Rattle.stages.specs.Due.{base_text, is_long, is_taken, base_due, outer_due, inner_due, other_due, begun_due, kind_due, due_behind}
+use Rattle.stages.specs.Due.{base_text, is_long, is_taken, base_due, argument_due, outer_due, inner_due, other_due, begun_due, kind_due, due_behind}
 use Rattle.stages.specs.Table.{stages_behind, stages_of}
 use Rattle.stages.specs.Resolved.{told_at, first_refusal}
 use Rattle.stages.specs.PrivateResolving.{with_last, last_with, draft_begun, draft_declared, draft_outer, draft_extended, draft_other, draft_by, draft_after, IsCounted, AreCounted, IsDraft}
@@ -265,10 +267,6 @@ so_far_all known args all rest draft so_far over =
       subst (λ is. IsDraft known args is draft) (sym same) so_far.are,
     )
 
--- a draft with another last stage
-abbrev pub draft_last : Draft → Option ResolvedStage → Draft
-draft_last draft last = record { outer = draft.outer; names = draft.names; stages = draft.stages; last = last }
-
 -- what a call on an instruction answers, by what it begins and what stands before it
 
 pub adds_begun : (known : Known) (args : Values) (draft : Draft) (i : Instruction) (stage : Parts × Option (List ℕ)) (result : Result Draft (Fault Code))
@@ -304,14 +302,69 @@ pub other_inner : (known : Known) (args : Values) (draft : Draft) (i : Instructi
     → Meets (Some (draft_other known args draft draft.names i)) (other_due known args draft.outer draft.names i.kind) result
 other_inner known args draft i result some meets = other_inner_by known args draft i draft.names result some meets
 
-pub extend_ok : (known : Known) (draft : Draft) (i : Instruction) (names : Names) (origins : List Origin) (last : Option ResolvedStage) → names ≡ draft.names
+-- what declaring the arguments of a line answers
+
+argument_clear : (is_long : Bool) → is_long ≡ false → (if is_long then Some R18 else None) ≡ None
+argument_clear is_long e = ap (λ b. if b then Some R18 else None) e
+
+argument_told : (is_long : Bool) (code : Code) → code ≡ R18 → is_long ≡ true → (if is_long then Some R18 else None) ≡ Some code
+argument_told is_long code is e = ap (λ b. if b then Some R18 else None) e ∙ ap Some (sym is)
+
+pub declared_ok : (args : Values) (outer empty new : List Declaration) (arguments : List Argument) (told : Result (Unit {0}) (Fault Code)) → empty ≡ [] → told ≡ Ok tt
+    → Declares outer (arg_line (value_in outer) args (value_in empty) arguments) (arg_texts (value_in outer) args arguments) new told
+    → (Some (kept (outer ++ arg_line (value_in outer) args (λ name. None) arguments)) ≡ Some new) × (least (argument_due (arg_texts (value_in outer) args arguments)) ≡ None)
+declared_ok args outer empty new arguments told none is declares =
+    let added =
+    subst (λ t. Declares outer (arg_line (value_in outer) args (value_in empty) arguments) (arg_texts (value_in outer) args arguments) new t) is declares in (
+      ap (λ scope. Some (kept (outer ++ arg_line (value_in outer) args (value_in scope) arguments))) (sym none) ∙ ap Some (sym added.0),
+      argument_clear (is_one_long (arg_texts (value_in outer) args arguments)) added.1,
+    )
+
+declared_none : (made old line new : List Declaration) (texts : List (List ℕ)) (fault : Fault Code)
+    → Declares old line texts new (Err fault) → Meets {X = List Declaration} (Some made) (argument_due texts) (Err fault)
+declared_none made old line new texts (Because code) declares = argument_told (is_one_long texts) code declares.1 declares.2
+declared_none made old line new texts Memory declares = tt
+
+pub declared_err : (made old line new : List Declaration) (texts : List (List ℕ)) (told : Result (Unit {0}) (Fault Code)) (fault : Fault Code) → told ≡ Err fault
+    → Declares old line texts new told → Meets {X = List Declaration} (Some made) (argument_due texts) (Err fault)
+declared_err made old line new texts told fault is declares =
+    declared_none made old line new texts fault (subst (λ t. Declares old line texts new t) is declares)
+
+-- a draft with another outer scope
+abbrev pub draft_with_outer : Draft → List Declaration → Draft
+draft_with_outer draft outer = record { outer = outer; names = draft.names; stages = draft.stages; last = draft.last }
+
+pub declare_ok : (args : Values) (draft : Draft) (arguments : List Argument) (outer : List Declaration)
+    → (Some (kept (draft.outer ++ arg_line (value_in draft.outer) args (λ name. None) arguments)) ≡ Some outer)
+    × (least (argument_due (arg_texts (value_in draft.outer) args arguments)) ≡ None)
+    → (Some (draft_declared args draft arguments) ≡ Some (draft_with_outer draft outer)) × (least (argument_due (arg_texts (value_in draft.outer) args arguments)) ≡ None)
+declare_ok args draft arguments outer met = (ap (λ o. Some (draft_with_outer draft o)) (some_is _ _ met.0), met.1)
+
+pub declare_err : (args : Values) (draft : Draft) (arguments : List Argument) (made : List Declaration) (fault : Fault Code)
+    → Meets {X = List Declaration} (Some made) (argument_due (arg_texts (value_in draft.outer) args arguments)) (Err fault)
+    → Meets {X = Draft} (Some (draft_declared args draft arguments)) (argument_due (arg_texts (value_in draft.outer) args arguments)) (Err fault)
+declare_err args draft arguments made (Because code) met = met
+declare_err args draft arguments made Memory met = tt
+
+pub outer_some : (args : Values) (draft : Draft) (kind : InstructionKind) (arguments : List Argument) (result : Result Draft (Fault Code)) → declared_by kind ≡ Some arguments
+    → Meets (Some (draft_declared args draft arguments)) (argument_due (arg_texts (value_in draft.outer) args arguments)) result
+    → Meets (Some (draft_outer args draft (declared_by kind))) (outer_due args draft.outer (declared_by kind)) result
+outer_some args draft kind arguments result says met =
+    subst (λ d. Meets (Some (draft_outer args draft d)) (outer_due args draft.outer d) result) (sym says) met
+
+pub outer_none : (args : Values) (draft : Draft) (kind : InstructionKind) → declared_by kind ≡ None
+    → Meets {X = Draft} (Some (draft_outer args draft (declared_by kind))) (outer_due args draft.outer (declared_by kind)) (Err (Because R05))
+outer_none args draft kind says =
+    subst (λ d. Meets {X = Draft} (Some (draft_outer args draft d)) (outer_due args draft.outer d) (Err (Because R05))) (sym says) refl
+
+pub extend_ok : (known : Known) (draft next : Draft) (i : Instruction) (names : Names) (origins : List Origin) → names ≡ draft.names
     → (Some (origins_of known (all_but_last names) i.kind) ≡ Some origins) × (least (inner_due known (all_but_last names) i.kind) ≡ None)
-    → last ≡ last_with (record { instruction = i; origins = origins }) draft.last
-    → (Some (draft_extended known draft i) ≡ Some (draft_last draft last)) × (least (inner_due known (all_but_last draft.names) i.kind) ≡ None)
-extend_ok known draft i names origins last same found is =
+    → next ≡ record draft { last = last_with (record { instruction = i; origins = origins }) draft.last }
+    → (Some (draft_extended known draft i) ≡ Some next) × (least (inner_due known (all_but_last draft.names) i.kind) ≡ None)
+extend_ok known draft next i names origins same found is =
     let found_is : origins ≡ origins_of known (all_but_last draft.names) i.kind =
     sym (some_is _ _ found.0) ∙ ap (λ ns. origins_of known (all_but_last ns) i.kind) same in (
-      ap (λ l. Some (draft_last draft l)) (ap (λ os. last_with (record { instruction = i; origins = os }) draft.last) (sym found_is) ∙ sym is),
+      ap (λ os. Some (record draft { last = last_with (record { instruction = i; origins = os }) draft.last })) (sym found_is) ∙ ap Some (sym is),
       ap (λ ns. least (inner_due known (all_but_last ns) i.kind)) (sym same) ∙ found.1,
     )
 

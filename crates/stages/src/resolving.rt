@@ -1,14 +1,14 @@
 // Going through the instructions of a file.
-ghost use Rattle.std.specs.Prelude.{◌≡◌, ◌≤◌, ◌∷◌, ◌++◌, [], Some, option_map, length, IfOk};
+ghost use Rattle.std.specs.Prelude.{◌≡◌, ◌≤◌, ◌∷◌, ◌++◌, [], Some, None, option_map, length, IfOk};
 ghost use Rattle.std.specs.FinMap.{get as arg_value};
 ghost use Rattle.plain.specs.Limits.{most_stages};
 ghost use Rattle.instructions.specs.Least.{Meets};
-ghost use Rattle.scopes.specs.Scope.{value_in};
-ghost use Rattle.scopes.specs.Evaluate.{arg_texts};
+ghost use Rattle.scopes.specs.Scope.{value_in, kept};
+ghost use Rattle.scopes.specs.Evaluate.{arg_line, arg_texts};
 ghost use Rattle.stages.specs.Naming.{names_in, base_named, origins_of};
 ghost use Rattle.stages.specs.Before.{begun, declared_by, all_but_last};
 ghost use Rattle.stages.specs.Due.{is_taken, base_text, base_due, argument_due, outer_due, inner_due, other_due, kind_due};
-ghost use Rattle.stages.specs.PrivateResolving.{with_last, last_with, draft_begun, draft_outer, draft_extended, draft_other, draft_after, Drafts};
+ghost use Rattle.stages.specs.PrivateResolving.{with_last, with_instruction, last_with, draft_begun, draft_declared, draft_outer, draft_extended, draft_other, draft_after, Drafts};
 
 use crate::naming::{base_named, origins_of, stage_called};
 use crate::stage::{ResolvedInstruction, ResolvedStage};
@@ -116,12 +116,16 @@ fn base<C>(
         Err(Fault::Memory) => return Err(Fault::Memory),
     };
     if is_taken {
+        drop(text);
         return Err(Fault::Because(Code::R11));
     }
-    let Some(base) = base_named(alloc, images, names, &text)? else {
+    let found = base_named(alloc, images, names, &text);
+    drop(text);
+    let Some(base) = found? else {
         return Err(Fault::Because(Code::R12));
     };
     if names.len() == MOST_STAGES {
+        drop(base);
         return Err(Fault::Because(Code::R18));
     }
     Ok(base)
@@ -233,6 +237,59 @@ fn begin<C>(
     Ok(with_stage(alloc, draft, stage, name)?)
 }
 
+/// The scope with what an ARG before the first FROM declares.
+fn with_arguments(
+    alloc: Global,
+    outer: Scope,
+    arguments: &[Argument],
+    args: &Args,
+) -> Result<Scope, TextFault>
+    ensures { Meets (Some (kept (outer ++ arg_line (value_in outer) (arg_value args.now) (λ name. None) arguments.now))) (argument_due (arg_texts (value_in outer) (arg_value args.now) arguments.now)) result }
+{
+    let empty = Scope::new(alloc);
+    let mut outer = outer;
+    let told = outer.declare(alloc, arguments, args, &empty);
+    drop(empty);
+    match told {
+        Ok(()) => Ok(outer),
+        Err(fault) => {
+            drop(outer);
+            Err(fault)
+        }
+    }
+}
+
+/// What is known behind an ARG before the first FROM.
+fn declare_arguments(
+    alloc: Global,
+    draft: Draft,
+    arguments: &[Argument],
+    args: &Args,
+) -> Result<Draft, TextFault>
+    ensures { Meets (Some (draft_declared (arg_value args.now) draft arguments.now)) (argument_due (arg_texts (value_in draft.outer) (arg_value args.now) arguments.now)) result }
+{
+    let Draft {
+        outer,
+        names,
+        stages,
+        last,
+    } = draft;
+    match with_arguments(alloc, outer, arguments, args) {
+        Ok(outer) => Ok(Draft {
+            outer,
+            names,
+            stages,
+            last,
+        }),
+        Err(fault) => {
+            drop(names);
+            drop(stages);
+            drop(last);
+            Err(fault)
+        }
+    }
+}
+
 /// An instruction before the first FROM.
 fn declare(
     alloc: Global,
@@ -242,14 +299,13 @@ fn declare(
 ) -> Result<Draft, TextFault>
     ensures { Meets (Some (draft_outer (arg_value args.now) draft (declared_by kind.now))) (outer_due (arg_value args.now) draft.outer (declared_by kind.now)) result }
 {
-    let Some(arguments) = declared_by(kind) else {
-        return Err(Fault::Because(Code::R05));
-    };
-    let mut draft = draft;
-    draft
-        .outer
-        .declare(alloc, arguments, args, &Scope::new(alloc))?;
-    Ok(draft)
+    match declared_by(kind) {
+        Some(arguments) => declare_arguments(alloc, draft, arguments, args),
+        None => {
+            drop(draft);
+            Err(Fault::Because(Code::R05))
+        }
+    }
 }
 
 /// The names of all stages but the last.
@@ -272,6 +328,32 @@ fn inner_origins<C>(
     origins_of(alloc, images, all_but_last(names), kind)
 }
 
+/// What is known behind an instruction of the last stage.
+fn with_resolved(draft: Draft, resolved: ResolvedInstruction) -> Result<Draft, Memory>
+    ensures { IfOk result (λ more. more ≡ record draft { last = last_with resolved draft.last }) }
+{
+    let Draft {
+        outer,
+        names,
+        stages,
+        last,
+    } = draft;
+    match with_instruction(last, resolved) {
+        Ok(last) => Ok(Draft {
+            outer,
+            names,
+            stages,
+            last,
+        }),
+        Err(memory) => {
+            drop(outer);
+            drop(names);
+            drop(stages);
+            Err(memory)
+        }
+    }
+}
+
 /// An instruction of a stage.
 fn extend<C>(
     alloc: Global,
@@ -282,32 +364,59 @@ fn extend<C>(
     requires { length draft.names ≤ most_stages }
     ensures { Meets (Some (draft_extended (names_in images.now) draft instruction)) (inner_due (names_in images.now) (all_but_last draft.names) instruction.kind) result }
 {
-    let Draft {
-        outer,
-        names,
-        stages,
-        last,
-    } = draft;
-    let origins = match inner_origins(alloc, images, names.as_slice(), &instruction.kind) {
-        Ok(origins) => origins,
+    match inner_origins(alloc, images, draft.names.as_slice(), &instruction.kind) {
+        Ok(origins) => {
+            let resolved = ResolvedInstruction {
+                instruction,
+                origins,
+            };
+            Ok(with_resolved(draft, resolved)?)
+        }
         Err(fault) => {
             drop(instruction);
-            drop(stages);
-            drop(last);
-            return Err(fault);
+            drop(draft);
+            Err(fault)
         }
-    };
-    let resolved = ResolvedInstruction {
-        instruction,
-        origins,
-    };
-    let last = with_instruction(last, resolved)?;
-    Ok(Draft {
-        outer,
-        names,
-        stages,
-        last,
-    })
+    }
+}
+
+/// The instructions with one more.
+fn push_instruction(
+    instructions: Items<ResolvedInstruction>,
+    resolved: ResolvedInstruction,
+) -> Result<Items<ResolvedInstruction>, Memory>
+    ensures { IfOk result (λ all. all ≡ instructions ++ resolved ∷ []) }
+{
+    let mut instructions = instructions;
+    match instructions.push(resolved) {
+        Ok(()) => Ok(instructions),
+        Err(memory) => {
+            drop(instructions);
+            Err(memory)
+        }
+    }
+}
+
+/// A stage with one more instruction.
+fn longer(stage: ResolvedStage, resolved: ResolvedInstruction) -> Result<ResolvedStage, Memory>
+    ensures { IfOk result (λ found. found ≡ with_instruction resolved stage) }
+{
+    let ResolvedStage {
+        line,
+        base,
+        instructions,
+    } = stage;
+    match push_instruction(instructions, resolved) {
+        Ok(instructions) => Ok(ResolvedStage {
+            line,
+            base,
+            instructions,
+        }),
+        Err(memory) => {
+            drop(base);
+            Err(memory)
+        }
+    }
 }
 
 /// The last stage with one more instruction.
@@ -318,20 +427,14 @@ fn with_instruction(
     ensures { IfOk result (λ found. found ≡ last_with resolved last) }
 {
     match last {
-        Some(stage) => {
-            let ResolvedStage {
-                line,
-                base,
-                mut instructions,
-            } = stage;
-            instructions.push(resolved)?;
-            Ok(Some(ResolvedStage {
-                line,
-                base,
-                instructions,
-            }))
+        Some(stage) => match longer(stage, resolved) {
+            Ok(stage) => Ok(Some(stage)),
+            Err(memory) => Err(memory),
+        },
+        None => {
+            drop(resolved);
+            Ok(None)
         }
-        None => Ok(None),
     }
 }
 

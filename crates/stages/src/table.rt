@@ -84,16 +84,22 @@ impl StageTable {
     {
         let Draft {
             outer,
+            names,
             stages,
             last,
-            ..
         } = draft;
-        let stages = with_last(stages, last)?;
-        Ok(StageTable {
-            outer,
-            stages,
-            target,
-        })
+        drop(names);
+        match with_last(stages, last) {
+            Ok(stages) => Ok(StageTable {
+                outer,
+                stages,
+                target,
+            }),
+            Err(memory) => {
+                drop(outer);
+                Err(memory)
+            }
+        }
     }
 
     /// Which stages the target needs, by their numbers: the target, and all that a needed stage names by its FROM, a `--from` or a mount's

@@ -7,10 +7,10 @@ use Rattle.evaluation.proofs.sources.sources_of.Goals as goal
 pub loop-name-init : goal.loop-name-init
 loop-name-init c = taken_first c.args.context c.args.images _ _ c.new-sources.ensures
 
-pub loop-name-preserved-in-Some-take : goal.loop-name-preserved-in-Some-take
-loop-name-preserved-in-Some-take c =
+pub loop-name-preserved-in-Ok : goal.loop-name-preserved-in-Ok
+loop-name-preserved-in-Ok c =
     taken_some _ _ _ _ _ c.in-Some.name _ _ _ _ c.in-Some-take.image c.loop-name.invariant c.in-Some.ensures.steps.0
-    (sym c.in-Some-take.ensures.taken) c.in-Some-take.ensures.left c.in_ok-add_image-in-Some-take.ensures.ok
+    (sym c.in-Some-take.ensures.taken) c.in-Some-take.ensures.left c.in-Ok.ensures
 
 pub loop-name-preserved : goal.loop-name-preserved
 loop-name-preserved c =
