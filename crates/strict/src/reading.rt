@@ -96,8 +96,8 @@ impl FromJson for Path {
     }
 }
 
-/// A path, whose text is already clean.
-fn read_path(alloc: Global, text: &str) -> Result<Path, ReadFault>
+/// The path that a text is. `NotRead` where it is none, or its text isn't clean, absolute and within the limits.
+pub fn read_path(alloc: Global, text: &str) -> Result<Path, ReadFault>
     ensures { Gives result (path_of text.now) }
 {
     match Path::read(alloc, text, &Path::root(alloc)) {

@@ -1,0 +1,4 @@
+pub mod SeenFacts
+mod LookFacts
+mod NumberFacts
+mod RowFacts

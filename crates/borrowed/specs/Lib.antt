@@ -1,0 +1,4 @@
+pub mod Seen
+pub mod Lent
+pub mod PrivateRows
+pub mod PrivateText

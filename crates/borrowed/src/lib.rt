@@ -1,0 +1,29 @@
+// Strict reading of JSON that is lent, not owned: for texts so large that a `serde_json::Value` of them would be the most that a program
+// holds.
+//
+// A text is read as a `json::Value`, whose strings are parts of the text, and each reader takes that. What a reader answers is said of the
+// data that the value stands for (`data_of` in specs/Seen.antt), and that is the data which `serde_json` reads of the same text. So
+// `strict`'s definitions serve here unchanged, and a format has one meaning, whichever way its text is read.
+//
+// The central definition is `seen`. `FromLent` is the kind of values that are read.
+//
+// ```
+// let mut scratch = Scratch::new(alloc);
+// let value = read(alloc, text, &mut scratch)?;
+// if !is_strict(&value, &["text"]) { return Err(Fault::Because(NotRead)); }
+// let text: Text = one_at(alloc, &value, "text")?;
+// ```
+#![tactic(auto)]
+
+mod lists;
+mod looking;
+mod numbers;
+mod owning;
+mod reading;
+mod whole;
+
+pub use lists::{list_at, read_list, read_rows};
+pub use looking::{at, is_strict, list_of, text_of};
+pub use owning::owned;
+pub use reading::{FromLent, one_at, optional_at};
+pub use whole::read;
