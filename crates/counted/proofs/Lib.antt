@@ -1,2 +1,3 @@
+pub mod GatheringFacts
 pub mod Reading
 pub mod Writing

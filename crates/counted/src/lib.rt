@@ -9,21 +9,31 @@
 // written in part. They keep no buffer of their own, so with a device that keeps nothing back there is nothing to flush; one that
 // does, as std's `BufWriter`, is flushed by its owner.
 //
-// It is no buffered reader or writer, and it knows nothing of what the bytes mean. The central
-// definitions are `ReadsFirst`, `AppendsBeginning` and `CountsFault`.
+// A text that is never held whole is said in pieces: `gather` keeps some bytes back in a `Gathered` and writes them when there is no more room,
+// and `finish` writes the rest and tells whether a write failed. A failure is kept there, so calls that say parts of a text give no `Result`.
+//
+// It is no buffered reader, and no writer of std's, and it knows nothing of what the bytes mean. The central
+// definitions are `ReadsFirst`, `AppendsBeginning`, `CountsFault` and `Says`.
 //
 // ```
 // let mut input = Counted::new(rt.stdin());
 // let bytes = read_all(alloc, &mut input, limit)?;
 // let mut output = Counted::new(rt.stdout());
 // write_all(&mut output, bytes.as_slice())?;
+//
+// let mut gathered = Gathered::new(alloc)?;
+// gather(&mut output, &mut gathered, b"one");
+// gather(&mut output, &mut gathered, b" line\n");
+// finish(&mut output, gathered)?;
 // ```
 #![tactic(auto)]
 
 mod counting;
 mod edges;
 mod fault;
+mod gathering;
 
 pub use counting::{Counted, CountedRead, CountedWrite};
 pub use edges::{read_all, write_all};
 pub use fault::{Device, EdgeFault};
+pub use gathering::{Gathered, finish, gather};

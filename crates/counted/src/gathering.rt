@@ -1,0 +1,153 @@
+ghost use Rattle.std.specs.Prelude.{◌≡◌, ◌+◌, ◌<◌, ◌≤◌, ℕ, List, Option, [], ◌++◌, length, IsTrue, ◌↔◌, IfOk, false};
+ghost use Rattle.counted.specs.Gathering.{nothing, held, sink, Says, HasRoom, IsWritten};
+
+use crate::{CountedWrite, Device, EdgeFault, write_all};
+use plain::{Fault, Memory};
+use std::alloc::Global;
+use std::marker::Model;
+
+/// How many bytes are gathered before they are written, at most.
+const ROOM: usize = 65536;
+
+/// The bytes of a text that is written in pieces, as far as they aren't written yet. After a failed write no more is written.
+///
+/// A text is said by calls of [`gather`], and ends by [`finish`], which tells whether a write failed: so what says a part of a text gives no
+/// `Result`.
+#[derive(Drop)]
+pub struct Gathered {
+    buffer: Vec<u8>,
+    failed: bool,
+}
+
+impl Model for Gathered {
+    ghost use Rattle.std.specs.Prelude.{◌≤◌, vec_len, vec_capacity};
+    ghost use Rattle.counted.specs.Gathering.{Gathering, held};
+    ghost use Rattle.counted.specs.declared.gathering.TheConstants.{ROOM};
+
+    ghost Value = { Gathering };
+
+    ghost view = { λ g. held g.buffer.items g.failed };
+
+    ghost invariant = { λ g. (vec_len g.buffer ≤ ROOM) × (ROOM ≤ vec_capacity g.buffer) };
+}
+
+impl Gathered {
+    /// Nothing is gathered. All memory that is ever wanted for what is gathered is taken here.
+    pub fn new(alloc: Global) -> Result<Gathered, Memory>
+        ensures { IfOk result (λ gathered. gathered ≡ nothing) }
+    {
+        let buffer = Vec::with_capacity(alloc, ROOM)?;
+        Ok(Gathered {
+            buffer,
+            failed: false,
+        })
+    }
+
+    /// Whether a write failed: what is said from here on isn't written.
+    pub fn is_failed(&self) -> bool
+        ensures { result ≡ self.now.failed }
+    {
+        self.failed
+    }
+
+    /// Whether there is room for so many more bytes.
+    fn is_room_for(&self, more: usize) -> bool
+        ensures { IsTrue result ↔ (length self.now.bytes + more ≤ ROOM) }
+    {
+        more <= ROOM - self.buffer.len()
+    }
+
+    /// Takes in bytes behind those that are gathered.
+    fn take_in(&mut self, bytes: &[u8])
+        requires { length self.old.bytes + length bytes.now ≤ ROOM }
+        ensures says { (contents : Option (List ℕ)) (failures : ℕ)
+            → Says (sink contents failures self.old) (sink contents failures self.new) bytes.now }
+        ensures failed { self.new.failed ≡ self.old.failed }
+    {
+        self.buffer.extend_from_slice(bytes).unwrap();
+    }
+}
+
+/// Says bytes: they are gathered, and written with those before them where there is no more room. It takes no memory.
+///
+/// After a failed write it does nothing. The count of failed calls is a machine number, so a caller has to know that there is room for one
+/// more, unless one failed.
+pub fn gather<W: CountedWrite>(output: &mut W, gathered: &mut Gathered, bytes: &[u8])
+    requires room { HasRoom (W.failures output.old) gathered.old }
+    ensures says { Says
+        (sink (W.contents output.old) (W.failures output.old) gathered.old)
+        (sink (W.contents output.new) (W.failures output.new) gathered.new)
+        bytes.now }
+    ensures room { HasRoom (W.failures output.new) gathered.new }
+{
+    if gathered.is_room_for(bytes.len()) {
+        gathered.take_in(bytes);
+        return;
+    }
+    flush(output, gathered);
+    if gathered.is_room_for(bytes.len()) {
+        gathered.take_in(bytes);
+    } else {
+        pass(output, gathered, bytes);
+    }
+}
+
+/// Writes what is gathered, and tells how the text that was said ends: all of it was written, and no call failed; or a call failed, it wasn't
+/// tried again, and a beginning of the text was written. It never answers `Memory`, and takes none.
+pub fn finish<W: CountedWrite>(output: &mut W, gathered: Gathered) -> Result<(), EdgeFault>
+    requires room { HasRoom (W.failures output.old) gathered }
+    ensures { (contents : Option (List ℕ)) (failures : ℕ) (text : List ℕ)
+        → Says (sink contents failures nothing) (sink (W.contents output.old) (W.failures output.old) gathered) text
+        → IsWritten contents failures (W.contents output.new) (W.failures output.new) text result }
+{
+    let Gathered { buffer, failed } = gathered;
+    if failed {
+        return Err(Fault::Because(Device));
+    }
+    write_all(output, buffer.as_slice())
+}
+
+/// Writes what is gathered; then nothing is.
+fn flush<W: CountedWrite>(output: &mut W, gathered: &mut Gathered)
+    requires room { HasRoom (W.failures output.old) gathered.old }
+    ensures says { Says
+        (sink (W.contents output.old) (W.failures output.old) gathered.old)
+        (sink (W.contents output.new) (W.failures output.new) gathered.new)
+        [] }
+    ensures empty { gathered.new.bytes ≡ [] }
+    ensures room { HasRoom (W.failures output.new) gathered.new }
+{
+    gathered.failed = write_piece(output, gathered.failed, gathered.buffer.as_slice());
+    gathered.buffer.clear();
+}
+
+/// Writes bytes past what is gathered, which is nothing.
+fn pass<W: CountedWrite>(output: &mut W, gathered: &mut Gathered, bytes: &[u8])
+    requires empty { gathered.old.bytes ≡ [] }
+    requires room { HasRoom (W.failures output.old) gathered.old }
+    ensures says { Says
+        (sink (W.contents output.old) (W.failures output.old) gathered.old)
+        (sink (W.contents output.new) (W.failures output.new) gathered.new)
+        bytes.now }
+    ensures room { HasRoom (W.failures output.new) gathered.new }
+{
+    gathered.failed = write_piece(output, gathered.failed, bytes);
+}
+
+/// Writes a piece, unless a write failed before, and tells whether one has failed by now.
+fn write_piece<W: CountedWrite>(output: &mut W, failed: bool, piece: &[u8]) -> bool
+    requires room { failed ≡ false → W.failures output.old < u64.MAX }
+    ensures says { Says
+        (sink (W.contents output.old) (W.failures output.old) (held piece.now failed))
+        (sink (W.contents output.new) (W.failures output.new) (held [] result))
+        [] }
+    ensures room { result ≡ false → W.failures output.new < u64.MAX }
+{
+    if failed {
+        return true;
+    }
+    match write_all(output, piece) {
+        Ok(()) => false,
+        Err(_) => true,
+    }
+}
