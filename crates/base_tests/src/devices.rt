@@ -138,3 +138,44 @@ fn failed_write_is_not_retried(rt: HostRuntime) {
         }
     }
 }
+
+#[test]
+fn a_text_is_said_in_pieces(rt: HostRuntime) -> Result<(), Fail> {
+    let alloc = rt.alloc();
+    let piece = vec![in alloc; b'x'; 40_000]?;
+    let long = vec![in alloc; b'y'; 70_000]?;
+    let mut output = Counted::new(Vec::new(alloc));
+    let mut gathered = Gathered::new(alloc)?;
+    gather(&mut output, &mut gathered, b"a");
+    gather(&mut output, &mut gathered, piece.as_slice());
+    gather(&mut output, &mut gathered, piece.as_slice());
+    gather(&mut output, &mut gathered, long.as_slice());
+    gather(&mut output, &mut gathered, b"b");
+    assert!(rt; finish(&mut output, gathered).is_ok());
+    assert_eq!(rt; output.failures(), 0);
+    let text = output.into_inner();
+    assert_eq!(rt; text.len(), 150_002);
+    assert_eq!(rt; &text.as_slice()[80_000..80_002], b"xy".as_slice());
+    Ok(())
+}
+
+#[test]
+fn failed_write_is_told_at_the_end(rt: HostRuntime) -> Result<(), Fail> {
+    let alloc = rt.alloc();
+    let piece = vec![in alloc; b'x'; 40_000]?;
+    let mut output = Counted::new(FailsOnce {
+        taken: Vec::new(alloc),
+        first: 5,
+        by_error: true,
+        has_failed: false,
+    });
+    let mut gathered = Gathered::new(alloc)?;
+    gather(&mut output, &mut gathered, piece.as_slice());
+    gather(&mut output, &mut gathered, piece.as_slice());
+    gather(&mut output, &mut gathered, piece.as_slice());
+    let answer = finish(&mut output, gathered);
+    assert_eq!(rt; answer, Err(Fault::Because(Device)));
+    assert_eq!(rt; output.failures(), 1);
+    assert_eq!(rt; output.into_inner().taken.as_slice(), b"xxxxx".as_slice());
+    Ok(())
+}

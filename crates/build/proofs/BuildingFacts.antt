@@ -25,6 +25,7 @@ use Rattle.evaluation.specs.declared.evaluated.Evaluated.{Evaluated}
 use Rattle.build.specs.Meaning.{Asks, Answers, line_of}
 use Rattle.build.specs.Graph.{GraphAnswers, GraphClashes}
 use Rattle.build.specs.PrivateShowing.{IsShown}
+use Rattle.build.specs.PrivateTelling.{IsTold}
 use Rattle.build.specs.Telling.{TellsBundle}
 use Rattle.build.specs.Ends.{Devices, IsBundle, Answering, AnswersUnder, HasAnswered, EndsBy, Ends, GraphEnds}
 
@@ -108,12 +109,6 @@ answered Said moves old new bytes line told read tells is written reads writes =
   failed_writes = writes;
 }
 
-pub has_answered : (out : Out) (old new : Devices) (bytes line : List ℕ) (told : Told)
-    → IsReadOf old.left bytes → TellsBundle bytes out told → line ≡ told.line → Appends old.written new.written line
-    → new.failed_reads ≡ old.failed_reads → new.failed_writes ≡ old.failed_writes → HasAnswered (AnswersUnder out) old new told.status
-has_answered out old new bytes line told read tells is written reads writes =
-    answered (AnswersUnder out) (λ bytes bundle status text same a. answers bytes bundle out status text same a) old new bytes line told read tells is written reads writes
-
 -- a write failed
 begun : (Said : Answering) (Collides : List ℕ → Type 0) → Moves Said → (old new : Devices) (bytes line : List ℕ) (told : Told) (fault : Fault Device)
     → IsReadOf old.left bytes → IsLine Said bytes told → line ≡ told.line → AppendsBeginning old.written new.written line
@@ -131,12 +126,24 @@ begun Said Collides moves old new bytes line told (edge.Because failed) read tel
   failed_writes = writes;
 })
 
-pub has_begun : (out : Out) (old new : Devices) (bytes line : List ℕ) (told : Told) (fault : Fault Device)
-    → IsReadOf old.left bytes → TellsBundle bytes out told → line ≡ told.line → AppendsBeginning old.written new.written line
-    → new.failed_reads ≡ old.failed_reads → CountsFault {T = Unit {0}} old.failed_writes new.failed_writes (Err fault) → IsDevice fault
-    → Ends out old new (Err (of_edge fault))
-has_begun out old new bytes line told fault read tells is written reads writes device =
-    begun (AnswersUnder out) (λ bundle. ⊥) (λ bytes bundle status text same a. answers bytes bundle out status text same a) old new bytes line told fault read tells is written reads writes device
+-- how a build ends, of which this was told
+pub has_told : (out : Out) (old new : Devices) (bytes : List ℕ) (result : Result Status BuildFault) → IsReadOf old.left bytes
+    → IsTold (TellsBundle bytes out) old.written old.failed_writes new.written new.failed_writes result → new.failed_reads ≡ old.failed_reads → Ends out old new result
+has_told out old new bytes (Ok status) read ended reads =
+    subst (HasAnswered (AnswersUnder out) old new) ended.2
+    (answered (AnswersUnder out) (λ bytes bundle status text same a. answers bytes bundle out status text same a) old new bytes ended.0.line ended.0 read ended.1 refl ended.3 reads ended.4)
+has_told out old new bytes (Err Memory) read ended reads = (record { written = ended.0; failed_writes = ended.1 }, reads)
+has_told out old new bytes (Err FailedDevice) read ended reads = inr (record {
+  bundle = read.bundle;
+  is = read.is;
+  status = ended.0.status;
+  text = ended.1.0;
+  answers = answers bytes read.bundle out ended.0.status ended.1.0 read.same ended.1.1;
+  written = subst (AppendsBeginning old.written new.written) ended.1.2 ended.2;
+  failed_reads = reads;
+  failed_writes = ended.3;
+})
+has_told out old new bytes (Err Clash) read ended reads = absurd ended
 
 -- the same of a graph
 pub graph_answered : (old new : Devices) (bytes line : List ℕ) (told : Told)

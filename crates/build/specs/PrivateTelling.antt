@@ -1,15 +1,36 @@
--- What is told of a plan.
-use Rattle.std.specs.Prelude.{◌≡◌}
+-- What is told of a plan, and how the telling of it ends.
+use Rattle.std.specs.Prelude.{◌≡◌, ℕ, ◌+◌, List, Option, Result, Ok, Err}
+use Rattle.std.specs.Io.KnownBytes.{Appends}
+use Rattle.counted.specs.Edges.{AppendsBeginning}
 use Rattle.plans.specs.Plan.{PlanValue, problem_of}
 use Rattle.plans.specs.Value.{Out}
 use Rattle.imageconfig.specs.declared.config.Config.{Config}
 use Rattle.solver.specs.Solution.{IsSolution}
 use Rattle.solver.specs.declared.solution.Solution.{Solution}
+use Rattle.build.specs.declared.status.Status.{Status}
+use Rattle.build.specs.declared.status.BuildFault.{BuildFault}
+use Rattle.build.specs.declared.status.BuildFault.TheVariants.{Memory, Device, Clash}
 use Rattle.build.specs.declared.told.Told.{Told}
 use Rattle.build.specs.Meaning.{line_of}
 use Rattle.build.specs.Telling.{status_of, text_of}
+
+-- a line of this status and this text
+abbrev pub TellsText : Status → List ℕ → Told → Type 0
+TellsText status text told = (told.status ≡ status) × (told.line ≡ line_of text)
+
+-- a line tells a solution, with this configuration
+abbrev pub TellsSolution : Config → Solution → Told → Type 0
+TellsSolution config solution told = TellsText (status_of solution) (text_of config solution) told
 
 -- a line tells a solution of a plan, with the plan's configuration
 abbrev pub TellsPlan : Out → PlanValue Config → Told → Type 0
 TellsPlan out plan told =
     (solution : Solution) × IsSolution (problem_of out plan) solution × (told.status ≡ status_of solution) × (told.line ≡ line_of (text_of plan.config solution))
+
+-- How telling ends, by its result, of a writer whose bytes and count of failed calls these were and are: such a line was written; there was no
+-- memory, and nothing was written; or a write failed, and a beginning of such a line was written.
+abbrev pub IsTold : (Told → Type 0) → Option (List ℕ) → ℕ → Option (List ℕ) → ℕ → Result Status BuildFault → Type 0
+IsTold Tells old before new after (Ok status) = (told : Told) × Tells told × (told.status ≡ status) × Appends old new told.line × (after ≡ before)
+IsTold Tells old before new after (Err Memory) = (new ≡ old) × (after ≡ before)
+IsTold Tells old before new after (Err Device) = (told : Told) × Tells told × AppendsBeginning old new told.line × (after ≡ before + 1)
+IsTold Tells old before new after (Err Clash) = ⊥

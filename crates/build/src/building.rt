@@ -5,7 +5,7 @@ ghost use Rattle.build.specs.Ends.{Ends, devices};
 
 use crate::telling::tell_bundle;
 use crate::{BuildFault, Status};
-use counted::{CountedRead, CountedWrite, read_all, write_all};
+use counted::{CountedRead, CountedWrite, read_all};
 use executor::Executor;
 use plain::limits::MOST_BUNDLE_BYTES;
 use solver::Gate;
@@ -80,7 +80,5 @@ fn build_within<R: CountedRead, W: CountedWrite, E: Executor, G: Gate>(
     ensures taken { LosesBeginning (most + 1) (R.remaining input.old) (R.remaining input.new) }
 {
     let bytes = read_all(alloc, input, most + 1)?;
-    let told = tell_bundle(alloc, rt, bytes.as_slice(), executor, workers, gate)?;
-    write_all(output, told.line.as_str().as_bytes())?;
-    Ok(told.status)
+    tell_bundle(alloc, rt, bytes.as_slice(), output, executor, workers, gate)
 }

@@ -1,60 +1,74 @@
-ghost use Rattle.std.specs.Prelude.{◌≡◌, ◌<◌, ◌≤◌, [], IfOk, Ok as OkOf};
+ghost use Rattle.std.specs.Prelude.{◌≡◌, ◌<◌, ◌≤◌, [], IfOk, Ok as OkOf, map};
+ghost use Rattle.std.specs.FinMap.{entries};
+ghost use Rattle.std.specs.String.{string_bytes};
 ghost use Rattle.plain.specs.Limits.{most_workers};
+ghost use Rattle.counted.specs.Gathering.{nothing};
+ghost use Rattle.serde_json.specs.Data.{Data};
+ghost use Rattle.serde_json.specs.Written.{compact_text};
+ghost use Rattle.imageconfig.specs.Writing.{config_data};
+ghost use Rattle.bundle.specs.Answer.{built_text, failed_text, refused_text};
 ghost use Rattle.build.specs.Lowerable.{IsLowerable};
 ghost use Rattle.build.specs.Meaning.{line_of};
-ghost use Rattle.build.specs.PrivateTelling.{TellsPlan};
-ghost use Rattle.build.specs.Telling.{status_of, text_of, TellsAsked, TellsBundle};
+ghost use Rattle.build.specs.PrivateTelling.{TellsPlan, TellsSolution, TellsText, IsTold};
+ghost use Rattle.build.specs.Telling.{TellsAsked, TellsBundle};
+ghost use Rattle.build.specs.declared.status.Status.TheVariants.{Built, Failed, Refused};
 
 use crate::asking::{Asked, ask};
 use crate::told::Told;
-use crate::{Status, plan_of};
-use bundle::{built_answer, failed_answer, refused_answer};
+use crate::{BuildFault, Status, plan_of};
+use bundle::{failed_answer, put_built, refused_answer};
 use cachemounts::CacheStore;
+use counted::{CountedWrite, Gathered, finish, gather, write_all};
 use executor::Executor;
 use imageconfig::Config;
-use plain::{Fault, Memory, Text};
+use paths::Path;
+use plain::{Fault, Memory, Refusal, Text};
 use plans::Plan;
 use solver::{Gate, Solution};
 use std::alloc::Global;
 use std::sync::Wait;
 use std::thread::Threads;
+use trees::{Cause, Entry, Tree};
 use workers::solve;
 
-/// What a build tells of a bundle's bytes.
-pub(crate) fn tell_bundle<E: Executor, G: Gate>(
+/// Tells of a bundle's bytes: writes one answer.
+pub(crate) fn tell_bundle<W: CountedWrite, E: Executor, G: Gate>(
     alloc: Global,
     rt: &(impl Threads + Wait + Sync),
     bytes: &[u8],
+    output: &mut W,
     executor: &E,
     workers: u32,
     gate: &G,
-) -> Result<Told, Memory>
+) -> Result<Status, BuildFault>
     requires workers { (0 < workers) × (workers ≤ most_workers) }
-    ensures { IfOk result (TellsBundle bytes.now (E.out executor.now)) }
+    requires writes { W.failures output.old < u64.MAX }
+    ensures { IsTold (TellsBundle bytes.now (E.out executor.now))
+        (W.contents output.old) (W.failures output.old) (W.contents output.new) (W.failures output.new) result }
 {
     match ask(alloc, rt, bytes) {
-        Ok(asked) => tell_asked(alloc, rt, asked, executor, workers, gate),
-        Err(Fault::Because(refusal)) => {
-            let text = refused_answer(alloc, refusal)?;
-            line_of(alloc, Status::Refused, text)
-        }
-        Err(Fault::Memory) => Err(Memory),
+        Ok(asked) => tell_asked(alloc, rt, asked, output, executor, workers, gate),
+        Err(Fault::Because(refusal)) => tell_refusal(alloc, refusal, output),
+        Err(Fault::Memory) => Err(BuildFault::Memory),
     }
 }
 
-/// What a build tells of what a bundle asks for.
-fn tell_asked<E: Executor, G: Gate>(
+/// Tells of what a bundle asks for.
+fn tell_asked<W: CountedWrite, E: Executor, G: Gate>(
     alloc: Global,
     rt: &(impl Threads + Wait + Sync),
     asked: Asked,
+    output: &mut W,
     executor: &E,
     workers: u32,
     gate: &G,
-) -> Result<Told, Memory>
+) -> Result<Status, BuildFault>
     requires workers { (0 < workers) × (workers ≤ most_workers) }
     requires lowerable { IsLowerable asked.evaluated }
     requires idle { asked.caches.holds ≡ [] }
-    ensures { IfOk result (TellsAsked (E.out executor.now) (OkOf asked.evaluated)) }
+    requires writes { W.failures output.old < u64.MAX }
+    ensures { IsTold (TellsAsked (E.out executor.now) (OkOf asked.evaluated))
+        (W.contents output.old) (W.failures output.old) (W.contents output.new) (W.failures output.new) result }
 {
     let Asked {
         evaluated,
@@ -62,62 +76,164 @@ fn tell_asked<E: Executor, G: Gate>(
     } = asked;
     match plan_of(alloc, evaluated) {
         Ok(plan) => {
-            let told = tell_plan(alloc, rt, &plan, executor, workers, gate, &mut caches);
+            let ended = tell_plan(
+                alloc,
+                rt,
+                &plan,
+                output,
+                executor,
+                workers,
+                gate,
+                &mut caches,
+            );
             drop(plan);
             drop(caches);
-            told
+            ended
         }
-        Err(memory) => {
+        Err(_) => {
             drop(caches);
-            Err(memory)
+            Err(BuildFault::Memory)
         }
     }
 }
 
-/// What a build tells of a plan.
-fn tell_plan<E: Executor, G: Gate>(
+/// Tells of a plan.
+fn tell_plan<W: CountedWrite, E: Executor, G: Gate>(
     alloc: Global,
     rt: &(impl Threads + Wait + Sync),
     plan: &Plan<Config>,
+    output: &mut W,
     executor: &E,
     workers: u32,
     gate: &G,
     caches: &mut CacheStore,
-) -> Result<Told, Memory>
+) -> Result<Status, BuildFault>
     requires workers { (0 < workers) × (workers ≤ most_workers) }
     requires idle { caches.old.holds ≡ [] }
-    ensures { IfOk result (TellsPlan (E.out executor.now) plan.now) }
+    requires writes { W.failures output.old < u64.MAX }
+    ensures { IsTold (TellsPlan (E.out executor.now) plan.now)
+        (W.contents output.old) (W.failures output.old) (W.contents output.new) (W.failures output.new) result }
 {
     match solve(alloc, rt, plan, executor, workers, gate, caches) {
         Ok(solution) => {
-            let told = tell_solution(alloc, plan.config(), &solution);
+            let ended = tell_solution(alloc, plan.config(), &solution, output);
             drop(solution);
-            told
+            ended
         }
-        Err(memory) => Err(memory),
+        Err(_) => Err(BuildFault::Memory),
     }
 }
 
-/// The line that tells a solution, with this configuration.
-fn tell_solution(alloc: Global, config: &Config, solution: &Solution) -> Result<Told, Memory>
-    ensures status { IfOk result (λ told. told.status ≡ status_of solution.now) }
-    ensures line { IfOk result (λ told. told.line ≡ line_of (text_of config.now solution.now)) }
+/// Tells of a solution, with this configuration.
+fn tell_solution<W: CountedWrite>(
+    alloc: Global,
+    config: &Config,
+    solution: &Solution,
+    output: &mut W,
+) -> Result<Status, BuildFault>
+    requires writes { W.failures output.old < u64.MAX }
+    ensures { IsTold (TellsSolution config.now solution.now)
+        (W.contents output.old) (W.failures output.old) (W.contents output.new) (W.failures output.new) result }
 {
     match solution {
-        Solution::Built(tree) => {
-            let entries = tree.entries(alloc)?;
-            let config = config.to_json(alloc)?;
-            let text = built_answer(alloc, config, entries.as_slice())?;
-            line_of(alloc, Status::Built, text)
-        }
+        Solution::Built(tree) => tell_tree(alloc, config, tree, output),
         Solution::Failed {
             vertex: _,
             place,
             cause,
-        } => {
-            let text = failed_answer(alloc, *place, *cause)?;
-            line_of(alloc, Status::Failed, text)
-        }
+        } => tell_failure(alloc, *place, *cause, output),
+    }
+}
+
+/// Tells that a build gave this tree, with this configuration. All memory that it wants is taken before the first byte is written.
+fn tell_tree<W: CountedWrite>(
+    alloc: Global,
+    config: &Config,
+    tree: &Tree,
+    output: &mut W,
+) -> Result<Status, BuildFault>
+    requires writes { W.failures output.old < u64.MAX }
+    ensures { IsTold (TellsText Built (built_text (config_data config.now) (entries tree.now)))
+        (W.contents output.old) (W.failures output.old) (W.contents output.new) (W.failures output.new) result }
+{
+    let config = config_text(alloc, config)?;
+    let gathered = Gathered::new(alloc)?;
+    let entries = tree.entries(alloc)?;
+    write_built(output, gathered, config.as_str(), entries.as_slice())
+}
+
+/// A configuration as compact JSON.
+fn config_text(alloc: Global, config: &Config) -> Result<String, Memory>
+    ensures { IfOk result (λ text. string_bytes text ≡ compact_text (config_data config.now)) }
+{
+    let value = config.to_json(alloc)?;
+    let text = value.to_string(alloc)?;
+    Ok(text)
+}
+
+/// Writes the answer of a build that gave a tree of these entries, with this text of a configuration, piece by piece. It takes no memory.
+fn write_built<W: CountedWrite>(
+    output: &mut W,
+    gathered: Gathered,
+    config: &str,
+    entries: &[(Path, &Entry)],
+) -> Result<Status, BuildFault>
+    requires empty { gathered ≡ nothing }
+    requires writes { W.failures output.old < u64.MAX }
+    ensures { (value : Data) → config.now ≡ compact_text value
+        → IsTold (TellsText Built (built_text value (map (λ row. (row.0, row.1.now)) entries.now)))
+        (W.contents output.old) (W.failures output.old) (W.contents output.new) (W.failures output.new) result }
+{
+    let mut gathered = gathered;
+    put_built(output, &mut gathered, config, entries);
+    gather(output, &mut gathered, b"\n");
+    match finish(output, gathered) {
+        Ok(()) => Ok(Status::Built),
+        Err(_) => Err(BuildFault::Device),
+    }
+}
+
+/// Tells that the instruction on this line failed with this cause.
+fn tell_failure<W: CountedWrite>(
+    alloc: Global,
+    line: u32,
+    cause: Cause,
+    output: &mut W,
+) -> Result<Status, BuildFault>
+    requires writes { W.failures output.old < u64.MAX }
+    ensures { IsTold (TellsText Failed (failed_text line cause))
+        (W.contents output.old) (W.failures output.old) (W.contents output.new) (W.failures output.new) result }
+{
+    let text = failed_answer(alloc, line, cause)?;
+    let told = line_of(alloc, Status::Failed, text)?;
+    write_told(output, told)
+}
+
+/// Tells that a bundle is refused.
+fn tell_refusal<W: CountedWrite>(
+    alloc: Global,
+    refusal: Refusal,
+    output: &mut W,
+) -> Result<Status, BuildFault>
+    requires writes { W.failures output.old < u64.MAX }
+    ensures { IsTold (TellsText Refused (refused_text refusal))
+        (W.contents output.old) (W.failures output.old) (W.contents output.new) (W.failures output.new) result }
+{
+    let text = refused_answer(alloc, refusal)?;
+    let told = line_of(alloc, Status::Refused, text)?;
+    write_told(output, told)
+}
+
+/// Writes an answer that is held whole.
+fn write_told<W: CountedWrite>(output: &mut W, told: Told) -> Result<Status, BuildFault>
+    requires writes { W.failures output.old < u64.MAX }
+    ensures { IsTold (λ other. other ≡ told)
+        (W.contents output.old) (W.failures output.old) (W.contents output.new) (W.failures output.new) result }
+{
+    let Told { status, line } = told;
+    match write_all(output, line.as_str().as_bytes()) {
+        Ok(()) => Ok(status),
+        Err(_) => Err(BuildFault::Device),
     }
 }
 

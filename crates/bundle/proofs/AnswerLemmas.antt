@@ -15,13 +15,6 @@ pub built-text : (config : Data) (entries : List (List (List ℕ) × Entry))
 unfolding built_data serde_json_on_literals
 built-text config entries = refl
 
--- five pieces, one behind the other
-pub in_a_row : (none first second third fourth fifth a b c d : List ℕ) → none ≡ [] → first ≡ none ++ a → second ≡ first ++ b → third ≡ second ++ c → fourth ≡ third ++ d
-    → fifth ≡ fourth ++ codes "}" → fifth ≡ a ++ (b ++ (c ++ (d ++ codes "}")))
-in_a_row none first second third fourth fifth a b c d z p q r s t =
-    t ∙ ap (λ e. e ++ codes "}") (s ∙ ap (λ e. e ++ d) (r ∙ ap (λ e. e ++ c) (q ∙ ap (λ e. e ++ b) (p ∙ ap (λ e. e ++ a) z))))
-    ∙ simp append_assoc
-
 -- no answer holds a float
 pub failed_is_plain : (line : ℕ) (cause : Cause) → has_float (failed_data line cause) ≡ false
 unfolding failed_data

@@ -2,4 +2,3 @@ pub mod AnswerLemmas
 mod ListingFacts
 mod RestFacts
 mod WholeFacts
-mod MemberFacts

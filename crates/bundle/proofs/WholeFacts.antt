@@ -21,17 +21,17 @@ module _ {C : Type 0} (config : Data → Option C) where
   unfolding parts_within
   within-long most bytes long = rw (lt-leb (length bytes) most long)
 
-  -- what was read decides
-  pub within-read : (most : ℕ) (bytes : List ℕ) (d : Data) → length bytes ≤ most → IsUtf8 bytes → read bytes ≡ Some d → parts_within most config bytes ≡ parts_in config d
+  -- a text is what the JSON in it gives
+  pub within-text : (most : ℕ) (bytes : List ℕ) → length bytes ≤ most → IsUtf8 bytes → parts_within most config bytes ≡ option_and_then (parts_in config) (read bytes)
   unfolding parts_within
-  within-read most bytes d short text is = rw (le-leb (length bytes) most short, is_utf8-from_IsUtf8 bytes text, is)
+  within-text most bytes short text = rw (le-leb (length bytes) most short, is_utf8-from_IsUtf8 bytes text)
 
-  text-or-none : (bytes : List ℕ) (b : Bool) → is_utf8 bytes ≡ b → (IsUtf8 bytes → read bytes ≡ None) → cond b (option_and_then (parts_in config) (read bytes)) None ≡ None
-  text-or-none bytes true is none = rw (none (IsUtf8-from_is_utf8 bytes is))
+  text-or-none : (bytes : List ℕ) (b : Bool) → is_utf8 bytes ≡ b → ¬ (IsUtf8 bytes) → cond b (option_and_then (parts_in config) (read bytes)) None ≡ None
+  text-or-none bytes true is none = absurd (none (IsUtf8-from_is_utf8 bytes is))
   text-or-none bytes false is none = refl
 
-  -- bytes that are no text, or no JSON, are no bundle
-  pub within-none : (most : ℕ) (bytes : List ℕ) → length bytes ≤ most → (IsUtf8 bytes → read bytes ≡ None) → parts_within most config bytes ≡ None
+  -- bytes that are no text are no bundle
+  pub within-none : (most : ℕ) (bytes : List ℕ) → length bytes ≤ most → ¬ (IsUtf8 bytes) → parts_within most config bytes ≡ None
   unfolding parts_within
   within-none most bytes short none = rw (le-leb (length bytes) most short, text-or-none bytes (is_utf8 bytes) refl none)
 

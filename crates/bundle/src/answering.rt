@@ -1,34 +1,38 @@
-ghost use Rattle.std.specs.Prelude.{◌≡◌, IfOk, false, map};
-ghost use Rattle.serde_json.specs.Written.{has_float};
+ghost use Rattle.std.specs.Prelude.{◌≡◌, IfOk, map};
+ghost use Rattle.counted.specs.Gathering.{sink, Says, HasRoom};
+ghost use Rattle.serde_json.specs.Data.{Data};
+ghost use Rattle.serde_json.specs.Written.{compact_text};
 ghost use Rattle.serde_json.specs.View.{view};
 ghost use Rattle.bundle.specs.Answer.{failed_data, refused_data, built_text, failed_text, refused_text};
 
-use entries::with_tree;
+use counted::{CountedWrite, Gathered, gather};
+use entries::put_tree;
 use paths::Path;
 use plain::{Memory, Refusal, Text};
 use serde_json::{Value, json};
 use std::alloc::Global;
 use trees::{Cause, Entry};
 
-/// The answer of a build that gave a tree of these entries, with the image's configuration as JSON: one line of compact JSON, without
-/// the LF that ends it. No number in a configuration is a float.
-pub fn built_answer(
-    alloc: Global,
-    config: Value,
+/// Says the answer of a build that gave a tree of these entries, with this text of the image's configuration, which is compact JSON: one line of
+/// compact JSON, without the LF that ends it. It takes no memory.
+pub fn put_built<W: CountedWrite>(
+    output: &mut W,
+    gathered: &mut Gathered,
+    config: &str,
     entries: &[(Path, &Entry)],
-) -> Result<Text, Memory>
-    requires whole { has_float (view config) ≡ false }
-    ensures { IfOk result (λ text. text
-        ≡ built_text (view config) (map (λ row. (row.0, row.1.now)) entries.now)) }
+)
+    requires room { HasRoom (W.failures output.old) gathered.old }
+    ensures says { (value : Data) → config.now ≡ compact_text value → Says
+        (sink (W.contents output.old) (W.failures output.old) gathered.old)
+        (sink (W.contents output.new) (W.failures output.new) gathered.new)
+        (built_text value (map (λ row. (row.0, row.1.now)) entries.now)) }
+    ensures room { HasRoom (W.failures output.new) gathered.new }
 {
-    let config = config.to_string(alloc)?;
-    let mut text = String::new(alloc);
-    text.push_str("{\"config\":")?;
-    text.push_str(config.as_str())?;
-    text.push_str(",\"result\":\"built\",\"tree\":")?;
-    let mut text = with_tree(alloc, Text::from_string(text), entries)?.into_string(alloc)?;
-    text.push_str("}")?;
-    Ok(Text::from_string(text))
+    gather(output, gathered, b"{\"config\":");
+    gather(output, gathered, config.as_bytes());
+    gather(output, gathered, b",\"result\":\"built\",\"tree\":");
+    put_tree(output, gathered, entries);
+    gather(output, gathered, b"}");
 }
 
 /// The answer of a build in which the instruction on this line failed with this cause.

@@ -14,8 +14,7 @@
 
 mod answering;
 mod parts;
-mod taking;
 mod whole;
 
-pub use answering::{built_answer, failed_answer, refused_answer};
+pub use answering::{failed_answer, put_built, refused_answer};
 pub use whole::{Bundle, read_bundle};

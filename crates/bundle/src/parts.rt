@@ -1,25 +1,25 @@
-// What a bundle says, key by key. Its context is a list of entries here, which its ignore file filters later. What stands at a key is given
-// away, so that a list is let go of as it is read.
+// What a bundle says, key by key. Its context is a list of entries here, which its ignore file filters later. The JSON is lent, and what is read
+// of it is copied: a part holds nothing that is lent.
 
-ghost use Rattle.std.specs.Prelude.{◌≡◌, [], codes, map, option_map, IfOk};
+ghost use Rattle.std.specs.Prelude.{◌≡◌, [], codes, map, IfOk};
 ghost use Rattle.std.specs.List.{list_all};
 ghost use Rattle.std.specs.Option.{option_and_then};
 ghost use Rattle.std.specs.FinMap.{empty, from_entries};
-ghost use Rattle.serde_json.specs.View.{view};
-ghost use Rattle.serde_json.specs.Find.{get, as_str};
+ghost use Rattle.serde_json.specs.Find.{get};
 ghost use Rattle.strict.specs.Gives.{Gives};
 ghost use Rattle.strict.specs.Strict.{at_most_one};
+ghost use Rattle.borrowed.specs.Seen.{data_of};
 ghost use Rattle.entries.specs.Listing.{listing_in};
-ghost use Rattle.bundle.specs.Parts.{or_none, dockerfile_in, files_at, is_image_name, images_of, images_in, args_in, cache_row, caches_in, named_at, parts_with, parts_in};
+ghost use Rattle.bundle.specs.Parts.{or_none, dockerfile_in, files_in, is_image_name, images_of, images_in, args_in, cache_row, caches_in, named_in, parts_in};
 
-use crate::taking::{Members, TakenFromJson, take_from, take_rows};
+use borrowed::{FromLent, at, is_strict, one_at, optional_at, owned, read_rows};
 use entries::{Listing, read_content};
+use json::Value;
 use plain::{Bytes, Exact, Fault, Items, Memory, Text};
 use plans::{Image, Images};
 use scopes::Args;
-use serde_json::Value;
 use std::alloc::Global;
-use strict::{FromJson, NotRead, ReadFault, is_strict, one_at, read_rows};
+use strict::{FromJson, NotRead, ReadFault};
 use trees::Tree;
 
 /// The files of a build and its target.
@@ -56,36 +56,39 @@ pub struct ListedImage<C> {
     pub tree: Listing,
 }
 
-impl<C: FromJson> TakenFromJson for ListedImage<C> {
+impl<C: FromJson> FromLent for ListedImage<C> {
     ghost use Rattle.bundle.specs.Parts.{image_in};
 
     ghost reading = { image_in C.reading };
 
     #[tactic(auto, unfolding(crate::specs::Parts::image_in))]
-    fn taken_from_json(alloc: Global, value: Value) -> Result<ListedImage<C>, ReadFault> {
-        if !is_strict(&value, &["config", "tree"]) {
+    fn from_lent(alloc: Global, value: &Value<'_>) -> Result<ListedImage<C>, ReadFault> {
+        if !is_strict(value, &["config", "tree"]) {
             return Err(Fault::Because(NotRead));
         }
-        let config: C = one_at(alloc, &value, "config")?;
-        let tree = take_tree(alloc, value)?;
+        let config: C = config_at(alloc, value)?;
+        let tree: Listing = one_at(alloc, value, "tree")?;
         Ok(ListedImage { config, tree })
     }
 }
 
-/// The entries of an image's tree.
-fn take_tree(alloc: Global, value: Value) -> Result<Listing, ReadFault>
-    ensures { Gives result (option_and_then listing_in (get (codes "tree") (view value))) }
+/// An image's configuration, as it stands in an object. It is small, and is made owned for the caller's kind, which is read from such JSON.
+fn config_at<C: FromJson>(alloc: Global, value: &Value<'_>) -> Result<C, ReadFault>
+    ensures { Gives result (option_and_then C.reading (get (codes "config") (data_of value.now))) }
 {
-    match take_from(value, "tree") {
-        Some(value) => Listing::taken(alloc, value),
+    match at(value, "config") {
+        Some(value) => {
+            let config = owned(alloc, value)?;
+            C::from_json(alloc, &config)
+        }
         None => Err(Fault::Because(NotRead)),
     }
 }
 
 /// The bytes of the Dockerfile that a value is.
 #[tactic(auto, unfolding(crate::specs::Parts::dockerfile_in))]
-fn read_dockerfile(alloc: Global, value: &Value) -> Result<Bytes, ReadFault>
-    ensures { Gives result (dockerfile_in (view value.now)) }
+fn read_dockerfile(alloc: Global, value: &Value<'_>) -> Result<Bytes, ReadFault>
+    ensures { Gives result (dockerfile_in (data_of value.now)) }
 {
     if !is_strict(value, &["hex", "text"]) {
         return Err(Fault::Because(NotRead));
@@ -93,48 +96,34 @@ fn read_dockerfile(alloc: Global, value: &Value) -> Result<Bytes, ReadFault>
     read_content(alloc, value)
 }
 
-/// The Dockerfile, which has to be there.
-fn dockerfile_of(alloc: Global, value: Option<Value>) -> Result<Bytes, ReadFault>
-    ensures { Gives result (option_and_then dockerfile_in (option_map view value)) }
+/// The Dockerfile that stands in an object.
+fn dockerfile_at(alloc: Global, value: &Value<'_>) -> Result<Bytes, ReadFault>
+    ensures { Gives result (option_and_then dockerfile_in (get (codes "dockerfile") (data_of value.now))) }
 {
-    match value {
-        Some(value) => read_dockerfile(alloc, &value),
+    match at(value, "dockerfile") {
+        Some(value) => read_dockerfile(alloc, value),
         None => Err(Fault::Because(NotRead)),
     }
 }
 
-/// The context, the empty list where there is none.
-fn context_of(alloc: Global, value: Option<Value>) -> Result<Listing, ReadFault>
-    ensures { Gives result (or_none [] listing_in (option_map view value)) }
+/// The context that stands in an object, the empty list where none does.
+fn context_at(alloc: Global, value: &Value<'_>) -> Result<Listing, ReadFault>
+    ensures { Gives result (or_none [] listing_in (get (codes "context") (data_of value.now))) }
 {
-    match value {
-        Some(value) => Listing::taken(alloc, value),
+    match at(value, "context") {
+        Some(value) => Listing::from_lent(alloc, value),
         None => Ok(Listing::empty(alloc)),
     }
 }
 
-/// The target, if there is one.
-fn target_of(alloc: Global, value: Option<Value>) -> Result<Option<Text>, ReadFault>
-    ensures { Gives result (at_most_one as_str (option_map view value)) }
-{
-    match value {
-        Some(value) => Ok(Some(Text::from_json(alloc, &value)?)),
-        None => Ok(None),
-    }
-}
-
 /// The Dockerfile, the context and the target.
-fn files_of(
-    alloc: Global,
-    dockerfile: Option<Value>,
-    context: Option<Value>,
-    target: Option<Value>,
-) -> Result<Files, ReadFault>
-    ensures { Gives result (files_at (option_map view dockerfile) (option_map view context) (option_map view target)) }
+#[tactic(auto, unfolding(crate::specs::Parts::files_in))]
+fn read_files(alloc: Global, value: &Value<'_>) -> Result<Files, ReadFault>
+    ensures { Gives result (files_in (data_of value.now)) }
 {
-    let dockerfile = dockerfile_of(alloc, dockerfile)?;
-    let context = context_of(alloc, context)?;
-    let target = target_of(alloc, target)?;
+    let dockerfile = dockerfile_at(alloc, value)?;
+    let context = context_at(alloc, value)?;
+    let target: Option<Text> = optional_at(alloc, value, "target")?;
     Ok(Files {
         dockerfile,
         context,
@@ -180,10 +169,10 @@ fn images_of<C: Drop>(
 
 /// The images that a value is, each under its name.
 #[tactic(auto, unfolding(crate::specs::Parts::images_in))]
-fn take_images<C: FromJson>(alloc: Global, value: Value) -> Result<Images<C>, ReadFault>
-    ensures { Gives result (images_in C.reading (view value)) }
+fn read_images<C: FromJson>(alloc: Global, value: &Value<'_>) -> Result<Images<C>, ReadFault>
+    ensures { Gives result (images_in C.reading (data_of value.now)) }
 {
-    let rows: Items<(Text, ListedImage<C>)> = take_rows(alloc, value)?;
+    let rows: Items<(Text, ListedImage<C>)> = read_rows(alloc, value)?;
     if !are_image_names(rows.as_slice()) {
         return Err(Fault::Because(NotRead));
     }
@@ -204,8 +193,8 @@ fn args_of(alloc: Global, rows: Items<(Text, Text)>) -> Result<Args, Memory>
 
 /// The build arguments that a value is.
 #[tactic(auto, unfolding(crate::specs::Parts::args_in))]
-fn read_args(alloc: Global, value: &Value) -> Result<Args, ReadFault>
-    ensures { Gives result (args_in (view value.now)) }
+fn read_args(alloc: Global, value: &Value<'_>) -> Result<Args, ReadFault>
+    ensures { Gives result (args_in (data_of value.now)) }
 {
     let rows: Items<(Text, Text)> = read_rows(alloc, value)?;
     Ok(args_of(alloc, rows)?)
@@ -224,55 +213,51 @@ fn caches_of(alloc: Global, rows: Items<(Text, Listing)>) -> Result<Items<(Text,
 
 /// What caches hold at first, by their ids.
 #[tactic(auto, unfolding(crate::specs::Parts::caches_in))]
-fn take_caches(alloc: Global, value: Value) -> Result<Items<(Text, Tree)>, ReadFault>
-    ensures { Gives result (caches_in (view value)) }
+fn read_caches(alloc: Global, value: &Value<'_>) -> Result<Items<(Text, Tree)>, ReadFault>
+    ensures { Gives result (caches_in (data_of value.now)) }
 {
-    let rows: Items<(Text, Listing)> = take_rows(alloc, value)?;
+    let rows: Items<(Text, Listing)> = read_rows(alloc, value)?;
     Ok(caches_of(alloc, rows)?)
 }
 
-/// The images by their names, none where there is no such key.
-fn named_images<C: FromJson>(alloc: Global, value: Option<Value>) -> Result<Images<C>, ReadFault>
-    ensures { Gives result (or_none empty (images_in C.reading) (option_map view value)) }
+/// The images that stand in an object, none where there is no such key.
+fn images_at<C: FromJson>(alloc: Global, value: &Value<'_>) -> Result<Images<C>, ReadFault>
+    ensures { Gives result (or_none empty (images_in C.reading) (get (codes "images") (data_of value.now))) }
 {
-    match value {
-        Some(value) => take_images(alloc, value),
+    match at(value, "images") {
+        Some(value) => read_images(alloc, value),
         None => Ok(Images::new(alloc)),
     }
 }
 
-/// The build arguments by their names, none where there is no such key.
-fn named_args(alloc: Global, value: Option<Value>) -> Result<Args, ReadFault>
-    ensures { Gives result (or_none empty args_in (option_map view value)) }
+/// The build arguments that stand in an object, none where there is no such key.
+fn args_at(alloc: Global, value: &Value<'_>) -> Result<Args, ReadFault>
+    ensures { Gives result (or_none empty args_in (get (codes "args") (data_of value.now))) }
 {
-    match value {
-        Some(value) => read_args(alloc, &value),
+    match at(value, "args") {
+        Some(value) => read_args(alloc, value),
         None => Ok(Args::new(alloc)),
     }
 }
 
-/// What caches hold at first, by their ids: nothing where there is no such key.
-fn named_caches(alloc: Global, value: Option<Value>) -> Result<Items<(Text, Tree)>, ReadFault>
-    ensures { Gives result (or_none [] caches_in (option_map view value)) }
+/// What caches hold at first, as it stands in an object: nothing where there is no such key.
+fn caches_at(alloc: Global, value: &Value<'_>) -> Result<Items<(Text, Tree)>, ReadFault>
+    ensures { Gives result (or_none [] caches_in (get (codes "caches") (data_of value.now))) }
 {
-    match value {
-        Some(value) => take_caches(alloc, value),
+    match at(value, "caches") {
+        Some(value) => read_caches(alloc, value),
         None => Ok(Items::new(alloc)),
     }
 }
 
 /// What a build may name.
-fn named_of<C: FromJson>(
-    alloc: Global,
-    images: Option<Value>,
-    args: Option<Value>,
-    caches: Option<Value>,
-) -> Result<Named<C>, ReadFault>
-    ensures { Gives result (named_at C.reading (option_map view images) (option_map view args) (option_map view caches)) }
+#[tactic(auto, unfolding(crate::specs::Parts::named_in))]
+fn read_named<C: FromJson>(alloc: Global, value: &Value<'_>) -> Result<Named<C>, ReadFault>
+    ensures { Gives result (named_in C.reading (data_of value.now)) }
 {
-    let images = named_images(alloc, images)?;
-    let args = named_args(alloc, args)?;
-    let caches = named_caches(alloc, caches)?;
+    let images = images_at(alloc, value)?;
+    let args = args_at(alloc, value)?;
+    let caches = caches_at(alloc, value)?;
     Ok(Named {
         images,
         args,
@@ -280,44 +265,16 @@ fn named_of<C: FromJson>(
     })
 }
 
-/// The bundle of these values, each of which stood at its key.
-fn parts_from<C: FromJson>(alloc: Global, members: Members) -> Result<Parts<C>, ReadFault>
-    ensures { Gives result (option_and_then
-        (λ files. option_map (λ named. parts_with files named) (named_at C.reading (option_map view members.images) (option_map view members.args) (option_map view members.caches)))
-        (files_at (option_map view members.dockerfile) (option_map view members.context) (option_map view members.target))) }
-{
-    let Members {
-        args,
-        caches,
-        context,
-        dockerfile,
-        images,
-        target,
-    } = members;
-    match files_of(alloc, dockerfile, context, target) {
-        Ok(files) => match named_of(alloc, images, args, caches) {
-            Ok(named) => Ok(Parts { files, named }),
-            Err(fault) => {
-                drop(files);
-                Err(fault)
-            }
-        },
-        Err(fault) => {
-            drop(images);
-            drop(args);
-            drop(caches);
-            Err(fault)
-        }
-    }
-}
-
 /// The bundle that a value is.
 #[tactic(auto, unfolding(crate::specs::Parts::parts_in))]
-pub(crate) fn take_parts<C: FromJson>(alloc: Global, value: Value) -> Result<Parts<C>, ReadFault>
-    ensures { Gives result (parts_in C.reading (view value)) }
+pub(crate) fn read_parts<C: FromJson>(
+    alloc: Global,
+    value: &Value<'_>,
+) -> Result<Parts<C>, ReadFault>
+    ensures { Gives result (parts_in C.reading (data_of value.now)) }
 {
     if !is_strict(
-        &value,
+        value,
         &[
             "args",
             "caches",
@@ -329,5 +286,14 @@ pub(crate) fn take_parts<C: FromJson>(alloc: Global, value: Value) -> Result<Par
     ) {
         return Err(Fault::Because(NotRead));
     }
-    parts_from(alloc, Members::taken(value))
+    match read_files(alloc, value) {
+        Ok(files) => match read_named(alloc, value) {
+            Ok(named) => Ok(Parts { files, named }),
+            Err(fault) => {
+                drop(files);
+                Err(fault)
+            }
+        },
+        Err(fault) => Err(fault),
+    }
 }

@@ -1,22 +1,23 @@
 ghost use Rattle.std.specs.Prelude.{◌≡◌, IfOk};
+ghost use Rattle.std.specs.Option.{option_and_then};
 ghost use Rattle.contexts.specs.Context.{IsListing, IsContext};
 ghost use Rattle.plain.specs.declared.refusal.Code.TheVariants.{R19};
-ghost use Rattle.serde_json.specs.View.{view};
+ghost use Rattle.serde_json.specs.Read.{read};
 ghost use Rattle.strict.specs.Gives.{Gives};
-ghost use Rattle.bundle.specs.Parts.{parts_within, parts_of};
+ghost use Rattle.bundle.specs.Parts.{parts_in, parts_within, parts_of};
 ghost use Rattle.bundle.specs.Reading.{is_ignore_path, bytes_in, ignore_bytes, told_line, IsBundle, Completes, ReadsBundle};
 
-use crate::parts::{Files, Named, Parts, take_parts};
+use crate::parts::{Files, Named, Parts, read_parts};
 use cachemounts::CacheStore;
 use contexts::Context;
 use entries::Listing;
 use ignorefile::Ignore;
+use json::Scratch;
 use paths::Path;
 use plain::limits::MOST_BUNDLE_BYTES;
 use plain::{Bytes, Code, Fault, Memory, Refusal, Text};
 use plans::Images;
 use scopes::Args;
-use serde_json::Value;
 use std::alloc::Global;
 use std::thread::Threads;
 use strict::{FromJson, NotRead, ReadFault};
@@ -170,6 +171,21 @@ fn complete<C: Drop>(
     }
 }
 
+/// The parts of a bundle's text. What is lent of it ends here.
+fn parts_in_text<C: FromJson>(alloc: Global, text: &str) -> Result<Parts<C>, ReadFault>
+    ensures { Gives result (option_and_then (parts_in C.reading) (read text.now)) }
+{
+    let mut scratch = Scratch::new(alloc);
+    match borrowed::read(alloc, text, &mut scratch) {
+        Ok(value) => {
+            let parts = read_parts(alloc, &value);
+            drop(value);
+            parts
+        }
+        Err(fault) => Err(fault),
+    }
+}
+
 /// The parts of a bundle of at most so many bytes.
 fn parts_within<C: FromJson>(
     alloc: Global,
@@ -181,15 +197,9 @@ fn parts_within<C: FromJson>(
     if bytes.len() > most {
         return Err(Fault::Because(NotRead));
     }
-    match Value::from_slice(alloc, bytes) {
-        Ok(value) => take_parts(alloc, value),
-        Err(e) => {
-            if e.is_memory() {
-                Err(Fault::Memory)
-            } else {
-                Err(Fault::Because(NotRead))
-            }
-        }
+    match str::from_utf8(bytes) {
+        Ok(text) => parts_in_text(alloc, text),
+        Err(_) => Err(Fault::Because(NotRead)),
     }
 }
 

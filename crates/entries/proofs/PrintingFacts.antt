@@ -1,5 +1,5 @@
 -- The text of an entry, piece by piece.
-use Rattle.std.proofs.Common.{◌≡◌, ℕ, zero, suc, ◌+◌, ◌/◌, ◌%◌, ◌<◌, ◌≤◌, Bool, true, false, ◌&&◌, List, [], ◌∷◌, ◌++◌, map, slice_index, refl, sym, ap, ◌∙◌, inl, inr, append_assoc, append-nil, arith, codes, decimal, Bor, take, drop, length}
+use Rattle.std.proofs.Common.{◌≡◌, ℕ, zero, suc, ◌+◌, ◌/◌, ◌%◌, ◌<◌, ◌≤◌, Bool, true, false, ◌&&◌, List, [], ◌∷◌, ◌++◌, map, slice_index, refl, sym, ap, ◌∙◌, inl, inr, append_assoc, append-nil, arith, codes, decimal, Bor, take, drop, drop-cons, length, get_or, add-one}
 use Rattle.std.specs.List.{list_all}
 use Rattle.std.proofs.lemmas.Bool.{and_parts, cases_lt}
 use Rattle.std.proofs.lemmas.List.{drop_all, take-append-drop}
@@ -14,7 +14,7 @@ use Rattle.trees.specs.declared.meta.Meta.{Meta}
 use Rattle.trees.specs.declared.entry.Entry.{Entry}
 use Rattle.trees.specs.declared.entry.Entry.TheVariants.{Directory, File}
 use Rattle.entries.specs.Written.{mode_text, entry_data}
-use Rattle.entries.specs.PrivatePrinting.{is_plain, are_plain, end_text, entry_text}
+use Rattle.entries.specs.PrivatePrinting.{is_plain, end_text, entry_text}
 
 both_hold : (a b : Bool) → a ≡ true → b ≡ true → (a && b) ≡ true
 both_hold true b p q = q
@@ -35,16 +35,19 @@ escape-plain (b ∷ s) h =
 escape-append : (s t : List ℕ) → escape (s ++ t) ≡ escape s ++ escape t
 escape-append s t = flat_map-append escape_byte s t
 
-escape-rooted : (path : List (List ℕ)) → are_plain path ≡ true → escape (rooted path) ≡ rooted path
-escape-rooted [] h = refl
-escape-rooted (name ∷ path) h =
-    let p = and_parts (list_all is_plain name) (are_plain path) h in
-    ap (λ e. e ++ escape (name ++ rooted path)) (plain-byte 47 refl)
-    ∙ ap (λ e. 47 ∷ e) (escape-append name (rooted path) ∙ ap (λ e. e ++ escape (rooted path)) (escape-plain name p.0) ∙ ap (λ e. name ++ e) (escape-rooted path p.1))
+-- a path's text in a string, name by name
+pub escape-rooted : (name : List ℕ) (path : List (List ℕ)) → escape (rooted (name ∷ path)) ≡ (47 ∷ escape name) ++ escape (rooted path)
+unfolding escape_byte
+escape-rooted name path = ap (λ e. 47 ∷ e) (escape-append name (rooted path))
 
-pub escape-path : (path : List (List ℕ)) → are_plain path ≡ true → escape (text_of path) ≡ text_of path
-escape-path [] h = escape-plain (47 ∷ []) refl
-escape-path (name ∷ path) h = escape-rooted (name ∷ path) h
+pub escape-root : (path : List (List ℕ)) → path ≡ [] → 47 ∷ [] ≡ escape (text_of path)
+unfolding escape_byte
+escape-root [] root = refl
+escape-root (name ∷ path) root = cc
+
+pub text-rooted : (path : List (List ℕ)) → (path ≡ [] → ⊥) → escape (rooted path) ≡ escape (text_of path)
+text-rooted [] some = absurd (some refl)
+text-rooted (name ∷ path) some = refl
 
 -- ---- digits
 
@@ -120,35 +123,41 @@ file-text path meta bytes small fits =
     ap (λ e. codes "{\"gid\":" ++ (decimal meta.gid ++ (codes ",\"hex\":" ++ (quoted (encode_lower bytes) ++ e)))) (end-is path meta small)
     ∙ hex-then (encode_lower bytes) meta.gid (end_text path meta) (escape-plain (encode_lower bytes) (hex-plain bytes fits))
 
--- ---- what is written behind a text
-
 encode-append : (t a b : List ℕ) → encode_with t (a ++ b) ≡ encode_with t a ++ encode_with t b
 unfolding encode_with
 encode-append t [] b = refl
 encode-append t (x ∷ a) b = ap (λ e. slice_index t (x / 16) ∷ slice_index t (x % 16) ∷ e) (encode-append t a b)
 
--- a piece more of some bytes
-pub piece_more : (old new all rest : List ℕ) (n : ℕ) → old ++ encode_lower rest ≡ all → new ≡ old ++ encode_lower (take n rest) → new ++ encode_lower (drop n rest) ≡ all
-piece_more old new all rest n so written =
-    let front = encode_lower (take n rest) in
-    let behind = encode_lower (drop n rest) in
-    ap (λ t. t ++ behind) written
-    ∙ append_assoc old front behind
-    ∙ ap (λ t. old ++ t) (sym (encode-append lower_digits (take n rest) (drop n rest)) ∙ ap encode_lower (take-append-drop n rest))
-    ∙ so
+-- the digits of some bytes, and then those of the rest
+pub encode-pieces : (rest piece behind : List ℕ) (n : ℕ) → piece ≡ take n rest → behind ≡ drop n rest → encode_lower rest ≡ encode_lower piece ++ encode_lower behind
+encode-pieces rest piece behind n front back =
+    sym (ap encode_lower (take-append-drop n rest))
+    ∙ encode-append lower_digits (take n rest) (drop n rest)
+    ∙ ap (λ d. d ++ encode_lower (drop n rest)) (ap encode_lower (sym front))
+    ∙ ap (λ d. encode_lower piece ++ d) (ap encode_lower (sym back))
 
--- two pieces, one behind the other
-pub more : (old new last a b : List ℕ) → new ≡ old ++ a → last ≡ new ++ b → last ≡ old ++ (a ++ b)
-more old new last a b p q = q ∙ (ap (λ t. t ++ b) p ∙ append_assoc old a b)
-
--- no byte is left
-pub none_left : (text all rest : List ℕ) → length rest ≡ 0 → text ++ encode_lower rest ≡ all → text ≡ all
+-- no byte has no digit
+pub encode-none : (rest : List ℕ) → length rest ≡ 0 → [] ≡ encode_lower rest
 unfolding encode_with
-none_left text all [] none so = sym (append-nil text) ∙ so
-none_left text all (b ∷ rest) none so = absurd (omega arith)
+encode-none [] none = refl
+encode-none (b ∷ rest) none = absurd (omega arith)
 
-pub plain-path : (old : List ℕ) (path : List (List ℕ)) → are_plain path ≡ true → old ++ (34 ∷ (text_of path ++ 34 ∷ [])) ≡ old ++ compact_text (string (text_of path))
-plain-path old path plain = ap (λ t. old ++ (34 ∷ (t ++ 34 ∷ []))) (sym (escape-path path plain))
+-- ---- items of a list
+
+pub drop-item : {A : Type 0} (xs : List A) (x : A) (i : ℕ) → i < length xs → x ≡ get_or xs i x → drop i xs ≡ x ∷ drop (i + 1) xs
+drop-item xs x i lt is = drop-cons xs i x lt ∙ ap (λ y. y ∷ drop (suc i) xs) (sym is) ∙ ap (λ n. x ∷ drop n xs) (sym (add-one i))
+
+-- the escapes of the bytes from one on, that byte first
+pub escape-from : (bytes : List ℕ) (i : ℕ) → i < length bytes → escape_byte (get_or bytes i 0) ++ escape (drop (i + 1) bytes) ≡ escape (drop i bytes)
+escape-from bytes i lt = sym (ap escape (drop-cons bytes i 0 lt ∙ ap (λ n. get_or bytes i 0 ∷ drop n bytes) (sym (add-one i))))
+
+-- the components of a path from one on, that component first
+pub names-from : (path : List (List ℕ)) (part name : List ℕ) (i : ℕ) → i < length path → part ≡ get_or path i part → name ≡ part
+    → (47 ∷ escape name) ++ escape (rooted (drop (i + 1) path)) ≡ escape (rooted (drop i path))
+names-from path part name i lt is same =
+    ap (λ n. (47 ∷ escape n) ++ escape (rooted (drop (i + 1) path))) same
+    ∙ sym (escape-rooted part (drop (i + 1) path))
+    ∙ ap (λ p. escape (rooted p)) (sym (drop-item path part i lt is))
 
 -- ---- entries
 
@@ -165,12 +174,7 @@ rows-are later (row ∷ rows) =
     append_assoc (comma_if later) (compact_text (entry_data row.0 row.1.now)) (rows_text true rows)
     ∙ ap (λ e. comma_if later ++ (compact_text (entry_data row.0 row.1.now) ++ e)) (rows-are true rows)
 
--- all entries are written
-pub all_written : (text last old : List ℕ) (later : Bool) (rows : List (List (List ℕ) × Bor Entry)) (i : ℕ) → length rows ≤ i
-    → text ++ rows_text later (drop i rows) ≡ old ++ (91 ∷ rows_text false rows) → last ≡ text ++ 93 ∷ []
-    → last ≡ old ++ (91 ∷ items_text false (items_of (map {A = List (List ℕ) × Entry} (λ row. entry_data row.0 row.1) (map {A = List (List ℕ) × Bor Entry} (λ row. (row.0, row.1.now)) rows))))
-all_written text last old later rows i past so closed =
-    closed
-    ∙ sym (ap (λ rs. text ++ rows_text later rs) (drop_all i rows past))
-    ∙ so
-    ∙ ap (λ t. old ++ (91 ∷ t)) (rows-are false rows)
+-- the text of the entries from one on, that entry first
+pub rows-from : (later : Bool) (rows : List (List (List ℕ) × Bor Entry)) (row : List (List ℕ) × Bor Entry) (i : ℕ) → i < length rows → row ≡ get_or rows i row
+    → (comma_if later ++ entry_text row.0 row.1.now) ++ rows_text true (drop (i + 1) rows) ≡ rows_text later (drop i rows)
+rows-from later rows row i lt is = ap (rows_text later) (sym (drop-item rows row i lt is))

@@ -1,6 +1,5 @@
--- How an entry's text ends, and which texts have nothing that is escaped.
+-- How an entry's text ends, and which bytes aren't escaped.
 use Rattle.std.specs.Prelude.{ℕ, Bool, not, ◌&&◌, ◌==◌, ◌++◌, List, nat_le, codes, decimal}
-use Rattle.std.specs.List.{list_all}
 use Rattle.paths.specs.Path.{text_of}
 use Rattle.serde_json.specs.Data.{string}
 use Rattle.serde_json.specs.Written.{compact_text}
@@ -11,10 +10,6 @@ use Rattle.entries.specs.Written.{mode_text, entry_data}
 -- a byte that stands for itself in a string: it is no control character, no `"` and no `\`
 abbrev pub is_plain : ℕ → Bool
 is_plain byte = nat_le 32 byte && (not (byte == 34) && not (byte == 92))
-
--- a path whose names are all of such bytes
-abbrev pub are_plain : List (List ℕ) → Bool
-are_plain path = list_all (list_all is_plain) path
 
 -- what directories and files end with: mode, path and user
 abbrev pub end_text : List (List ℕ) → Meta → List ℕ

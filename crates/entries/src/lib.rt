@@ -1,11 +1,11 @@
 // Lists of a tree's entries as JSON: how they are read, and how they are written.
 //
 // An entry is an object with a path, a mode and an owner; a file has its bytes, as a text or in hexadecimal, and a directory says that it
-// is one. A list is a tree's where no two of its rows clash (`is_listing`), and it is the list of one tree (`tree_of`). Reading is strict, as
-// in the crate `strict`. What a list is for, as a build's context or an image, is said by the crates that have it.
+// is one. A list is a tree's where no two of its rows clash (`is_listing`), and it is the list of one tree (`tree_of`). Reading is strict, of
+// JSON that is lent (`borrowed`). What a list is for, as a build's context or an image, is said by the crates that have it.
 //
 // ```
-// let listing = Listing::taken(alloc, value)?;           // of [{"path":"/a","text":"hi"}]
+// let listing = Listing::from_lent(alloc, &value)?;      // of [{"path":"/a","text":"hi"}]
 // let tree = listing.into_tree(alloc)?;                  // the root, 0755, and /a, 0644
 // ```
 #![tactic(auto)]
@@ -19,6 +19,6 @@ mod reading;
 mod writing;
 
 pub use listing::Listing;
-pub use printing::with_tree;
+pub use printing::put_tree;
 pub use reading::read_content;
 pub use writing::tree_to_json;

@@ -1,14 +1,13 @@
 ghost use Rattle.std.specs.Prelude.{◌≡◌, [], true, IfOk};
-ghost use Rattle.serde_json.specs.View.{view};
-ghost use Rattle.strict.specs.Gives.{Gives};
-ghost use Rattle.entries.specs.Listing.{is_listing, listing_in};
+ghost use Rattle.entries.specs.Listing.{is_listing};
 ghost use Rattle.entries.specs.Whole.{tree_of};
 
 use crate::apart::is_listing;
-use crate::reading::take_rows;
+use crate::reading::read_rows;
+use borrowed::FromLent;
+use json::Value;
 use paths::Path;
 use plain::{Fault, Items, Memory};
-use serde_json::Value;
 use std::alloc::Global;
 use std::marker::Model;
 use strict::{NotRead, ReadFault};
@@ -35,21 +34,24 @@ impl Model for Listing {
     ghost invariant = { λ l. is_listing l.rows ≡ true };
 }
 
-impl Listing {
-    /// The list that a value is. `NotRead` where it is none. The value is let go of in parts, each once its rows are made, so that value and
-    /// list aren't both whole at any time.
+impl FromLent for Listing {
+    ghost use Rattle.entries.specs.Listing.{listing_in};
+
+    ghost reading = { listing_in };
+
+    /// The list that a value is. `NotRead` where it is none.
     #[tactic(auto, unfolding(crate::specs::Listing::listing_in))]
-    pub fn taken(alloc: Global, value: Value) -> Result<Listing, ReadFault>
-        ensures { Gives result (listing_in (view value)) }
-    {
-        let rows = take_rows(alloc, value)?;
+    fn from_lent(alloc: Global, value: &Value<'_>) -> Result<Listing, ReadFault> {
+        let rows = read_rows(alloc, value)?;
         if is_listing(alloc, rows.as_slice())? {
             Ok(Listing { rows })
         } else {
             Err(Fault::Because(NotRead))
         }
     }
+}
 
+impl Listing {
     /// The empty list, that of the empty tree. It takes no memory.
     #[tactic(auto, unfolding(crate::specs::Listing::is_listing))]
     pub fn empty(alloc: Global) -> Listing

@@ -1,203 +1,331 @@
-ghost use Rattle.std.specs.Prelude.{◌≡◌, ◌++◌, IfOk, OnOk, map, decimal, true};
+ghost use Rattle.std.specs.Prelude.{◌≡◌, ◌+◌, ◌<◌, ◌≤◌, ◌∷◌, ◌++◌, length, map, decimal};
+ghost use Rattle.std.specs.Char.{digit_char};
 ghost use Rattle.std.specs.List.{list_all};
-ghost use Rattle.std.specs.String.{string_bytes};
 ghost use Rattle.hex.specs.Hex.{encode_lower};
+ghost use Rattle.json.specs.Print.{escape, escape_byte, escape_letter};
 ghost use Rattle.paths.specs.Path.{text_of};
+ghost use Rattle.counted.specs.Gathering.{sink, Says, HasRoom};
 ghost use Rattle.serde_json.specs.Data.{string};
 ghost use Rattle.serde_json.specs.Written.{comma_if, compact_text};
 ghost use Rattle.trees.specs.declared.entry.Entry.TheVariants.{Directory, File};
-ghost use Rattle.entries.specs.Written.{entry_data, tree_data};
-ghost use Rattle.entries.specs.PrivatePrinting.{are_plain, is_plain, end_text, entry_text};
+ghost use Rattle.entries.specs.Written.{mode_text, entry_data, tree_data};
+ghost use Rattle.entries.specs.PrivatePrinting.{is_plain, end_text, entry_text};
 
-use crate::writing::push_mode;
+use crate::writing::octal_digit;
+use counted::{CountedWrite, Gathered, gather};
 use itoa::Buffer;
 use paths::Path;
-use plain::{Memory, Text};
-use serde_json::Value;
-use std::alloc::Global;
+use plain::Mode;
 use trees::{Entry, Meta};
 
-/// How many bytes are turned into hexadecimal at once.
-const PIECE: usize = 4096;
+/// How many bytes are turned into hexadecimal at once: few, since the room for their digits is made anew for each file, and most are small.
+const PIECE: usize = 256;
 
-/// A text with the entries of a tree behind it, in the order that they are given in: what `tree_to_json` gives, as compact JSON, and no value
-/// in between. Where there is no memory the text is dropped.
-pub fn with_tree(alloc: Global, text: Text, entries: &[(Path, &Entry)]) -> Result<Text, Memory>
-    ensures { IfOk result (λ whole. whole
-        ≡ text ++ compact_text (tree_data (map (λ row. (row.0, row.1.now)) entries.now))) }
-{
-    let mut text = text.into_string(alloc)?;
-    push_tree(alloc, &mut text, entries)?;
-    Ok(Text::from_string(text))
-}
+/// How many digits these have.
+const DIGITS: usize = 512;
 
-/// Writes entries behind a text.
-fn push_tree(alloc: Global, text: &mut String, entries: &[(Path, &Entry)]) -> Result<(), Memory>
-    ensures { OnOk result (string_bytes text.new
-        ≡ string_bytes text.old ++ compact_text (tree_data (map (λ row. (row.0, row.1.now)) entries.now))) }
+/// Says the entries of a tree, in the order that they are given in: what `tree_to_json` gives, as compact JSON, and no value in between. It
+/// takes no memory, and after a failed write it does nothing.
+pub fn put_tree<W: CountedWrite>(
+    output: &mut W,
+    gathered: &mut Gathered,
+    entries: &[(Path, &Entry)],
+)
+    requires room { HasRoom (W.failures output.old) gathered.old }
+    ensures says { Says
+        (sink (W.contents output.old) (W.failures output.old) gathered.old)
+        (sink (W.contents output.new) (W.failures output.new) gathered.new)
+        (compact_text (tree_data (map (λ row. (row.0, row.1.now)) entries.now))) }
+    ensures room { HasRoom (W.failures output.new) gathered.new }
 {
-    text.push_str("[")?;
+    gather(output, gathered, b"[");
     let mut later = false;
     for row in entries {
-        push_row(alloc, text, later, &row.0, row.1)?;
+        put_row(output, gathered, later, &row.0, row.1);
         later = true;
     }
-    text.push_str("]")?;
-    Ok(())
+    gather(output, gathered, b"]");
 }
 
-/// Writes an entry with its path, behind a comma where others stand before.
-fn push_row(
-    alloc: Global,
-    text: &mut String,
+/// Says an entry with its path, behind a comma where others stand before.
+fn put_row<W: CountedWrite>(
+    output: &mut W,
+    gathered: &mut Gathered,
     later: bool,
     path: &Path,
     entry: &Entry,
-) -> Result<(), Memory>
-    ensures { OnOk result (string_bytes text.new ≡ string_bytes text.old ++ (comma_if later ++ entry_text path.now entry.now)) }
+)
+    requires room { HasRoom (W.failures output.old) gathered.old }
+    ensures says { Says
+        (sink (W.contents output.old) (W.failures output.old) gathered.old)
+        (sink (W.contents output.new) (W.failures output.new) gathered.new)
+        (comma_if later ++ entry_text path.now entry.now) }
+    ensures room { HasRoom (W.failures output.new) gathered.new }
 {
-    if later {
-        text.push_str(",")?;
-    }
-    push_entry(alloc, text, path, entry)
+    gather(output, gathered, comma_before(later));
+    put_entry(output, gathered, path, entry);
 }
 
-/// Writes an entry with its path.
+/// The comma that stands before a later entry.
+fn comma_before(later: bool) -> &'static [u8]
+    ensures { result.now ≡ comma_if later }
+{
+    if later { b"," } else { b"" }
+}
+
+/// Says an entry with its path.
 #[tactic(auto, unfolding(crate::specs::PrivatePrinting::entry_text))]
-fn push_entry(alloc: Global, text: &mut String, path: &Path, entry: &Entry) -> Result<(), Memory>
-    ensures { OnOk result (string_bytes text.new ≡ string_bytes text.old ++ entry_text path.now entry.now) }
+fn put_entry<W: CountedWrite>(output: &mut W, gathered: &mut Gathered, path: &Path, entry: &Entry)
+    requires room { HasRoom (W.failures output.old) gathered.old }
+    ensures says { Says
+        (sink (W.contents output.old) (W.failures output.old) gathered.old)
+        (sink (W.contents output.new) (W.failures output.new) gathered.new)
+        (entry_text path.now entry.now) }
+    ensures room { HasRoom (W.failures output.new) gathered.new }
 {
     match entry {
-        Entry::Directory(meta) => push_directory(alloc, text, path, *meta),
-        Entry::File(meta, content) => push_file(alloc, text, path, *meta, content.as_slice()),
+        Entry::Directory(meta) => put_directory(output, gathered, path, *meta),
+        Entry::File(meta, content) => {
+            put_file(output, gathered, path, *meta, content.as_slice());
+        }
     }
 }
 
-/// Writes a directory with its path.
-fn push_directory(alloc: Global, text: &mut String, path: &Path, meta: Meta) -> Result<(), Memory>
-    ensures { OnOk result (string_bytes text.new ≡ string_bytes text.old ++ compact_text (entry_data path.now (Directory meta))) }
+/// Says a directory with its path.
+fn put_directory<W: CountedWrite>(output: &mut W, gathered: &mut Gathered, path: &Path, meta: Meta)
+    requires room { HasRoom (W.failures output.old) gathered.old }
+    ensures says { Says
+        (sink (W.contents output.old) (W.failures output.old) gathered.old)
+        (sink (W.contents output.new) (W.failures output.new) gathered.new)
+        (compact_text (entry_data path.now (Directory meta))) }
+    ensures room { HasRoom (W.failures output.new) gathered.new }
 {
     let _mode = meta.mode.bits();
-    text.push_str("{\"dir\":true,\"gid\":")?;
-    push_number(text, meta.gid)?;
-    push_end(alloc, text, path, meta)?;
-    Ok(())
+    gather(output, gathered, b"{\"dir\":true,\"gid\":");
+    put_number(output, gathered, meta.gid);
+    put_end(output, gathered, path, meta);
 }
 
-/// Writes a file with its path.
-fn push_file(
-    alloc: Global,
-    text: &mut String,
+/// Says a file with its path.
+fn put_file<W: CountedWrite>(
+    output: &mut W,
+    gathered: &mut Gathered,
     path: &Path,
     meta: Meta,
     bytes: &[u8],
-) -> Result<(), Memory>
-    ensures { OnOk result (string_bytes text.new ≡ string_bytes text.old ++ compact_text (entry_data path.now (File meta bytes.now))) }
+)
+    requires room { HasRoom (W.failures output.old) gathered.old }
+    ensures says { Says
+        (sink (W.contents output.old) (W.failures output.old) gathered.old)
+        (sink (W.contents output.new) (W.failures output.new) gathered.new)
+        (compact_text (entry_data path.now (File meta bytes.now))) }
+    ensures room { HasRoom (W.failures output.new) gathered.new }
 {
     let _mode = meta.mode.bits();
-    text.push_str("{\"gid\":")?;
-    push_number(text, meta.gid)?;
-    text.push_str(",\"hex\":\"")?;
-    push_hex(alloc, text, bytes)?;
-    text.push_str("\"")?;
-    push_end(alloc, text, path, meta)?;
-    Ok(())
+    gather(output, gathered, b"{\"gid\":");
+    put_number(output, gathered, meta.gid);
+    gather(output, gathered, b",\"hex\":\"");
+    put_hex(output, gathered, bytes);
+    gather(output, gathered, b"\"");
+    put_end(output, gathered, path, meta);
 }
 
-/// Writes what directories and files end with: mode, path and user.
-fn push_end(alloc: Global, text: &mut String, path: &Path, meta: Meta) -> Result<(), Memory>
-    ensures { OnOk result (string_bytes text.new ≡ string_bytes text.old ++ end_text path.now meta) }
+/// Says what directories and files end with: mode, path and user.
+fn put_end<W: CountedWrite>(output: &mut W, gathered: &mut Gathered, path: &Path, meta: Meta)
+    requires room { HasRoom (W.failures output.old) gathered.old }
+    ensures says { Says
+        (sink (W.contents output.old) (W.failures output.old) gathered.old)
+        (sink (W.contents output.new) (W.failures output.new) gathered.new)
+        (end_text path.now meta) }
+    ensures room { HasRoom (W.failures output.new) gathered.new }
 {
-    text.push_str(",\"mode\":\"")?;
-    push_mode(text, meta.mode)?;
-    text.push_str("\",\"path\":")?;
-    push_path(alloc, text, path)?;
-    text.push_str(",\"uid\":")?;
-    push_number(text, meta.uid)?;
-    text.push_str("}")?;
-    Ok(())
+    gather(output, gathered, b",\"mode\":\"");
+    put_mode(output, gathered, meta.mode);
+    gather(output, gathered, b"\",\"path\":");
+    put_path(output, gathered, path);
+    gather(output, gathered, b",\"uid\":");
+    put_number(output, gathered, meta.uid);
+    gather(output, gathered, b"}");
 }
 
-/// Writes a number in decimal.
-fn push_number(text: &mut String, number: u32) -> Result<(), Memory>
-    ensures { OnOk result (string_bytes text.new ≡ string_bytes text.old ++ decimal number) }
+/// Says a mode as four octal digits.
+fn put_mode<W: CountedWrite>(output: &mut W, gathered: &mut Gathered, mode: Mode)
+    requires room { HasRoom (W.failures output.old) gathered.old }
+    ensures says { Says
+        (sink (W.contents output.old) (W.failures output.old) gathered.old)
+        (sink (W.contents output.new) (W.failures output.new) gathered.new)
+        (mode_text mode) }
+    ensures room { HasRoom (W.failures output.new) gathered.new }
+{
+    let bits = mode.bits();
+    let digits = [
+        octal_digit(bits / 512),
+        octal_digit(bits / 64 % 8),
+        octal_digit(bits / 8 % 8),
+        octal_digit(bits % 8),
+    ];
+    gather(output, gathered, &digits);
+}
+
+/// Says a number in decimal.
+fn put_number<W: CountedWrite>(output: &mut W, gathered: &mut Gathered, number: u32)
+    requires room { HasRoom (W.failures output.old) gathered.old }
+    ensures says { Says
+        (sink (W.contents output.old) (W.failures output.old) gathered.old)
+        (sink (W.contents output.new) (W.failures output.new) gathered.new)
+        (decimal number) }
+    ensures room { HasRoom (W.failures output.new) gathered.new }
 {
     let mut buffer = Buffer::new();
-    text.push_str(buffer.format(number))?;
-    Ok(())
+    gather(output, gathered, buffer.format(number).as_bytes());
 }
 
-/// Writes bytes in hexadecimal, a piece at a time: no second text of all digits is held.
-fn push_hex(alloc: Global, text: &mut String, bytes: &[u8]) -> Result<(), Memory>
-    ensures { OnOk result (string_bytes text.new ≡ string_bytes text.old ++ encode_lower bytes.now) }
+/// Says bytes in hexadecimal, a piece at a time.
+fn put_hex<W: CountedWrite>(output: &mut W, gathered: &mut Gathered, bytes: &[u8])
+    requires room { HasRoom (W.failures output.old) gathered.old }
+    ensures says { Says
+        (sink (W.contents output.old) (W.failures output.old) gathered.old)
+        (sink (W.contents output.new) (W.failures output.new) gathered.new)
+        (encode_lower bytes.now) }
+    ensures room { HasRoom (W.failures output.new) gathered.new }
 {
     let mut rest = bytes;
     while !rest.is_empty() {
         let (piece, behind) = rest.split_at(rest.len().min(PIECE));
-        push_digits(alloc, text, piece)?;
+        put_digits(output, gathered, piece);
         rest = behind;
     }
-    Ok(())
 }
 
-/// Writes a piece of bytes in hexadecimal.
-fn push_digits(alloc: Global, text: &mut String, piece: &[u8]) -> Result<(), Memory>
-    ensures { OnOk result (string_bytes text.new ≡ string_bytes text.old ++ encode_lower piece.now) }
+/// Says a piece of bytes in hexadecimal. After a failed write it turns none into digits.
+fn put_digits<W: CountedWrite>(output: &mut W, gathered: &mut Gathered, piece: &[u8])
+    requires short { length piece.now ≤ PIECE }
+    requires room { HasRoom (W.failures output.old) gathered.old }
+    ensures says { Says
+        (sink (W.contents output.old) (W.failures output.old) gathered.old)
+        (sink (W.contents output.new) (W.failures output.new) gathered.new)
+        (encode_lower piece.now) }
+    ensures room { HasRoom (W.failures output.new) gathered.new }
 {
-    let digits = hex::encode(alloc, piece)?;
-    text.push_str(digits.as_str())?;
-    Ok(())
-}
-
-/// Writes a path as a JSON string.
-fn push_path(alloc: Global, text: &mut String, path: &Path) -> Result<(), Memory>
-    ensures { OnOk result (string_bytes text.new ≡ string_bytes text.old ++ compact_text (string (text_of path.now))) }
-{
-    if are_plain(path) {
-        push_plain_path(text, path)
-    } else {
-        let value = Value::String(path.text(alloc)?.into_string(alloc)?);
-        let quoted = value.to_string(alloc)?;
-        text.push_str(quoted.as_str())?;
-        Ok(())
+    if gathered.is_failed() {
+        return;
     }
+    let mut digits = [0u8; DIGITS];
+    let digits = &mut digits[..2 * piece.len()];
+    hex::encode_to_slice(piece, digits).unwrap();
+    gather(output, gathered, digits);
 }
 
-/// Writes a path of which JSON escapes nothing as a JSON string.
-fn push_plain_path(text: &mut String, path: &Path) -> Result<(), Memory>
-    requires { are_plain path.now ≡ true }
-    ensures { OnOk result (string_bytes text.new ≡ string_bytes text.old ++ compact_text (string (text_of path.now))) }
+/// Says a path as a JSON string.
+fn put_path<W: CountedWrite>(output: &mut W, gathered: &mut Gathered, path: &Path)
+    requires room { HasRoom (W.failures output.old) gathered.old }
+    ensures says { Says
+        (sink (W.contents output.old) (W.failures output.old) gathered.old)
+        (sink (W.contents output.new) (W.failures output.new) gathered.new)
+        (compact_text (string (text_of path.now))) }
+    ensures room { HasRoom (W.failures output.new) gathered.new }
 {
-    text.push_str("\"")?;
-    push_names(text, path)?;
-    text.push_str("\"")?;
-    Ok(())
+    gather(output, gathered, b"\"");
+    put_names(output, gathered, path);
+    gather(output, gathered, b"\"");
 }
 
-/// Writes a path as its text.
-fn push_names(text: &mut String, path: &Path) -> Result<(), Memory>
-    ensures { OnOk result (string_bytes text.new ≡ string_bytes text.old ++ text_of path.now) }
+/// Says a path's text as it stands in a JSON string.
+fn put_names<W: CountedWrite>(output: &mut W, gathered: &mut Gathered, path: &Path)
+    requires room { HasRoom (W.failures output.old) gathered.old }
+    ensures says { Says
+        (sink (W.contents output.old) (W.failures output.old) gathered.old)
+        (sink (W.contents output.new) (W.failures output.new) gathered.new)
+        (escape (text_of path.now)) }
+    ensures room { HasRoom (W.failures output.new) gathered.new }
 {
     if path.is_root() {
-        text.push('/')?;
+        gather(output, gathered, b"/");
+        return;
     }
     for part in path.components() {
-        text.push('/')?;
-        text.push_str(part.as_str())?;
+        put_name(output, gathered, part.as_str().as_bytes());
     }
-    Ok(())
 }
 
-/// Whether JSON escapes nothing of a path's text.
-fn are_plain(path: &Path) -> bool
-    ensures { result ≡ are_plain path.now }
+/// Says a component behind its `/` as it stands in a JSON string.
+fn put_name<W: CountedWrite>(output: &mut W, gathered: &mut Gathered, name: &[u8])
+    requires room { HasRoom (W.failures output.old) gathered.old }
+    ensures says { Says
+        (sink (W.contents output.old) (W.failures output.old) gathered.old)
+        (sink (W.contents output.new) (W.failures output.new) gathered.new)
+        (47 ∷ escape name.now) }
+    ensures room { HasRoom (W.failures output.new) gathered.new }
 {
-    for part in path.components() {
-        if !is_plain_text(part.as_str().as_bytes()) {
-            return false;
-        }
+    gather(output, gathered, b"/");
+    if is_plain_text(name) {
+        gather(output, gathered, name);
+    } else {
+        put_escaped(output, gathered, name);
     }
-    true
+}
+
+/// Says bytes as they stand in a JSON string, one by one.
+fn put_escaped<W: CountedWrite>(output: &mut W, gathered: &mut Gathered, bytes: &[u8])
+    requires room { HasRoom (W.failures output.old) gathered.old }
+    ensures says { Says
+        (sink (W.contents output.old) (W.failures output.old) gathered.old)
+        (sink (W.contents output.new) (W.failures output.new) gathered.new)
+        (escape bytes.now) }
+    ensures room { HasRoom (W.failures output.new) gathered.new }
+{
+    for byte in bytes {
+        put_byte(output, gathered, *byte);
+    }
+}
+
+/// Says a byte as it stands in a JSON string.
+#[tactic(auto, unfolding(json::specs::Print::escape_byte))]
+fn put_byte<W: CountedWrite>(output: &mut W, gathered: &mut Gathered, byte: u8)
+    requires room { HasRoom (W.failures output.old) gathered.old }
+    ensures says { Says
+        (sink (W.contents output.old) (W.failures output.old) gathered.old)
+        (sink (W.contents output.new) (W.failures output.new) gathered.new)
+        (escape_byte byte) }
+    ensures room { HasRoom (W.failures output.new) gathered.new }
+{
+    let letter = escape_letter(byte);
+    if letter > 0 {
+        gather(output, gathered, &[b'\\', letter]);
+    } else if byte < 32 {
+        let high = hex_digit(byte / 16);
+        let low = hex_digit(byte % 16);
+        gather(output, gathered, &[b'\\', b'u', b'0', b'0', high, low]);
+    } else {
+        gather(output, gathered, &[byte]);
+    }
+}
+
+/// The letter that stands for a byte behind a `\` in a JSON string; 0 where none does.
+fn escape_letter(byte: u8) -> u8
+    ensures { result ≡ escape_letter byte }
+{
+    match byte {
+        b'"' | b'\\' => byte,
+        8 => b'b',
+        12 => b'f',
+        b'\n' => b'n',
+        b'\r' => b'r',
+        b'\t' => b't',
+        _ => 0,
+    }
+}
+
+/// The character of a hexadecimal digit.
+fn hex_digit(digit: u8) -> u8
+    requires { digit < 16 }
+    ensures { result ≡ digit_char digit }
+{
+    if digit < 10 {
+        b'0' + digit
+    } else {
+        b'a' - 10 + digit
+    }
 }
 
 /// Whether each byte stands for itself in a JSON string.

@@ -1,17 +1,19 @@
 ghost use Rattle.std.specs.Prelude.{◌≡◌, ◌<◌, IfOk, Some, None, codes, option_map};
 ghost use Rattle.std.specs.Option.{option_and_then};
-ghost use Rattle.serde_json.specs.View.{view, items_view};
 ghost use Rattle.serde_json.specs.Find.{get, as_str};
 ghost use Rattle.strict.specs.Gives.{Gives};
 ghost use Rattle.strict.specs.Strict.{at_most_one, all_in};
+ghost use Rattle.borrowed.specs.Seen.{data_of};
+ghost use Rattle.borrowed.specs.Lent.{items_data};
 ghost use Rattle.entries.specs.Reading.{is_octal, digit_at, mode_of, mode_in, meta_in, bytes_of, content_of, content_in, directory_in, file_in, row_in, rows_of};
 
+use borrowed::{at, is_strict, list_of, one_at, optional_at, text_of};
 use hex::FromHexError;
+use json::Value;
 use paths::Path;
 use plain::{Bytes, Fault, Items, Mode};
-use serde_json::Value;
 use std::alloc::Global;
-use strict::{NotRead, ReadFault, is_strict, one_at, optional_at};
+use strict::{NotRead, ReadFault};
 use trees::{Content, Entry, Meta};
 
 /// Whether a character is a digit from 0 to 7.
@@ -35,10 +37,10 @@ fn mode_of(text: &str) -> Option<Mode>
 
 /// The mode that a value is.
 #[tactic(auto, unfolding(crate::specs::Reading::mode_in))]
-fn read_mode(value: &Value) -> Result<Mode, ReadFault>
-    ensures { Gives result (mode_in (view value.now)) }
+fn read_mode(value: &Value<'_>) -> Result<Mode, ReadFault>
+    ensures { Gives result (mode_in (data_of value.now)) }
 {
-    let Some(text) = value.as_str() else {
+    let Some(text) = text_of(value) else {
         return Err(Fault::Because(NotRead));
     };
     match mode_of(text) {
@@ -48,10 +50,10 @@ fn read_mode(value: &Value) -> Result<Mode, ReadFault>
 }
 
 /// The mode that stands in an object, if one does.
-fn mode_at(value: &Value) -> Result<Option<Mode>, ReadFault>
-    ensures { Gives result (at_most_one mode_in (get (codes "mode") (view value.now))) }
+fn mode_at(value: &Value<'_>) -> Result<Option<Mode>, ReadFault>
+    ensures { Gives result (at_most_one mode_in (get (codes "mode") (data_of value.now))) }
 {
-    match value.get("mode") {
+    match at(value, "mode") {
         Some(value) => Ok(Some(read_mode(value)?)),
         None => Ok(None),
     }
@@ -59,8 +61,8 @@ fn mode_at(value: &Value) -> Result<Option<Mode>, ReadFault>
 
 /// The mode and the owner that stand in an object; what isn't there is as in `default`.
 #[tactic(auto, unfolding(crate::specs::Reading::meta_in))]
-fn read_meta(alloc: Global, value: &Value, default: Meta) -> Result<Meta, ReadFault>
-    ensures { Gives result (meta_in default (view value.now)) }
+fn read_meta(alloc: Global, value: &Value<'_>, default: Meta) -> Result<Meta, ReadFault>
+    ensures { Gives result (meta_in default (data_of value.now)) }
 {
     let mode = mode_at(value)?;
     let uid: Option<u32> = optional_at(alloc, value, "uid")?;
@@ -73,10 +75,10 @@ fn read_meta(alloc: Global, value: &Value, default: Meta) -> Result<Meta, ReadFa
 }
 
 /// The bytes that a value spells in hexadecimal.
-fn read_hex(alloc: Global, value: &Value) -> Result<Bytes, ReadFault>
-    ensures { Gives result (option_and_then bytes_of (as_str (view value.now))) }
+fn read_hex(alloc: Global, value: &Value<'_>) -> Result<Bytes, ReadFault>
+    ensures { Gives result (option_and_then bytes_of (as_str (data_of value.now))) }
 {
-    let Some(text) = value.as_str() else {
+    let Some(text) = text_of(value) else {
         return Err(Fault::Because(NotRead));
     };
     match hex::decode(alloc, text) {
@@ -87,10 +89,10 @@ fn read_hex(alloc: Global, value: &Value) -> Result<Bytes, ReadFault>
 }
 
 /// The bytes of a text that a value is.
-fn read_text(alloc: Global, value: &Value) -> Result<Bytes, ReadFault>
-    ensures { Gives result (as_str (view value.now)) }
+fn read_text(alloc: Global, value: &Value<'_>) -> Result<Bytes, ReadFault>
+    ensures { Gives result (as_str (data_of value.now)) }
 {
-    let Some(text) = value.as_str() else {
+    let Some(text) = text_of(value) else {
         return Err(Fault::Because(NotRead));
     };
     Ok(Bytes::from_slice(alloc, text.as_bytes())?)
@@ -99,10 +101,10 @@ fn read_text(alloc: Global, value: &Value) -> Result<Bytes, ReadFault>
 /// The bytes that stand in an object, at `text` as a text or at `hex` in hexadecimal. `NotRead` where there are none, or both, or they
 /// can't be read.
 #[tactic(auto, unfolding(crate::specs::Reading::content_in))]
-pub fn read_content(alloc: Global, value: &Value) -> Result<Bytes, ReadFault>
-    ensures { Gives result (content_in (view value.now)) }
+pub fn read_content(alloc: Global, value: &Value<'_>) -> Result<Bytes, ReadFault>
+    ensures { Gives result (content_in (data_of value.now)) }
 {
-    match (value.get("text"), value.get("hex")) {
+    match (at(value, "text"), at(value, "hex")) {
         (Some(text), None) => read_text(alloc, text),
         (None, Some(hex)) => read_hex(alloc, hex),
         (None, None) => Err(Fault::Because(NotRead)),
@@ -112,8 +114,8 @@ pub fn read_content(alloc: Global, value: &Value) -> Result<Bytes, ReadFault>
 
 /// A directory with its path.
 #[tactic(auto, unfolding(crate::specs::Reading::directory_in))]
-fn read_directory(alloc: Global, value: &Value) -> Result<(Path, Entry), ReadFault>
-    ensures { Gives result (directory_in (view value.now)) }
+fn read_directory(alloc: Global, value: &Value<'_>) -> Result<(Path, Entry), ReadFault>
+    ensures { Gives result (directory_in (data_of value.now)) }
 {
     if !is_strict(value, &["dir", "gid", "mode", "path", "uid"]) {
         return Err(Fault::Because(NotRead));
@@ -129,8 +131,8 @@ fn read_directory(alloc: Global, value: &Value) -> Result<(Path, Entry), ReadFau
 
 /// A file with its path.
 #[tactic(auto, unfolding(crate::specs::Reading::file_in))]
-fn read_file(alloc: Global, value: &Value) -> Result<(Path, Entry), ReadFault>
-    ensures { Gives result (file_in (view value.now)) }
+fn read_file(alloc: Global, value: &Value<'_>) -> Result<(Path, Entry), ReadFault>
+    ensures { Gives result (file_in (data_of value.now)) }
 {
     if !is_strict(value, &["gid", "hex", "mode", "path", "text", "uid"]) {
         return Err(Fault::Because(NotRead));
@@ -142,42 +144,33 @@ fn read_file(alloc: Global, value: &Value) -> Result<(Path, Entry), ReadFault>
 }
 
 /// An entry with its path: a directory where `dir` is there, else a file.
-fn read_row(alloc: Global, value: &Value) -> Result<(Path, Entry), ReadFault>
-    ensures { Gives result (row_in (view value.now)) }
+fn read_row(alloc: Global, value: &Value<'_>) -> Result<(Path, Entry), ReadFault>
+    ensures { Gives result (row_in (data_of value.now)) }
 {
-    match value.get("dir") {
+    match at(value, "dir") {
         Some(_) => read_directory(alloc, value),
         None => read_file(alloc, value),
     }
 }
 
-/// How many values are let go of at once. Those that stand behind one another lie together, so what they leave is room in one piece, in which
-/// the next rows lie close to each other.
-const MOST_SPENT: usize = 1024;
-
-/// What each of some values is. They are let go of in parts, each once its rows are made.
-fn take_each(alloc: Global, values: Vec<Value>) -> Result<Items<(Path, Entry)>, ReadFault>
-    ensures { Gives result (all_in row_in (items_view values.items)) }
+/// What each of some values is.
+fn read_each(alloc: Global, values: &[Value<'_>]) -> Result<Items<(Path, Entry)>, ReadFault>
+    ensures { Gives result (all_in row_in (items_data values.now)) }
 {
     let mut rows = Items::from_vec(Vec::with_capacity(alloc, values.len())?);
-    let mut spent = Vec::new(alloc);
     for value in values {
-        rows.push(read_row(alloc, &value)?)?;
-        spent.push(value)?;
-        if spent.len() == MOST_SPENT {
-            spent = Vec::new(alloc);
-        }
+        rows.push(read_row(alloc, value)?)?;
     }
     Ok(rows)
 }
 
 /// A list of entries with their paths, as it is written.
 #[tactic(auto, unfolding(strict::specs::Strict::list_in))]
-pub(crate) fn take_rows(alloc: Global, value: Value) -> Result<Items<(Path, Entry)>, ReadFault>
-    ensures { Gives result (rows_of (view value)) }
+pub(crate) fn read_rows(alloc: Global, value: &Value<'_>) -> Result<Items<(Path, Entry)>, ReadFault>
+    ensures { Gives result (rows_of (data_of value.now)) }
 {
-    let Value::Array(values) = value else {
-        return Err(Fault::Because(NotRead));
-    };
-    take_each(alloc, values)
+    match list_of(value) {
+        Some(values) => read_each(alloc, values),
+        None => Err(Fault::Because(NotRead)),
+    }
 }

@@ -102,22 +102,22 @@ fn mode_text(alloc: Global, mode: Mode) -> Result<String, Memory>
 }
 
 /// Writes a mode as four octal digits behind a text.
-pub(crate) fn push_mode(text: &mut String, mode: Mode) -> Result<(), Memory>
+fn push_mode(text: &mut String, mode: Mode) -> Result<(), Memory>
     ensures { OnOk result (string_bytes text.new ≡ string_bytes text.old ++ mode_text mode) }
 {
     let bits = mode.bits();
-    text.push(octal_digit(bits / 512))?;
-    text.push(octal_digit(bits / 64 % 8))?;
-    text.push(octal_digit(bits / 8 % 8))?;
-    text.push(octal_digit(bits % 8))?;
+    text.push(char::from(octal_digit(bits / 512)))?;
+    text.push(char::from(octal_digit(bits / 64 % 8)))?;
+    text.push(char::from(octal_digit(bits / 8 % 8)))?;
+    text.push(char::from(octal_digit(bits % 8)))?;
     Ok(())
 }
 
 /// The character of an octal digit.
-fn octal_digit(digit: u16) -> char
+pub(crate) fn octal_digit(digit: u16) -> u8
     requires { digit < 8 }
     ensures value { result ≡ 48 + digit }
     ensures ascii { result < 128 }
 {
-    char::from(b'0' + digit as u8)
+    b'0' + digit as u8
 }

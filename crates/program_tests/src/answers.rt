@@ -1,9 +1,9 @@
-use bundle::{Bundle, built_answer, failed_answer, read_bundle, refused_answer};
+use bundle::{Bundle, failed_answer, put_built, read_bundle, refused_answer};
+use counted::{Counted, Gathered, finish};
 use imageconfig::Config;
 use lines::LineFault;
 use paths::Path;
 use plain::{Bytes, Code, Mode, Refusal};
-use serde_json::Value;
 use std::test::Fail;
 use trees::{Cause, Content, Entry, Meta};
 
@@ -24,7 +24,7 @@ fn a_bundle_is_read(rt: HostRuntime) -> Result<(), Fail> {
 fn answers_are_compact_text(rt: HostRuntime) -> Result<(), Fail> {
     let alloc = rt.alloc();
     let root = Path::root(alloc);
-    let path = Path::read(alloc, "/a \"b\"", &root).map_err(|_| Fail::from("no path"))?;
+    let path = Path::read(alloc, "/a \"b\"\n\u{1}", &root).map_err(|_| Fail::from("no path"))?;
     let mode = Mode::new(0o7001).ok_or("a mode")?;
     let directory = Entry::Directory(Meta {
         mode,
@@ -33,15 +33,18 @@ fn answers_are_compact_text(rt: HostRuntime) -> Result<(), Fail> {
     });
     let content = Content::new(alloc, Bytes::from_slice(alloc, &[0, 255])?)?;
     let file = Entry::File(Meta::file(), content);
-    let config = Value::Bool(true);
-    let text = built_answer(
-        alloc,
-        config,
+    let mut output = Counted::new(Vec::with_capacity(alloc, 4096)?);
+    let mut gathered = Gathered::new(alloc)?;
+    put_built(
+        &mut output,
+        &mut gathered,
+        "true",
         [(root, &directory), (path, &file)].as_slice(),
-    )?;
+    );
+    assert!(rt; finish(&mut output, gathered).is_ok());
     let wanted =
-        r#"{"config":true,"result":"built","tree":[{"dir":true,"gid":7,"mode":"7001","path":"/","uid":4294967295},{"gid":0,"hex":"00ff","mode":"0644","path":"/a \"b\"","uid":0}]}"#;
-    assert_eq!(rt; text.as_str(), wanted);
+        r#"{"config":true,"result":"built","tree":[{"dir":true,"gid":7,"mode":"7001","path":"/","uid":4294967295},{"gid":0,"hex":"00ff","mode":"0644","path":"/a \"b\"\n\u0001","uid":0}]}"#;
+    assert_eq!(rt; output.into_inner().as_slice(), wanted.as_bytes());
     let failed = failed_answer(alloc, 1048576, Cause::Exit(255))?;
     let wanted = r#"{"cause":"exit 255","line":1048576,"result":"failed"}"#;
     assert_eq!(rt; failed.as_str(), wanted);

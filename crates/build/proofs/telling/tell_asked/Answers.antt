@@ -1,7 +1,11 @@
-use Rattle.build.proofs.TellFacts.{asked_told}
+use Rattle.std.proofs.Common.{Ok}
+use Rattle.build.specs.PrivateTelling.{TellsPlan}
+use Rattle.build.specs.Telling.{TellsAsked}
+use Rattle.build.proofs.TellFacts.{told_of, asked_told}
 use Rattle.build.proofs.telling.tell_asked.Goals as goal
 
 pub returns-in-Ok : goal.returns-in-Ok
 returns-in-Ok g c =
-    asked_told (g.E.Executor.out c.args.executor.now) c.args.asked.evaluated c.in-Ok.plan c.tell_plan-told.result
-    (c.in-Ok.ensures.tells (g.E.Executor.out c.args.executor.now)) c.tell_plan-told.ensures
+    let out = g.E.Executor.out c.args.executor.now in
+    told_of (TellsPlan out c.in-Ok.plan) (TellsAsked out (Ok c.args.asked.evaluated))
+    (λ told is. asked_told out c.args.asked.evaluated c.in-Ok.plan told (c.in-Ok.ensures.tells out) is) _ _ _ _ c.tell_plan-ended.result c.tell_plan-ended.ensures

@@ -1,8 +1,9 @@
-use Rattle.std.proofs.Common.{sym, ◌∙◌, arith}
-use Rattle.std.proofs.lemmas.Bool.{true≢false}
-use Rattle.serde_json.specs.Errors.{IsMemory}
-use Rattle.serde_json.specs.View.{view}
-use Rattle.bundle.proofs.WholeFacts.{within-long, within-read, within-none}
+use Rattle.std.proofs.Common.{◌≡◌, ℕ, List, Option, length, ap, ◌∙◌, arith, subst}
+use Rattle.std.specs.Option.{option_and_then}
+use Rattle.serde_json.specs.Read.{read}
+use Rattle.strict.specs.Gives.{Gives}
+use Rattle.bundle.specs.Parts.{parts_in}
+use Rattle.bundle.proofs.WholeFacts.{within-long, within-text, within-none}
 use Rattle.bundle.proofs.whole.parts_within.Goals as goal
 
 pub returns-then-bytes-most : goal.returns-then-bytes-most
@@ -10,10 +11,7 @@ returns-then-bytes-most g c = within-long g.C.FromJson.reading c.args.most c.arg
 
 pub returns-in-Ok : goal.returns-in-Ok
 returns-in-Ok g c =
-    let is = within-read g.C.FromJson.reading c.args.most c.args.bytes.now (view c.in-Ok.value) (omega arith) c.in-Ok.ensures.ok.0 c.in-Ok.ensures.ok.1 in
-    rw is c.take_parts.ensures
+    rw (within-text g.C.FromJson.reading c.args.most c.args.bytes.now (omega arith) c.in-Ok.ensures.cases.1, ← c.in-Ok.ensures.cases.0) c.parts_in_text.ensures
 
-pub returns-else-is_memory : goal.returns-else-is_memory
-returns-else-is_memory g c =
-    let plain : IsMemory c.in-Err.e → ⊥ = λ m. true≢false (sym (c.is_memory.ensures.1 m) ∙ c.if-is_memory.false) in
-    within-none g.C.FromJson.reading c.args.most c.args.bytes.now (omega arith) (c.in-Err.ensures.err plain)
+pub returns-in-Err : goal.returns-in-Err
+returns-in-Err g c = within-none g.C.FromJson.reading c.args.most c.args.bytes.now (omega arith) c.in-Err.ensures.cases.0

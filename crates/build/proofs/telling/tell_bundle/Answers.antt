@@ -1,0 +1,20 @@
+use Rattle.std.proofs.Common.{Ok, Err}
+use Rattle.bundle.specs.Answer.{refused_text}
+use Rattle.build.specs.declared.status.Status.TheVariants.{Refused}
+use Rattle.build.specs.PrivateTelling.{TellsText}
+use Rattle.build.specs.Telling.{TellsAsked, TellsBundle}
+use Rattle.build.proofs.TellFacts.{told_of, bundle_told, refusal_told}
+use Rattle.build.proofs.telling.tell_bundle.Goals as goal
+
+pub returns-in-Ok : goal.returns-in-Ok
+returns-in-Ok g c =
+    let out = g.E.Executor.out c.args.executor.now in
+    told_of (TellsAsked out (Ok c.in-Ok.asked.evaluated)) (TellsBundle c.args.bytes.now out) (λ told is. bundle_told c.args.bytes.now out (Ok c.in-Ok.asked.evaluated) told c.in-Ok.ensures.asked is)
+    _ _ _ _ c.tell_asked.result c.tell_asked.ensures
+
+pub returns-in-Err-Because : goal.returns-in-Err-Because
+returns-in-Err-Because g c =
+    let out = g.E.Executor.out c.args.executor.now in
+    told_of (TellsText Refused (refused_text c.in-Err-Because.refusal)) (TellsBundle c.args.bytes.now out)
+    (λ told is. refusal_told c.args.bytes.now out c.in-Err-Because.refusal told (rw c.in-Err-Because.field-0-is at c.in-Err-Because.ensures.asked) is)
+    _ _ _ _ c.tell_refusal.result c.tell_refusal.ensures

@@ -1,0 +1,13 @@
+use Rattle.std.proofs.Common.{◌≡◌, ◌∷◌, drop, false}
+use Rattle.counted.specs.Gathering.{Sink, sink, Says, HasRoom}
+use Rattle.entries.proofs.PrintingFacts.{rows_text}
+use Rattle.entries.proofs.printing.put_tree.Given as goal
+
+-- whoever says the text of the entries to come has said that of all
+abbrev pub invariant-loop-row : goal.invariant-loop-row
+invariant-loop-row g l = record {
+  said : (last : Sink)
+      → Says (sink (g.W.CountedWrite.contents l.output) (g.W.CountedWrite.failures l.output) l.gathered) last (rows_text l.later (drop l.row-index l.entries))
+      → Says (sink (g.W.CountedWrite.contents l.fn.output) (g.W.CountedWrite.failures l.fn.output) l.fn.gathered) last (91 ∷ rows_text false l.entries);
+  room : HasRoom (g.W.CountedWrite.failures l.output) l.gathered;
+}
