@@ -29,8 +29,8 @@ abbrev pub fallback : Values → Option (List ℕ) → Option Parts → Option (
 fallback before outer_value (Some word) = Some (value before word)
 fallback before outer_value None = outer_value
 
--- what an ARG line says: each argument has the build argument of its name, or else its fallback; it may have none. Of a name
--- that stands twice on a line the last value counts (Dockerfile reference, ARG)
+-- what an ARG line says: each argument has the build argument of its name, or else its fallback; it may have none (Dockerfile
+-- reference, ARG)
 abbrev pub arg_line : Values → Values → Values → List Argument → List Declaration
 arg_line before args outer arguments = map (λ a. Arg a.name (or_else (args a.name) (fallback before (outer a.name) a.default))) arguments
 
@@ -38,8 +38,8 @@ arg_line before args outer arguments = map (λ a. Arg a.name (or_else (args a.na
 abbrev pub env_texts : Values → List Assignment → List (List ℕ)
 env_texts before assignments = map (λ a. value before a.value) assignments
 
--- the text that an argument expands, which is the one that is judged: its default, where it has one and no build argument,
--- also where an ENV of its name beats it (own)
+-- the text that an argument expands, whose length is tested: its default, where it has one and no build argument, also where an
+-- ENV of its name beats it (own)
 abbrev pub expanded_default : Values → Option (List ℕ) → Option Parts → Option (List ℕ)
 expanded_default before (Some text) default = None
 expanded_default before None (Some word) = Some (value before word)

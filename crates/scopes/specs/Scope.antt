@@ -1,5 +1,5 @@
--- What names have values, and RUN's environment, by the declarations so far in their order: an image's ENV first; a stage from a
--- stage goes on with that stage's. Nothing here knows how a scope is stored.
+-- What names have values, and RUN's environment, by the declarations so far in their order. Those of a base image's ENV come first, or
+-- those of the stage that a stage begins with. Nothing here knows how a scope is stored.
 use Rattle.std.specs.Prelude.{ℕ, Bool, true, not, ◌==◌, ◌&&◌, List, [], ◌∷◌, ◌++◌, length, map, filter, Option, Some, None, option_map, is_some, if◌then◌else◌}
 use Rattle.std.specs.List.{filter_map, list_any}
 use Rattle.std.specs.Str.{bytes_eq}
@@ -16,14 +16,14 @@ or_else None other = other
 abbrev pub where_same : List ℕ → List ℕ → Option (List ℕ) → Option (List ℕ)
 where_same n m value = if bytes_eq n m then value else None
 
--- the value that the last ENV of a name gives it; none where no ENV names it
+-- the value that the last ENV of a name gives it, also of two that stand on one line (own); none where no ENV names it
 abbrev pub last_env : List ℕ → List Declaration → Option (List ℕ)
 last_env n [] = None
 last_env n (Env m text ∷ ds) = or_else (last_env n ds) (where_same n m (Some text))
 last_env n (Arg m value ∷ ds) = last_env n ds
 
--- the value that the last ARG of a name gives it, of those that give one: an ARG that has no value leaves the name as it was
--- (own)
+-- the value that the last ARG of a name gives it, of those that give one, also of two that stand on one line: an ARG that has no
+-- value leaves the name as it was (own)
 abbrev pub last_arg : List ℕ → List Declaration → Option (List ℕ)
 last_arg n [] = None
 last_arg n (Env m text ∷ ds) = last_arg n ds
@@ -61,8 +61,7 @@ env_row n value = option_map (λ text. record { name = n; value = text }) value
 
 -- the environment of RUN: the names that ENVs set, in the order in which they came first, with their last values; then the
 -- names that have a value by an ARG and are set by no ENV, in the order in which they were first declared, an ARG without a
--- value counting as a declaration. ARGs before the first FROM aren't among them, and no PATH is added (Dockerfile reference,
--- ENV and ARG; the order and the PATH: own)
+-- value counting as a declaration. No PATH is added (Dockerfile reference, ENV and ARG; the order and the PATH: own)
 unfoldable pub run_env : List Declaration → List Variable
 run_env ds =
     filter_map (λ n. env_row n (last_env n ds)) (firsts (env_names ds))

@@ -4,10 +4,15 @@
 // the lines of a scope, and the scope before the first FROM.
 //
 // The central definitions are in specs/Scope.antt: `value_in`, the value that a list of ENV and ARG declarations gives a name;
-// `run_env`, RUN's environment by them; and `kept`, the list that a scope holds, with each name once. It gives each name the
-// same value as all declarations so far, also after any further lines (`laws`), so a call on a line says what it appends.
+// `run_env`, RUN's environment by them; and `kept`, the list that a scope holds, with each name once. What is kept gives each name
+// the value that all declarations so far give it, and does so after any further lines too (`laws`): so the contract of a call on a line
+// says which declarations the line adds, and what is kept then.
+//
+// A line of which a text is too long is refused with R18 (`TextFault`, of the crate `words`, holds a code). Tests are in `language_tests` and
+// `language_rows`.
 //
 // ```
+// scope.declare(alloc, arguments, &args, &outer)?;   // ARG abc=default, with the build arguments and the scope before the first FROM
 // scope.set_env(alloc, variables)?;             // ENV abc=hello
 // scope.get("abc")                              // hello
 // scope.run_env(alloc)?                         // abc=hello
