@@ -12,6 +12,7 @@ abbrev pub seen_number : Option Num → Data
 seen_number None = null
 seen_number (Some n) = number n
 
+-- the data that a value stands for: the members of an object are put one after another, so the last value of a key stays
 abbrev mutual
   pub seen : json.Json → Data
   seen json.null = null
@@ -21,6 +22,7 @@ abbrev mutual
   seen (json.array js) = array (seen_items js)
   seen (json.object ms) = object (seen_members ms no_members)
 
+  -- the items of a list, each as what it stands for
   pub seen_items : json.Items → Items
   seen_items json.no_items = no_items
   seen_items (json.item j js) = item (seen j) (seen_items js)
@@ -40,10 +42,12 @@ abbrev mutual
   in_range (json.array js) = items_in_range js
   in_range (json.object ms) = members_in_range ms
 
+  -- each number in some items has a value
   pub items_in_range : json.Items → Bool
   items_in_range json.no_items = true
   items_in_range (json.item j js) = in_range j && items_in_range js
 
+  -- each number in some members has a value
   pub members_in_range : json.Members → Bool
   members_in_range json.no_members = true
   members_in_range (json.member k j ms) = in_range j && members_in_range ms
