@@ -1,4 +1,4 @@
-ghost use Rattle.std.specs.Prelude.{◌≡◌, ◌+◌, ◌<◌, ◌≤◌, ℕ, List, Option, [], ◌++◌, length, IsTrue, ◌↔◌, IfOk, false};
+ghost use Rattle.std.specs.Prelude.{◌≡◌, ◌+◌, ◌<◌, ◌≤◌, ℕ, List, Option, [], length, IsTrue, ◌↔◌, IfOk, false};
 ghost use Rattle.counted.specs.Gathering.{nothing, held, sink, Says, HasRoom, IsWritten};
 
 use crate::{CountedWrite, Device, EdgeFault, write_all};

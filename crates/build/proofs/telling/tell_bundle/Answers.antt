@@ -1,4 +1,4 @@
-use Rattle.std.proofs.Common.{Ok, Err}
+use Rattle.std.proofs.Common.{Ok}
 use Rattle.bundle.specs.Answer.{refused_text}
 use Rattle.build.specs.declared.status.Status.TheVariants.{Refused}
 use Rattle.build.specs.PrivateTelling.{TellsText}

@@ -1,4 +1,4 @@
-use Rattle.std.proofs.Common.{ℕ, List, map, sym, subst, Bor}
+use Rattle.std.proofs.Common.{ℕ, List, map, subst, Bor}
 use Rattle.trees.specs.declared.entry.Entry.{Entry}
 use Rattle.counted.specs.Gathering.{nothing, sink, Says}
 use Rattle.counted.proofs.GatheringFacts.{says_both}

@@ -1,8 +1,4 @@
-use Rattle.std.proofs.Common.{◌≡◌, ℕ, List, Option, length, ap, ◌∙◌, arith, subst}
-use Rattle.std.specs.Option.{option_and_then}
-use Rattle.serde_json.specs.Read.{read}
-use Rattle.strict.specs.Gives.{Gives}
-use Rattle.bundle.specs.Parts.{parts_in}
+use Rattle.std.proofs.Common.{arith}
 use Rattle.bundle.proofs.WholeFacts.{within-long, within-text, within-none}
 use Rattle.bundle.proofs.whole.parts_within.Goals as goal
 

@@ -1,6 +1,6 @@
 use Rattle.std.proofs.Common.{drop}
 use Rattle.json.specs.Print.{escape}
-use Rattle.paths.specs.Path.{rooted, text_of}
+use Rattle.paths.specs.Path.{rooted}
 use Rattle.counted.specs.Gathering.{Sink, sink, Says, HasRoom}
 use Rattle.entries.proofs.printing.put_names.Given as goal
 

@@ -1,4 +1,4 @@
-use Rattle.std.proofs.Common.{◌≡◌, ◌<◌, ◌≤◌, ◌∷◌, false, length, sym, ap, arith}
+use Rattle.std.proofs.Common.{◌<◌, ◌≤◌, ◌∷◌, false, length, sym, ap, arith}
 use Rattle.std.proofs.lemmas.List.{drop_all}
 use Rattle.counted.proofs.GatheringFacts.{says_both, says_as}
 use Rattle.entries.proofs.PrintingFacts.{rows_text, rows-from, rows-are}

@@ -1,4 +1,4 @@
-use Rattle.std.proofs.Common.{◌≡◌, ◌∷◌, drop, false}
+use Rattle.std.proofs.Common.{◌∷◌, drop, false}
 use Rattle.counted.specs.Gathering.{Sink, sink, Says, HasRoom}
 use Rattle.entries.proofs.PrintingFacts.{rows_text}
 use Rattle.entries.proofs.printing.put_tree.Given as goal
