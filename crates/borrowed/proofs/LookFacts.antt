@@ -1,5 +1,5 @@
 -- Looking into an object whose members were put one after another: the last value of a key is found, and the keys are those that were put.
-use Rattle.std.proofs.Common.{◌≡◌, ℕ, List, [], ◌∷◌, map, Bool, true, false, ◌&&◌, ◌||◌, cond, Option, Some, None, option_map, option_and_then, is_some, if◌then◌else◌, Bor, Ordering, Less, Equal, Greater, nat_cmp, is_eq, bytes_eq, refl, ap, sym, ◌∙◌}
+use Rattle.std.proofs.Common.{◌≡◌, ℕ, List, [], ◌∷◌, Bool, true, false, ◌&&◌, cond, Option, Some, None, option_map, option_and_then, is_some, if◌then◌else◌, Bor, Ordering, Less, Equal, Greater, nat_cmp, is_eq, bytes_eq, refl, ap, sym, ◌∙◌}
 use Rattle.std.proofs.lemmas.Map.Text.{is_eq-slice_cmp}
 use Rattle.std.proofs.lemmas.Slice.Eq.{bytes_eq-Decides}
 use Rattle.std.specs.Cmp.Lexicographic.{slice_cmp}
@@ -146,9 +146,3 @@ some_if false ms = refl
 
 pub strict-object : (keys : List (List ℕ)) (ms : Members) → is_some (strict keys (object ms)) ≡ has_only (λ key. list_any (λ known. bytes_eq known key) keys) ms
 strict-object keys ms = some_if (has_only (λ key. list_any (λ known. bytes_eq known key) keys) ms) ms
-
--- ---- a test of mapped values
-
-pub any-map : {A B : Type 0} (test : B → Bool) (f : A → B) (xs : List A) → list_any test (map f xs) ≡ list_any (λ x. test (f x)) xs
-any-map test f [] = refl
-any-map test f (x ∷ xs) = ap (λ b. test (f x) || b) (any-map test f xs)

@@ -8,6 +8,7 @@ ghost use Rattle.borrowed.specs.Seen.{data_of, seen_members};
 ghost use Rattle.borrowed.specs.Lent.{items_data};
 
 use json::Value;
+use strict::is_among;
 
 /// What stands at a key of an object: of several, the last. Of what is no object there is nothing.
 pub fn at<'v, 'a>(value: &'v Value<'a>, key: &str) -> Option<&'v Value<'a>>
@@ -53,18 +54,4 @@ fn has_only(members: &[(&str, Value<'_>)], keys: &[&str]) -> bool
         }
     }
     true
-}
-
-/// Whether a key is one of these.
-fn is_among(keys: &[&str], key: &str) -> bool
-    ensures { result ≡ list_any (λ known. bytes_eq known key.now) (map (λ k. k.now) keys.now) }
-{
-    is_one_of(keys, key)
-}
-
-/// Whether a key is one of these, said of the keys as they are lent.
-fn is_one_of(keys: &[&str], key: &str) -> bool
-    ensures { result ≡ list_any (λ known. bytes_eq known.now key.now) keys.now }
-{
-    keys.iter().any(|known| *known == key)
 }

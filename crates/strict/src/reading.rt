@@ -170,7 +170,7 @@ fn has_only(members: &Map<String, Value>, keys: &[&str]) -> bool
 }
 
 /// Whether a key is one of these.
-fn is_among(keys: &[&str], key: &str) -> bool
+pub fn is_among(keys: &[&str], key: &str) -> bool
     ensures { result ≡ list_any (λ known. bytes_eq known key.now) (map (λ k. k.now) keys.now) }
 {
     is_one_of(keys, key)
