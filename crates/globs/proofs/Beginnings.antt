@@ -1,7 +1,7 @@
 -- A plain text and a `*` behind it relate to the names that begin with that text.
-use Rattle.std.proofs.Common.{◌≡◌, ◌↔◌, ◌∙◌, ℕ, Bool, IsTrue, true, false, true≢false, List, [], ◌∷◌, ◌++◌, Some, None, map, drop, sym, ap, refl, subst, inl, inr, eq-eqb}
+use Rattle.std.proofs.Common.{◌≡◌, ◌↔◌, ◌∙◌, ℕ, Bool, IsTrue, true, false, true≢false, List, [], ◌∷◌, ◌++◌, Option, Some, None, map, drop, sym, ap, refl, subst, inl, inr, eq-eqb}
 use Rattle.std.specs.Bool.{MatchBool}
-use Rattle.std.specs.Option.{option_and_then}
+use Rattle.std.specs.Option.{option_and_then, IfSome}
 use Rattle.std.specs.Str.{chars, IsUtf8}
 use Rattle.std.specs.Str.Pattern.{HasPrefixMatch, FindsTextPrefix}
 use Rattle.std.proofs.Math.Utf8.{encodes}
@@ -10,7 +10,7 @@ use Rattle.std.proofs.lemmas.List.{append-nil}
 use Rattle.std.proofs.lemmas.Str.{chars-append, encodes-append, encodes-chars}
 use Rattle.globs.specs.declared.part.Part.{Part}
 use Rattle.globs.specs.declared.part.Part.TheVariants.{AnyRun, Exactly}
-use Rattle.globs.specs.Component.{takes_any, holds, RelatesToName}
+use Rattle.globs.specs.Component.{takes_any, holds, RelatesToName, BeginsWith}
 use Rattle.globs.specs.Cut.{CanBeCut}
 use Rattle.globs.specs.Grammar.{is_spelled_out}
 use Rattle.globs.specs.Reading.{finished, parts_of}
@@ -51,3 +51,8 @@ begins-there text name utf8 (whole, cut) =
 pub begins-both : (r : Bool) (text name : List ℕ) → IsUtf8 text → IsUtf8 name → MatchBool r (HasPrefixMatch (FindsTextPrefix text) name) (FindsTextPrefix text name None) → IsTrue r ↔ RelatesToName (beginning_parts text) name
 begins-both true text name t n found = ((λ h. begins-made text name (drop found.0 name) t n found.1.1), λ r. refl)
 begins-both false text name t n none = ((λ h. absurd (true≢false (sym h))), λ r. (let w = begins-there text name t r in absurd (none w.0 w.1)))
+
+-- so these names begin with the text's first byte, if it has one
+pub beginning-first : (text : List ℕ) (first : Option ℕ) → IsUtf8 text → IfSome first (λ byte. (rest : List ℕ) × (text ≡ byte ∷ rest)) → IfSome first (λ byte. BeginsWith (beginning_parts text) byte)
+beginning-first text None utf8 begins = tt
+beginning-first text (Some byte) utf8 begins = λ name r. (let more = begins-there text name utf8 r in (begins.0 ++ more.0, more.1 ∙ ap (λ l. l ++ more.0) begins.1))

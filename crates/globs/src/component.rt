@@ -1,6 +1,6 @@
-ghost use Rattle.std.specs.Prelude.{◌≡◌, ◌↔◌, IsTrue, Some, IfOk, IfSome};
+ghost use Rattle.std.specs.Prelude.{◌≡◌, ◌↔◌, ℕ, IsTrue, List, ◌∷◌, Some, IfOk, IfSome};
 ghost use Rattle.std.specs.Str.{chars};
-ghost use Rattle.globs.specs.Component.{RelatesToName, relates_to_name, plain_parts, IsOnlyName};
+ghost use Rattle.globs.specs.Component.{RelatesToName, relates_to_name, plain_parts, IsOnlyName, BeginsWith};
 ghost use Rattle.globs.specs.Grammar.{is_spelled_out};
 ghost use Rattle.globs.specs.PrivateShape.{ending_parts, beginning_parts};
 ghost use Rattle.globs.specs.Reading.{parts_of};
@@ -108,6 +108,16 @@ fn plain_beginning(text: &str) -> Option<&str>
     }
 }
 
+/// The byte that a text begins with; none where it is empty.
+fn first_byte(text: &str) -> Option<u8>
+    ensures { IfSome result (λ byte. (rest : List ℕ) × (text.now ≡ byte ∷ rest)) }
+{
+    match text.as_bytes() {
+        [] => None,
+        [byte, ..] => Some(*byte),
+    }
+}
+
 impl Component {
     /// The pattern that a component's text spells; none where it is malformed. The text has no `/`, else it relates to no name.
     pub fn read(alloc: Global, text: &str) -> Result<Option<Component>, Memory>
@@ -158,6 +168,18 @@ impl Component {
         match &self.shape {
             Shape::Plain(own) => Some(own.as_str()),
             Shape::Ending(_) | Shape::Beginning(_) | Shape::Parts(_) => None,
+        }
+    }
+
+    /// The byte that each name begins with which the pattern relates to, where the pattern begins with a plain text and has nothing or a
+    /// `*` behind it; none for others, also where their names begin alike.
+    pub fn first_byte(&self) -> Option<u8>
+        ensures { IfSome result (λ byte. BeginsWith self.now byte) }
+    {
+        match &self.shape {
+            Shape::Plain(own) => first_byte(own.as_str()),
+            Shape::Beginning(own) => first_byte(own.as_str()),
+            Shape::Ending(_) | Shape::Parts(_) => None,
         }
     }
 }
