@@ -8,10 +8,10 @@ use Rattle.globs.proofs.Cuts.{last-parts, same-ends, nil-parts}
 use Rattle.ignorefile.specs.declared.line.Line.{Line}
 use Rattle.ignorefile.specs.Line.{Relates, is_deep}
 use Rattle.ignorefile.specs.Kept.{Touches, TouchesAt, Kept}
-use Rattle.ignorefile.specs.declared.counts.Counts.{Counts}
+use Rattle.ignorefile.specs.declared.positions.Positions.{Positions}
 use Rattle.ignorefile.specs.PrivateRanks.{RelatesAt, Member, AreInOrder, IsBest, IsVerdict, IsDecided, Lets}
-use Rattle.ignorefile.specs.PrivateCounts.{under}
-use Rattle.ignorefile.specs.PrivateIndex.{IsIndex, named}
+use Rattle.ignorefile.specs.PrivatePositions.{under}
+use Rattle.ignorefile.specs.PrivateIndex.{IsIndex, named, under_begin}
 use Rattle.ignorefile.proofs.Lines.{Holds}
 
 -- a list is empty or has a last element
@@ -20,17 +20,24 @@ ends [] = inl refl
 ends (c ∷ cs) = inr (elim (ends cs) [ inl e ↦ ([], (c, ap (λ x. c ∷ x) e)) | inr w ↦ (c ∷ w.0, (w.1.0, ap (λ x. c ∷ x) w.1.1)) ])
 
 -- the index has each line that relates to a path
-indexed : (lines : List Line) (entries : List (List ℕ × List ℕ)) (counts : Counts) (others : List ℕ) → IsIndex lines entries counts others → (path : List (List ℕ)) (n : ℕ) → RelatesAt lines path n
-    → (Member n others ⊎ Member n (under counts (length path))) ⊎ ((front : List (List ℕ)) × ((last : List ℕ) × ((path ≡ front ++ last ∷ []) × (IsUtf8 last → Member n (named entries last)))))
-indexed lines entries counts others index path n (line, (at, r)) =
+indexed : (lines : List Line) (entries : List (List ℕ × List ℕ)) (begins counts : Positions) (others : List ℕ) → IsIndex lines entries begins counts others → (path : List (List ℕ)) (n : ℕ) → RelatesAt lines path n
+    → (Member n others ⊎ Member n (under counts (length path)))
+    ⊎ ((front : List (List ℕ)) × ((last : List ℕ) × ((path ≡ front ++ last ∷ []) × (Member n (under_begin begins last) ⊎ (IsUtf8 last → Member n (named entries last))))))
+indexed lines entries begins counts others index path n (line, (at, r)) =
     elim (index.there n line at) [
       | inl m ↦ inl (inl m)
-      | inr (inl w) ↦ (let v = w.1.0 path r in inr (v.0, (v.1.0, (v.1.1.0, λ utf8. subst (λ (l : List ℕ). Member n (named entries l)) (sym (v.1.1.1 utf8)) w.1.1))))
-      | inr (inr w) ↦ inl (inr (subst (λ (count : ℕ). Member n (under counts count)) (sym (w.1.0 path r)) w.1.1))
+      | inr (inl w) ↦ (let v = w.1.0 path r in inr (v.0, (v.1.0, (v.1.1.0, inr (λ utf8. subst (λ (l : List ℕ). Member n (named entries l)) (sym (v.1.1.1 utf8)) w.1.1)))))
+      | inr (inr (inl w)) ↦ (let v = w.1.0 path r in inr (v.0, (w.0 ∷ v.1.0, (v.1.1, inl w.1.1))))
+      | inr (inr (inr w)) ↦ inl (inr (subst (λ (count : ℕ). Member n (under counts count)) (sym (w.1.0 path r)) w.1.1))
     ]
 
 snoc-nil : {A : Type 0} (xs : List A) (x : A) → [] ≡ xs ++ x ∷ [] → ⊥
 snoc-nil xs x e = let n : 0 ≡ length (x ∷ []) = ap length (sym (nil-parts xs (x ∷ []) e).1) in omega arith
+
+-- the positions that a name's begin leads to rise
+pub begun-order : (lines : List Line) (entries : List (List ℕ × List ℕ)) (begins counts : Positions) (others : List ℕ) → IsIndex lines entries begins counts others → (name : List ℕ) → AreInOrder (length lines) (under_begin begins name)
+begun-order lines entries begins counts others index [] = record { within = λ n m. absurd (let l = m.1.0 in omega arith); rise = λ i j l m. absurd (omega arith) }
+begun-order lines entries begins counts others index (byte ∷ rest) = index.begun_order byte
 
 -- of two ranks behind one another the last one that is greater
 later-hit : (lines : List Line) (path : List (List ℕ)) (above middle rank : ℕ) → middle ≤ rank → (above < middle → RelatesAt lines path (middle - 1)) → (middle < rank → RelatesAt lines path (rank - 1)) → above < rank → RelatesAt lines path (rank - 1)
@@ -40,7 +47,7 @@ later-hit lines path above middle rank up before after h = by (nat_lt middle ran
     by true e = after (ltb-true middle rank e)
     by false e = let b = ltb-false middle rank e in let same : middle ≡ rank = omega arith in subst (λ (x : ℕ). RelatesAt lines path (x - 1)) same (before (omega arith))
 
-module _ (lines : List Line) (entries : List (List ℕ × List ℕ)) (counts : Counts) (others : List ℕ) (index : IsIndex lines entries counts others) (path : List (List ℕ)) (above low middle : ℕ) (first : IsBest lines others path above low) (second : IsBest lines (under counts (length path)) path low middle) where
+module _ (lines : List Line) (entries : List (List ℕ × List ℕ)) (begins counts : Positions) (others : List ℕ) (index : IsIndex lines entries begins counts others) (path : List (List ℕ)) (above low middle : ℕ) (first : IsBest lines others path above low) (second : IsBest lines (under counts (length path)) path low middle) where
   middle-hit : above < middle → RelatesAt lines path (middle - 1)
   middle-hit h = later-hit lines path above low middle second.least first.hit second.hit h
 
@@ -52,7 +59,7 @@ module _ (lines : List Line) (entries : List (List ℕ × List ℕ)) (counts : C
   verdict-root none = record {
     least = let a = first.least in let b = second.least in omega arith;
     hit = λ h. middle-hit h;
-    miss = λ n b r. elim (indexed lines entries counts others index path n r) [ inl m ↦ middle-miss n b r m | inr w ↦ snoc-nil w.0 w.1.0 (sym (empty path none) ∙ w.1.1.0) ];
+    miss = λ n b r. elim (indexed lines entries begins counts others index path n r) [ inl m ↦ middle-miss n b r m | inr w ↦ snoc-nil w.0 w.1.0 (sym (empty path none) ∙ w.1.1.0) ];
   }
     where
       empty : (p : List (List ℕ)) → length p < 1 → p ≡ []
@@ -62,17 +69,23 @@ module _ (lines : List Line) (entries : List (List ℕ × List ℕ)) (counts : C
   same-last : (last : List ℕ) → 1 ≤ length path → last ≡ get_or path (length path - 1) last → (front : List (List ℕ)) (name : List ℕ) → path ≡ front ++ name ∷ [] → name ≡ last
   same-last last more is front name e = (same-ends is_deep Holds front (take (length path - 1) path) name last (sym e ∙ last-parts is_deep Holds path last more is)).1
 
-  pub verdict-some : (last : List ℕ) (ns : List ℕ) (rank : ℕ) → 1 ≤ length path → last ≡ get_or path (length path - 1) last → IsUtf8 last → named entries last ≡ ns → IsBest lines ns path middle rank → IsVerdict lines path above rank
-  verdict-some last ns rank more is utf8 some third = record {
-    least = let a = first.least in let b = second.least in let d = third.least in omega arith;
-    hit = λ h. later-hit lines path above middle rank third.least middle-hit third.hit h;
-    miss = λ n b r. elim (indexed lines entries counts others index path n r) [
-      | inl m ↦ let l = third.least in middle-miss n (omega arith) r m
-      | inr w ↦ (
-          let same = same-last last more is w.0 w.1.0 w.1.1.0 in
-          third.miss n (subst (Member n) (ap (named entries) same ∙ some) (w.1.1.1 (subst IsUtf8 (sym same) utf8))) b r)
-    ];
-  }
+  module _ (last : List ℕ) (high rank : ℕ) (third : IsBest lines (under_begin begins last) path middle high) (fourth : IsBest lines (named entries last) path high rank) where
+    high-hit : above < high → RelatesAt lines path (high - 1)
+    high-hit h = later-hit lines path above middle high third.least middle-hit third.hit h
+
+    last-miss : (n : ℕ) (name : List ℕ) → rank ≤ n → RelatesAt lines path n → IsUtf8 last → name ≡ last → Member n (under_begin begins name) ⊎ (IsUtf8 name → Member n (named entries name)) → ⊥
+    last-miss n name b r utf8 same (inl m) = let l = fourth.least in third.miss n (subst (Member n) (ap (under_begin begins) same) m) (omega arith) r
+    last-miss n name b r utf8 same (inr m) = fourth.miss n (subst (Member n) (ap (named entries) same) (m (subst IsUtf8 (sym same) utf8))) b r
+
+    pub verdict-some : 1 ≤ length path → last ≡ get_or path (length path - 1) last → IsUtf8 last → IsVerdict lines path above rank
+    verdict-some more is utf8 = record {
+      least = let a = first.least in let b = second.least in let c = third.least in let d = fourth.least in omega arith;
+      hit = λ h. later-hit lines path above high rank fourth.least high-hit fourth.hit h;
+      miss = λ n b r. elim (indexed lines entries begins counts others index path n r) [
+        | inl m ↦ let l = third.least in let k = fourth.least in middle-miss n (omega arith) r m
+        | inr w ↦ last-miss n w.1.0 b r utf8 (same-last last more is w.0 w.1.0 w.1.1.0) w.1.1.1
+      ];
+    }
 
 -- ---- handed down
 

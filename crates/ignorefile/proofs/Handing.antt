@@ -14,10 +14,10 @@ use Rattle.std.specs.Map.{lookup}
 use Rattle.std.specs.BTreeMap.{is_at}
 use Rattle.std.specs.Cmp.Lexicographic.{slice_cmp, nat_list_cmp_total}
 use Rattle.ignorefile.specs.declared.line.Line.{Line}
-use Rattle.ignorefile.specs.declared.counts.Counts.{Counts}
+use Rattle.ignorefile.specs.declared.positions.Positions.{Positions}
 use Rattle.ignorefile.specs.Kept.{Kept}
-use Rattle.ignorefile.specs.PrivateRanks.{EndsIn, HasCount, Member, AreInOrder, IsVerdict, IsDecided, Lets, IsShared}
-use Rattle.ignorefile.specs.PrivateCounts.{under, Enters}
+use Rattle.ignorefile.specs.PrivateRanks.{EndsIn, LastBegins, HasCount, Member, AreInOrder, IsVerdict, IsDecided, Lets, IsShared}
+use Rattle.ignorefile.specs.PrivatePositions.{under, Enters}
 use Rattle.ignorefile.specs.PrivateIndex.{IsIndex, IsAdded, StandsIn, named, positions_of}
 use Rattle.ignorefile.proofs.Deciding.{decided-start, decided-more, decided-all}
 
@@ -176,31 +176,34 @@ module _ (old new : List (List ℕ × List ℕ)) (name : List ℕ) (n : ℕ) (ad
   named-new =
       subst (Member n) (sym (add.at name ∙ ap (λ b. cond b (named old name ++ n ∷ []) (named old name)) (ap is_eq (tied_itself nat_list_cmp_total name)))) (member-new (named old name) n)
 
-module _ (before after : Counts) (count n : ℕ) (enters : Enters before after count n) where
-  counts-grown : (q : ℕ) → Grown (under before q) (under after q) n
-  counts-grown q = by (q == count) refl
+module _ (before after : Positions) (number n : ℕ) (enters : Enters before after number n) where
+  under-grown : (q : ℕ) → Grown (under before q) (under after q) n
+  under-grown q = by (q == number) refl
     where
-      by : (b : Bool) → (q == count) ≡ b → Grown (under before q) (under after q) n
+      by : (b : Bool) → (q == number) ≡ b → Grown (under before q) (under after q) n
       by true e = inl (enters q ∙ ap (λ b. under before q ++ cond b (n ∷ []) []) e)
       by false e = inr (enters q ∙ ap (λ b. under before q ++ cond b (n ∷ []) []) e ∙ append-nil (under before q))
 
-  counts-new : Member n (under after count)
-  counts-new = subst (Member n) (sym (enters count ∙ ap (λ b. under before count ++ cond b (n ∷ []) []) (eq-eqb count count refl))) (member-new (under before count) n)
+  under-new : Member n (under after number)
+  under-new = subst (Member n) (sym (enters number ∙ ap (λ b. under before number ++ cond b (n ∷ []) []) (eq-eqb number number refl))) (member-new (under before number) n)
 
-module _ (xs : List Line) (x : Line) (old new : List (List ℕ × List ℕ)) (before after : Counts) (others others' : List ℕ) (h : IsIndex xs old before others)
-    (by_name : (q : List ℕ) → Grown (named old q) (named new q) (length xs)) (by_count : (q : ℕ) → Grown (under before q) (under after q) (length xs)) (rest : Grown others others' (length xs)) where
-  keeps : (line : Line) (m : ℕ) → StandsIn line m old before others → StandsIn line m new after others'
+module _ (xs : List Line) (x : Line) (old new : List (List ℕ × List ℕ)) (begins begins' before after : Positions) (others others' : List ℕ) (h : IsIndex xs old begins before others)
+    (by_name : (q : List ℕ) → Grown (named old q) (named new q) (length xs)) (by_begin : (q : ℕ) → Grown (under begins q) (under begins' q) (length xs))
+    (by_count : (q : ℕ) → Grown (under before q) (under after q) (length xs)) (rest : Grown others others' (length xs)) where
+  keeps : (line : Line) (m : ℕ) → StandsIn line m old begins before others → StandsIn line m new begins' after others'
   keeps line m (inl r) = inl (grown-keeps others others' (length xs) m rest r)
   keeps line m (inr (inl w)) = inr (inl (w.0, (w.1.0, grown-keeps (named old w.0) (named new w.0) (length xs) m (by_name w.0) w.1.1)))
-  keeps line m (inr (inr w)) = inr (inr (w.0, (w.1.0, grown-keeps (under before w.0) (under after w.0) (length xs) m (by_count w.0) w.1.1)))
+  keeps line m (inr (inr (inl w))) = inr (inr (inl (w.0, (w.1.0, grown-keeps (under begins w.0) (under begins' w.0) (length xs) m (by_begin w.0) w.1.1))))
+  keeps line m (inr (inr (inr w))) = inr (inr (inr (w.0, (w.1.0, grown-keeps (under before w.0) (under after w.0) (length xs) m (by_count w.0) w.1.1))))
 
-  index-more : StandsIn x (length xs) new after others' → IsIndex (xs ++ x ∷ []) new after others'
+  index-more : StandsIn x (length xs) new begins' after others' → IsIndex (xs ++ x ∷ []) new begins' after others'
   index-more stands = record {
     there = λ m line at. elim (get-snoc xs x line m at) [
       | inl earlier ↦ keeps line m (h.there m line earlier)
-      | inr w ↦ subst (λ (k : ℕ). StandsIn line k new after others') (sym w.0) (subst (λ (l : Line). StandsIn l (length xs) new after others') w.1 stands)
+      | inr w ↦ subst (λ (k : ℕ). StandsIn line k new begins' after others') (sym w.0) (subst (λ (l : Line). StandsIn l (length xs) new begins' after others') w.1 stands)
     ];
     named_order = λ q. grown-order (named old q) (named new q) (length xs) (length (xs ++ x ∷ [])) (length-snoc xs x) (by_name q) (h.named_order q);
+    begun_order = λ q. grown-order (under begins q) (under begins' q) (length xs) (length (xs ++ x ∷ [])) (length-snoc xs x) (by_begin q) (h.begun_order q);
     counted_order = λ q. grown-order (under before q) (under after q) (length xs) (length (xs ++ x ∷ [])) (length-snoc xs x) (by_count q) (h.counted_order q);
     others_order = grown-order others others' (length xs) (length (xs ++ x ∷ [])) (length-snoc xs x) rest h.others_order;
   }
@@ -210,33 +213,43 @@ length-front [] n l = absurd (omega arith)
 length-front (x ∷ xs) zero l = refl
 length-front (x ∷ xs) (suc n) l = let e = length-front xs n (omega arith) in omega arith
 
-module _ (lines : List Line) (n : ℕ) (line : Line) (old : List (List ℕ × List ℕ)) (before : Counts) (others : List ℕ) (less : n < length lines) (is : line ≡ get_or lines n line) (h : IsIndex (take n lines) old before others) where
-  to-front : (new : List (List ℕ × List ℕ)) (after : Counts) (others' : List ℕ) → IsIndex (take n lines ++ line ∷ []) new after others' → IsIndex (take (n + 1) lines) new after others'
-  to-front new after others' index =
-      subst (λ (l : List Line). IsIndex l new after others') (sym (take_more lines n line less ∙ ap (λ (l : Line). take n lines ++ l ∷ []) (sym is))) index
+module _ (lines : List Line) (n : ℕ) (line : Line) (old : List (List ℕ × List ℕ)) (begins before : Positions) (others : List ℕ) (less : n < length lines) (is : line ≡ get_or lines n line) (h : IsIndex (take n lines) old begins before others) where
+  to-front : (new : List (List ℕ × List ℕ)) (begins' after : Positions) (others' : List ℕ) → IsIndex (take n lines ++ line ∷ []) new begins' after others' → IsIndex (take (n + 1) lines) new begins' after others'
+  to-front new begins' after others' index =
+      subst (λ (l : List Line). IsIndex l new begins' after others') (sym (take_more lines n line less ∙ ap (λ (l : Line). take n lines ++ l ∷ []) (sym is))) index
 
-  pub index-more-named : (new : List (List ℕ × List ℕ)) (name : List ℕ) → EndsIn line name → IsAdded old new name n → IsIndex (take (n + 1) lines) new before others
+  pub index-more-named : (new : List (List ℕ × List ℕ)) (name : List ℕ) → EndsIn line name → IsAdded old new name n → IsIndex (take (n + 1) lines) new begins before others
   index-more-named new name ends add =
       let add' = subst (IsAdded old new name) (sym (length-front lines n less)) add in
-      to-front new before others
-      (index-more (take n lines) line old new before before others others h (λ q. named-grown old new name (length (take n lines)) add' q) (λ q. inr refl) (inr refl) (inr (inl (name, (ends, named-new old new name (length (take n lines)) add')))))
+      to-front new begins before others
+      (index-more (take n lines) line old new begins begins before before others others h (λ q. named-grown old new name (length (take n lines)) add' q) (λ q. inr refl) (λ q. inr refl) (inr refl)
+      (inr (inl (name, (ends, named-new old new name (length (take n lines)) add')))))
 
-  pub index-more-counted : (after : Counts) (count : ℕ) → HasCount line count → Enters before after count n → IsIndex (take (n + 1) lines) old after others
+  pub index-more-begun : (begins' : Positions) (byte : ℕ) → LastBegins line byte → Enters begins begins' byte n → IsIndex (take (n + 1) lines) old begins' before others
+  index-more-begun begins' byte first enters =
+      let enters' = subst (Enters begins begins' byte) (sym (length-front lines n less)) enters in
+      to-front old begins' before others
+      (index-more (take n lines) line old old begins begins' before before others others h (λ q. inr refl) (λ q. under-grown begins begins' byte (length (take n lines)) enters' q) (λ q. inr refl) (inr refl)
+      (inr (inr (inl (byte, (first, under-new begins begins' byte (length (take n lines)) enters'))))))
+
+  pub index-more-counted : (after : Positions) (count : ℕ) → HasCount line count → Enters before after count n → IsIndex (take (n + 1) lines) old begins after others
   index-more-counted after count has enters =
       let enters' = subst (Enters before after count) (sym (length-front lines n less)) enters in
-      to-front old after others
-      (index-more (take n lines) line old old before after others others h (λ q. inr refl) (λ q. counts-grown before after count (length (take n lines)) enters' q) (inr refl) (inr (inr (count, (has, counts-new before after count (length (take n lines)) enters')))))
+      to-front old begins after others
+      (index-more (take n lines) line old old begins begins before after others others h (λ q. inr refl) (λ q. inr refl) (λ q. under-grown before after count (length (take n lines)) enters' q) (inr refl)
+      (inr (inr (inr (count, (has, under-new before after count (length (take n lines)) enters'))))))
 
-  pub index-more-other : (others' : List ℕ) → others' ≡ others ++ n ∷ [] → IsIndex (take (n + 1) lines) old before others'
+  pub index-more-other : (others' : List ℕ) → others' ≡ others ++ n ∷ [] → IsIndex (take (n + 1) lines) old begins before others'
   index-more-other others' add =
       let add' : others' ≡ others ++ length (take n lines) ∷ [] = add ∙ ap (λ k. others ++ k ∷ []) (sym (length-front lines n less)) in
-      to-front old before others'
-      (index-more (take n lines) line old old before before others others' h (λ q. inr refl) (λ q. inr refl) (inl add')
+      to-front old begins before others'
+      (index-more (take n lines) line old old begins begins before before others others' h (λ q. inr refl) (λ q. inr refl) (λ q. inr refl) (inl add')
       (inl (subst (Member (length (take n lines))) (sym add') (member-new others (length (take n lines))))))
 
-pub index-moved : (lines : List Line) (e e' : List (List ℕ × List ℕ)) (c c' : Counts) (o o' : List ℕ) → e' ≡ e → c' ≡ c → o' ≡ o → IsIndex lines e c o → IsIndex lines e' c' o'
-index-moved lines e e' c c' o o' same counts also h =
-    subst (λ (x : List (List ℕ × List ℕ)). IsIndex lines x c' o') (sym same) (subst (λ (x : Counts). IsIndex lines e x o') (sym counts) (subst (IsIndex lines e c) (sym also) h))
+pub index-moved : (lines : List Line) (e e' : List (List ℕ × List ℕ)) (b b' c c' : Positions) (o o' : List ℕ) → e' ≡ e → b' ≡ b → c' ≡ c → o' ≡ o → IsIndex lines e b c o → IsIndex lines e' b' c' o'
+index-moved lines e e' b b' c c' o o' same begins counts also h =
+    subst (λ (x : List (List ℕ × List ℕ)). IsIndex lines x b' c' o') (sym same)
+    (subst (λ (x : Positions). IsIndex lines e x c' o') (sym begins) (subst (λ (x : Positions). IsIndex lines e b x o') (sym counts) (subst (IsIndex lines e b c) (sym also) h)))
 
 pub order-none : (ns : List ℕ) → ns ≡ [] → AreInOrder 0 ns
 order-none ns is = subst (AreInOrder 0) (sym is) (record {
@@ -244,10 +257,11 @@ order-none ns is = subst (AreInOrder 0) (sym is) (record {
   rise = λ i j l m. absurd (omega arith);
 })
 
-pub index-none : (counts : Counts) → ((q : ℕ) → under counts q ≡ []) → IsIndex [] [] counts []
-index-none counts none = record {
+pub index-none : (begins counts : Positions) → ((q : ℕ) → under begins q ≡ []) → ((q : ℕ) → under counts q ≡ []) → IsIndex [] [] begins counts []
+index-none begins counts unbegun none = record {
   there = λ n line at. absurd (none-some line at);
   named_order = λ name. order-none [] refl;
+  begun_order = λ q. order-none (under begins q) (unbegun q);
   counted_order = λ q. order-none (under counts q) (none q);
   others_order = order-none [] refl;
 }

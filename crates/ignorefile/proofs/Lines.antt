@@ -1,4 +1,5 @@
--- The greatest rank of the lines at some positions, as a loop finds it, the name that a line's paths end in, and how many names they have.
+-- The greatest rank of the lines at some positions, as a loop finds it, the name that a line's paths end in or how it begins, and how many
+-- names they have.
 use Rattle.std.specs.Prelude.{◌≡◌, ℕ, ◌+◌, ◌-◌, ◌<◌, ◌≤◌, Bool, true, false, List, [], ◌∷◌, ◌++◌, ◌||◌, Option, Some, None, take, length, get_or, slice_get, nat_lt}
 use Rattle.std.proofs.Common.{sym, ap, refl, ◌∙◌, subst, inl, inr, true≢false, arith, zero, suc}
 use Rattle.std.specs.List.{list_any}
@@ -6,6 +7,8 @@ use denote.Ref.{Bor}
 use Rattle.std.specs.Option.{IfSome}
 use Rattle.std.proofs.lemmas.Bool.{ltb-true, ltb-false}
 use Rattle.std.proofs.lemmas.Option.{same_Some}
+use Rattle.globs.specs.declared.part.Part.{Part}
+use Rattle.globs.specs.Component.{RelatesToName}
 use Rattle.globs.specs.Cut.{CanBeCut}
 use Rattle.globs.proofs.Cuts.{last-parts, snoc-parts}
 use Rattle.globs.proofs.Tests.{name-to}
@@ -13,23 +16,42 @@ use Rattle.ignorefile.specs.declared.line.Segment.{Segment}
 use Rattle.ignorefile.specs.declared.line.Segment.TheVariants.{Deep, Named}
 use Rattle.ignorefile.specs.declared.line.Line.{Line}
 use Rattle.ignorefile.specs.Line.{Relates, is_deep, holds}
-use Rattle.ignorefile.specs.PrivateRanks.{EndsIn, HasCount, RelatesAt, AreInOrder, IsRaised, IsBest, TakesOnly}
+use Rattle.ignorefile.specs.PrivateRanks.{EndsIn, LastBegins, HasCount, RelatesAt, AreInOrder, IsRaised, IsBest, TakesOnly, TakesBeginning}
 
 abbrev pub Holds : Segment → List ℕ → Type 0
 Holds segment name = holds segment name ≡ true
+
+-- the last segment of a line, where it takes one name, relates to the last name of each path that the line relates to
+last-taken : (line : Line) (segments : List Segment) (parts : List Part) → line.segments ≡ segments → 1 ≤ length segments → Named parts ≡ get_or segments (length segments - 1) (Named parts)
+    → (path : List (List ℕ)) → Relates line path → (front : List (List ℕ)) × ((last : List ℕ) × ((path ≡ front ++ last ∷ []) × RelatesToName parts last))
+last-taken line segments parts same more is path r =
+    let whole : line.segments ≡ take (length segments - 1) segments ++ Named parts ∷ [] = same ∙ last-parts is_deep Holds segments (Named parts) more is in
+    let w = snoc-parts is_deep Holds (take (length segments - 1) segments) (Named parts) path refl (subst (λ (l : List Segment). CanBeCut is_deep Holds l path) whole r) in
+    (w.0, (w.1.0, (w.1.1.0, name-to parts w.1.0 w.1.1.1.0)))
 
 -- a line whose last segment takes one name alone ends in that name
 last-only : (line : Line) (segments : List Segment) (last : Segment) (name : List ℕ) → line.segments ≡ segments → 1 ≤ length segments → last ≡ get_or segments (length segments - 1) last → TakesOnly last name → EndsIn line name
 last-only line segments Deep name same more is only path r = absurd only
 last-only line segments (Named parts) name same more is only path r =
-    let whole : line.segments ≡ take (length segments - 1) segments ++ Named parts ∷ [] = same ∙ last-parts is_deep Holds segments (Named parts) more is in
-    let w = snoc-parts is_deep Holds (take (length segments - 1) segments) (Named parts) path refl (subst (λ (l : List Segment). CanBeCut is_deep Holds l path) whole r) in
-    (w.0, (w.1.0, (w.1.1.0, λ utf8. only w.1.0 (name-to parts w.1.0 w.1.1.1.0))))
+    let w = last-taken line segments parts same more is path r in (w.0, (w.1.0, (w.1.1.0, λ utf8. only w.1.0 w.1.1.1)))
 
 pub ends-in : (line : Line) (segments : List Segment) (last : Segment) (found : Option (Bor (List ℕ))) → segments ≡ line.segments → 1 ≤ length segments → last ≡ get_or segments (length segments - 1) last
     → IfSome found (λ name. TakesOnly last name.now) → IfSome found (λ name. EndsIn line name.now)
 ends-in line segments last None same more is only = tt
 ends-in line segments last (Some name) same more is only = last-only line segments last name.now (sym same) more is only
+
+-- and one whose last segment takes names with one first byte, in such a name
+last-beginning : (line : Line) (segments : List Segment) (last : Segment) (byte : ℕ) → line.segments ≡ segments → 1 ≤ length segments → last ≡ get_or segments (length segments - 1) last → TakesBeginning last byte → LastBegins line byte
+last-beginning line segments Deep byte same more is begins path r = absurd begins
+last-beginning line segments (Named parts) byte same more is begins path r =
+    let w = last-taken line segments parts same more is path r in
+    let rest = begins w.1.0 w.1.1.1 in
+    (w.0, (rest.0, w.1.1.0 ∙ ap (λ (name : List ℕ). w.0 ++ name ∷ []) rest.1))
+
+pub last-begins : (line : Line) (segments : List Segment) (last : Segment) (found : Option ℕ) → segments ≡ line.segments → 1 ≤ length segments → last ≡ get_or segments (length segments - 1) last
+    → IfSome found (λ byte. TakesBeginning last byte) → IfSome found (λ byte. LastBegins line byte)
+last-begins line segments last None same more is begins = tt
+last-begins line segments last (Some byte) same more is begins = last-beginning line segments last byte (sym same) more is begins
 
 -- ---- how many names a line's paths have
 

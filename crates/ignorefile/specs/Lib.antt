@@ -2,6 +2,6 @@ pub mod Line
 pub mod Kept
 pub mod File
 pub mod PrivateRanks
-pub mod PrivateCounts
+pub mod PrivatePositions
 pub mod PrivateIndex
 pub mod PrivateFile

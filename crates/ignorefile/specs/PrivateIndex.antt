@@ -1,14 +1,14 @@
--- The index of an ignore file's lines: positions of those whose every path ends in one name, by that name, of those whose paths all have
--- the same number of names, by that number, and of the others.
+-- The index of an ignore file's lines: positions of those whose every path ends in one name, by that name, of those whose every path ends
+-- in a name with the same first byte, by that byte, of those whose paths all have the same number of names, by that number, and of the others.
 use Rattle.std.specs.Prelude.{◌≡◌, ℕ, List, Option, Some, None, [], ◌∷◌, ◌++◌, ◌⊎◌, cond, length, slice_get}
 use Rattle.std.specs.Ordering.{nat_cmp}
 use Rattle.std.specs.Map.{lookup}
 use Rattle.std.specs.BTreeMap.{is_at}
 use Rattle.std.specs.Cmp.Lexicographic.{slice_cmp}
 use Rattle.ignorefile.specs.declared.line.Line.{Line}
-use Rattle.ignorefile.specs.declared.counts.Counts.{Counts}
-use Rattle.ignorefile.specs.PrivateRanks.{EndsIn, HasCount, Member, AreInOrder}
-use Rattle.ignorefile.specs.PrivateCounts.{under}
+use Rattle.ignorefile.specs.declared.positions.Positions.{Positions}
+use Rattle.ignorefile.specs.PrivateRanks.{EndsIn, LastBegins, HasCount, Member, AreInOrder}
+use Rattle.ignorefile.specs.PrivatePositions.{under}
 
 abbrev pub positions_of : Option (List ℕ) → List ℕ
 positions_of None = []
@@ -18,17 +18,25 @@ positions_of (Some ns) = ns
 abbrev pub named : List (List ℕ × List ℕ) → List ℕ → List ℕ
 named entries name = positions_of (lookup (is_at (slice_cmp nat_cmp name)) entries)
 
--- a line's position is under the name that its paths end in, under the number of names that they have, or among the others
-abbrev pub StandsIn : Line → ℕ → List (List ℕ × List ℕ) → Counts → List ℕ → Type 0
-StandsIn line n entries counts others =
+-- the positions under the byte that a name begins with; an empty name begins with none
+abbrev pub under_begin : Positions → List ℕ → List ℕ
+under_begin begins [] = []
+under_begin begins (byte ∷ rest) = under begins byte
+
+-- a line's position is under the name that its paths end in, under the byte that their last names begin with, under the number of names
+-- that they have, or among the others
+abbrev pub StandsIn : Line → ℕ → List (List ℕ × List ℕ) → Positions → Positions → List ℕ → Type 0
+StandsIn line n entries begins counts others =
     Member n others
     ⊎ (((name : List ℕ) × (EndsIn line name × Member n (named entries name)))
-    ⊎ ((count : ℕ) × (HasCount line count × Member n (under counts count))))
+    ⊎ (((byte : ℕ) × (LastBegins line byte × Member n (under begins byte)))
+    ⊎ ((count : ℕ) × (HasCount line count × Member n (under counts count)))))
 
 -- each line stands in the index, nothing else does, and positions rise
-pub record IsIndex (lines : List Line) (entries : List (List ℕ × List ℕ)) (counts : Counts) (others : List ℕ) : Type 0 where
-  pub there : (n : ℕ) (line : Line) → slice_get lines n ≡ Some line → StandsIn line n entries counts others
+pub record IsIndex (lines : List Line) (entries : List (List ℕ × List ℕ)) (begins counts : Positions) (others : List ℕ) : Type 0 where
+  pub there : (n : ℕ) (line : Line) → slice_get lines n ≡ Some line → StandsIn line n entries begins counts others
   pub named_order : (name : List ℕ) → AreInOrder (length lines) (named entries name)
+  pub begun_order : (byte : ℕ) → AreInOrder (length lines) (under begins byte)
   pub counted_order : (count : ℕ) → AreInOrder (length lines) (under counts count)
   pub others_order : AreInOrder (length lines) others
 

@@ -5,10 +5,10 @@ ghost use Rattle.ignorefile.specs.File.{IsIgnoreRead, ignore_of};
 ghost use Rattle.ignorefile.specs.PrivateRanks.{IsVerdict, IsDecided, Lets, IsShared};
 
 use crate::IgnoreFault;
-use crate::counts::Counts;
 use crate::file::read_lines;
-use crate::index::{add, best, positions_under};
+use crate::index::{add, best, positions_beginning, positions_under};
 use crate::line::Line;
+use crate::positions::Positions;
 use paths::Path;
 use plain::{Exact, Items, Memory, Text};
 use std::alloc::Global;
@@ -20,7 +20,8 @@ use std::marker::Model;
 pub struct Ignore {
     lines: Items<Line>,
     by_name: BTreeMap<Text, Items<usize>>,
-    by_count: Counts,
+    by_begin: Positions,
+    by_count: Positions,
     others: Items<usize>,
 }
 
@@ -33,7 +34,7 @@ impl Model for Ignore {
 
     ghost view = { λ i. i.lines };
 
-    ghost invariant = { λ i. IsIndex i.lines i.by_name.entries i.by_count i.others };
+    ghost invariant = { λ i. IsIndex i.lines i.by_name.entries i.by_begin i.by_count i.others };
 }
 
 /// How many first names two paths share.
@@ -55,22 +56,27 @@ impl Ignore {
         ensures { IfOk result (λ ignore. ignore ≡ lines.items) }
     {
         let mut by_name = BTreeMap::new(alloc);
-        let mut by_count = Counts::new(alloc);
+        let mut by_begin = Positions::new(alloc);
+        let mut by_count = Positions::new(alloc);
         let mut others = Items::new(alloc);
         let rows = lines.as_slice();
         for position in 0..rows.len() {
             let line = &rows[position];
             match line.last_name() {
                 Some(name) => add(alloc, &mut by_name, name, position)?,
-                None => match line.count() {
-                    Some(count) => by_count.enter(alloc, count, position)?,
-                    None => others.push(position)?,
+                None => match line.last_begin() {
+                    Some(byte) => by_begin.enter(alloc, byte as usize, position)?,
+                    None => match line.count() {
+                        Some(count) => by_count.enter(alloc, count, position)?,
+                        None => others.push(position)?,
+                    },
                 },
             }
         }
         Ok(Ignore {
             lines: Items::from_vec(lines),
             by_name,
+            by_begin,
             by_count,
             others,
         })
@@ -100,7 +106,11 @@ impl Ignore {
         let middle = best(lines, self.by_count.under(names.len()), names, low);
         match names {
             [] => middle,
-            [.., last] => best(lines, positions_under(&self.by_name, last), names, middle),
+            [.., last] => {
+                let begun = positions_beginning(&self.by_begin, last);
+                let high = best(lines, begun, names, middle);
+                best(lines, positions_under(&self.by_name, last), names, high)
+            }
         }
     }
 

@@ -1,8 +1,9 @@
 ghost use Rattle.std.specs.Prelude.{◌≡◌, ◌<◌, ◌≤◌, IsUtf8, OnOk, length};
 ghost use Rattle.ignorefile.specs.PrivateRanks.{IsRaised, IsBest, AreInOrder};
-ghost use Rattle.ignorefile.specs.PrivateIndex.{IsAdded, named};
+ghost use Rattle.ignorefile.specs.PrivateIndex.{IsAdded, named, under_begin};
 
 use crate::line::Line;
+use crate::positions::Positions;
 use plain::{Items, Memory, Text};
 use std::alloc::Global;
 use std::collections::BTreeMap;
@@ -51,6 +52,16 @@ pub(crate) fn positions_under<'a>(
     match by_name.get(name) {
         Some(positions) => positions.as_slice(),
         None => &[],
+    }
+}
+
+/// The positions of the lines whose paths all end in a name that begins with the byte that this one begins with.
+pub(crate) fn positions_beginning<'a>(by_begin: &'a Positions, name: &Text) -> &'a [usize]
+    ensures { result.now ≡ under_begin by_begin.now name.now }
+{
+    match name.as_str().as_bytes() {
+        [] => &[],
+        [byte, ..] => by_begin.under(*byte as usize),
     }
 }
 

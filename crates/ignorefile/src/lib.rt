@@ -1,8 +1,9 @@
 // Ignore files: which of a context's paths the lines of a `.dockerignore` keep.
 //
 // The last line that relates to a path, or to a folder that it lies in, decides. It knows patterns of single names from `globs` and adds
-// `**`; it knows no tree. Lines that end in a plain name, as most do, are found by that name, and others without `**` by how many names
-// their paths have: few are tried one after another. What the lines decide of a folder is handed down to the paths in it.
+// `**`; it knows no tree. Lines that end in a plain name, as most do, are found by that name, those that end in a plain beginning and a `*`
+// by its first byte, and others without `**` by how many names their paths have: few are tried one after another. What the lines decide
+// of a folder is handed down to the paths in it.
 //
 // Its central definitions are `ignore_of` (specs/File.antt), what the bytes of a file say, and `Kept` (specs/Kept.antt).
 //
@@ -12,12 +13,12 @@
 // ```
 #![tactic(auto)]
 
-mod counts;
 mod fault;
 mod file;
 mod ignore;
 mod index;
 mod line;
+mod positions;
 
 pub use fault::{BadLine, IgnoreFault};
 pub use ignore::Ignore;

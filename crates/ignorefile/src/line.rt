@@ -1,7 +1,7 @@
 ghost use Rattle.std.specs.Prelude.{◌≡◌, ◌↔◌, IsTrue, IfSome};
 ghost use Rattle.std.specs.List.{list_any};
 ghost use Rattle.ignorefile.specs.Line.{Relates, is_deep};
-ghost use Rattle.ignorefile.specs.PrivateRanks.{EndsIn, HasCount, TakesOnly};
+ghost use Rattle.ignorefile.specs.PrivateRanks.{EndsIn, LastBegins, HasCount, TakesOnly, TakesBeginning};
 
 use globs::{Component, Fits, can_be_cut};
 use plain::{Items, Text};
@@ -44,6 +44,17 @@ impl Segment {
             Segment::Named(component) => component.plain_name(),
         }
     }
+
+    /// The byte that each name begins with which the segment takes, where its pattern begins with a plain text and has nothing or a `*`
+    /// behind it.
+    fn first_byte(&self) -> Option<u8>
+        ensures { IfSome result (λ byte. TakesBeginning self.now byte) }
+    {
+        match self {
+            Segment::Deep => None,
+            Segment::Named(component) => component.first_byte(),
+        }
+    }
 }
 
 /// Whether a segment is `**`.
@@ -77,6 +88,17 @@ impl Line {
         match self.segments.as_slice() {
             [] => None,
             [.., last] => last.only_name(),
+        }
+    }
+
+    /// The byte that the last name begins with of each path which the line relates to, where the line's pattern ends in a plain text, or
+    /// in one and a `*`.
+    pub(crate) fn last_begin(&self) -> Option<u8>
+        ensures { IfSome result (λ byte. LastBegins self.now byte) }
+    {
+        match self.segments.as_slice() {
+            [] => None,
+            [.., last] => last.first_byte(),
         }
     }
 
