@@ -1,4 +1,5 @@
 pub mod FlagLaws
+mod FormLaws
 pub mod LabelLemmas
 pub mod PartLaws
 pub mod QuoteLaws

@@ -4,5 +4,6 @@ pub mod Flag
 pub mod Form
 pub mod Pairs
 pub mod Parts
+pub mod PrivateForm
 pub mod Quote
 pub mod ReadParts

@@ -1,6 +1,7 @@
 ghost use Rattle.std.specs.Prelude.{◌≡◌, IfOk};
 ghost use Rattle.serde_json.specs.View.{view};
 ghost use Rattle.words.specs.Form.{texts_in, json_form};
+ghost use Rattle.words.specs.PrivateForm.{begins_list};
 
 use plain::{Items, Memory, Text};
 use serde_json::Value;
@@ -15,6 +16,9 @@ use std::alloc::Global;
 pub fn json_form(alloc: Global, text: &str) -> Result<Option<Items<Text>>, Memory>
     ensures { IfOk result (λ form. form ≡ json_form text.now) }
 {
+    if !begins_list(text) {
+        return Ok(None);
+    }
     match Value::from_str(alloc, text) {
         Ok(value) => texts_in(alloc, &value),
         Err(error) => {
@@ -25,6 +29,20 @@ pub fn json_form(alloc: Global, text: &str) -> Result<Option<Items<Text>>, Memor
             }
         }
     }
+}
+
+/// Whether a text begins with `[` behind JSON's white space, as each list does. A reader of JSON clears 16 KiB and takes memory as long as the
+/// text before it looks at a byte, and few texts that are asked for their JSON form have one, so this is asked first.
+fn begins_list(text: &str) -> bool
+    ensures { result ≡ begins_list text.now }
+{
+    for byte in text.as_bytes() {
+        match byte {
+            b' ' | b'\t' | b'\n' | b'\r' => {}
+            byte => return *byte == b'[',
+        }
+    }
+    false
 }
 
 /// The texts of a list in JSON, where it is one and holds nothing else.
