@@ -1,51 +1,54 @@
-ghost use Rattle.std.specs.Prelude.{◌≡◌, ◌≤◌, ◌<◌, ◌+◌, ◌^◌, ℕ, true, List, [], ◌∷◌, ◌++◌, if◌then◌else◌, length, map, IfOk, OnOk, vec_len};
+ghost use Rattle.std.specs.Prelude.{◌≡◌, ◌≤◌, ◌<◌, ◌+◌, ◌^◌, ℕ, true, List, [], ◌∷◌, ◌++◌, if◌then◌else◌, length, map, IfOk};
 ghost use Rattle.std.specs.List.{list_all};
+ghost use Rattle.arrayvec.specs.ArrayVec.{array_vec_len};
 ghost use Rattle.plain.specs.Limits.{most_components};
 ghost use Rattle.paths.specs.Path.{IsClean, is_idle, is_up, is_name, are_short, climbed};
 ghost use Rattle.paths.specs.Reading.{IsRead, read_from, is_absolute, stepped, pieces, walked};
 ghost use Rattle.paths.specs.PrivateWalk.{IsWalk};
 
 use crate::{Path, PathFault, PathLimit};
+use arrayvec::ArrayVec;
 use plain::limits::{MOST_COMPONENT_BYTES, MOST_COMPONENTS};
 use plain::{Fault, Memory, Text};
 use std::alloc::Global;
 
 /// A walk along the pieces of a text. However many these are, it keeps no more than the first 64 components of the path that it has
-/// come to: of the others it only counts how many there are, since a path that ends with any of them is too deep.
+/// come to: of the others it only counts how many there are, since a path that ends with any of them is too deep. So what it keeps
+/// lies in the value itself, and a reading takes memory for its path alone.
 #[derive(Drop)]
 struct Walk<'a> {
-    kept: Vec<&'a str>,
+    kept: ArrayVec<&'a str, MOST_COMPONENTS>,
     beyond: usize,
 }
 
 impl<'a> Walk<'a> {
     /// A walk that has come to a path.
-    fn begin(alloc: Global, start: &'a [Text]) -> Result<Walk<'a>, Memory>
+    fn begin(start: &'a [Text]) -> Walk<'a>
         requires { length start.now ≤ most_components }
-        ensures { IfOk result (λ walk. IsWalk (map (λ part. part.now) walk.kept.items) walk.beyond start.now) }
+        ensures { IsWalk (map (λ part. part.now) result.kept.items) result.beyond start.now }
     {
-        let mut kept = Vec::with_capacity(alloc, start.len())?;
+        let mut kept = ArrayVec::new();
         for part in start {
-            kept.push(part.as_str())?;
+            kept.push(part.as_str());
         }
-        Ok(Walk { kept, beyond: 0 })
+        Walk { kept, beyond: 0 }
     }
 
     /// Goes where one piece of a text leads.
-    fn step(&mut self, piece: &'a str) -> Result<(), Memory>
+    fn step(&mut self, piece: &'a str)
         requires { self.old.beyond + 1 < 2 ^ 64 }
-        ensures { OnOk result ((p : List (List ℕ))
+        ensures { (p : List (List ℕ))
             → IsWalk (map (λ part. part.now) self.old.kept.items) self.old.beyond p
-            → IsWalk (map (λ part. part.now) self.new.kept.items) self.new.beyond (stepped p piece.entry.now)) }
+            → IsWalk (map (λ part. part.now) self.new.kept.items) self.new.beyond (stepped p piece.entry.now) }
     {
         if is_idle(piece) {
-            return Ok(());
+            return;
         }
         if is_up(piece) {
             self.climb();
-            return Ok(());
+            return;
         }
-        self.enter(piece)
+        self.enter(piece);
     }
 
     /// Goes up to the parent; at the root it stays.
@@ -62,24 +65,23 @@ impl<'a> Walk<'a> {
     }
 
     /// Goes down to a name.
-    fn enter(&mut self, name: &'a str) -> Result<(), Memory>
+    fn enter(&mut self, name: &'a str)
         requires { self.old.beyond + 1 < 2 ^ 64 }
-        ensures { OnOk result ((p : List (List ℕ))
+        ensures { (p : List (List ℕ))
             → IsWalk (map (λ part. part.now) self.old.kept.items) self.old.beyond p
-            → IsWalk (map (λ part. part.now) self.new.kept.items) self.new.beyond (p ++ name.entry.now ∷ [])) }
+            → IsWalk (map (λ part. part.now) self.new.kept.items) self.new.beyond (p ++ name.entry.now ∷ []) }
     {
         if self.kept.len() < MOST_COMPONENTS {
-            self.kept.push(name)?;
+            self.kept.push(name);
         } else {
             self.beyond += 1;
         }
-        Ok(())
     }
 
     /// The path that the walk has come to, or the limit that it breaks.
     fn path(&self, alloc: Global) -> Result<Path, PathFault>
         requires names { list_all is_name (map (λ part. part.now) self.now.kept.items) ≡ true }
-        requires few { vec_len self.now.kept ≤ most_components }
+        requires few { array_vec_len self.now.kept ≤ most_components }
         ensures { (p : List (List ℕ))
             → IsWalk (map (λ part. part.now) self.now.kept.items) self.now.beyond p → IsRead p result }
     {
@@ -137,15 +139,15 @@ fn start<'a>(text: &str, base: &'a Path) -> &'a [Text]
 }
 
 /// The walk from there along the pieces of a text.
-fn walk_along<'a>(alloc: Global, text: &'a str, start: &'a [Text]) -> Result<Walk<'a>, Memory>
+fn walk_along<'a>(text: &'a str, start: &'a [Text]) -> Walk<'a>
     requires { length start.now ≤ most_components }
-    ensures { IfOk result (λ walk. IsWalk (map (λ part. part.now) walk.kept.items) walk.beyond (walked start.now (pieces text.now))) }
+    ensures { IsWalk (map (λ part. part.now) result.kept.items) result.beyond (walked start.now (pieces text.now)) }
 {
-    let mut walk = Walk::begin(alloc, start)?;
+    let mut walk = Walk::begin(start);
     for piece in text.split('/') {
-        walk.step(piece)?;
+        walk.step(piece);
     }
-    Ok(walk)
+    walk
 }
 
 impl Path {
@@ -157,7 +159,7 @@ impl Path {
     pub fn read(alloc: Global, text: &str, base: &Path) -> Result<Path, PathFault>
         ensures { IsRead (read_from text.now base.now) result }
     {
-        let walk = walk_along(alloc, text, start(text, base))?;
+        let walk = walk_along(text, start(text, base));
         walk.path(alloc)
     }
 

@@ -21,7 +21,7 @@ pub loop-piece-preserved : goal.loop-piece-preserved
 loop-piece-preserved c = (
   tt,
   tt,
-  subst (λ p. IsWalk (map (λ part. part.now) c.step.new.self.kept.items) c.step.new.self.beyond p) (sym (walked_more (λ part. part.now) c.args.start.now c.loop-piece.yielded c.in-Some.piece)) (c.in_ok-step.ensures _ c.loop-piece.invariant.2),
+  subst (λ p. IsWalk (map (λ part. part.now) c.step.new.self.kept.items) c.step.new.self.beyond p) (sym (walked_more (λ part. part.now) c.args.start.now c.loop-piece.yielded c.in-Some.piece)) (c.step.ensures _ c.loop-piece.invariant.2),
 )
 
 pub returns : goal.returns
