@@ -172,7 +172,7 @@ impl Component {
     }
 
     /// The byte that each name begins with which the pattern relates to, where the pattern begins with a plain text and has nothing or a
-    /// `*` behind it; none for others, also where their names begin alike.
+    /// `*` behind it; none for others, also where their names begin alike. The contract says what the byte is, and not when there is one.
     pub fn first_byte(&self) -> Option<u8>
         ensures { IfSome result (λ byte. BeginsWith self.now byte) }
     {
