@@ -23,7 +23,8 @@ use Rattle.trees.specs.Subtree.{map_below}
 use Rattle.paths.proofs.FrontLaws.{both_first, both_second}
 use Rattle.trees.proofs.NodeLaws.{get-map_of_root}
 use Rattle.trees.proofs.NodeSteps.{node_of}
-use Rattle.trees.proofs.RowLists.{rows_of, entries-node, entries-kids}
+use Rattle.trees.specs.PrivateWalk.{rows_of}
+use Rattle.trees.proofs.RowLists.{entries-node, entries-kids}
 
 abbrev pub Rows : Type 0
 Rows = List (List (List ℕ) × Entry)

@@ -12,6 +12,7 @@ mod KidLists
 mod PartLists
 mod PartSteps
 mod RowLists
+mod WalkSteps
 mod TreeSteps
 mod OverSteps
 mod CutSteps

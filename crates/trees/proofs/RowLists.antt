@@ -20,15 +20,11 @@ use Rattle.paths.specs.Order.{name_cmp}
 use Rattle.trees.specs.PrivateNode.{NodeValue, map_of, joined, below_name}
 use Rattle.trees.specs.Rows.{lent_rows}
 use Rattle.trees.specs.PrivateNode.{rows_under}
+use Rattle.trees.specs.PrivateWalk.{rows_of}
 use Rattle.paths.proofs.FrontLaws.{both_hold, both_first, both_second, name_same}
 use Rattle.trees.proofs.NodeLaws.{get-map_of_root, get-map_of_cons, get-joined, get-joined_root, find-below_name, find-below_name_root, lookup-find}
 use Rattle.trees.proofs.NodeSteps.{node_of, at_kid}
 use Rattle.trees.proofs.KidLists.{sorted-from_keys}
-
--- the rows of children, one child after another
-abbrev pub rows_of : List (List ℕ × NodeValue) → List (List (List ℕ) × Entry)
-rows_of [] = []
-rows_of (kid ∷ kids) = below_name kid.0 (entries (map_of kid.1)) ++ rows_of kids
 
 less : (o : Ordering) → is_lt o ≡ true → o ≡ Less
 less Less e = refl

@@ -1,6 +1,7 @@
 pub mod TreeMap
 pub mod Cause
 pub mod Rows
+pub mod Walk
 pub mod Put
 pub mod Make
 pub mod Remove
@@ -8,6 +9,7 @@ pub mod Subtree
 pub mod Over
 pub mod Copy
 pub mod PrivateNode
+pub mod PrivateWalk
 pub mod PrivateFall
 pub mod PrivateLent
 pub mod PrivateCopy

@@ -3,7 +3,8 @@
 // A tree is, for contracts, a finite map from paths to entries in which the root and all parents are directories (`IsTree` of
 // specs/TreeMap.antt); how it is stored can't be seen. One entry is put at a path (`put_into`), a directory is made with its parents
 // (`made`), a path is taken away (`removed`), a COPY places its sources (`copied`), and trees are laid over each other (`over`,
-// `merged`). Each gives a tree or a cause (`TreeOrCause`). The crate knows no patterns: the sources of a COPY are paths.
+// `merged`). Each gives a tree or a cause (`TreeOrCause`). A `Walk` lends all entries with the names on the way to them, one after another.
+// The crate knows no patterns: the sources of a COPY are paths.
 //
 // ```
 // let mut tree = Tree::empty(alloc);
@@ -27,6 +28,7 @@ mod node;
 mod part;
 mod put;
 mod tree;
+mod walk;
 
 pub use cause::{Cause, TreeFault, TreeOrCause};
 pub use content::Content;
@@ -34,3 +36,4 @@ pub use copy::{CopyOptions, CopySource};
 pub use entry::Entry;
 pub use meta::Meta;
 pub use tree::Tree;
+pub use walk::Walk;

@@ -6,9 +6,11 @@ ghost use Rattle.trees.specs.Rows.{lent_rows};
 ghost use Rattle.trees.specs.Over.{over};
 ghost use Rattle.trees.specs.Copy.{placements, kind_of};
 ghost use Rattle.trees.specs.PrivateNode.{map_of, IsPlanted, IsBelow, IsCut, IsFilled, rows_under};
+ghost use Rattle.trees.specs.PrivateWalk.{rows_of};
 
 use crate::children::Children;
 use crate::copy::Change;
+use crate::kids::Kids;
 use crate::{CopyOptions, Entry, Meta};
 use paths::{LongPath, Path};
 use plain::{Exact, Memory, Text};
@@ -65,6 +67,13 @@ impl Node {
         ensures { result.now ≡ self.now.top }
     {
         &self.entry
+    }
+
+    /// What stands right below this node, in the order of the names.
+    pub(crate) fn kids(&self) -> Kids<'_>
+        ensures { entries (map_of self.now) ≡ ([], self.now.top) ∷ rows_of result }
+    {
+        self.kids.iter()
     }
 
     /// Whether this node's entry is a directory.

@@ -17,7 +17,7 @@ use crate::changes::is_any_missing;
 use crate::folder::place_sources;
 use crate::node::Node;
 use crate::put::cause_at;
-use crate::{Cause, CopyOptions, CopySource, Entry, Meta, TreeFault};
+use crate::{Cause, CopyOptions, CopySource, Entry, Meta, TreeFault, Walk};
 use paths::Path;
 use plain::{Exact, Fault, Memory};
 use std::alloc::Global;
@@ -82,6 +82,14 @@ impl Tree {
         let mut rows = Vec::new(alloc);
         self.root.push_rows(alloc, &Path::root(alloc), &mut rows)?;
         Ok(rows)
+    }
+
+    /// A walk through all entries, in path order, the root first. Entries and names are lent, and no path is made: what memory it wants is
+    /// taken here.
+    pub fn walk(&self, alloc: Global) -> Result<Walk<'_>, Memory>
+        ensures { IfOk result (λ walk. walk.left ≡ entries self.now) }
+    {
+        Walk::of(alloc, &self.root)
     }
 
     /// What lies under a path, as a tree of its own: the directory at the path is its root. Of the root it is a copy of the tree.

@@ -5,7 +5,8 @@ use Rattle.trees.specs.PrivateNode.{height_of}
 use Rattle.trees.proofs.SubtreeLaws.{clean-below}
 use Rattle.trees.proofs.NodeSteps.{kid-lower}
 use Rattle.trees.proofs.KidLists.{found-among, passed-more}
-use Rattle.trees.proofs.RowLists.{rows_of, child-clean, below-clean, kids-clean}
+use Rattle.trees.specs.PrivateWalk.{rows_of}
+use Rattle.trees.proofs.RowLists.{child-clean, below-clean, kids-clean}
 use Rattle.trees.proofs.CopyRows.{items-step, items-all, items-node}
 use Rattle.trees.proofs.+changing.Goals as goal
 

@@ -1,7 +1,7 @@
 use Rattle.std.proofs.Common.{◌≡◌, ◌++◌, ◌+◌, List, ℕ, length}
 use Rattle.trees.specs.Copy.{placements}
 use Rattle.trees.specs.PrivateNode.{NodeValue, height_of}
-use Rattle.trees.proofs.RowLists.{rows_of}
+use Rattle.trees.specs.PrivateWalk.{rows_of}
 use Rattle.trees.proofs.+changing.Given as goal
 
 abbrev pub decreases-node::Node::push_changes : goal.decreases-node::Node::push_changes

@@ -4,7 +4,8 @@ use Rattle.trees.specs.Rows.{lent_rows}
 use Rattle.trees.specs.PrivateNode.{rows_under, height_of}
 use Rattle.trees.proofs.NodeSteps.{kid-lower}
 use Rattle.trees.proofs.KidLists.{found-among, passed-more}
-use Rattle.trees.proofs.RowLists.{rows_of, child-clean, below-clean, kids-clean, rows-step, rows-all, rows-node}
+use Rattle.trees.specs.PrivateWalk.{rows_of}
+use Rattle.trees.proofs.RowLists.{child-clean, below-clean, kids-clean, rows-step, rows-all, rows-node}
 use Rattle.trees.proofs.+listing.Goals as goal
 
 pub children::Children::push_rows-loop-name-init : goal.children::Children::push_rows-loop-name-init

@@ -1,7 +1,7 @@
 use Rattle.std.proofs.Common.{◌≡◌, ◌++◌, ◌+◌, List, ℕ, length}
 use Rattle.trees.specs.Rows.{lent_rows}
 use Rattle.trees.specs.PrivateNode.{NodeValue, height_of, rows_under}
-use Rattle.trees.proofs.RowLists.{rows_of}
+use Rattle.trees.specs.PrivateWalk.{rows_of}
 use Rattle.trees.proofs.+listing.Given as goal
 
 abbrev pub decreases-node::Node::push_rows : goal.decreases-node::Node::push_rows

@@ -1,0 +1,40 @@
+-- What is left of a walk: the children that aren't gone through yet, of the folder that was entered last and of each folder above it.
+use Rattle.std.specs.Prelude.{◌≡◌, ◌≤◌, ℕ, Option, Some, None, List, [], ◌∷◌, ◌++◌, length, vec_capacity}
+use Rattle.std.specs.List.{AllByRecursion}
+use Rattle.std.specs.declared.vec.Vec.{Vec}
+use Rattle.std.specs.FinMap.{entries}
+use denote.Ref.{Bor}
+use Rattle.plain.specs.Limits.{most_components}
+use Rattle.paths.specs.Path.{IsClean}
+use Rattle.trees.specs.declared.entry.Entry.{Entry}
+use Rattle.trees.specs.Rows.{lent_names}
+use Rattle.trees.specs.PrivateNode.{NodeValue, map_of, below_name}
+
+-- the rows of children, one child after another
+abbrev pub rows_of : List (List ℕ × NodeValue) → List (List (List ℕ) × Entry)
+rows_of [] = []
+rows_of (kid ∷ kids) = below_name kid.0 (entries (map_of kid.1)) ++ rows_of kids
+
+-- the rows that are left of folders that were entered one below the other: these names lead down from the top one, `above` are the children
+-- left of each folder but the last, the top one's first, and `kids` those of the last. The last folder's rows come first
+abbrev pub rows_left : List (List ℕ) → List (List (List ℕ × NodeValue)) → List (List ℕ × NodeValue) → List (List (List ℕ) × Entry)
+rows_left [] above kids = rows_of kids
+rows_left (name ∷ names) [] kids = rows_of kids
+rows_left (name ∷ names) (first ∷ above) kids = below_name name (rows_left names above kids) ++ rows_of first
+
+-- the row of the root, whose path has no name, until it is given
+abbrev pub root_row : List (List ℕ) → Option (Bor Entry) → List (List (List ℕ) × Entry)
+root_row names None = []
+root_row names (Some entry) = (names, entry.now) ∷ []
+
+-- the rows that are left below the root, where names and folders are held in buffers
+abbrev pub left_below_root : {Z : Type 0} → Vec (Bor (List ℕ)) Z → Vec (List (List ℕ × NodeValue)) Z → List (List ℕ × NodeValue) → List (List (List ℕ) × Entry)
+left_below_root names above kids = rows_left (lent_names names.items) above.items kids
+
+-- There is a name for each folder above the last; what is left has clean paths, so there is room for all names and folders that may be
+-- entered.
+pub record IsOnWay {Z : Type 0} (names : Vec (Bor (List ℕ)) Z) (above : Vec (List (List ℕ × NodeValue)) Z) (kids : List (List ℕ × NodeValue)) : Type 0 where
+  pub level : length names.items ≡ length above.items
+  pub clean : AllByRecursion (λ row. IsClean row.0) (left_below_root names above kids)
+  pub room_names : most_components ≤ vec_capacity names
+  pub room_above : most_components ≤ vec_capacity above

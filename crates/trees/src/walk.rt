@@ -1,0 +1,108 @@
+ghost use Rattle.std.specs.Prelude.{◌≡◌, [], ◌∷◌, IfOk, MatchOption};
+ghost use Rattle.std.specs.FinMap.{entries};
+ghost use Rattle.trees.specs.Rows.{lent_names};
+ghost use Rattle.trees.specs.TreeMap.{IsTree};
+ghost use Rattle.trees.specs.PrivateNode.{map_of};
+ghost use Rattle.trees.specs.PrivateWalk.{IsOnWay, left_below_root};
+
+use crate::Entry;
+use crate::kids::Kids;
+use crate::node::Node;
+use plain::limits::MOST_COMPONENTS;
+use plain::{Memory, Text};
+use std::alloc::Global;
+use std::marker::Model;
+use std::mem;
+
+/// The entries of a tree, one after another in path order, the root first. Entries and the names on the way to them are lent, and no path
+/// is made.
+///
+/// A path has at most 64 names, and room for so many, and for the folders on the way, is taken as a walk begins. So it takes no memory from
+/// then on, and nothing of it fails.
+#[derive(Drop)]
+pub struct Walk<'a> {
+    /// The root's entry, until it is given.
+    root: Option<&'a Entry>,
+    /// The children that are left of the entry that was given last, or of the root.
+    kids: Kids<'a>,
+    /// Those of each folder on the way to it, the root's first.
+    above: Vec<Kids<'a>>,
+    /// The names on the way to it.
+    names: Vec<&'a Text>,
+}
+
+impl<'a> Model for Walk<'a> {
+    ghost use Rattle.std.specs.Prelude.{◌++◌};
+    ghost use Rattle.trees.specs.Rows.{lent_names};
+    ghost use Rattle.trees.specs.Walk.{WalkValue, walk_code};
+    ghost use Rattle.trees.specs.PrivateWalk.{IsOnWay, root_row, left_below_root};
+
+    ghost Value = { WalkValue };
+
+    ghost coded = { walk_code };
+
+    ghost view = { λ w. record { at = lent_names w.names.items; left = root_row (lent_names w.names.items) w.root ++ left_below_root w.names w.above w.kids } };
+
+    ghost invariant = { λ w. IsOnWay w.names w.above w.kids };
+}
+
+impl<'a> Walk<'a> {
+    /// A walk through the tree of this root.
+    pub(crate) fn of(alloc: Global, root: &'a Node) -> Result<Walk<'a>, Memory>
+        requires { IsTree (map_of root.now) }
+        ensures { IfOk result (λ walk. walk.left ≡ entries (map_of root.now)) }
+    {
+        let above = Vec::with_capacity(alloc, MOST_COMPONENTS)?;
+        let names = Vec::with_capacity(alloc, MOST_COMPONENTS)?;
+        Ok(Walk {
+            root: Some(root.entry()),
+            kids: root.kids(),
+            above,
+            names,
+        })
+    }
+
+    /// The names of the path of the entry that was given last, from the root down. The root's path has none.
+    pub fn names(&self) -> &[&'a Text]
+        ensures { lent_names result.now ≡ self.now.at }
+    {
+        self.names.as_slice()
+    }
+
+    /// The next entry, if one is left.
+    pub fn next(&mut self) -> Option<&'a Entry>
+        ensures { MatchOption result ((self.old.left ≡ []) × (self.new.left ≡ [])) (λ entry. self.old.left ≡ (self.new.at, entry.now) ∷ self.new.left) }
+    {
+        match self.root.take() {
+            Some(entry) => Some(entry),
+            None => step(&mut self.names, &mut self.above, &mut self.kids),
+        }
+    }
+}
+
+/// The next entry below the root. The names are those of its path then.
+fn step<'a>(
+    names: &mut Vec<&'a Text>,
+    above: &mut Vec<Kids<'a>>,
+    kids: &mut Kids<'a>,
+) -> Option<&'a Entry>
+    requires { IsOnWay names.old above.old kids.old }
+    ensures way { IsOnWay names.new above.new kids.new }
+    ensures next { MatchOption result
+        ((left_below_root names.old above.old kids.old ≡ []) × (left_below_root names.new above.new kids.new ≡ []))
+        (λ entry. left_below_root names.old above.old kids.old ≡ (lent_names names.new.items, entry.now) ∷ left_below_root names.new above.new kids.new) }
+{
+    loop {
+        if let Some((name, kid)) = kids.next() {
+            let left = mem::replace(kids, kid.kids());
+            above.push(left).unwrap();
+            names.push(name).unwrap();
+            return Some(kid.entry());
+        }
+        let Some(left) = above.pop() else {
+            return None;
+        };
+        *kids = left;
+        names.pop();
+    }
+}
