@@ -1,4 +1,4 @@
-ghost use Rattle.std.specs.Prelude.{◌≡◌, ◌<◌, ◌≤◌, [], IfOk, Ok as OkOf, map};
+ghost use Rattle.std.specs.Prelude.{◌≡◌, ◌<◌, ◌≤◌, [], IfOk, Ok as OkOf};
 ghost use Rattle.std.specs.FinMap.{entries};
 ghost use Rattle.std.specs.String.{string_bytes};
 ghost use Rattle.plain.specs.Limits.{most_workers};
@@ -21,14 +21,13 @@ use cachemounts::CacheStore;
 use counted::{CountedWrite, Gathered, finish, gather, write_all};
 use executor::Executor;
 use imageconfig::Config;
-use paths::Path;
 use plain::{Fault, Memory, Refusal, Text};
 use plans::Plan;
 use solver::{Gate, Solution};
 use std::alloc::Global;
 use std::sync::Wait;
 use std::thread::Threads;
-use trees::{Cause, Entry, Tree};
+use trees::{Cause, Tree, Walk};
 use workers::solve;
 
 /// Tells of a bundle's bytes: writes one answer.
@@ -158,8 +157,8 @@ fn tell_tree<W: CountedWrite>(
 {
     let config = config_text(alloc, config)?;
     let gathered = Gathered::new(alloc)?;
-    let entries = tree.entries(alloc)?;
-    write_built(output, gathered, config.as_str(), entries.as_slice())
+    let walk = tree.walk(alloc)?;
+    write_built(output, gathered, config.as_str(), walk)
 }
 
 /// A configuration as compact JSON.
@@ -171,21 +170,22 @@ fn config_text(alloc: Global, config: &Config) -> Result<String, Memory>
     Ok(text)
 }
 
-/// Writes the answer of a build that gave a tree of these entries, with this text of a configuration, piece by piece. It takes no memory.
+/// Writes the answer of a build that gave a tree through which this walk goes, with this text of a configuration, piece by piece. It takes
+/// no memory.
 fn write_built<W: CountedWrite>(
     output: &mut W,
     gathered: Gathered,
     config: &str,
-    entries: &[(Path, &Entry)],
+    walk: Walk<'_>,
 ) -> Result<Status, BuildFault>
     requires empty { gathered ≡ nothing }
     requires writes { W.failures output.old < u64.MAX }
     ensures { (value : Data) → config.now ≡ compact_text value
-        → IsTold (TellsText Built (built_text value (map (λ row. (row.0, row.1.now)) entries.now)))
+        → IsTold (TellsText Built (built_text value walk.entry.left))
         (W.contents output.old) (W.failures output.old) (W.contents output.new) (W.failures output.new) result }
 {
     let mut gathered = gathered;
-    put_built(output, &mut gathered, config, entries);
+    put_built(output, &mut gathered, config, walk);
     gather(output, &mut gathered, b"\n");
     match finish(output, gathered) {
         Ok(()) => Ok(Status::Built),

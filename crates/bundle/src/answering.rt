@@ -1,4 +1,4 @@
-ghost use Rattle.std.specs.Prelude.{◌≡◌, IfOk, map};
+ghost use Rattle.std.specs.Prelude.{◌≡◌, IfOk};
 ghost use Rattle.counted.specs.Gathering.{sink, Says, HasRoom};
 ghost use Rattle.serde_json.specs.Data.{Data};
 ghost use Rattle.serde_json.specs.Written.{compact_text};
@@ -7,31 +7,30 @@ ghost use Rattle.bundle.specs.Answer.{failed_data, refused_data, built_text, fai
 
 use counted::{CountedWrite, Gathered, gather};
 use entries::put_tree;
-use paths::Path;
 use plain::{Memory, Refusal, Text};
 use serde_json::{Value, json};
 use std::alloc::Global;
-use trees::{Cause, Entry};
+use trees::{Cause, Walk};
 
-/// Says the answer of a build that gave a tree of these entries, with this text of the image's configuration, which is compact JSON: one line of
-/// compact JSON, without the LF that ends it. It takes no memory.
+/// Says the answer of a build that gave a tree through which this walk goes, with this text of the image's configuration, which is compact
+/// JSON: one line of compact JSON, without the LF that ends it. It takes no memory.
 pub fn put_built<W: CountedWrite>(
     output: &mut W,
     gathered: &mut Gathered,
     config: &str,
-    entries: &[(Path, &Entry)],
+    walk: Walk<'_>,
 )
     requires room { HasRoom (W.failures output.old) gathered.old }
     ensures says { (value : Data) → config.now ≡ compact_text value → Says
         (sink (W.contents output.old) (W.failures output.old) gathered.old)
         (sink (W.contents output.new) (W.failures output.new) gathered.new)
-        (built_text value (map (λ row. (row.0, row.1.now)) entries.now)) }
+        (built_text value walk.entry.left) }
     ensures room { HasRoom (W.failures output.new) gathered.new }
 {
     gather(output, gathered, b"{\"config\":");
     gather(output, gathered, config.as_bytes());
     gather(output, gathered, b",\"result\":\"built\",\"tree\":");
-    put_tree(output, gathered, entries);
+    put_tree(output, gathered, walk);
     gather(output, gathered, b"}");
 }
 

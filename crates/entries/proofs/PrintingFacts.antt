@@ -13,6 +13,7 @@ use Rattle.serde_json.specs.Written.{comma_if, compact_text, items_text, members
 use Rattle.trees.specs.declared.meta.Meta.{Meta}
 use Rattle.trees.specs.declared.entry.Entry.{Entry}
 use Rattle.trees.specs.declared.entry.Entry.TheVariants.{Directory, File}
+use Rattle.trees.specs.Rows.{lent_names}
 use Rattle.entries.specs.Written.{mode_text, entry_data}
 use Rattle.entries.specs.PrivatePrinting.{is_plain, end_text, entry_text}
 
@@ -40,14 +41,14 @@ pub escape-rooted : (name : List ℕ) (path : List (List ℕ)) → escape (roote
 unfolding escape_byte
 escape-rooted name path = ap (λ e. 47 ∷ e) (escape-append name (rooted path))
 
-pub escape-root : (path : List (List ℕ)) → path ≡ [] → 47 ∷ [] ≡ escape (text_of path)
+pub escape-root : (names : List (Bor (List ℕ))) → length names ≡ 0 → 47 ∷ [] ≡ escape (text_of (lent_names names))
 unfolding escape_byte
 escape-root [] root = refl
-escape-root (name ∷ path) root = cc
+escape-root (name ∷ names) root = absurd (omega arith)
 
-pub text-rooted : (path : List (List ℕ)) → (path ≡ [] → ⊥) → escape (rooted path) ≡ escape (text_of path)
+pub text-rooted : (names : List (Bor (List ℕ))) → (length names ≡ 0 → ⊥) → escape (rooted (lent_names names)) ≡ escape (text_of (lent_names names))
 text-rooted [] some = absurd (some refl)
-text-rooted (name ∷ path) some = refl
+text-rooted (name ∷ names) some = refl
 
 -- ---- digits
 
@@ -151,30 +152,32 @@ drop-item xs x i lt is = drop-cons xs i x lt ∙ ap (λ y. y ∷ drop (suc i) xs
 pub escape-from : (bytes : List ℕ) (i : ℕ) → i < length bytes → escape_byte (get_or bytes i 0) ++ escape (drop (i + 1) bytes) ≡ escape (drop i bytes)
 escape-from bytes i lt = sym (ap escape (drop-cons bytes i 0 lt ∙ ap (λ n. get_or bytes i 0 ∷ drop n bytes) (sym (add-one i))))
 
--- the components of a path from one on, that component first
-pub names-from : (path : List (List ℕ)) (part name : List ℕ) (i : ℕ) → i < length path → part ≡ get_or path i part → name ≡ part
-    → (47 ∷ escape name) ++ escape (rooted (drop (i + 1) path)) ≡ escape (rooted (drop i path))
-names-from path part name i lt is same =
-    ap (λ n. (47 ∷ escape n) ++ escape (rooted (drop (i + 1) path))) same
-    ∙ sym (escape-rooted part (drop (i + 1) path))
-    ∙ ap (λ p. escape (rooted p)) (sym (drop-item path part i lt is))
+-- the names of a path from one on, that name first
+pub names-from : (names : List (Bor (List ℕ))) (name : Bor (List ℕ)) (bytes : List ℕ) (i : ℕ) → i < length names → name ≡ get_or names i name → bytes ≡ name.now
+    → (47 ∷ escape bytes) ++ escape (rooted (lent_names (drop (i + 1) names))) ≡ escape (rooted (lent_names (drop i names)))
+names-from names name bytes i lt is same =
+    ap (λ n. (47 ∷ escape n) ++ escape (rooted (lent_names (drop (i + 1) names)))) same
+    ∙ sym (escape-rooted name.now (lent_names (drop (i + 1) names)))
+    ∙ ap (λ ns. escape (rooted (lent_names ns))) (sym (drop-item names name i lt is))
 
 -- ---- entries
 
--- the text of entries from one on, with the closing bracket
-abbrev pub rows_text : Bool → List (List (List ℕ) × Bor Entry) → List ℕ
+-- the text of entries that are still to come, with the closing bracket
+abbrev pub rows_text : Bool → List (List (List ℕ) × Entry) → List ℕ
 rows_text later [] = 93 ∷ []
-rows_text later (row ∷ rows) = (comma_if later ++ entry_text row.0 row.1.now) ++ rows_text true rows
+rows_text later (row ∷ rows) = (comma_if later ++ entry_text row.0 row.1) ++ rows_text true rows
 
-pub rows-are : (later : Bool) (rows : List (List (List ℕ) × Bor Entry))
-    → rows_text later rows ≡ items_text later (items_of (map {A = List (List ℕ) × Entry} (λ row. entry_data row.0 row.1) (map {A = List (List ℕ) × Bor Entry} (λ row. (row.0, row.1.now)) rows)))
+pub rows-are : (later : Bool) (rows : List (List (List ℕ) × Entry)) → rows_text later rows ≡ items_text later (items_of (map {A = List (List ℕ) × Entry} (λ row. entry_data row.0 row.1) rows))
 unfolding entry_text
 rows-are later [] = refl
 rows-are later (row ∷ rows) =
-    append_assoc (comma_if later) (compact_text (entry_data row.0 row.1.now)) (rows_text true rows)
-    ∙ ap (λ e. comma_if later ++ (compact_text (entry_data row.0 row.1.now) ++ e)) (rows-are true rows)
+    append_assoc (comma_if later) (compact_text (entry_data row.0 row.1)) (rows_text true rows)
+    ∙ ap (λ e. comma_if later ++ (compact_text (entry_data row.0 row.1) ++ e)) (rows-are true rows)
 
--- the text of the entries from one on, that entry first
-pub rows-from : (later : Bool) (rows : List (List (List ℕ) × Bor Entry)) (row : List (List ℕ) × Bor Entry) (i : ℕ) → i < length rows → row ≡ get_or rows i row
-    → (comma_if later ++ entry_text row.0 row.1.now) ++ rows_text true (drop (i + 1) rows) ≡ rows_text later (drop i rows)
-rows-from later rows row i lt is = ap (rows_text later) (sym (drop-item rows row i lt is))
+-- the text of the entries that a walk has left, the next one first
+pub rows-next : (later : Bool) (rows rest : List (List (List ℕ) × Entry)) (path names : List (List ℕ)) (entry : Entry) → rows ≡ (path, entry) ∷ rest → names ≡ path → (comma_if later ++ entry_text names entry) ++ rows_text true rest ≡ rows_text later rows
+rows-next later rows rest path names entry next same = ap (λ p. (comma_if later ++ entry_text p entry) ++ rows_text true rest) same ∙ sym (ap (rows_text later) next)
+
+-- nothing is left but the bracket
+pub rows-none : (later : Bool) (rows : List (List (List ℕ) × Entry)) → rows ≡ [] → 93 ∷ [] ≡ rows_text later rows
+rows-none later rows none = sym (ap (rows_text later) none)

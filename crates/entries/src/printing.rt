@@ -1,4 +1,4 @@
-ghost use Rattle.std.specs.Prelude.{◌≡◌, ◌+◌, ◌<◌, ◌≤◌, ◌∷◌, ◌++◌, length, map, decimal};
+ghost use Rattle.std.specs.Prelude.{◌≡◌, ◌+◌, ◌<◌, ◌≤◌, ◌∷◌, ◌++◌, length, decimal};
 ghost use Rattle.std.specs.Char.{digit_char};
 ghost use Rattle.std.specs.List.{list_all};
 ghost use Rattle.hex.specs.Hex.{encode_lower};
@@ -8,15 +8,15 @@ ghost use Rattle.counted.specs.Gathering.{sink, Says, HasRoom};
 ghost use Rattle.serde_json.specs.Data.{string};
 ghost use Rattle.serde_json.specs.Written.{comma_if, compact_text};
 ghost use Rattle.trees.specs.declared.entry.Entry.TheVariants.{Directory, File};
+ghost use Rattle.trees.specs.Rows.{lent_names};
 ghost use Rattle.entries.specs.Written.{mode_text, entry_data, tree_data};
 ghost use Rattle.entries.specs.PrivatePrinting.{is_plain, end_text, entry_text};
 
 use crate::writing::octal_digit;
 use counted::{CountedWrite, Gathered, gather};
 use itoa::Buffer;
-use paths::Path;
-use plain::Mode;
-use trees::{Entry, Meta};
+use plain::{Mode, Text};
+use trees::{Entry, Meta, Walk};
 
 /// How many bytes are turned into hexadecimal at once: few, since the room for their digits is made anew for each file, and most are small.
 const PIECE: usize = 256;
@@ -24,46 +24,43 @@ const PIECE: usize = 256;
 /// How many digits these have.
 const DIGITS: usize = 512;
 
-/// Says the entries of a tree, in the order that they are given in: what `tree_to_json` gives, as compact JSON, and no value in between. It
-/// takes no memory, and after a failed write it does nothing.
-pub fn put_tree<W: CountedWrite>(
-    output: &mut W,
-    gathered: &mut Gathered,
-    entries: &[(Path, &Entry)],
-)
+/// Says the entries of a tree that a walk has left, in the order that it gives them in: what `tree_to_json` gives, as compact JSON, and no
+/// value and no list in between. It takes no memory, and after a failed write it does nothing.
+pub fn put_tree<W: CountedWrite>(output: &mut W, gathered: &mut Gathered, walk: Walk<'_>)
     requires room { HasRoom (W.failures output.old) gathered.old }
     ensures says { Says
         (sink (W.contents output.old) (W.failures output.old) gathered.old)
         (sink (W.contents output.new) (W.failures output.new) gathered.new)
-        (compact_text (tree_data (map (λ row. (row.0, row.1.now)) entries.now))) }
+        (compact_text (tree_data walk.entry.left)) }
     ensures room { HasRoom (W.failures output.new) gathered.new }
 {
     gather(output, gathered, b"[");
+    let mut walk = walk;
     let mut later = false;
-    for row in entries {
-        put_row(output, gathered, later, &row.0, row.1);
+    while let Some(entry) = walk.next() {
+        put_row(output, gathered, later, walk.names(), entry);
         later = true;
     }
     gather(output, gathered, b"]");
 }
 
-/// Says an entry with its path, behind a comma where others stand before.
+/// Says an entry with its path, which has these names, behind a comma where others stand before.
 fn put_row<W: CountedWrite>(
     output: &mut W,
     gathered: &mut Gathered,
     later: bool,
-    path: &Path,
+    names: &[&Text],
     entry: &Entry,
 )
     requires room { HasRoom (W.failures output.old) gathered.old }
     ensures says { Says
         (sink (W.contents output.old) (W.failures output.old) gathered.old)
         (sink (W.contents output.new) (W.failures output.new) gathered.new)
-        (comma_if later ++ entry_text path.now entry.now) }
+        (comma_if later ++ entry_text (lent_names names.now) entry.now) }
     ensures room { HasRoom (W.failures output.new) gathered.new }
 {
     gather(output, gathered, comma_before(later));
-    put_entry(output, gathered, path, entry);
+    put_entry(output, gathered, names, entry);
 }
 
 /// The comma that stands before a later entry.
@@ -75,42 +72,52 @@ fn comma_before(later: bool) -> &'static [u8]
 
 /// Says an entry with its path.
 #[tactic(auto, unfolding(crate::specs::PrivatePrinting::entry_text))]
-fn put_entry<W: CountedWrite>(output: &mut W, gathered: &mut Gathered, path: &Path, entry: &Entry)
+fn put_entry<W: CountedWrite>(
+    output: &mut W,
+    gathered: &mut Gathered,
+    names: &[&Text],
+    entry: &Entry,
+)
     requires room { HasRoom (W.failures output.old) gathered.old }
     ensures says { Says
         (sink (W.contents output.old) (W.failures output.old) gathered.old)
         (sink (W.contents output.new) (W.failures output.new) gathered.new)
-        (entry_text path.now entry.now) }
+        (entry_text (lent_names names.now) entry.now) }
     ensures room { HasRoom (W.failures output.new) gathered.new }
 {
     match entry {
-        Entry::Directory(meta) => put_directory(output, gathered, path, *meta),
+        Entry::Directory(meta) => put_directory(output, gathered, names, *meta),
         Entry::File(meta, content) => {
-            put_file(output, gathered, path, *meta, content.as_slice());
+            put_file(output, gathered, names, *meta, content.as_slice());
         }
     }
 }
 
 /// Says a directory with its path.
-fn put_directory<W: CountedWrite>(output: &mut W, gathered: &mut Gathered, path: &Path, meta: Meta)
+fn put_directory<W: CountedWrite>(
+    output: &mut W,
+    gathered: &mut Gathered,
+    names: &[&Text],
+    meta: Meta,
+)
     requires room { HasRoom (W.failures output.old) gathered.old }
     ensures says { Says
         (sink (W.contents output.old) (W.failures output.old) gathered.old)
         (sink (W.contents output.new) (W.failures output.new) gathered.new)
-        (compact_text (entry_data path.now (Directory meta))) }
+        (compact_text (entry_data (lent_names names.now) (Directory meta))) }
     ensures room { HasRoom (W.failures output.new) gathered.new }
 {
     let _mode = meta.mode.bits();
     gather(output, gathered, b"{\"dir\":true,\"gid\":");
     put_number(output, gathered, meta.gid);
-    put_end(output, gathered, path, meta);
+    put_end(output, gathered, names, meta);
 }
 
 /// Says a file with its path.
 fn put_file<W: CountedWrite>(
     output: &mut W,
     gathered: &mut Gathered,
-    path: &Path,
+    names: &[&Text],
     meta: Meta,
     bytes: &[u8],
 )
@@ -118,7 +125,7 @@ fn put_file<W: CountedWrite>(
     ensures says { Says
         (sink (W.contents output.old) (W.failures output.old) gathered.old)
         (sink (W.contents output.new) (W.failures output.new) gathered.new)
-        (compact_text (entry_data path.now (File meta bytes.now))) }
+        (compact_text (entry_data (lent_names names.now) (File meta bytes.now))) }
     ensures room { HasRoom (W.failures output.new) gathered.new }
 {
     let _mode = meta.mode.bits();
@@ -127,22 +134,22 @@ fn put_file<W: CountedWrite>(
     gather(output, gathered, b",\"hex\":\"");
     put_hex(output, gathered, bytes);
     gather(output, gathered, b"\"");
-    put_end(output, gathered, path, meta);
+    put_end(output, gathered, names, meta);
 }
 
 /// Says what directories and files end with: mode, path and user.
-fn put_end<W: CountedWrite>(output: &mut W, gathered: &mut Gathered, path: &Path, meta: Meta)
+fn put_end<W: CountedWrite>(output: &mut W, gathered: &mut Gathered, names: &[&Text], meta: Meta)
     requires room { HasRoom (W.failures output.old) gathered.old }
     ensures says { Says
         (sink (W.contents output.old) (W.failures output.old) gathered.old)
         (sink (W.contents output.new) (W.failures output.new) gathered.new)
-        (end_text path.now meta) }
+        (end_text (lent_names names.now) meta) }
     ensures room { HasRoom (W.failures output.new) gathered.new }
 {
     gather(output, gathered, b",\"mode\":\"");
     put_mode(output, gathered, meta.mode);
     gather(output, gathered, b"\",\"path\":");
-    put_path(output, gathered, path);
+    put_path(output, gathered, names);
     gather(output, gathered, b",\"uid\":");
     put_number(output, gathered, meta.uid);
     gather(output, gathered, b"}");
@@ -216,35 +223,35 @@ fn put_digits<W: CountedWrite>(output: &mut W, gathered: &mut Gathered, piece: &
     gather(output, gathered, digits);
 }
 
-/// Says a path as a JSON string.
-fn put_path<W: CountedWrite>(output: &mut W, gathered: &mut Gathered, path: &Path)
+/// Says the path of these names as a JSON string.
+fn put_path<W: CountedWrite>(output: &mut W, gathered: &mut Gathered, names: &[&Text])
     requires room { HasRoom (W.failures output.old) gathered.old }
     ensures says { Says
         (sink (W.contents output.old) (W.failures output.old) gathered.old)
         (sink (W.contents output.new) (W.failures output.new) gathered.new)
-        (compact_text (string (text_of path.now))) }
+        (compact_text (string (text_of (lent_names names.now)))) }
     ensures room { HasRoom (W.failures output.new) gathered.new }
 {
     gather(output, gathered, b"\"");
-    put_names(output, gathered, path);
+    put_names(output, gathered, names);
     gather(output, gathered, b"\"");
 }
 
-/// Says a path's text as it stands in a JSON string.
-fn put_names<W: CountedWrite>(output: &mut W, gathered: &mut Gathered, path: &Path)
+/// Says the text of the path of these names as it stands in a JSON string.
+fn put_names<W: CountedWrite>(output: &mut W, gathered: &mut Gathered, names: &[&Text])
     requires room { HasRoom (W.failures output.old) gathered.old }
     ensures says { Says
         (sink (W.contents output.old) (W.failures output.old) gathered.old)
         (sink (W.contents output.new) (W.failures output.new) gathered.new)
-        (escape (text_of path.now)) }
+        (escape (text_of (lent_names names.now))) }
     ensures room { HasRoom (W.failures output.new) gathered.new }
 {
-    if path.is_root() {
+    if names.is_empty() {
         gather(output, gathered, b"/");
         return;
     }
-    for part in path.components() {
-        put_name(output, gathered, part.as_str().as_bytes());
+    for name in names {
+        put_name(output, gathered, name.as_str().as_bytes());
     }
 }
 

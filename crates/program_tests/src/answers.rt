@@ -4,8 +4,9 @@ use imageconfig::Config;
 use lines::LineFault;
 use paths::Path;
 use plain::{Bytes, Code, Mode, Refusal};
+use std::alloc::Global;
 use std::test::Fail;
-use trees::{Cause, Content, Entry, Meta};
+use trees::{Cause, Content, Entry, Meta, Tree};
 
 #[test]
 fn a_bundle_is_read(rt: HostRuntime) -> Result<(), Fail> {
@@ -20,9 +21,8 @@ fn a_bundle_is_read(rt: HostRuntime) -> Result<(), Fail> {
     Ok(())
 }
 
-#[test]
-fn answers_are_compact_text(rt: HostRuntime) -> Result<(), Fail> {
-    let alloc = rt.alloc();
+/// A root of a rare mode and owner, and in it a file whose name has to be escaped.
+fn odd_tree(alloc: Global) -> Result<Tree, Fail> {
     let root = Path::root(alloc);
     let path = Path::read(alloc, "/a \"b\"\n\u{1}", &root).map_err(|_| Fail::from("no path"))?;
     let mode = Mode::new(0o7001).ok_or("a mode")?;
@@ -32,15 +32,19 @@ fn answers_are_compact_text(rt: HostRuntime) -> Result<(), Fail> {
         gid: 7,
     });
     let content = Content::new(alloc, Bytes::from_slice(alloc, &[0, 255])?)?;
-    let file = Entry::File(Meta::file(), content);
+    let mut tree = Tree::empty(alloc);
+    tree.put(alloc, &root, directory)?;
+    tree.put(alloc, &path, Entry::File(Meta::file(), content))?;
+    Ok(tree)
+}
+
+#[test]
+fn answers_are_compact_text(rt: HostRuntime) -> Result<(), Fail> {
+    let alloc = rt.alloc();
+    let tree = odd_tree(alloc)?;
     let mut output = Counted::new(Vec::with_capacity(alloc, 4096)?);
     let mut gathered = Gathered::new(alloc)?;
-    put_built(
-        &mut output,
-        &mut gathered,
-        "true",
-        [(root, &directory), (path, &file)].as_slice(),
-    );
+    put_built(&mut output, &mut gathered, "true", tree.walk(alloc)?);
     assert!(rt; finish(&mut output, gathered).is_ok());
     let wanted =
         r#"{"config":true,"result":"built","tree":[{"dir":true,"gid":7,"mode":"7001","path":"/","uid":4294967295},{"gid":0,"hex":"00ff","mode":"0644","path":"/a \"b\"\n\u0001","uid":0}]}"#;

@@ -1,13 +1,11 @@
-use Rattle.std.proofs.Common.{◌∙◌, map, List, ℕ, Bor}
+use Rattle.std.proofs.Common.{◌∙◌}
 use Rattle.counted.proofs.GatheringFacts.{says_both, says_as}
-use Rattle.trees.specs.declared.entry.Entry.{Entry}
 use Rattle.bundle.proofs.AnswerLemmas.{built-text}
 use Rattle.bundle.proofs.answering.put_built.Goals as goal
 
 pub returns-clause-says : goal.returns-clause-says
 returns-clause-says g c = λ value is.
-    let entries : List (List (List ℕ) × Entry) = map {A = List (List ℕ) × Bor Entry} (λ row. (row.0, row.1.now)) c.args.entries.now in
     says_as
     (says_both c.gather.ensures.says (says_both (says_as c.gather-2.ensures.says (c.as_bytes.ensures.value ∙ is))
     (says_both c.gather-3.ensures.says (says_both c.put_tree.ensures.says c.gather-4.ensures.says))))
-    (built-text value entries)
+    (built-text value c.args.walk.left)

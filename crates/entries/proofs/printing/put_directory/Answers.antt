@@ -1,4 +1,5 @@
 use Rattle.std.proofs.Common.{◌<◌, sym, arith}
+use Rattle.trees.specs.Rows.{lent_names}
 use Rattle.counted.proofs.GatheringFacts.{says_both, says_as}
 use Rattle.entries.proofs.PrintingFacts.{directory-text}
 use Rattle.entries.proofs.printing.put_directory.Goals as goal
@@ -6,4 +7,4 @@ use Rattle.entries.proofs.printing.put_directory.Goals as goal
 pub returns-clause-says : goal.returns-clause-says
 returns-clause-says g c =
     let small : c.args.meta.mode < 4096 = omega (arith, c.bits-mode.ensures.value, c.bits-mode.ensures.small) in
-    says_as (says_both c.gather.ensures.says (says_both c.put_number.ensures.says c.put_end.ensures.says)) (sym (directory-text c.args.path.now c.args.meta small))
+    says_as (says_both c.gather.ensures.says (says_both c.put_number.ensures.says c.put_end.ensures.says)) (sym (directory-text (lent_names c.args.names.now) c.args.meta small))

@@ -1,31 +1,32 @@
-use Rattle.std.proofs.Common.{◌≡◌, ◌<◌, ◌≤◌, [], length, sym, ap, ◌∙◌, arith, rules}
+use Rattle.std.proofs.Common.{◌≡◌, ◌<◌, ◌≤◌, length, get_or, sym, ap, refl, ◌∙◌, arith, rules}
 use Rattle.std.proofs.lemmas.List.{drop_all}
 use Rattle.json.specs.Print.{escape}
 use Rattle.paths.specs.Path.{rooted}
 use Rattle.counted.proofs.GatheringFacts.{says_none, says_both, says_as}
+use Rattle.trees.specs.Rows.{lent_names}
 use Rattle.entries.proofs.PrintingFacts.{escape-root, text-rooted, names-from}
 use Rattle.entries.proofs.printing.put_names.Goals as goal
 
-pub returns-then-is_root-clause-says : goal.returns-then-is_root-clause-says
-returns-then-is_root-clause-says g c =
-    let root : c.args.path.now ≡ [] = search rules in
-    says_as c.gather.ensures.says (escape-root c.args.path.now root)
+pub returns-then-is_empty-clause-says : goal.returns-then-is_empty-clause-says
+returns-then-is_empty-clause-says g c =
+    let none : length c.args.names.now ≡ 0 = first_of (omega arith, search rules, grind (arith)) in
+    says_as c.gather.ensures.says (escape-root c.args.names.now none)
 
-pub loop-part-preserved : goal.loop-part-preserved
-loop-part-preserved g c =
-    let path = c.components-part-items.result.now in
-    let lt : c.loop-part.part-index < length path = omega arith in
+pub loop-name-preserved : goal.loop-name-preserved
+loop-name-preserved g c =
+    let names = c.args.names.now in
+    let lt : c.loop-name.name-index < length names = omega arith in
     record {
       said = λ last rest.
-          c.loop-part.invariant.said last (says_as (says_both c.put_name.ensures.says rest)
-          (names-from path c.part-item.result c.as_bytes.result.now c.loop-part.part-index lt c.part-item.is (c.as_bytes.ensures.value ∙ c.as_str.ensures)));
+          c.loop-name.invariant.said last (says_as (says_both c.put_name.ensures.says rest)
+          (names-from names c.name-item.result c.as_bytes.result.now c.loop-name.name-index lt c.name-item.is (c.as_bytes.ensures.value ∙ c.as_str.ensures)));
       room = c.put_name.ensures.room;
     }
 
 pub returns-clause-says : goal.returns-clause-says
 returns-clause-says g c =
-    let path = c.components-part-items.result.now in
-    let past : length path ≤ c.loop-part.part-index = omega arith in
-    let some : c.args.path.now ≡ [] → ⊥ = search rules in
-    says_as (c.loop-part.invariant.said _ (says_as (says_none _) (ap (λ p. escape (rooted p)) (sym (drop_all c.loop-part.part-index path past)))))
-    (ap (λ p. escape (rooted p)) c.components-part-items.ensures.value ∙ text-rooted c.args.path.now some)
+    let names = c.args.names.now in
+    let past : length names ≤ c.loop-name.name-index = omega arith in
+    let some : length names ≡ 0 → ⊥ = first_of (search rules, grind (arith)) in
+    says_as (c.loop-name.invariant.said _ (says_as (says_none _) (ap (λ ns. escape (rooted (lent_names ns))) (sym (drop_all c.loop-name.name-index names past)))))
+    (text-rooted names some)
