@@ -13,7 +13,7 @@ use Rattle.llb.specs.declared.op.Source.{Source}
 use Rattle.stages.specs.declared.stage.ResolvedInstruction.{ResolvedInstruction}
 use Rattle.stages.specs.declared.stage.ResolvedStage.{ResolvedStage}
 use Rattle.stages.specs.Table.{IsBefore, IsResolved}
-use Rattle.stages.specs.Needed.{is_marked, origins_in, stage_origins, Refers, Leads, IsNeeded, AreNeeded}
+use Rattle.stages.specs.Needed.{is_marked, origins_in, stage_origins, Refers, Leads, IsNeeded, IsClosed, AreNeeded}
 use Rattle.stages.specs.PrivateMarks.{MarksMore, AreStages}
 
 one_kept : (marks : List Bool) (id k : ℕ) → is_marked marks k ≡ true → is_marked (slice_set marks id true) k ≡ true
@@ -186,19 +186,28 @@ unmarked_step stages target at next marks from pos is unmarked = record {
   only = from.only;
 }
 
--- with each marked stage all that a path leads to is marked
-path_marked : (stages : List ResolvedStage) (marks : List Bool) (from : ℕ) (path : List ℕ) (to : ℕ)
-    → ((stage next : ℕ) → is_marked marks stage ≡ true → Refers stages stage next → is_marked marks next ≡ true)
-    → is_marked marks from ≡ true → Leads stages from path to → is_marked marks to ≡ true
-path_marked stages marks from [] to closed marked leads = subst (λ n. is_marked marks n ≡ true) leads marked
-path_marked stages marks from (next ∷ path) to closed marked leads =
-    path_marked stages marks next path to closed (closed from next marked leads.0) leads.1
+-- where a set has with each stage all that it names, it has all that a path leads to
+path_within : (stages : List ResolvedStage) (has : ℕ → Bool) (from : ℕ) (path : List ℕ) (to : ℕ)
+    → ((stage next : ℕ) → has stage ≡ true → Refers stages stage next → has next ≡ true) → has from ≡ true → Leads stages from path to → has to ≡ true
+path_within stages has from [] to closed within leads = subst (λ n. has n ≡ true) leads within
+path_within stages has from (next ∷ path) to closed within leads = path_within stages has next path to closed (closed from next within leads.0) leads.1
 
 pub marked_all : (stages : List ResolvedStage) (target at : ℕ) (marks : List Bool) → MarkedFrom stages target at marks → at ≤ 0 → AreNeeded stages target marks
 marked_all stages target at marks from over = record {
   long = from.long;
   just = λ stage. (
     from.only stage,
-    λ needed. path_marked stages marks target needed.0 stage (λ s next. from.closed s next (omega (arith, over))) from.has_target needed.1,
+    λ needed. path_within stages (λ n. is_marked marks n) target needed.0 stage (λ s next. from.closed s next (omega (arith, over))) from.has_target needed.1,
   );
 }
+
+-- the stages that are needed are the least such set
+
+pub needed_target : (stages : List ResolvedStage) (target : ℕ) → IsNeeded stages target target
+needed_target stages target = ([], refl)
+
+pub needed_named : (stages : List ResolvedStage) (target from to : ℕ) → IsNeeded stages target from → Refers stages from to → IsNeeded stages target to
+needed_named stages target from to needed refers = (needed.0 ++ to ∷ [], leads_more stages target needed.0 from to needed.1 refers)
+
+pub needed_least : (stages : List ResolvedStage) (target : ℕ) (has : ℕ → Bool) → IsClosed stages target has → (stage : ℕ) → IsNeeded stages target stage → has stage ≡ true
+needed_least stages target has closed stage needed = path_within stages has target needed.0 stage closed.has_named closed.has_target needed.1

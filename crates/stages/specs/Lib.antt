@@ -5,5 +5,6 @@ pub mod Needed
 pub mod PrivateMarks
 pub mod PrivateResolving
 pub mod PrivateTable
+pub mod Refusals
 pub mod Resolved
 pub mod Table

@@ -59,7 +59,7 @@ image_named known text = if known text && is_well_formed_source (Image text) the
 abbrev pub stage_or_image : Known → Names → List ℕ → Option Origin
 stage_or_image known names text = option_or (option_map StageOf (stage_called names text)) (image_named known text)
 
--- what a text that is no number leads to in a FROM when no stage has it as its name: `scratch` to the empty tree, another to an image
+-- what a text leads to in a FROM when no stage has it as its name: `scratch` to the empty tree, another to the image of that name
 abbrev pub scratch_or_image : Known → List ℕ → Option Origin
 scratch_or_image known text = if pointwise nat_eq text scratch_name then Some (SourceOf Scratch) else image_named known text
 

@@ -26,9 +26,14 @@ Leads stages from [] to = from ≡ to
 Leads stages from (next ∷ path) to = Refers stages from next × Leads stages next path to
 
 -- a stage is needed: it is the target, or is named by a stage that is needed. So the stages that are needed are the least set that has the
--- target and, with each stage, all that it names (Dockerfile reference, multi-stage builds)
+-- target and, with each stage, all that it names, as the law `the_least_stages_are_needed` says (Dockerfile reference, multi-stage builds)
 abbrev pub IsNeeded : List ResolvedStage → ℕ → ℕ → Type 0
 IsNeeded stages target stage = (path : List ℕ) × Leads stages target path stage
+
+-- a set of stages has the target and, with each stage, all that it names
+pub record IsClosed (stages : List ResolvedStage) (target : ℕ) (has : ℕ → Bool) : Type 0 where
+  pub has_target : has target ≡ true
+  pub has_named : (from to : ℕ) → has from ≡ true → Refers stages from to → has to ≡ true
 
 -- a stage is marked
 abbrev pub is_marked : List Bool → ℕ → Bool

@@ -14,8 +14,9 @@ use Rattle.stages.specs.Before.{declared_by, stage_names, outer_scope}
 use Rattle.stages.specs.Due.{due_behind}
 use Rattle.stages.specs.Table.{TableValue, stages_of}
 
--- the number of the target among the stages of these names: one that is named by its number or its name, or the last where none is named;
--- none where there is no such stage (docker build, `--target`; numbers: own)
+-- the number of the target among the stages of these names: of the one that is named by its number or its name, and none where there is no
+-- such stage; where none is named that of the last, and 0 where there is no stage at all, as for a file without a FROM, for which R05 is due
+-- (docker build, `--target`; numbers: own)
 abbrev pub target_of : Names → Option (List ℕ) → Option ℕ
 target_of names None = Some (length names - 1)
 target_of names (Some text) = stage_found names text
@@ -52,7 +53,7 @@ with_target known args is (Some target) =
     unless_refused (refusal_of known args is) (record { outer = outer_scope args is; stages = stages_of known args is; target = target })
 
 -- what the instructions of a file are resolved to, with these images, build arguments and target: the table of its stages; or its refusal,
--- which is the least by line, and on a line by code (own)
+-- which is the least by line, and on a line by code, as the law `the_least_refusal_is_told` says (own)
 unfoldable pub resolved : Known → Values → Option (List ℕ) → List Instruction → Result TableValue Refusal
 resolved known args target is = with_target known args is (target_of (stage_names is) target)
 

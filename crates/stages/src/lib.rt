@@ -3,8 +3,8 @@
 // It is given a file's instructions and judges each by what stands before it. It evaluates no text but those of FROM and of the ARGs before
 // the first FROM, and looks into no image. What an instruction does to its stage is for the crates above.
 //
-// The central definition is `resolved` in specs/Resolved.antt: the table of a file's stages as a function of its instructions, or the
-// refusal that is due for it. `IsNeeded` in specs/Needed.antt says which stages a target needs.
+// The central definition is `resolved` in specs/Resolved.antt: the table of a file's stages as a function of its instructions, or its
+// refusal, the least of all that are due (specs/Refusals.antt, `laws`). `IsNeeded` in specs/Needed.antt says which stages a target needs.
 //
 // ```
 // let table = StageTable::resolve(alloc, file, &images, &args, None)?;     // FROM scratch AS a; FROM scratch; COPY --from=a /x /x
@@ -13,6 +13,7 @@
 // ```
 #![tactic(auto)]
 
+pub mod laws;
 mod marks;
 mod naming;
 mod resolving;

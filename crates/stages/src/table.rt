@@ -49,8 +49,9 @@ impl StageTable {
     /// R13, at line 0, comes before all else: there is no such target. Else the first line is refused for which a code is due, with the least
     /// of its codes: R05 where an instruction other than ARG stands before the first FROM, and at line 1 where there is none other; R11 where
     /// an earlier stage has the stage's name, whatever the case of letters; R12 where a FROM, a `--from` or a mount's `from` leads to no image
-    /// and no earlier stage; R18 where a FROM's text, or one of an ARG before the first FROM, has more than 1,048,576 bytes, and at the 257th
-    /// FROM. What a FROM's text leads to isn't tested where it is too long. The empty text and `scratch` are never names of images.
+    /// and no earlier stage, unless it is a FROM of `scratch`, the empty tree; R18 where a FROM's text, or one of an ARG before the first FROM,
+    /// has more than 1,048,576 bytes, and at the 257th FROM. What a FROM's text leads to isn't tested where it is too long. The empty text and
+    /// `scratch` are never names of images.
     pub fn resolve<C>(
         alloc: Global,
         file: Dockerfile,

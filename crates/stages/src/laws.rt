@@ -1,0 +1,33 @@
+// What is proved of the definitions alone. The functions do nothing: their contracts are laws.
+
+ghost use Rattle.std.specs.Prelude.{◌≡◌, ℕ, List, Bool, true, Option, Ok, Err};
+ghost use Rattle.plain.specs.declared.refusal.Refusal.{Refusal};
+ghost use Rattle.instructions.specs.declared.instruction.Instruction.{Instruction};
+ghost use Rattle.scopes.specs.Evaluate.{Values};
+ghost use Rattle.dockerfile.specs.Dockerfile.{AscendBelow};
+ghost use Rattle.stages.specs.Naming.{Known};
+ghost use Rattle.stages.specs.Needed.{Refers, IsNeeded, IsClosed};
+ghost use Rattle.stages.specs.Refusals.{IsDue, IsLeastDue};
+ghost use Rattle.stages.specs.Resolved.{resolved};
+ghost use Rattle.stages.specs.Table.{TableValue};
+ghost use Rattle.stages.specs.declared.stage.ResolvedStage.{ResolvedStage};
+
+/// Of all that is due for a file whose instructions stand on ascending lines, as those of each `Dockerfile` do, the least is told: by line,
+/// and on a line by code. So it is refused only for what is due, and resolved only where nothing is.
+pub fn the_least_refusal_is_told()
+    ensures refused { (known : Known) (args : Values) (target : Option (List ℕ)) (instructions : List Instruction) (refusal : Refusal) → AscendBelow 0 instructions
+        → resolved known args target instructions ≡ Err refusal → IsLeastDue known args target instructions refusal }
+    ensures resolved { (known : Known) (args : Values) (target : Option (List ℕ)) (instructions : List Instruction) (table : TableValue)
+        → resolved known args target instructions ≡ Ok table → (refusal : Refusal) → IsDue known args target instructions refusal → ⊥ }
+{
+    instructions::laws::the_least_code_is_told();
+}
+
+/// The stages that are needed have the target and, with each stage, all that it names; and each set of stages that has these has all that
+/// are needed.
+pub fn the_least_stages_are_needed()
+    ensures target { (stages : List ResolvedStage) (target : ℕ) → IsNeeded stages target target }
+    ensures named { (stages : List ResolvedStage) (target from to : ℕ) → IsNeeded stages target from → Refers stages from to → IsNeeded stages target to }
+    ensures least { (stages : List ResolvedStage) (target : ℕ) (has : ℕ → Bool) → IsClosed stages target has → (stage : ℕ) → IsNeeded stages target stage
+        → has stage ≡ true }
+{}
