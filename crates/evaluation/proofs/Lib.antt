@@ -1,4 +1,5 @@
 mod ConfigurationFacts
+mod EnvironmentFacts
 mod ExistFacts
 mod FoldFacts
 mod JudgedFacts
@@ -6,6 +7,7 @@ mod NeededFacts
 mod ImageFacts
 mod InstructionFacts
 mod LineFacts
+mod ReachedFacts
 mod ScopeFacts
 mod StepFacts
 mod WalkFacts

@@ -8,6 +8,7 @@ pub mod PrivateMaking
 pub mod PrivateNames
 pub mod PrivateStage
 pub mod PrivateWalk
+pub mod Reached
 pub mod Refusals
 pub mod Stages
 pub mod State

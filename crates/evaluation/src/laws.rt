@@ -1,25 +1,30 @@
 // What is proved of the definitions alone. The functions do nothing: their contracts are laws.
 
-ghost use Rattle.std.specs.Prelude.{◌≡◌, ◌⊎◌, ℕ, List, Bool, false, Ok, Err};
+ghost use Rattle.std.specs.Prelude.{◌≡◌, ◌⊎◌, ◌++◌, ℕ, List, Bool, false, Some, Ok, Err, slice_get};
 ghost use Rattle.std.specs.List.{All};
 ghost use Rattle.plain.specs.declared.fault.Fault.TheVariants.{Because};
 ghost use Rattle.plain.specs.declared.refusal.Code.{Code};
 ghost use Rattle.plain.specs.declared.refusal.Refusal.{Refusal};
+ghost use Rattle.plain.specs.declared.variable.Variable.{Variable};
 ghost use Rattle.trees.specs.TreeMap.{TreeMap};
 ghost use Rattle.plans.specs.Images.{ImagesValue};
 ghost use Rattle.scopes.specs.Evaluate.{Values};
+ghost use Rattle.scopes.specs.Scope.{run_env};
 ghost use Rattle.stages.specs.Needed.{AreNeeded};
 ghost use Rattle.stages.specs.Table.{TableValue, IsTable};
 ghost use Rattle.stages.specs.declared.stage.ResolvedInstruction.{ResolvedInstruction};
 ghost use Rattle.stages.specs.declared.stage.ResolvedStage.{ResolvedStage};
+ghost use Rattle.imageconfig.specs.Environment.{variables_of};
 ghost use Rattle.imageconfig.specs.Stage.{stage_config};
 ghost use Rattle.imageconfig.specs.declared.config.Config.{Config};
 ghost use Rattle.evaluation.specs.Configuration.{in_scope};
 ghost use Rattle.evaluation.specs.Evaluated.{evaluated, Answers};
 ghost use Rattle.evaluation.specs.NeededLines.{JudgedLine, needed_lines, IsLeastRefusal, SameWhereMarked};
+ghost use Rattle.evaluation.specs.Reached.{ComesTo, HaveEnvironments, HasScopesEnvironment};
 ghost use Rattle.evaluation.specs.Stages.{instructions_from};
 ghost use Rattle.evaluation.specs.declared.evaluated.Evaluated.{Evaluated};
 ghost use Rattle.evaluation.specs.declared.stage.Progress.{Progress};
+ghost use Rattle.evaluation.specs.declared.state.State.{State};
 ghost use Rattle.evaluation.specs.declared.walk.Walk.{Walk};
 
 /// Each table has an evaluation or a refusal.
@@ -57,3 +62,18 @@ pub fn a_configuration_is_what_the_lines_make()
         → instructions_from args outer (Ok first) instructions ≡ Ok last
         → stage_config first.state.config (in_scope args outer first.state instructions) ≡ Ok last.state.config }
 {}
+
+/// Wherever evaluation comes, the environment of the configuration is that of the scope: at the beginning of a stage, be it from an image, from
+/// the empty tree or from another stage, and behind each of its instructions. So the `Env` that an image is answered with is what RUNs see of ENV,
+/// in its order and before what they see of ARG.
+pub fn configurations_have_the_environment_of_their_scopes()
+    ensures each { (args : Values) (images : ImagesValue Config) (needed : List Bool) (table : TableValue) (number : ℕ) (before : List ResolvedInstruction) (state : State)
+        → HaveEnvironments images → ComesTo args images needed table number before state → HasScopesEnvironment state }
+    ensures ends { (args : Values) (images : ImagesValue Config) (needed : List Bool) (table : TableValue) (walk : Walk) (number : ℕ) (state : State)
+        → HaveEnvironments images → evaluated args images needed table ≡ Ok walk → slice_get walk.states number ≡ Some (Some state) → HasScopesEnvironment state }
+    ensures seen { (args : Values) (images : ImagesValue Config) (needed : List Bool) (table : TableValue) (number : ℕ) (before : List ResolvedInstruction) (state : State)
+        → HaveEnvironments images → ComesTo args images needed table number before state
+        → (others : List Variable) × (run_env state.scope ≡ variables_of state.config.env ++ others) }
+{
+    imageconfig::laws::scopes_and_configurations_have_the_same_environment();
+}
