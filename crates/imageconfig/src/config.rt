@@ -127,7 +127,9 @@ impl FromJson for Config {
     ghost reading = { config_in };
 
     /// An image's configuration (OCI image specification). `NotRead` where the value isn't one: a key is missing that has to be there, a
-    /// value has a wrong type, a variable has no name or one that is there before, a working directory isn't absolute or breaks a limit.
+    /// value has a wrong type, as a `config` that is `null` has, while a field of it that is `null` counts as absent; `rootfs` has another `type`
+    /// than `layers`, or a key beside `type` and `diff_ids`; a variable has no `=`, no name, or one that is there before; a working directory
+    /// that isn't the empty text isn't absolute, or breaks a limit.
     fn from_json(alloc: Global, value: &Value) -> Result<Config, ReadFault> {
         read_config(alloc, value)
     }
