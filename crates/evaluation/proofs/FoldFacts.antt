@@ -23,7 +23,7 @@ pub record SoFar {X P : Type 0} (step : P → X → Result P Refusal) (first : P
 pub so_far_first : {X P : Type 0} (step : P → X → Result P Refusal) (first : P) (all : List X) → SoFar step first all all first
 so_far_first step first all = record { before = []; split = refl; reached = refl; told = refl }
 
-reached_more : {X P : Type 0} (step : P → X → Result P Refusal) (so_far : Result P Refusal) (before : List X) (x : X) (now : P) → all_from step so_far before ≡ Ok now
+pub reached_more : {X P : Type 0} (step : P → X → Result P Refusal) (so_far : Result P Refusal) (before : List X) (x : X) (now : P) → all_from step so_far before ≡ Ok now
     → all_from step so_far (before ++ x ∷ []) ≡ step now x
 reached_more step so_far [] x now h = ap (λ r. one_more step r x) h
 reached_more step so_far (y ∷ ys) x now h = reached_more step (one_more step so_far y) ys x now h

@@ -1,4 +1,5 @@
 mod ConfigurationFacts
+mod EndFacts
 mod EnvironmentFacts
 mod ExistFacts
 mod FoldFacts

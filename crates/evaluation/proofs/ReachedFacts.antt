@@ -28,10 +28,10 @@ use Rattle.evaluation.specs.declared.walk.Walk.{Walk}
 use Rattle.evaluation.proofs.EnvironmentFacts.{EnvironmentLaws, IsAlike, IsEndAlike, alike_after, start_alike, run_sees}
 use Rattle.evaluation.proofs.FoldFacts.{went, not_due, refused_or_ok}
 
-abbrev well_of : {X : Type 0} → X → Result X Refusal
+abbrev pub well_of : {X : Type 0} → X → Result X Refusal
 well_of x = Ok x
 
-same_ok : {X : Type 0} (x y : X) → well_of x ≡ well_of y → x ≡ y
+pub same_ok : {X : Type 0} (x y : X) → well_of x ≡ well_of y → x ≡ y
 same_ok x y e = cc
 
 -- an instruction and a stage for which nothing is due

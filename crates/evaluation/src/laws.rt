@@ -1,6 +1,6 @@
 // What is proved of the definitions alone. The functions do nothing: their contracts are laws.
 
-ghost use Rattle.std.specs.Prelude.{◌≡◌, ◌⊎◌, ◌++◌, ℕ, List, Bool, false, Some, Ok, Err, slice_get};
+ghost use Rattle.std.specs.Prelude.{◌≡◌, ◌⊎◌, ◌++◌, ℕ, List, Bool, true, false, Some, Ok, Err, slice_get};
 ghost use Rattle.std.specs.List.{All};
 ghost use Rattle.plain.specs.declared.fault.Fault.TheVariants.{Because};
 ghost use Rattle.plain.specs.declared.refusal.Code.{Code};
@@ -10,7 +10,7 @@ ghost use Rattle.trees.specs.TreeMap.{TreeMap};
 ghost use Rattle.plans.specs.Images.{ImagesValue};
 ghost use Rattle.scopes.specs.Evaluate.{Values};
 ghost use Rattle.scopes.specs.Scope.{run_env};
-ghost use Rattle.stages.specs.Needed.{AreNeeded};
+ghost use Rattle.stages.specs.Needed.{is_marked, AreNeeded};
 ghost use Rattle.stages.specs.Table.{TableValue, IsTable};
 ghost use Rattle.stages.specs.declared.stage.ResolvedInstruction.{ResolvedInstruction};
 ghost use Rattle.stages.specs.declared.stage.ResolvedStage.{ResolvedStage};
@@ -77,3 +77,10 @@ pub fn configurations_have_the_environment_of_their_scopes()
 {
     imageconfig::laws::scopes_and_configurations_have_the_same_environment();
 }
+
+/// What a needed stage of an evaluated table leaves is the state that evaluation comes to behind all of the stage's instructions.
+pub fn needed_stages_leave_what_evaluation_comes_to()
+    ensures { (args : Values) (images : ImagesValue Config) (needed : List Bool) (table : TableValue) (walk : Walk) (number : ℕ) (stage : ResolvedStage)
+        → evaluated args images needed table ≡ Ok walk → is_marked needed number ≡ true → slice_get table.stages number ≡ Some stage
+        → (state : State) × (slice_get walk.states number ≡ Some (Some state)) × ComesTo args images needed table number stage.instructions state }
+{}
