@@ -1,3 +1,4 @@
+mod ChainFacts
 mod ConfigurationFacts
 mod EndFacts
 mod EnvironmentFacts

@@ -1,3 +1,4 @@
+pub mod Chain
 pub mod Configuration
 pub mod Evaluated
 pub mod Images

@@ -7,9 +7,10 @@ ghost use Rattle.plain.specs.declared.refusal.Code.{Code};
 ghost use Rattle.plain.specs.declared.refusal.Refusal.{Refusal};
 ghost use Rattle.plain.specs.declared.variable.Variable.{Variable};
 ghost use Rattle.trees.specs.TreeMap.{TreeMap};
+ghost use Rattle.llb.specs.declared.op.Source.{Source};
 ghost use Rattle.plans.specs.Images.{ImagesValue};
 ghost use Rattle.scopes.specs.Evaluate.{Values};
-ghost use Rattle.scopes.specs.Scope.{run_env};
+ghost use Rattle.scopes.specs.Scope.{value_in, run_env, kept};
 ghost use Rattle.stages.specs.Needed.{is_marked, AreNeeded};
 ghost use Rattle.stages.specs.Table.{TableValue, IsTable};
 ghost use Rattle.stages.specs.declared.stage.ResolvedInstruction.{ResolvedInstruction};
@@ -17,6 +18,7 @@ ghost use Rattle.stages.specs.declared.stage.ResolvedStage.{ResolvedStage};
 ghost use Rattle.imageconfig.specs.Environment.{variables_of};
 ghost use Rattle.imageconfig.specs.Stage.{stage_config};
 ghost use Rattle.imageconfig.specs.declared.config.Config.{Config};
+ghost use Rattle.evaluation.specs.Chain.{IsChain, chain_history};
 ghost use Rattle.evaluation.specs.Configuration.{in_scope};
 ghost use Rattle.evaluation.specs.Evaluated.{evaluated, Answers};
 ghost use Rattle.evaluation.specs.NeededLines.{JudgedLine, needed_lines, IsLeastRefusal, SameWhereMarked};
@@ -77,6 +79,26 @@ pub fn configurations_have_the_environment_of_their_scopes()
 {
     imageconfig::laws::scopes_and_configurations_have_the_same_environment();
 }
+
+/// The scope before a line of a needed stage, and at its end, means the history of the stage's chain of bases: an image's environment first, then
+/// the lines of each stage of the chain, base first, then the stage's own lines so far. So a name has the value that the last ENV along the
+/// chain gives it, else the last ARG along it. Each stage of a table has such a chain.
+pub fn scopes_mean_the_history_of_their_chain()
+    ensures chain { (table : TableValue) → IsTable table → (number : ℕ) (stage : ResolvedStage) → slice_get table.stages number ≡ Some stage
+        → (below : List ResolvedStage) × (source : Source) × IsChain table.stages stage below source }
+    ensures scope { (args : Values) (images : ImagesValue Config) (needed : List Bool) (table : TableValue) → IsTable table → AreNeeded table.stages table.target needed
+        → (below : List ResolvedStage) (source : Source) (number : ℕ) (stage : ResolvedStage) (before : List ResolvedInstruction) (state : State)
+        → slice_get table.stages number ≡ Some stage → IsChain table.stages stage below source → ComesTo args images needed table number before state
+        → state.scope ≡ kept (chain_history args (value_in table.outer) images source below before) }
+    ensures values { (args : Values) (images : ImagesValue Config) (needed : List Bool) (table : TableValue) → IsTable table → AreNeeded table.stages table.target needed
+        → (below : List ResolvedStage) (source : Source) (number : ℕ) (stage : ResolvedStage) (before : List ResolvedInstruction) (state : State)
+        → slice_get table.stages number ≡ Some stage → IsChain table.stages stage below source → ComesTo args images needed table number before state
+        → (name : List ℕ) → value_in state.scope name ≡ value_in (chain_history args (value_in table.outer) images source below before) name }
+    ensures environment { (args : Values) (images : ImagesValue Config) (needed : List Bool) (table : TableValue) → IsTable table → AreNeeded table.stages table.target needed
+        → (below : List ResolvedStage) (source : Source) (number : ℕ) (stage : ResolvedStage) (before : List ResolvedInstruction) (state : State)
+        → slice_get table.stages number ≡ Some stage → IsChain table.stages stage below source → ComesTo args images needed table number before state
+        → run_env state.scope ≡ run_env (chain_history args (value_in table.outer) images source below before) }
+{}
 
 /// What a needed stage of an evaluated table leaves is the state that evaluation comes to behind all of the stage's instructions.
 pub fn needed_stages_leave_what_evaluation_comes_to()

@@ -1,6 +1,6 @@
 mod ArgLemmas
 mod EvaluateLemmas
-mod HistoryLemmas
+pub mod HistoryLemmas
 mod LineLemmas
 mod MapLemmas
 mod NameLemmas
