@@ -1,3 +1,4 @@
+mod BaseFacts
 mod ChainFacts
 mod ConfigurationFacts
 mod EndFacts

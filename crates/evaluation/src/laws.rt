@@ -1,6 +1,6 @@
 // What is proved of the definitions alone. The functions do nothing: their contracts are laws.
 
-ghost use Rattle.std.specs.Prelude.{◌≡◌, ◌⊎◌, ◌++◌, ℕ, List, Bool, true, false, Some, Ok, Err, slice_get};
+ghost use Rattle.std.specs.Prelude.{◌≡◌, ◌⊎◌, ◌++◌, ℕ, List, [], Bool, true, false, Some, Ok, Err, slice_get};
 ghost use Rattle.std.specs.List.{All};
 ghost use Rattle.plain.specs.declared.fault.Fault.TheVariants.{Because};
 ghost use Rattle.plain.specs.declared.refusal.Code.{Code};
@@ -19,11 +19,12 @@ ghost use Rattle.imageconfig.specs.Environment.{variables_of};
 ghost use Rattle.imageconfig.specs.Stage.{stage_config};
 ghost use Rattle.imageconfig.specs.declared.config.Config.{Config};
 ghost use Rattle.evaluation.specs.Chain.{IsChain, chain_history};
-ghost use Rattle.evaluation.specs.Configuration.{in_scope};
-ghost use Rattle.evaluation.specs.Evaluated.{evaluated, Answers};
+ghost use Rattle.evaluation.specs.Configuration.{in_scope, base_config};
+ghost use Rattle.evaluation.specs.Evaluated.{evaluated, config_at, Answers};
 ghost use Rattle.evaluation.specs.NeededLines.{JudgedLine, needed_lines, IsLeastRefusal, SameWhereMarked};
 ghost use Rattle.evaluation.specs.Reached.{ComesTo, HaveEnvironments, HasScopesEnvironment};
 ghost use Rattle.evaluation.specs.Stages.{instructions_from};
+ghost use Rattle.evaluation.specs.State.{start};
 ghost use Rattle.evaluation.specs.declared.evaluated.Evaluated.{Evaluated};
 ghost use Rattle.evaluation.specs.declared.stage.Progress.{Progress};
 ghost use Rattle.evaluation.specs.declared.state.State.{State};
@@ -105,4 +106,17 @@ pub fn needed_stages_leave_what_evaluation_comes_to()
     ensures { (args : Values) (images : ImagesValue Config) (needed : List Bool) (table : TableValue) (walk : Walk) (number : ℕ) (stage : ResolvedStage)
         → evaluated args images needed table ≡ Ok walk → is_marked needed number ≡ true → slice_get table.stages number ≡ Some stage
         → (state : State) × (slice_get walk.states number ≡ Some (Some state)) × ComesTo args images needed table number stage.instructions state }
+{}
+
+/// The configuration at the end of a needed stage is what the stage's lines make of its base's, one line after another, each under the values of
+/// names before it. The base's is that of an image, the plain one where the stage begins with the empty tree, or that at the end of an earlier
+/// stage. What the stage begins with so is a state that evaluation comes to.
+pub fn a_configuration_is_what_the_lines_make_of_the_bases()
+    ensures begins { (args : Values) (images : ImagesValue Config) (needed : List Bool) (table : TableValue) (walk : Walk) (number : ℕ) (stage : ResolvedStage)
+        → IsTable table → evaluated args images needed table ≡ Ok walk → is_marked needed number ≡ true → slice_get table.stages number ≡ Some stage
+        → ComesTo args images needed table number [] (start images walk.states stage.base) }
+    ensures made { (args : Values) (images : ImagesValue Config) (needed : List Bool) (table : TableValue) (walk : Walk) (number : ℕ) (stage : ResolvedStage)
+        → IsTable table → evaluated args images needed table ≡ Ok walk → is_marked needed number ≡ true → slice_get table.stages number ≡ Some stage
+        → stage_config (base_config images walk.states stage.base) (in_scope args (value_in table.outer) (start images walk.states stage.base) stage.instructions)
+        ≡ Ok (config_at walk.states number) }
 {}
