@@ -226,6 +226,10 @@ pub content-at : (contents : List Content) (id : List ℕ) (slot : Option ℕ) (
 content-at contents id slot at here tree first e =
     e ∙ (ap (λ (c : Content). c.tree) (get_or_from_slice_get contents at first.content here first.there) ∙ sym (content-first contents id slot at first))
 
+pub content-seen : (seen contents : List Content) (id : List ℕ) (slot : Option ℕ) (at : ℕ) (here : Content) (tree : TreeMap) → seen ≡ contents → IsFirst contents id slot at → tree ≡ (slice_index_or seen at here).tree → tree ≡ tree_in contents id slot
+content-seen seen contents id slot at here tree same first e =
+    content-at contents id slot at here tree first (subst (λ (cs : List Content). tree ≡ (slice_index_or cs at here).tree) same e)
+
 pub missing-some : (contents more : List Content) (holds : List Hold) (hold : Hold) (slot : Option ℕ) (at : ℕ) → slot ≡ slot_of hold.access → IsFirst contents hold.id slot at → have_contents (contents ++ more) holds ≡ true → have_contents (contents ++ more) (holds ++ hold ∷ []) ≡ true
 missing-some contents more holds hold slot at e first have =
     missing-else contents more holds hold have (subst (λ p. list_any (is_content hold.id p) contents ≡ true) e (has_cell-first contents hold.id slot at first))

@@ -1,4 +1,5 @@
 pub mod HoldLemmas
 pub mod ContentLemmas
+pub mod IndexLemmas
 pub mod StoreLemmas
 mod BeginFacts

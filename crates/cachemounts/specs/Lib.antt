@@ -4,3 +4,4 @@ pub mod Changes
 pub mod StoreValue
 pub mod Store
 pub mod PrivateContent
+pub mod PrivateIndex

@@ -17,7 +17,9 @@
 #![tactic(auto)]
 
 mod content;
+mod contents;
 mod holds;
+mod index;
 pub mod laws;
 mod store;
 

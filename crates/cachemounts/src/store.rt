@@ -5,6 +5,7 @@ ghost use Rattle.cachemounts.specs.Content.{common_content, tree_in, tree_held};
 ghost use Rattle.cachemounts.specs.Changes.{Takes, Gives, Leaves};
 ghost use Rattle.cachemounts.specs.Store.{IsAfter, IsStore};
 
+use crate::contents::Contents;
 use crate::{Content, Hold, content, holds};
 use plain::{Items, Memory, Text};
 use runs::CacheUse;
@@ -16,7 +17,7 @@ use trees::Tree;
 /// content of its cache, and nobody has another one's slot.
 #[derive(Drop)]
 pub struct CacheStore {
-    contents: Vec<Content>,
+    contents: Contents,
     holds: Vec<Hold>,
 }
 
@@ -28,9 +29,9 @@ impl Model for CacheStore {
 
     ghost coded = { store_code };
 
-    ghost view = { λ s. record { contents = s.contents.items; holds = s.holds.items } };
+    ghost view = { λ s. record { contents = s.contents; holds = s.holds.items } };
 
-    ghost invariant = { λ s. IsStore (record { contents = s.contents.items; holds = s.holds.items }) };
+    ghost invariant = { λ s. IsStore (record { contents = s.contents; holds = s.holds.items }) };
 }
 
 /// The lease of caches that a holder took, with copies of the trees that were in their contents then. It ends by `CacheStore::give` or
@@ -81,7 +82,7 @@ impl CacheStore {
         ensures { result ≡ record { contents = []; holds = [] } }
     {
         CacheStore {
-            contents: Vec::new(alloc),
+            contents: Contents::new(alloc),
             holds: Vec::new(alloc),
         }
     }
@@ -92,6 +93,7 @@ impl CacheStore {
         ensures { IfOk result (λ store. store ≡ record { contents = map common_content trees.items; holds = [] }) }
     {
         let contents = content::common_contents(alloc, trees)?;
+        let contents = Contents::of(alloc, contents)?;
         Ok(CacheStore {
             contents,
             holds: Vec::new(alloc),
@@ -139,11 +141,10 @@ impl CacheStore {
         ensures err { OnErr result (self.new ≡ self.old) }
     {
         let taken = holds::new_holds(alloc, holder, self.holds.as_slice(), uses)?;
-        let trees = content::copies_of(alloc, self.contents.as_slice(), taken.as_slice())?;
-        let more = content::new_contents(alloc, self.contents.as_slice(), taken.as_slice())?;
-        self.contents.reserve(more.len())?;
+        let trees = content::copies_of(alloc, &self.contents, taken.as_slice())?;
+        let more = content::new_contents(alloc, &self.contents, taken.as_slice())?;
         self.holds.reserve(taken.len())?;
-        append(&mut self.contents, more);
+        self.contents.add(alloc, more)?;
         append(&mut self.holds, taken);
         Ok(Lease {
             holder,

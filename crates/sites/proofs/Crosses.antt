@@ -21,6 +21,8 @@ use Rattle.plans.specs.contracts.sources.Sources as Sources
 use Rattle.executor.specs.declared.executor.Executor.{Ghosts}
 use Rattle.cachemounts.proofs.holds.Hold.TheSendSync as hold
 use Rattle.cachemounts.specs.contracts.content.Content as Content
+use Rattle.cachemounts.specs.contracts.contents.Contents as Contents
+use Rattle.cachemounts.specs.contracts.contents.Contents.TheInside as ContentsInside
 use Rattle.cachemounts.specs.contracts.store.CacheStore as CacheStore
 use Rattle.cachemounts.specs.contracts.store.CacheStore.TheInside as CacheStoreInside
 use Rattle.board.proofs.claim.ClaimOut.TheSendSync as claim
@@ -55,10 +57,16 @@ happened_send = search (tree_send, sendable, any.crosses, id.the_send, items.the
 pub content_send : IsSend Content.the_field.row
 content_send = search (tree_send, text.the_send, sendable, any.crosses) depth 20
 
+pub contents_send : IsSend Contents.the_row
+contents_send =
+    let all : AllSend (fields ContentsInside.the_type) =
+    (search (content_send, sendable, any.crosses) depth 20, (search (text.the_send, items.the_send, sendable, any.crosses, maps.crosses) depth 20, tt)) in
+    search (all, sendable) depth 20
+
 pub caches_send : IsSend CacheStore.the_row
 caches_send =
     let all : AllSend (fields CacheStoreInside.the_type) =
-    (search (content_send, sendable, any.crosses) depth 20, (search (hold.the_field_send, sendable, any.crosses) depth 20, tt)) in
+    (search (contents_send, sendable) depth 20, (search (hold.the_field_send, sendable, any.crosses) depth 20, tt)) in
     search (all, sendable) depth 20
 
 pub job_send : (κ : NamedLft) (E : RattleType) (g : Ghosts E.Denot) → IsSync E → IsSend (Job.the_row κ E g)

@@ -10,12 +10,12 @@ pub invariant_of-self-2 : goal.invariant_of-self-2
 invariant_of-self-2 c =
     let s = c.self.inside in
     let holds : c.in_ok-taken.taken.items ≡ new_holds c.args.holder s.holds.items c.args.uses.now = search rules in
-    let have : have_contents (s.contents.items ++ c.in_ok-more.more.items) c.in_ok-taken.taken.items ≡ true = search rules in
+    let have : have_contents (s.contents ++ c.in_ok-more.more.items) c.in_ok-taken.taken.items ≡ true = search rules in
     let may : can_take s.holds.items c.args.uses.now ≡ true = subst (λ v. can_take v.holds c.args.uses.now ≡ true) (sym c.self.view_is) c.requires.may in
-    IsStore-takes s.contents.items c.in_ok-more.more.items c.append.new.list.items s.holds.items c.in_ok-taken.taken.items c.append-2.new.list.items c.args.holder c.args.uses.now c.self.invariant holds (search rules) (search rules) have may c.requires.differ
+    IsStore-takes s.contents c.in_ok-more.more.items c.add.new.self s.holds.items c.in_ok-taken.taken.items c.append.new.list.items c.args.holder c.args.uses.now c.self.invariant holds c.in_ok-add.ensures.ok (search rules) have may c.requires.differ
 
 pub returns-clause-ok : goal.returns-clause-ok
 returns-clause-ok c =
     let s = c.self.inside in
     let holds : c.in_ok-taken.taken.items ≡ new_holds c.args.holder s.holds.items c.args.uses.now = search rules in
-    subst (λ v. IsAfter (Takes c.args.holder c.args.uses.now) v (store_of c.append.new.list.items c.append-2.new.list.items)) c.self.view_is (IsAfter-takes s.contents.items c.in_ok-more.more.items c.append.new.list.items s.holds.items c.in_ok-taken.taken.items c.append-2.new.list.items c.args.holder c.args.uses.now holds (search rules) (search rules) c.in_ok-more.ensures.empty)
+    subst (λ v. IsAfter (Takes c.args.holder c.args.uses.now) v (store_of c.add.new.self c.append.new.list.items)) c.self.view_is (IsAfter-takes s.contents c.in_ok-more.more.items c.add.new.self s.holds.items c.in_ok-taken.taken.items c.append.new.list.items c.args.holder c.args.uses.now holds c.in_ok-add.ensures.ok (search rules) c.in_ok-more.ensures.empty)
