@@ -22,7 +22,7 @@ mod owning;
 mod reading;
 mod whole;
 
-pub use lists::{list_at, read_list, read_rows};
+pub use lists::read_rows;
 pub use looking::{at, is_strict, list_of, text_of};
 pub use owning::owned;
 pub use reading::{FromLent, one_at, optional_at};

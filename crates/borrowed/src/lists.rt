@@ -1,58 +1,17 @@
 ghost use Rattle.std.specs.Prelude.{◌≡◌, IfOk};
-ghost use Rattle.std.specs.Option.{option_and_then};
 ghost use Rattle.json.specs.Value.{members_view};
 ghost use Rattle.serde_json.specs.Data.{no_members};
-ghost use Rattle.serde_json.specs.Find.{get};
 ghost use Rattle.strict.specs.Gives.{Gives};
-ghost use Rattle.strict.specs.Strict.{all_in, list_in, members_in, rows_in};
+ghost use Rattle.strict.specs.Strict.{members_in, rows_in};
 ghost use Rattle.borrowed.specs.Seen.{data_of, seen_members};
-ghost use Rattle.borrowed.specs.Lent.{items_data};
 ghost use Rattle.borrowed.specs.PrivateRows.{rows_data};
 
-use crate::looking::{at, list_of};
 use crate::reading::FromLent;
 use json::Value;
 use plain::{Fault, Items, Memory, Text};
 use std::alloc::Global;
 use std::collections::BTreeMap;
 use strict::{NotRead, ReadFault};
-
-/// A list of values of one kind. `NotRead` where it is no list, or one of its values isn't of this kind.
-#[tactic(auto, unfolding(strict::specs::Strict::list_in))]
-pub fn read_list<T: FromLent>(alloc: Global, value: &Value<'_>) -> Result<Items<T>, ReadFault>
-    ensures { Gives result (list_in T.reading (data_of value.now)) }
-{
-    let Some(values) = list_of(value) else {
-        return Err(Fault::Because(NotRead));
-    };
-    read_items(alloc, values)
-}
-
-/// What each of some values is.
-fn read_items<T: FromLent>(alloc: Global, values: &[Value<'_>]) -> Result<Items<T>, ReadFault>
-    ensures { Gives result (all_in T.reading (items_data values.now)) }
-{
-    let mut items = Items::from_vec(Vec::with_capacity(alloc, values.len())?);
-    for value in values {
-        items.push(T::from_lent(alloc, value)?)?;
-    }
-    Ok(items)
-}
-
-/// A list of values of one kind, which stands at a key. `NotRead` where nothing does, and where `read_list` answers it.
-#[tactic(auto, unfolding(strict::specs::Strict::list_in))]
-pub fn list_at<T: FromLent>(
-    alloc: Global,
-    value: &Value<'_>,
-    key: &str,
-) -> Result<Items<T>, ReadFault>
-    ensures { Gives result (option_and_then (list_in T.reading) (get key.now (data_of value.now))) }
-{
-    match at(value, key) {
-        Some(value) => read_list(alloc, value),
-        None => Err(Fault::Because(NotRead)),
-    }
-}
 
 /// The keys of an object with their values, which are of one kind, in the order of the keys' bytes; of a key that stands twice the last
 /// value counts. `NotRead` where it is no object, or one of the values that count isn't of this kind.

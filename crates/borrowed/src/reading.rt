@@ -51,19 +51,6 @@ impl FromLent for bool {
     }
 }
 
-impl FromLent for u64 {
-    ghost use Rattle.strict.specs.Strict.{number_in};
-
-    ghost reading = { number_in };
-
-    fn from_lent(_alloc: Global, value: &Value<'_>) -> Result<u64, ReadFault> {
-        match whole_number_of(value) {
-            Some(number) => Ok(number),
-            None => Err(Fault::Because(NotRead)),
-        }
-    }
-}
-
 impl FromLent for u32 {
     ghost use Rattle.strict.specs.Strict.{short_number_in};
 

@@ -19,6 +19,6 @@ mod writing;
 
 pub use fault::{NotRead, ReadFault};
 pub use reading::{
-    FromJson, is_among, is_strict, list_at, one_at, optional_at, read_list, read_path, read_rows,
+    FromJson, is_among, is_strict, list_at, one_at, read_list, read_path, read_rows,
 };
 pub use writing::{ToJson, list_to_json, put};

@@ -5,7 +5,7 @@ ghost use Rattle.serde_json.specs.View.{view, members_view, items_view};
 ghost use Rattle.serde_json.specs.Find.{get};
 ghost use Rattle.paths.specs.Path.{rooted, text_of};
 ghost use Rattle.strict.specs.Gives.{Gives};
-ghost use Rattle.strict.specs.Strict.{has_only, strict, at_most_one, all_in, list_in, members_in, rows_in, path_in, path_of, number_in, short_number_in};
+ghost use Rattle.strict.specs.Strict.{has_only, strict, all_in, list_in, members_in, rows_in, path_in, path_of, short_number_in};
 
 use crate::{NotRead, ReadFault};
 use paths::Path;
@@ -46,19 +46,6 @@ impl FromJson for bool {
     fn from_json(_alloc: Global, value: &Value) -> Result<bool, ReadFault> {
         match value.as_bool() {
             Some(flag) => Ok(flag),
-            None => Err(Fault::Because(NotRead)),
-        }
-    }
-}
-
-impl FromJson for u64 {
-    ghost use Rattle.strict.specs.Strict.{number_in};
-
-    ghost reading = { number_in };
-
-    fn from_json(_alloc: Global, value: &Value) -> Result<u64, ReadFault> {
-        match value.as_u64() {
-            Some(number) => Ok(number),
             None => Err(Fault::Because(NotRead)),
         }
     }
@@ -190,20 +177,6 @@ pub fn one_at<T: FromJson>(alloc: Global, value: &Value, key: &str) -> Result<T,
     match value.get(key) {
         Some(value) => T::from_json(alloc, value),
         None => Err(Fault::Because(NotRead)),
-    }
-}
-
-/// What stands at a key that may be missing. `NotRead` where something stands there that is nothing of this kind, as `null` may be.
-pub fn optional_at<T: FromJson>(
-    alloc: Global,
-    value: &Value,
-    key: &str,
-) -> Result<Option<T>, ReadFault>
-    ensures { Gives result (at_most_one T.reading (get key.now (view value.now))) }
-{
-    match value.get(key) {
-        Some(value) => Ok(Some(T::from_json(alloc, value)?)),
-        None => Ok(None),
     }
 }
 
