@@ -1,6 +1,6 @@
 -- From the steps of a COPY of one folder to what its call promises.
-use Rattle.std.specs.Prelude.{◌≡◌, ℕ, ◌+◌, ◌≤◌, Bool, true, false, ◌||◌, cond, T, Option, Some, None, Result, Ok, Err, List, [], ◌∷◌, ◌++◌, length, is_some, drop}
-use Rattle.std.proofs.Common.{sym, ap, refl, ◌∙◌, subst, true≢false, arith, length-append}
+use Rattle.std.specs.Prelude.{◌≡◌, ℕ, ◌≤◌, Bool, true, false, ◌||◌, cond, T, Option, Some, None, Result, Ok, Err, List, [], ◌∷◌, ◌++◌, length, is_some, drop}
+use Rattle.std.proofs.Common.{sym, ap, refl, ◌∙◌, subst, true≢false}
 use Rattle.std.specs.List.{AllByRecursion}
 use Rattle.std.specs.Option.{option_or}
 use Rattle.std.specs.Ordering.{eq_by_cmp, is_lt, is_eq}
@@ -154,14 +154,11 @@ free-none tree dest is none c cs = none-from _ (λ some. true≢false (sym (is.p
 pub free-bare : (tree : TreeMap) (dest : Path) (node : NodeValue) → IsBelow tree dest (map_of node) → node.below ≡ empty → (c : List ℕ) (cs : Path) → get tree (dest ++ c ∷ cs) ≡ None
 free-bare tree dest node lies bare c cs = sym (lies.at (c ∷ cs)) ∙ get-map_of_cons node c cs ∙ ap (λ m. get m (c ∷ cs)) bare ∙ get-empty path_cmp (c ∷ cs)
 
--- no path of a folder gets too deep below a path that is no deeper than its own
-pub few-below : (from folder : TreeMap) (path dest : Path) → IsTree from → IsBelow from path folder → length dest ≤ length path → (r : Path) → is_some (get folder r) ≡ true → length (dest ++ r) ≤ 64
-few-below from folder path dest is lies less r some =
+-- no path of a folder is too deep where the folder stands
+pub few-here : (from folder : TreeMap) (path : Path) → IsTree from → IsBelow from path folder → (r : Path) → is_some (get folder r) ≡ true → length (path ++ r) ≤ 64
+few-here from folder path is lies r some =
     let clean = is.clean (path ++ r) (ap is_some (sym (lies.at r)) ∙ some) in
-    let long : length (path ++ r) ≡ length path + length r = length-append path r in
-    let short : length (dest ++ r) ≡ length dest + length r = length-append dest r in
-    let few : length (path ++ r) ≤ 64 = clean.few in
-    omega arith
+    clean.few
 
 -- ---- the COPY of one folder
 

@@ -14,13 +14,15 @@ ghost use Rattle.trees.specs.PrivateNode.{map_of};
 use crate::apply::{apply_all, make};
 use crate::changes::{changes_of, goes_into};
 use crate::node::Node;
-use crate::{CopyOptions, CopySource, Meta, Tree, TreeFault};
+use crate::{CopyOptions, CopySource, Meta, Tree, TreeFault, Walk};
 use paths::Path;
+use plain::limits::MOST_COMPONENTS;
 use std::alloc::Global;
 
 /// The folder that a COPY shares whole: its one match is a directory, it keeps modes and owners, nothing lies below its destination,
-/// and the destination is no deeper than the match, so that no path gets too deep.
+/// and none of its paths gets too deep there. That is asked last, since the folder may have to be gone through for it.
 pub(crate) fn whole_folder<'a>(
+    alloc: Global,
     root: &Node,
     options: &CopyOptions,
     from: &'a Tree,
@@ -33,8 +35,11 @@ pub(crate) fn whole_folder<'a>(
     let path = only_match(sources)?;
     let folder = from.node_at(path)?;
     let keeps = is_keeping(options);
-    let fits = dest.depth() <= path.depth();
-    if keeps && fits && folder.is_directory() && is_free_below(root, dest) {
+    if keeps
+        && folder.is_directory()
+        && is_free_below(root, dest)
+        && fits(alloc, folder, path, dest)
+    {
         Some(folder)
     } else {
         None
@@ -76,6 +81,34 @@ fn is_free_below(root: &Node, path: &Path) -> bool
     }
 }
 
+/// Whether no path of a folder gets too deep below a destination. None does where that is no deeper than the path that the folder
+/// stands at; else the folder is gone through.
+fn fits(alloc: Global, folder: &Node, path: &Path, dest: &Path) -> bool
+    requires tree { IsTree (map_of folder.now) }
+    requires clean { IsClean dest.now }
+    requires few { (rest : List (List ℕ)) → is_some (get (map_of folder.now) rest) ≡ true → length (path.now ++ rest) ≤ 64 }
+    ensures { IsTrue result → (rest : List (List ℕ)) → is_some (get (map_of folder.now) rest) ≡ true → length (dest.now ++ rest) ≤ 64 }
+{
+    dest.depth() <= path.depth() || is_within(alloc, folder, MOST_COMPONENTS - dest.depth())
+}
+
+/// Whether no path of a folder has more names than these. Where there is no memory for the walk through it the answer is no, and
+/// the COPY goes entry by entry, which tells the want of memory itself.
+fn is_within(alloc: Global, folder: &Node, most: usize) -> bool
+    requires { IsTree (map_of folder.now) }
+    ensures { IsTrue result → (path : List (List ℕ)) → is_some (get (map_of folder.now) path) ≡ true → length path ≤ most }
+{
+    let Ok(mut walk) = Walk::of(alloc, folder) else {
+        return false;
+    };
+    while walk.next().is_some() {
+        if walk.names().len() > most {
+            return false;
+        }
+    }
+    true
+}
+
 /// Places what a COPY places. After a fault the root is left half done.
 pub(crate) fn place_sources(
     alloc: Global,
@@ -89,7 +122,7 @@ pub(crate) fn place_sources(
     ensures { AppliesChanges (parent_meta options.now) (changes_of options.now (goes_into (map_of root.old) dest.now options.now) from.now dest.now sources.now) (map_of root.old) (map_of root.new) result }
 {
     let parent = options.parent_meta();
-    match whole_folder(root, options, from, dest, sources) {
+    match whole_folder(alloc, root, options, from, dest, sources) {
         Some(folder) => place_folder(alloc, root, options, &parent, dest, folder),
         None => {
             let into = goes_into(root, dest, options);

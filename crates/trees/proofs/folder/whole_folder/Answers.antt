@@ -1,29 +1,43 @@
-use Rattle.std.proofs.Common.{◌∙◌, sym, ap, ◌≡◌, ◌≤◌, arith, length, true, Some}
-use Rattle.trees.specs.PrivateNode.{map_of}
-use Rattle.trees.specs.TreeMap.{is_directory}
+use Rattle.std.proofs.Common.{◌∙◌, sym, ap, ◌≡◌, ℕ, true, Some, List}
+use Rattle.trees.specs.PrivateNode.{NodeValue, map_of, IsBelow}
+use Rattle.trees.specs.TreeMap.{TreeMap, IsTree, is_directory}
 use Rattle.trees.proofs.NodeLaws.{get-map_of_root}
 use Rattle.trees.proofs.SubtreeLaws.{below-IsTree}
 use Rattle.trees.proofs.TreeSteps.{own-entry}
-use Rattle.trees.proofs.FolderDone.{few-below}
+use Rattle.trees.proofs.FolderDone.{few-here}
 use Rattle.trees.proofs.folder.whole_folder.Goals as goal
 
-pub returns-then-is_free_below : goal.returns-then-is_free_below
-returns-then-is_free_below c =
+folder-IsTree : (from : TreeMap) (path : List (List ℕ)) (folder : NodeValue) → IsTree from → IsBelow from path (map_of folder) → is_directory (Some folder.top) ≡ true → IsTree (map_of folder)
+folder-IsTree from path folder tree lies directory = below-IsTree from path (map_of folder) tree (ap is_directory (own-entry from path folder lies) ∙ directory) lies
+
+pub fits-requires : goal.fits-requires
+fits-requires c =
+    let from = c.args.from.now in
+    let path = c.in_ok-path.path.now in
     let folder = c.in_ok-folder.folder.now in
-    let directory : is_directory (Some folder.top) ≡ true = sym c.is_directory.ensures ∙ c.if-is_directory.true in
-    let here : c.depth.result ≡ length c.args.dest.now = c.depth.ensures in
-    let there : c.depth-2.result ≡ length c.in_ok-path.path.now = c.depth-2.ensures in
-    let less : c.depth.result ≤ c.depth-2.result = c.if-fits.true in
-    let shallow : length c.args.dest.now ≤ length c.in_ok-path.path.now = omega arith in
+    let stands = c.in_ok-folder.ensures in
     record {
-      match = c.in_ok-path.path.now;
+      tree = folder-IsTree from path folder stands.tree stands.at (sym c.is_directory.ensures ∙ c.if-is_directory.true);
+      clean = c.is_free_below.ensures.clean;
+      few = few-here from (map_of folder) path stands.tree stands.at;
+    }
+
+pub returns-then-fits : goal.returns-then-fits
+returns-then-fits c =
+    let from = c.args.from.now in
+    let path = c.in_ok-path.path.now in
+    let folder = c.in_ok-folder.folder.now in
+    let stands = c.in_ok-folder.ensures in
+    let directory : is_directory (Some folder.top) ≡ true = sym c.is_directory.ensures ∙ c.if-is_directory.true in
+    record {
+      match = path;
       only = c.in_ok-path.ensures;
-      from_is = c.in_ok-folder.ensures.tree;
-      lies = c.in_ok-folder.ensures.at;
+      from_is = stands.tree;
+      lies = stands.at;
       directory = ap is_directory (get-map_of_root folder) ∙ directory;
-      tree_is = below-IsTree c.args.from.now c.in_ok-path.path.now (map_of folder) c.in_ok-folder.ensures.tree (ap is_directory (own-entry c.args.from.now c.in_ok-path.path.now folder c.in_ok-folder.ensures.at) ∙ directory) c.in_ok-folder.ensures.at;
+      tree_is = folder-IsTree from path folder stands.tree stands.at directory;
       plain = c.is_keeping-keeps.ensures c.if-keeps.true;
       clean = c.is_free_below.ensures.clean;
       free = c.is_free_below.ensures.free c.if-is_free_below.true;
-      few = few-below c.args.from.now (map_of folder) c.in_ok-path.path.now c.args.dest.now c.in_ok-folder.ensures.tree c.in_ok-folder.ensures.at shallow;
+      few = c.fits.ensures c.if-fits.true;
     }
