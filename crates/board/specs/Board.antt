@@ -17,7 +17,7 @@ use Rattle.board.specs.contracts.event.Happened as happened_row
 use Rattle.board.specs.declared.claim.ClaimOut.{ClaimOut}
 use Rattle.board.specs.declared.event.Happened.{Happened}
 use Rattle.board.specs.Job.{JobValue, job_code, job_problem}
-use Rattle.board.specs.Legal.{change_of}
+use Rattle.board.specs.Legal.{change_of, IsLegal}
 use Rattle.board.specs.Play.{Run, Step, go, IsReplay}
 use Rattle.board.specs.Problem.{IsProblem}
 
@@ -56,6 +56,10 @@ board_problem out board = job_problem out board.job
 abbrev pub AreContents : Problem → List Happened → List Content → List Content → Type 0
 AreContents problem history first contents =
     (id : List ℕ) (slot : Option ℕ) → tree_in contents id slot ≡ content_after (tree_in first) (map (change_of problem) history) id slot
+
+-- these contents are those that some legal history of a problem leaves of the contents at the start: so a content that no vertex used is as it was (own)
+abbrev pub AreLeft : Problem → List Content → List Content → Type 0
+AreLeft problem first contents = (history : List Happened) × IsLegal problem history × AreContents problem history first contents
 
 -- a board is another one after a step: its job and the contents at the start are as they were. The contents now follow from the history, by `IsBoard`.
 -- (own)

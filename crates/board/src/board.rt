@@ -3,7 +3,7 @@ ghost use Rattle.std.specs.Option.{option_map};
 ghost use Rattle.cachemounts.specs.Holds.{new_holds};
 ghost use Rattle.cachemounts.specs.Content.{tree_held};
 ghost use Rattle.plans.specs.Plan.{uses_at};
-ghost use Rattle.board.specs.Board.{board_problem, IsStep, AreContents};
+ghost use Rattle.board.specs.Board.{board_problem, IsStep, AreContents, AreLeft};
 ghost use Rattle.board.specs.Job.{job_problem};
 ghost use Rattle.board.specs.Problem.{IsProblem};
 ghost use Rattle.board.specs.Play.{begun, claim_of, value_at, unsettled_count, IsReplay};
@@ -223,11 +223,13 @@ impl<'a, E: Executor> Board<'a, E> {
         self.settled.get(vertex.index())?.as_ref()
     }
 
-    /// What has happened, in order.
+    /// What has happened, in order. What the board holds is the replay of it, and the contents of its caches are those that it left of the
+    /// contents at the start.
     pub fn history(&self) -> &[Happened]
         ensures value { result.now ≡ self.now.run.history }
         ensures replay { IsReplay (board_problem E.out self.now) self.now.run }
         ensures problem { IsProblem (board_problem E.out self.now) }
+        ensures contents { AreContents (board_problem E.out self.now) self.now.run.history self.now.first self.now.contents }
     {
         self.history.as_slice()
     }
@@ -279,6 +281,7 @@ impl<'a, E: Executor> Board<'a, E> {
         ensures value { result ≡ record { contents = self.entry.contents; holds = self.entry.run.state.holds } }
         ensures idle { self.entry.run.state.claims ≡ [] → result.holds ≡ [] }
         ensures contents { AreContents (board_problem E.out self.entry) self.entry.run.history self.entry.first self.entry.contents }
+        ensures left { AreLeft (board_problem E.out self.entry) self.entry.first result.contents }
     {
         let Board {
             job: _,

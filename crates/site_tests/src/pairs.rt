@@ -100,6 +100,7 @@ fn tallies_of_two<E: Executor, J: Case + Room + Send + Sync, R: Threads + Wait +
 ) -> Result<Vec<u32>, Memory>
     requires job { job_problem E.out tools.now.job.now ≡ J.problem }
     requires problem { board_problem E.out board ≡ J.problem }
+    requires first { board.first ≡ J.first }
     requires room { opened.table.shared.table_id ≡ J.table }
     requires begun { board.run.history ≡ [] }
 {

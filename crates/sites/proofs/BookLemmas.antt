@@ -1,6 +1,6 @@
 -- A note of each call keeps the book true of the board, and so a seat says what the board has of its worker.
 use Rattle.std.proofs.Common.{◌≡◌, ◌≢◌, ⊎_elim, ℕ, ◌==◌, ◌||◌, List, [], ◌∷◌, ◌++◌, length, map, Bool, true, false, cond, Option, Some, None, refl, sym, ap, ◌∙◌, subst}
-use Rattle.std.specs.Prelude.{Contains}
+use Rattle.std.specs.Prelude.{Contains, IsSome}
 use Rattle.std.specs.List.{list_any}
 use Rattle.std.proofs.lemmas.Bool.{cases_eq, eq-eqb, ne_eqb, or_right}
 use Rattle.std.proofs.lemmas.List.Folds.{list_any_at}
@@ -16,7 +16,7 @@ use Rattle.board.specs.Board.{BoardValue, board_problem, IsStep}
 use Rattle.board.specs.Job.{job_problem}
 use Rattle.board.specs.Claim.{ClaimValue, IsOut, IsGivenBack, claim_out}
 use Rattle.board.specs.Legal.{settles, IsSettled, IsNextClaim}
-use Rattle.board.specs.Play.{Run, Step, Claim, Settle, Abandon, Move, worker_of, step_of, next, moved, go, claimable, claim_of, vertex_of, begun, play, IsReplay}
+use Rattle.board.specs.Play.{Run, Step, Claim, Settle, Abandon, Move, worker_of, step_of, next, moved, go, claimable, claim_of, vertex_of, value_at, begun, play, IsReplay}
 use Rattle.board.specs.Problem.{IsProblem}
 use Rattle.board.proofs.ListLemmas.{claim_of-worker, claim_of-without}
 use Rattle.board.proofs.StepLemmas.{other-stays, moved_claim, moved_settle, moved_abandon}
@@ -218,10 +218,17 @@ tally-settled worker vertex (Settled by which given ∷ history) e = by_test (by
     by_test false f e = or_right (which == vertex) _ (f e)
 tally-settled worker vertex (Abandoned by which ∷ history) e = or_right false _ (tally-settled worker vertex history e)
 
+-- a vertex that is in a tally is found there
+listed : (tally : List ℕ) (vertex : ℕ) → Contains tally vertex → list_any (λ m. m == vertex) tally ≡ true
+listed tally vertex c = list_any_at (λ m. m == vertex) tally c.0 vertex c.1 (ap (λ m. m == vertex) c.2 ∙ eq-eqb vertex vertex refl)
+
+-- so what is in a seat's tally is settled by the history, and on the board
+seat-history : (run : Run) (seat : SeatValue) (vertex : ℕ) → IsSeatOf run seat → Contains seat.tally vertex → IsSettled run.history vertex
+seat-history run seat vertex is among = tally-settled seat.worker vertex run.history (subst (λ t. list_any (λ m. m == vertex) t ≡ true) is.tally (listed seat.tally vertex among))
+
+pub seat-settled : (problem : Problem) (run : Run) (seat : SeatValue) (vertex : ℕ) → IsProblem problem → IsReplay problem run → IsSeatOf run seat → Contains seat.tally vertex → IsSome (value_at run.state.settled vertex)
+seat-settled problem run seat vertex plan replay is among = ((replay-state problem run plan replay).settled vertex).1 (seat-history run seat vertex is among)
+
 -- a vertex that a worker may claim isn't in its seat's tally
 pub tally-fresh : (problem : Problem) (run : Run) (seat : SeatValue) (vertex : ℕ) → IsSeatOf run seat → IsNextClaim problem run.history seat.worker (Some vertex) → ¬ Contains seat.tally vertex
-tally-fresh problem run seat vertex is next_is among =
-    next_is.ready.unsettled (tally-settled seat.worker vertex run.history (subst (λ t. list_any (λ m. m == vertex) t ≡ true) is.tally (found seat.tally vertex among)))
-  where
-    found : (tally : List ℕ) (vertex : ℕ) → Contains tally vertex → list_any (λ m. m == vertex) tally ≡ true
-    found tally vertex c = list_any_at (λ m. m == vertex) tally c.0 vertex c.1 (ap (λ m. m == vertex) c.2 ∙ eq-eqb vertex vertex refl)
+tally-fresh problem run seat vertex is next_is among = next_is.ready.unsettled (seat-history run seat vertex is among)

@@ -1,5 +1,5 @@
 -- What a seat says of its worker, and how a site's book ties it to the board.
-use Rattle.std.specs.Prelude.{◌≡◌, ℕ, ◌<◌, ◌==◌, List, [], ◌∷◌, ◌++◌, if◌then◌else◌, length, Option, Some, None, is_some, slice_index_or, refl}
+use Rattle.std.specs.Prelude.{◌≡◌, ℕ, ◌<◌, ◌==◌, List, [], ◌∷◌, ◌++◌, if◌then◌else◌, length, Option, Some, None, is_some, IsSome, Contains, slice_index_or, refl}
 use Rattle.std.specs.List.{fold, count_by, sum_by}
 use Rattle.std.specs.Coded.{Coded, code_by, coded×, coded_ℕ, coded_list, coded_option}
 use Rattle.trees.specs.Cause.{TreeOrCause}
@@ -58,6 +58,10 @@ AreAll given seats = (worker : ℕ) → worker < given → count_by (λ seat. wo
 -- how often a number is in a list (own)
 abbrev pub times : ℕ → List ℕ → ℕ
 times number numbers = count_by (λ other. other == number) numbers
+
+-- what is in these seats' tallies is settled (own)
+abbrev pub AreSettled : List (Option TreeOrCause) → List SeatValue → Type 0
+AreSettled settled seats = (k vertex : ℕ) (default : SeatValue) → k < length seats → Contains (slice_index_or seats k default).tally vertex → IsSome (value_at settled vertex)
 
 -- in these seats' tallies together each settled vertex is once, and no other vertex is (own)
 abbrev pub AreTallies : List (Option TreeOrCause) → List SeatValue → Type 0

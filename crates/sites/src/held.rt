@@ -3,7 +3,7 @@ ghost use Rattle.std.specs.Option.{option_map};
 ghost use Rattle.cachemounts.specs.Holds.{new_holds};
 ghost use Rattle.cachemounts.specs.Content.{tree_held};
 ghost use Rattle.plans.specs.Plan.{uses_at};
-ghost use Rattle.board.specs.Board.{board_problem, IsStep};
+ghost use Rattle.board.specs.Board.{board_problem, IsStep, AreContents};
 ghost use Rattle.board.specs.Claim.{ClaimValue, IsClaim, IsOut, IsResult, IsGivenBack, claim_out};
 ghost use Rattle.board.specs.Legal.{IsNextClaim};
 ghost use Rattle.board.specs.Play.{IsReplay};
@@ -12,7 +12,7 @@ ghost use Rattle.board.specs.Problem.{IsProblem};
 ghost use Rattle.sites.specs.Seats.{SeatValue, IsMine, IsSeatOf, AreSeatsOf, tally_of};
 
 use crate::{Case, Seat};
-use board::{Board, Claim, ClaimOut, Refused};
+use board::{Board, Claim, ClaimOut, Happened, Refused};
 use executor::Executor;
 use plain::{Memory, growth};
 use rolls::{Giver, Note, Roll, Room, Slip};
@@ -39,7 +39,7 @@ impl<'a, E: Executor, J: Case + Room> Model for Held<'a, E, J> {
 
     ghost view = { λ h. h.board };
 
-    ghost invariant = { λ h. (board_problem E.out h.board ≡ J.problem) × IsBook h.roll h.board.run };
+    ghost invariant = { λ h. (board_problem E.out h.board ≡ J.problem) × IsBook h.roll h.board.run × (h.board.first ≡ J.first) };
 }
 
 impl<'a, E: Executor, J: Case + Room> Held<'a, E, J> {
@@ -130,6 +130,19 @@ impl<'a, E: Executor, J: Case + Room> Held<'a, E, J> {
         seat.out = None;
     }
 
+    /// What has happened, in order. The board is that of the site's problem, what it holds is the replay of its history, and the contents of
+    /// its caches are those that the history left of the contents at the start.
+    pub fn history(&self) -> &[Happened]
+        ensures value { result.now ≡ self.now.run.history }
+        ensures of { board_problem E.out self.now ≡ J.problem }
+        ensures replay { IsReplay J.problem self.now.run }
+        ensures problem { IsProblem J.problem }
+        ensures first { self.now.first ≡ J.first }
+        ensures contents { AreContents J.problem self.now.run.history J.first self.now.contents }
+    {
+        self.board.history()
+    }
+
     /// Whether no claim is out.
     pub fn is_idle(&self) -> bool
         ensures { IsTrue result ↔ (self.now.run.state.claims ≡ []) }
@@ -184,6 +197,7 @@ impl<'a, E: Executor, J: Case + Room> Held<'a, E, J> {
     pub(crate) fn into_board(self) -> Board<'a, E>
         ensures board { result ≡ self.entry }
         ensures problem { board_problem E.out result ≡ J.problem }
+        ensures first { result.first ≡ J.first }
     {
         let Held {
             board,

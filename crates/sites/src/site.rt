@@ -1,7 +1,7 @@
 ghost use Rattle.std.specs.Prelude.{◌≡◌, ◌<◌, ◌+◌, [], None};
 ghost use Rattle.plain.specs.Limits.{most_workers};
 ghost use Rattle.board.specs.Board.{board_problem};
-ghost use Rattle.sites.specs.Seats.{SeatValue, AreAll, AreTallies};
+ghost use Rattle.sites.specs.Seats.{SeatValue, AreAll, AreSettled, AreTallies};
 
 use crate::{Case, Held, Seat};
 use board::Board;
@@ -47,6 +47,7 @@ impl<'a, E: Executor, J: Case + Room> Site<'a, E, J> {
     /// the site's type names.
     pub fn new(board: Board<'a, E>, opened: Opened) -> Site<'a, E, J>
         requires problem { board_problem E.out board ≡ J.problem }
+        requires first { board.first ≡ J.first }
         requires room { opened.table.shared.table_id ≡ J.table }
         requires begun { board.run.history ≡ [] }
         ensures { result ≡ 0 }
@@ -87,11 +88,13 @@ impl<'a, E: Executor, J: Case + Room> Site<'a, E, J> {
         self.desk.lock(rt)
     }
 
-    /// Ends the site and gives its board, on which every claim that was still out is abandoned. Where these are all seats that were given, their tallies are
-    /// the settled vertices, each once. The seats stay as they are. It takes no memory.
+    /// Ends the site and gives its board, on which every claim that was still out is abandoned. What is in these seats' tallies is settled; where they are all
+    /// seats that were given, their tallies are the settled vertices, each once. The seats stay as they are. It takes no memory.
     pub fn close(self, seats: &mut [Seat<J>]) -> Board<'a, E>
         ensures problem { board_problem E.out result ≡ J.problem }
+        ensures first { result.first ≡ J.first }
         ensures claims { result.run.state.claims ≡ [] }
+        ensures settled { AreSettled result.run.state.settled seats.old }
         ensures tallies { AreAll self.entry seats.old → AreTallies result.run.state.settled seats.old }
         ensures seats { seats.new ≡ seats.old }
     {

@@ -1,6 +1,8 @@
 use Rattle.std.proofs.Common.{◌≡◌, [], sym, subst}
+use Rattle.board.specs.Board.{board_problem, AreLeft}
 use Rattle.board.specs.Job.{job_problem}
-use Rattle.board.proofs.SoundLemmas.{idle-free}
+use Rattle.board.proofs.SoundLemmas.{idle-free, sound}
+use Rattle.board.proofs.PlayLemmas.{replay-right}
 use Rattle.board.proofs.BoardLemmas.{run_of}
 use Rattle.board.proofs.board.Board.into_caches.Goals as goal
 
@@ -8,3 +10,11 @@ pub returns-clause-idle : goal.returns-clause-idle
 returns-clause-idle g c = λ none.
     let b = c.self.inside in
     idle-free (job_problem g.E.Executor.out b.job) (run_of b.history.items b.settled.items b.claims.items b.caches.holds) c.self.invariant.0.problem c.self.invariant.0.replay (subst (λ v. v.run.state.claims ≡ []) (sym c.self.view_is) none)
+
+pub returns-clause-left : goal.returns-clause-left
+returns-clause-left g c =
+    let b = c.self.inside in
+    let is = c.self.invariant.0 in
+    let problem = job_problem g.E.Executor.out b.job in
+    let run = run_of b.history.items b.settled.items b.claims.items b.caches.holds in
+    subst (λ v. AreLeft (board_problem g.E.Executor.out v) v.first b.caches.contents) c.self.view_is (run.history, (replay-right problem run (sound problem is.problem) is.replay).legal, is.contents)

@@ -24,7 +24,7 @@ invariant_of-self-2 g c =
     let which : claim.vertex ≡ c.number.result = sym (c.number.ensures ∙ c.vertex-vertex.ensures) in
     let when : claim.at ≡ c.at-at.result = sym c.at-at.ensures in
     let named = subst (λ (t : ℕ × (ℕ × ℕ)). IsBook (h.roll ++ (t.0, note.Claimed t.1.0 t.1.1) ∷ []) run) (λ i. (who i, (which i, when i))) kept.1 in
-    (kept.0, subst (λ roll. IsBook roll run) (sym c.write.ensures.roll) named)
+    (kept.0, subst (λ roll. IsBook roll run) (sym c.write.ensures.roll) named, told.run.first ∙ c.self.invariant.2)
 
 pub returns-clause-fresh : goal.returns-clause-fresh
 returns-clause-fresh g c =

@@ -17,4 +17,4 @@ invariant_of-self-2 g c =
     let who : claim.worker ≡ worker = mine.1 ∙ sym (c.seat.invariant.0 ∙ ap (λ (s : SeatValue). s.worker) (c.seat.view_is ∙ c.agree.ensures.same.1)) in
     let kept = held-settle g.E.Executor.out g.J.Case.problem h.board c.settle.new.self h.roll worker claim c.args.given.items c.self.invariant.0 c.self.invariant.1 is_out who c.requires.given c.in_ok-settle.ensures.run in
     let named = subst (λ v. IsBook (h.roll ++ (worker, note.Settled v) ∷ []) run) (sym (c.number.ensures ∙ c.vertex-vertex.ensures)) kept.1 in
-    (kept.0, subst (λ roll. IsBook roll run) (sym c.write.ensures.roll) named)
+    (kept.0, subst (λ roll. IsBook roll run) (sym c.write.ensures.roll) named, c.in_ok-settle.ensures.run.first ∙ c.self.invariant.2)

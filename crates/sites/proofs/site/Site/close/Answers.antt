@@ -1,6 +1,9 @@
 use Rattle.std.proofs.Common.{sym, ap, ◌∙◌, subst}
+use Rattle.std.specs.Prelude.{IsSome, slice_index_or}
 use Rattle.board.specs.Board.{BoardValue, board_problem}
+use Rattle.board.specs.Play.{value_at}
 use Rattle.sites.specs.Seats.{AreAll, AreSeatsOf, AreTallies}
+use Rattle.sites.proofs.BookLemmas.{seat-settled}
 use Rattle.sites.proofs.TallyLemmas.{tallies, cleared-settled}
 use Rattle.sites.proofs.site.Site.close.Goals as goal
 
@@ -16,3 +19,15 @@ returns-clause-tallies g c = λ all.
     let kept = cleared-settled (board_problem g.E.Executor.out board) board.run c.abandon_all.new.self.run c.abandon_all.ensures.run in
     let same = kept ∙ ap (λ (b : BoardValue _). b.run.state.settled) (c.into_board-board.ensures.board ∙ known.same.0) in
     subst (λ settled. AreTallies settled seats) (sym same) told
+
+pub returns-clause-settled : goal.returns-clause-settled
+returns-clause-settled g c = λ k vertex default less among.
+    let seats = c.args.seats.now in
+    let held = c.agree_all.new.self in
+    let board = c.into_board-board.result in
+    let known = c.complete.ensures in
+    let are = subst (λ (b : BoardValue _). AreSeatsOf b.run seats) (sym c.agree_all.ensures.same.0) c.agree_all.ensures.agrees in
+    let told = seat-settled g.J.Case.problem held.run (slice_index_or seats k default) vertex known.problem known.replay (are k default less) among in
+    let kept = cleared-settled (board_problem g.E.Executor.out board) board.run c.abandon_all.new.self.run c.abandon_all.ensures.run in
+    let same = kept ∙ ap (λ (b : BoardValue _). b.run.state.settled) (c.into_board-board.ensures.board ∙ known.same.0) in
+    subst (λ settled. IsSome (value_at settled vertex)) (sym same) told

@@ -1,0 +1,22 @@
+use Rattle.std.proofs.Common.{subst}
+use Rattle.board.specs.Board.{BoardValue, AreContents}
+use Rattle.board.specs.Play.{IsReplay}
+use Rattle.board.specs.Problem.{IsProblem}
+use Rattle.sites.proofs.held.Held.history.Goals as goal
+
+pub returns-clause-replay : goal.returns-clause-replay
+returns-clause-replay g c =
+    let h = c.self.inside in
+    let here : IsReplay g.J.Case.problem h.board.run = subst (λ p. IsReplay p h.board.run) c.self.invariant.0 c.history.ensures.replay in
+    subst (λ (b : BoardValue _). IsReplay g.J.Case.problem b.run) c.self.view_is here
+
+pub returns-clause-problem : goal.returns-clause-problem
+returns-clause-problem g c = subst IsProblem c.self.invariant.0 c.history.ensures.problem
+
+pub returns-clause-contents : goal.returns-clause-contents
+returns-clause-contents g c =
+    let h = c.self.inside in
+    let problem = g.J.Case.problem in
+    let named = subst (λ p. AreContents p h.board.run.history h.board.first h.board.contents) c.self.invariant.0 c.history.ensures.contents in
+    let here = subst (λ first. AreContents problem h.board.run.history first h.board.contents) c.self.invariant.2 named in
+    subst (λ (b : BoardValue _). AreContents problem b.run.history g.J.Case.first b.contents) c.self.view_is here
