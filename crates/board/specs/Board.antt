@@ -58,7 +58,7 @@ AreContents problem history first contents =
     (id : List ℕ) (slot : Option ℕ) → tree_in contents id slot ≡ content_after (tree_in first) (map (change_of problem) history) id slot
 
 -- these contents are those that some legal history of a problem leaves of the contents at the start: so a content that no vertex used is as it was (own)
-abbrev pub AreLeft : Problem → List Content → List Content → Type 0
+unfoldable pub AreLeft : Problem → List Content → List Content → Type 0
 AreLeft problem first contents = (history : List Happened) × IsLegal problem history × AreContents problem history first contents
 
 -- a board is another one after a step: its job and the contents at the start are as they were. The contents now follow from the history, by `IsBoard`.

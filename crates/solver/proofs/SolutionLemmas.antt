@@ -1,9 +1,11 @@
 -- What a board has settled on which no claim is out and no vertex is ready.
-use Rattle.std.proofs.Common.{◌≡◌, inl, inr, ℕ, ◌<◌, [], length, Option, Some, None, Ok, Err, true, false, cond, is_some, refl, ap, sym, ◌∙◌, arith}
+use Rattle.std.proofs.Common.{◌≡◌, inl, inr, ℕ, ◌<◌, List, [], length, Option, Some, None, Ok, Err, true, false, cond, is_some, refl, ap, sym, ◌∙◌, subst, tt, arith}
 use Rattle.std.proofs.lemmas.Bool.{cases_lt, or_parts, both_ways}
 use Rattle.std.proofs.lemmas.List.{get_or_past}
 use Rattle.plans.specs.Plan.{Problem, IsValue, vertex_value}
 use Rattle.trees.specs.Cause.{TreeOrCause}
+use Rattle.cachemounts.specs.declared.content.Content.{Content}
+use Rattle.board.specs.Board.{AreLeft}
 use Rattle.board.specs.Legal.{IsReady, IsNextClaim, IsSettled, HasCause}
 use Rattle.board.specs.Play.{Run, value_at, IsReplay}
 use Rattle.board.specs.Problem.{IsProblem}
@@ -68,3 +70,8 @@ next-unbuilt problem run worker vertex is replay next =
 pub none-ready : (problem : Problem) (run : Run) (worker : ℕ) → IsProblem problem → IsReplay problem run → run.state.claims ≡ [] → IsNextClaim problem run.history worker None → (vertex : ℕ) → ¬ IsReady problem run.history vertex
 none-ready problem run worker is replay idle (inl busy) = absurd (busy (idle_all problem run (right-is problem run is replay) idle worker))
 none-ready problem run worker is replay idle (inr none) = none
+
+-- contents of caches on which nothing has happened are left as they were
+pub left-same : (problem : Problem) (first contents : List Content) → contents ≡ first → AreLeft problem first contents
+unfolding AreLeft
+left-same problem first contents same = subst (AreLeft problem first) (sym same) ([], tt, λ id slot. refl)

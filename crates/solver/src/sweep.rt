@@ -1,7 +1,7 @@
 ghost use Rattle.std.specs.Prelude.{◌≡◌, ◌<◌, ℕ, [], false, None, Some, Ok, IfOk};
 ghost use Rattle.std.specs.Bool.{OnTrue, OnFalse};
 ghost use Rattle.trees.specs.TreeMap.{TreeMap};
-ghost use Rattle.board.specs.Board.{board_problem};
+ghost use Rattle.board.specs.Board.{board_problem, AreLeft};
 ghost use Rattle.board.specs.Legal.{IsReady};
 ghost use Rattle.board.specs.Play.{value_at, unsettled_count};
 ghost use Rattle.board.specs.Readiness.{has_tree};
@@ -25,8 +25,9 @@ use vertexrun::Ran;
 /// The worker that the sweep claims as: past those that threads have, which are numbered from 0 to 63.
 const SWEEPER: u32 = 64;
 
-/// The answer to a plan under an executor, with a store of caches of which no lease is out (`CacheStore::is_idle` tests that). It always returns,
-/// and whatever the result, no lease is out then.
+/// The answer to a plan under an executor, with a store of caches of which no lease is out (`CacheStore::is_idle` tests that). It always returns.
+/// Whatever the result, no lease is out then, and the caches hold what a legal history of the plan's problem left of what they held: those that
+/// no vertex used are as they were.
 pub fn solve_here<C: Exact, E: Executor>(
     alloc: Global,
     plan: &Plan<C>,
@@ -36,6 +37,7 @@ pub fn solve_here<C: Exact, E: Executor>(
     requires { caches.old.holds ≡ [] }
     ensures answer { IfOk result (IsAnswer (E.out executor.now) plan.now) }
     ensures idle { caches.new.holds ≡ [] }
+    ensures left { AreLeft (problem_of (E.out executor.now) plan.now) caches.old.contents caches.new.contents }
 {
     let solution = solve_problem(alloc, plan, executor, caches)?;
     answer_of(alloc, plan, solution)
@@ -51,6 +53,7 @@ pub fn solve_problem<C, E: Executor>(
     requires { caches.old.holds ≡ [] }
     ensures solution { IfOk result (IsSolution (problem_of (E.out executor.now) plan.now)) }
     ensures idle { caches.new.holds ≡ [] }
+    ensures left { AreLeft (problem_of (E.out executor.now) plan.now) caches.old.contents caches.new.contents }
 {
     let lent = mem::replace(caches, CacheStore::new(alloc));
     let mut board = match Board::new(alloc, Job::new(plan, executor), lent) {
@@ -98,6 +101,7 @@ pub fn finish<E: Executor, G: Gate>(
         → IfOk result (IsBuilt tree) }
     ensures idle { board.new.run.state.claims ≡ [] }
     ensures job { board.new.job ≡ board.old.job }
+    ensures first { board.new.first ≡ board.old.first }
 {
     while turn(alloc, gate, board)? {}
     solution_of(alloc, board)
@@ -107,6 +111,7 @@ pub fn finish<E: Executor, G: Gate>(
 fn turn<E: Executor, G: Gate>(alloc: Global, gate: &G, board: &mut Board<E>) -> Result<bool, Memory>
     requires { board.old.run.state.claims ≡ [] }
     ensures job { board.new.job ≡ board.old.job }
+    ensures first { board.new.first ≡ board.old.first }
     ensures idle { board.new.run.state.claims ≡ [] }
     ensures nearer { IfOk result (λ more. OnTrue more (unsettled_count board.new.run.state.settled < unsettled_count board.old.run.state.settled)) }
     ensures same { IfOk result (λ more. OnFalse more (board.new ≡ board.old)) }

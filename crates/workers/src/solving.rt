@@ -1,7 +1,7 @@
 ghost use Rattle.std.specs.Prelude.{◌≡◌, ◌<◌, ◌≤◌, [], IfOk};
 ghost use Rattle.plain.specs.Limits.{most_workers};
 ghost use Rattle.plans.specs.Plan.{problem_of};
-ghost use Rattle.board.specs.Board.{board_problem};
+ghost use Rattle.board.specs.Board.{board_problem, AreLeft};
 ghost use Rattle.board.specs.Job.{job_problem};
 ghost use Rattle.solver.specs.Solution.{IsSolution};
 
@@ -23,7 +23,8 @@ use std::thread::Threads;
 /// The solution of a plan's problem under an executor, by this many workers, with a store of caches of which no lease is out
 /// (`CacheStore::is_idle` tests that). The gate is asked around the run of each command: by the workers from 0 on, and by the caller's thread, which
 /// does what they have left, as worker 64. A thread that can't be started is no fault: its work is done by the others. It may never return. If it does, no lease
-/// is out, whatever the result; which trees the caches hold then is the order of settles, and no clause says it.
+/// is out, whatever the result, and the caches hold what a legal history of the plan's problem left of what they held: which one is the order of settles,
+/// and those that no vertex used are as they were.
 pub fn solve<C, E: Executor, G: Gate, R: Threads + Wait + Sync>(
     alloc: Global,
     rt: &R,
@@ -37,6 +38,7 @@ pub fn solve<C, E: Executor, G: Gate, R: Threads + Wait + Sync>(
     requires idle { caches.old.holds ≡ [] }
     ensures solution { IfOk result (IsSolution (problem_of (E.out executor.now) plan.now)) }
     ensures idle { caches.new.holds ≡ [] }
+    ensures left { AreLeft (problem_of (E.out executor.now) plan.now) caches.old.contents caches.new.contents }
 {
     let opened = Opened::new(alloc)?;
     let lent = mem::replace(caches, CacheStore::new(alloc));
@@ -71,11 +73,13 @@ fn worked<'a, E: Executor, G: Gate, J: Case + Room + Send + Sync, R: Threads + W
 ) -> Board<'a, E>
     requires job { job_problem E.out tools.now.job.now ≡ J.problem }
     requires problem { board_problem E.out board ≡ J.problem }
+    requires first { board.first ≡ J.first }
     requires room { opened.table.shared.table_id ≡ J.table }
     requires begun { board.run.history ≡ [] }
     requires claims { board.run.state.claims ≡ [] }
     requires workers { workers ≤ most_workers }
     ensures problem { board_problem E.out result ≡ J.problem }
+    ensures first { result.first ≡ J.first }
     ensures claims { result.run.state.claims ≡ [] }
 {
     let Ok(mut seats) = Vec::with_capacity(tools.alloc, workers as usize) else {

@@ -7,6 +7,7 @@ use Rattle.solver.proofs.sweep.finish.Given as goal
 abbrev pub invariant-loop : goal.invariant-loop
 invariant-loop g l = record {
   job : l.board.job ≡ l.fn.board.job;
+  first : l.board.first ≡ l.fn.board.first;
   idle : l.board.run.state.claims ≡ [];
   built : has_tree (value_at l.fn.board.run.state.settled l.fn.board.job.target) ≡ true → l.board ≡ l.fn.board;
 }

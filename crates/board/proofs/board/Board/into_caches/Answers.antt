@@ -12,6 +12,7 @@ returns-clause-idle g c = λ none.
     idle-free (job_problem g.E.Executor.out b.job) (run_of b.history.items b.settled.items b.claims.items b.caches.holds) c.self.invariant.0.problem c.self.invariant.0.replay (subst (λ v. v.run.state.claims ≡ []) (sym c.self.view_is) none)
 
 pub returns-clause-left : goal.returns-clause-left
+unfolding AreLeft
 returns-clause-left g c =
     let b = c.self.inside in
     let is = c.self.invariant.0 in
