@@ -3,6 +3,7 @@ pub mod Reading
 pub mod Listing
 pub mod PrivateOrder
 pub mod PrivateFingerprint
+pub mod PrivateSought
 pub mod Whole
 pub mod Written
 pub mod PrivatePrinting

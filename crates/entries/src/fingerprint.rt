@@ -4,12 +4,13 @@
 // fingerprints tell nothing.
 
 ghost use Rattle.std.specs.Prelude.{◌≡◌, ◌↔◌, true, IfOk, IsTrue, map, nat_eq};
-ghost use Rattle.std.specs.List.{list_any, list_all, IsDistinct};
-ghost use Rattle.std.specs.List.Sorted.{IsNonDecreasing, IsStrictlyIncreasing};
+ghost use Rattle.std.specs.List.{list_all, IsDistinct};
+ghost use Rattle.std.specs.List.Sorted.{IsStrictlyIncreasing};
 ghost use Rattle.entries.specs.Listing.{are_apart};
 ghost use Rattle.entries.specs.PrivateFingerprint.{after_byte, after_name, fingerprint, file_fingerprints, is_clear};
 
 use crate::apart::is_file;
+use crate::sought::Sought;
 use paths::Path;
 use plain::{Memory, Text};
 use std::alloc::Global;
@@ -86,24 +87,16 @@ fn are_distinct(mut numbers: Vec<u64>) -> bool
     rises(numbers.as_slice())
 }
 
-/// Whether a number is among others, which are sorted.
-fn is_among(numbers: &[u64], number: u64) -> bool
-    requires { IsNonDecreasing numbers.now }
-    ensures { result ≡ list_any (nat_eq number) numbers.now }
-{
-    numbers.binary_search(&number).is_ok()
-}
-
-/// Whether no path that this one lies below has one of these fingerprints, which are sorted.
+/// Whether no path that this one lies below has one of these fingerprints.
 #[tactic(auto, unfolding(crate::specs::PrivateFingerprint::root_fingerprint))]
-fn is_clear(numbers: &[u64], path: &Path) -> bool
-    requires { IsNonDecreasing numbers.now }
-    ensures { result ≡ is_clear numbers.now path.now }
+fn is_clear(sought: &mut Sought, path: &Path) -> bool
+    ensures clear { result ≡ is_clear sought.old path.now }
+    ensures same { sought.new ≡ sought.old }
 {
     let mut number = ROOT;
     let names = path.components();
     for name in names {
-        if is_among(numbers, number) {
+        if sought.contains(number) {
             return false;
         }
         number = after_name(number, name);
@@ -111,13 +104,12 @@ fn is_clear(numbers: &[u64], path: &Path) -> bool
     true
 }
 
-/// Whether no path that a row's lies below has one of these fingerprints, which are sorted.
-fn all_are_clear(numbers: &[u64], rows: &[(Path, Entry)]) -> bool
-    requires { IsNonDecreasing numbers.now }
-    ensures { result ≡ list_all (λ row. is_clear numbers.now row.0) rows.now }
+/// Whether no path that a row's lies below has one of these fingerprints.
+fn all_are_clear(sought: &mut Sought, rows: &[(Path, Entry)]) -> bool
+    ensures { result ≡ list_all (λ row. is_clear sought.old row.0) rows.now }
 {
     for row in rows {
-        if !is_clear(numbers, &row.0) {
+        if !is_clear(sought, &row.0) {
             return false;
         }
     }
@@ -125,11 +117,11 @@ fn all_are_clear(numbers: &[u64], rows: &[(Path, Entry)]) -> bool
 }
 
 /// Whether no path that a row's lies below has one of these fingerprints.
-fn are_ways_clear(mut numbers: Vec<u64>, rows: &[(Path, Entry)]) -> bool
-    ensures { result ≡ list_all (λ row. is_clear numbers.items row.0) rows.now }
+fn are_ways_clear(alloc: Global, numbers: Vec<u64>, rows: &[(Path, Entry)]) -> Result<bool, Memory>
+    ensures { IfOk result (λ clear. clear ≡ list_all (λ row. is_clear numbers.items row.0) rows.now) }
 {
-    numbers.sort_unstable();
-    all_are_clear(numbers.as_slice(), rows)
+    let mut sought = Sought::new(alloc, numbers)?;
+    Ok(all_are_clear(&mut sought, rows))
 }
 
 /// Whether fingerprints tell that no two rows clash: no two rows have one, and no path that a row's lies below has that of a file. Where
@@ -138,5 +130,6 @@ pub(crate) fn are_told_apart(alloc: Global, rows: &[(Path, Entry)]) -> Result<bo
     ensures { IfOk result (λ told. IsTrue told → are_apart rows.now ≡ true) }
 {
     let (all, files) = read_fingerprints(alloc, rows)?;
-    Ok(are_distinct(all) && are_ways_clear(files, rows))
+    let clear = are_ways_clear(alloc, files, rows)?;
+    Ok(are_distinct(all) && clear)
 }

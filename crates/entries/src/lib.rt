@@ -16,6 +16,7 @@ pub mod laws;
 mod listing;
 mod printing;
 mod reading;
+mod sought;
 mod writing;
 
 pub use listing::Listing;
