@@ -1,5 +1,5 @@
 -- What a board has settled on which no claim is out and no vertex is ready.
-use Rattle.std.proofs.Common.{◌≡◌, inl, inr, ℕ, ◌<◌, List, [], length, Option, Some, None, Ok, Err, true, false, cond, is_some, refl, ap, sym, ◌∙◌, subst, tt, arith}
+use Rattle.std.proofs.Common.{◌≡◌, inl, inr, ℕ, ◌<◌, List, [], length, Option, Some, None, Ok, Err, true, false, cond, is_some, refl, ap, sym, ◌∙◌, subst, arith}
 use Rattle.std.proofs.lemmas.Bool.{cases_lt, or_parts, both_ways}
 use Rattle.std.proofs.lemmas.List.{get_or_past}
 use Rattle.plans.specs.Plan.{Problem, IsValue, vertex_value}

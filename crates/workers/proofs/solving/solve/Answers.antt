@@ -8,7 +8,7 @@ use Rattle.workers.proofs.solving.solve.Goals as goal
 -- where there is no board, nothing has happened
 pub returns-in-Err-clause-left : goal.returns-in-Err-clause-left
 returns-in-Err-clause-left g c =
-    left-same (problem_of (g.E.Executor.out c.args.executor.now) c.args.plan.now) c.args.caches.now.contents c.in-Err.back.contents (ap (λ store. store.contents) (c.in-Err.ensures.back ∙ c.replace-lent.ensures.value))
+    left-same (problem_of (g.E.Executor.out c.args.executor.now) c.args.plan.now) c.args.caches.now.contents c.in-Err.refused.caches.contents (ap (λ store. store.contents) (c.in-Err.ensures.back ∙ c.replace-lent.ensures.value))
 
 pub returns-clause-left : goal.returns-clause-left
 returns-clause-left g c =
