@@ -1,11 +1,14 @@
-use Rattle.std.proofs.Common.{◌∙◌, ap, subst}
+use Rattle.std.proofs.Common.{◌∙◌, ap, refl, subst}
 use Rattle.board.specs.Board.{AreLeft}
 use Rattle.board.specs.Job.{job_problem}
 use Rattle.plans.specs.Plan.{problem_of}
 use Rattle.solver.proofs.SolutionLemmas.{left-same}
 use Rattle.workers.proofs.solving.solve.Goals as goal
 
--- where there is no board, nothing has happened
+-- where there is no roll, and where there is no board, nothing has happened
+pub returns-in_err-opened-clause-left : goal.returns-in_err-opened-clause-left
+returns-in_err-opened-clause-left g c = left-same (problem_of (g.E.Executor.out c.args.executor.now) c.args.plan.now) c.args.caches.now.contents c.args.caches.now.contents refl
+
 pub returns-in-Err-clause-left : goal.returns-in-Err-clause-left
 returns-in-Err-clause-left g c =
     left-same (problem_of (g.E.Executor.out c.args.executor.now) c.args.plan.now) c.args.caches.now.contents c.in-Err.refused.caches.contents (ap (λ store. store.contents) (c.in-Err.ensures.back ∙ c.replace-lent.ensures.value))
