@@ -1,5 +1,6 @@
 -- Which vertices of a graph a vertex rests on (own, after BuildKit's LLB, where an operation names its inputs).
-use Rattle.std.specs.Prelude.{◌≡◌, ℕ, Some, List, [], ◌∷◌, slice_get, Contains}
+use Rattle.std.specs.Prelude.{◌≡◌, ℕ, Some, List, slice_get, Contains}
+use Rattle.plain.specs.Marks.{IsPath}
 use Rattle.llb.specs.declared.vertex.Vertex.{Vertex}
 
 -- a vertex has another one among its inputs
@@ -10,8 +11,7 @@ pub record HasInput (vertices : List Vertex) (vertex input : ℕ) : Type 0 where
 
 -- each vertex of a path is an input of the one before it, and the last one is `to`
 abbrev pub Leads : List Vertex → ℕ → List ℕ → ℕ → Type 0
-Leads vertices from [] to = from ≡ to
-Leads vertices from (next ∷ path) to = HasInput vertices from next × Leads vertices next path to
+Leads vertices from path to = IsPath (HasInput vertices) from path to
 
 -- a vertex is the target, or is reached from it by inputs
 abbrev pub Reaches : List Vertex → ℕ → ℕ → Type 0

@@ -1,3 +1,4 @@
 pub mod Codes
 pub mod Limits
+pub mod Marks
 pub mod PrivateHeld

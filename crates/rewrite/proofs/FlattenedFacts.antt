@@ -53,7 +53,7 @@ pub target_named_flat : {C : Type 0} (plan : PlanValue C) (graph flat : GraphVal
     (names : Names) → IsPlan plan → IsMadeFlat plan graph flat target config sources marks names → (last : ℕ) × (slice_get names target ≡ Some (Some last))
 target_named_flat plan graph flat target config sources marks names is made =
     let lt : target < length graph.vertices = rw made.parts at is.target in
-    made.are.named target lt made.reached.has_target
+    made.are.named target lt made.reached.has_first
 
 -- the vertices that were joined make a flattened plan
 pub joined_flattened : {C : Type 0} (plan new : PlanValue C) (graph flat : GraphValue) (target last : ℕ) (config : C) (sources : SourcesValue)
@@ -63,7 +63,7 @@ joined_flattened plan new graph flat target last config sources marks names lent
   names = names;
   long = made.are.long;
   reached = λ k. (
-    λ r. (let marked = reached_marked (flat_vertices graph.vertices) target marks r.0 target k made.reached made.reached.has_target r.1 in
+    λ r. (let marked = reached_marked (flat_vertices graph.vertices) target marks r.0 target k made.reached made.reached.has_first r.1 in
         made.are.named k
         (let in_marks = marked_within marks k marked in
         let all = as_many graph.vertices in

@@ -22,7 +22,8 @@ use Rattle.lowering.proofs.RowFacts.{slice_get-last_cases, slice_get-end}
 use Rattle.rewrite.specs.Flat.{flat_inputs, flat_vertex, flat_vertices}
 use Rattle.rewrite.specs.PrivateFlat.{AreFlatInputs, IsJoined, IsNamedJoined, AreJoined}
 use Rattle.rewrite.specs.PrivateKept.{HasName}
-use Rattle.rewrite.specs.PrivateMarks.{is_marked, AreReached}
+use Rattle.plain.specs.Marks.{is_marked}
+use Rattle.rewrite.specs.PrivateMarks.{AreReached}
 use Rattle.rewrite.specs.Pruned.{Names, IsRenamed}
 use Rattle.rewrite.proofs.KeptFacts.{renamed_more}
 use Rattle.rewrite.proofs.SpellingFacts.{flat_low, flat_long}

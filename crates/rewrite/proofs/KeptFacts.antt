@@ -16,7 +16,8 @@ use Rattle.lowering.specs.Means.{lines_at}
 use Rattle.lowering.proofs.Fronts.{slice_get-kept}
 use Rattle.lowering.proofs.RowFacts.{slice_get-last_cases, slice_get-end}
 use Rattle.rewrite.specs.PrivateKept.{HasName, AreInside, IsFresh, IsKept, IsNamed, AreKept}
-use Rattle.rewrite.specs.PrivateMarks.{is_marked, AreReached}
+use Rattle.plain.specs.Marks.{is_marked}
+use Rattle.rewrite.specs.PrivateMarks.{AreReached}
 use Rattle.rewrite.specs.Pruned.{Names, AreNames, IsRenamed}
 
 pub names_more : (names more : Names) (olds news : List ℕ) → AreNames names olds news → AreNames (names ++ more) olds news

@@ -12,7 +12,7 @@ use Rattle.trees.specs.declared.cause.Cause.{Cause}
 use Rattle.llb.specs.declared.op.Op.{Op}
 use Rattle.llb.specs.declared.vertex.Vertex.{Vertex}
 use Rattle.llb.specs.Graph.{GraphValue, IsGraph, AreVertices}
-use Rattle.llb.specs.Reach.{Leads, Reaches}
+use Rattle.llb.specs.Reach.{HasInput, Leads, Reaches}
 use Rattle.llb.proofs.LineFacts.{contains_nil, contains_here, contains_there, contains_cases}
 use Rattle.plans.specs.Plan.{PlanValue, IsPlan, NeedsAll, problem_of, IsValue, vertex_value}
 use Rattle.plans.specs.Sources.{SourcesValue, HasSource, HasSources}
@@ -22,15 +22,16 @@ use Rattle.lowering.specs.Meaning.{Trees, value_with}
 use Rattle.lowering.specs.Means.{world}
 use Rattle.lowering.proofs.ValueFacts.{vertex_is}
 use Rattle.rewrite.specs.PrivateKept.{AreKept}
-use Rattle.rewrite.specs.PrivateMarks.{is_marked, AreReached}
+use Rattle.plain.specs.Marks.{is_marked}
+use Rattle.plain.proofs.MarkFacts.{path_within}
+use Rattle.rewrite.specs.PrivateMarks.{AreReached}
 use Rattle.rewrite.specs.Pruned.{Names, AreNames, IsRenamed, IsPruned, KeepsMeaning}
 
 -- what is reached is marked
 pub reached_marked : (vertices : List Vertex) (target : ℕ) (marks : List Bool) (path : List ℕ) (from to : ℕ) → AreReached vertices target marks
     → is_marked marks from ≡ true → Leads vertices from path to → is_marked marks to ≡ true
-reached_marked vertices target marks [] from to are marked leads = ap (is_marked marks) (sym leads) ∙ marked
-reached_marked vertices target marks (next ∷ path) from to are marked leads =
-    reached_marked vertices target marks path next to are (are.closed from next marked leads.0) leads.1
+reached_marked vertices target marks path from to are marked leads =
+    path_within (HasInput vertices) (is_marked marks) from path to are.closed marked leads
 
 pub marked_within : (marks : List Bool) (k : ℕ) → is_marked marks k ≡ true → k < length marks
 marked_within marks k is = elim (cases_lt k (length marks)) [ inl lt ↦ lt | inr past ↦ absurd (true≢false (sym is ∙ get_or_past marks k false past)) ]
@@ -45,7 +46,7 @@ kept_pruned plan new graph kept target last config sources marks names parts rea
   names = names;
   long = are.long;
   reached = λ k. (
-    λ r. (let marked = reached_marked graph.vertices target marks r.0 target k reached reached.has_target r.1 in
+    λ r. (let marked = reached_marked graph.vertices target marks r.0 target k reached reached.has_first r.1 in
         are.named k (let in_marks = marked_within marks k marked in omega (arith, in_marks, reached.long)) marked),
     λ n. reached.only k (are.marked k n.0 n.1),
   );
@@ -65,7 +66,7 @@ pub target_named : {C : Type 0} (plan : PlanValue C) (graph kept : GraphValue) (
     → AreKept graph marks (length graph.vertices) kept names → (last : ℕ) × (slice_get names target ≡ Some (Some last))
 target_named plan graph kept target config sources marks names is parts reached are =
     let lt : target < length graph.vertices = rw parts at is.target in
-    are.named target lt reached.has_target
+    are.named target lt reached.has_first
 
 -- each vertex that was kept is one of the old
 old_of : (old : GraphValue) (marks : List Bool) (new : GraphValue) (names : Names) (id : ℕ) (u : Vertex)

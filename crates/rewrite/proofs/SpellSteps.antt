@@ -11,7 +11,7 @@ use Rattle.lowering.proofs.Fronts.{slice_get-kept}
 use Rattle.lowering.proofs.RowFacts.{slice_get-end}
 use Rattle.rewrite.specs.Flat.{with_first, spelled_out, flat_inputs}
 use Rattle.rewrite.specs.PrivateFlat.{is_merge, AreFlatInputs}
-use Rattle.rewrite.specs.PrivateMarks.{is_marked}
+use Rattle.plain.specs.Marks.{is_marked}
 use Rattle.rewrite.proofs.SpellingFacts.{merge_is, merge_has_two, spelled_merge, spelled_itself}
 
 some_same : (v u : Vertex) → Some v ≡ Some u → v ≡ u

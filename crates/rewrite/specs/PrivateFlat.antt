@@ -6,7 +6,7 @@ use Rattle.llb.specs.declared.vertex.Vertex.{Vertex}
 use Rattle.llb.specs.Graph.{GraphValue, Adds}
 use Rattle.lowering.specs.Means.{lines_at}
 use Rattle.rewrite.specs.PrivateKept.{HasName, AreInside}
-use Rattle.rewrite.specs.PrivateMarks.{is_marked}
+use Rattle.plain.specs.Marks.{is_marked}
 use Rattle.rewrite.specs.Pruned.{Names, IsRenamed}
 use Rattle.rewrite.specs.Flat.{flat_inputs}
 

@@ -3,7 +3,7 @@ use Rattle.std.specs.Prelude.{◌≡◌, ◌<◌, ◌≤◌, ◌++◌, ◌∷◌
 use Rattle.llb.specs.declared.vertex.Vertex.{Vertex}
 use Rattle.llb.specs.Graph.{GraphValue, IsNew}
 use Rattle.lowering.specs.Means.{lines_at}
-use Rattle.rewrite.specs.PrivateMarks.{is_marked}
+use Rattle.plain.specs.Marks.{is_marked}
 use Rattle.rewrite.specs.Pruned.{Names, IsRenamed}
 
 -- a vertex has a new number

@@ -1,33 +1,22 @@
 // Marks the vertices that a target reaches.
-ghost use Rattle.std.specs.Prelude.{◌≡◌, ◌<◌, ℕ, false, length, vec_len, IfOk};
+ghost use Rattle.std.specs.Prelude.{◌<◌, length, vec_len, Contains, IfOk};
 ghost use Rattle.std.specs.List.{All};
+ghost use Rattle.plain.specs.Marks.{MarksMore};
 ghost use Rattle.llb.specs.Graph.{AreVertices};
-ghost use Rattle.rewrite.specs.PrivateMarks.{is_marked, MarksSoFar, AreReached};
+ghost use Rattle.rewrite.specs.PrivateMarks.{AreReached};
 
 use llb::{Vertex, VertexId};
-use plain::{Items, Memory};
+use plain::{Items, Memory, clear_marks};
 use std::alloc::Global;
 
 /// Marks these vertices.
 pub(crate) fn mark(marks: &mut Vec<bool>, ids: &[VertexId])
     requires { All (λ id. id < vec_len marks.old) ids.now }
-    ensures { MarksSoFar marks.old.items marks.new.items ids.now }
+    ensures { MarksMore marks.old.items marks.new.items (Contains ids.now) }
 {
     for id in ids {
         marks[id.index()] = true;
     }
-}
-
-/// Marks for so many vertices, of which none is marked.
-pub(crate) fn clear_marks(alloc: Global, len: usize) -> Result<Vec<bool>, Memory>
-    ensures long { IfOk result (λ marks. length marks.items ≡ len) }
-    ensures none { IfOk result (λ marks. (k : ℕ) → is_marked marks.items k ≡ false) }
-{
-    let mut marks = Vec::new(alloc);
-    for _at in 0..len {
-        marks.push(false)?;
-    }
-    Ok(marks)
 }
 
 /// Marks the vertices that the target reaches. Inputs stand before their vertices, so one pass from the last one on is enough.

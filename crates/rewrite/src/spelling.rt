@@ -6,9 +6,9 @@ ghost use Rattle.rewrite.specs.Flat.{flat_inputs, flat_vertices, spelled_out, wi
 ghost use Rattle.rewrite.specs.PrivateFlat.{is_merge, AreFlatInputs};
 ghost use Rattle.rewrite.specs.PrivateMarks.{AreReached};
 
-use crate::marks::{clear_marks, mark};
+use crate::marks::mark;
 use llb::{Op, Vertex, VertexId};
-use plain::{Items, Memory};
+use plain::{Items, Memory, clear_marks};
 use std::alloc::Global;
 
 /// Whether the operation is a merge.

@@ -1,5 +1,6 @@
 -- Which stages a target needs.
-use Rattle.std.specs.Prelude.{◌≡◌, ◌↔◌, ◌++◌, ℕ, Bool, true, false, List, [], ◌∷◌, Some, length, slice_get, slice_index_or, Contains}
+use Rattle.std.specs.Prelude.{◌≡◌, ◌↔◌, ◌++◌, ℕ, Bool, true, List, [], ◌∷◌, Some, length, slice_get, Contains}
+use Rattle.plain.specs.Marks.{is_marked, IsPath}
 use Rattle.rows.specs.declared.row.Origin.{Origin}
 use Rattle.rows.specs.declared.row.Origin.TheVariants.{Stage as StageOf}
 use Rattle.stages.specs.declared.stage.ResolvedInstruction.{ResolvedInstruction}
@@ -22,8 +23,7 @@ pub record Refers (stages : List ResolvedStage) (from to : ℕ) : Type 0 where
 
 -- each stage of a path is named by the one before it, and the last one is `to`
 abbrev pub Leads : List ResolvedStage → ℕ → List ℕ → ℕ → Type 0
-Leads stages from [] to = from ≡ to
-Leads stages from (next ∷ path) to = Refers stages from next × Leads stages next path to
+Leads stages from path to = IsPath (Refers stages) from path to
 
 -- a stage is needed: it is the target, or is named by a stage that is needed. So the stages that are needed are the least set that has the
 -- target and, with each stage, all that it names, as the law `the_least_stages_are_needed` says (Dockerfile reference, multi-stage builds)
@@ -34,10 +34,6 @@ IsNeeded stages target stage = (path : List ℕ) × Leads stages target path sta
 pub record IsClosed (stages : List ResolvedStage) (target : ℕ) (has : ℕ → Bool) : Type 0 where
   pub has_target : has target ≡ true
   pub has_named : (from to : ℕ) → has from ≡ true → Refers stages from to → has to ≡ true
-
--- a stage is marked
-abbrev pub is_marked : List Bool → ℕ → Bool
-is_marked marks stage = slice_index_or marks stage false
 
 -- there is a mark for each stage, and just those that are needed are marked
 pub record AreNeeded (stages : List ResolvedStage) (target : ℕ) (marks : List Bool) : Type 0 where

@@ -1,20 +1,21 @@
 // Marks the stages that a target needs.
-ghost use Rattle.std.specs.Prelude.{◌≡◌, ◌<◌, [], ◌∷◌, ℕ, false, length, vec_len, IfOk};
+ghost use Rattle.std.specs.Prelude.{◌<◌, [], ◌∷◌, length, vec_len, IfOk};
 ghost use Rattle.std.specs.List.{All};
+ghost use Rattle.plain.specs.Marks.{MarksMore};
 ghost use Rattle.stages.specs.Table.{IsBefore};
-ghost use Rattle.stages.specs.Needed.{is_marked, origins_in, stage_origins, AreNeeded};
-ghost use Rattle.stages.specs.PrivateMarks.{MarksMore, AreStages};
+ghost use Rattle.stages.specs.Needed.{origins_in, stage_origins, AreNeeded};
+ghost use Rattle.stages.specs.PrivateMarks.{HasStage, AreStages};
 
 use crate::stage::{ResolvedInstruction, ResolvedStage};
-use plain::{Items, Memory};
+use plain::{Items, Memory, clear_marks};
 use rows::Origin;
 use std::alloc::Global;
 
 /// Marks the stage that is named, if it is one.
-#[tactic(auto, using(crate::proofs::MarkFacts::marks_one, crate::proofs::MarkFacts::marks_other))]
+#[tactic(auto, using(crate::proofs::MarkFacts::stage_marked, crate::proofs::MarkFacts::source_marked))]
 fn mark_one(marks: &mut Vec<bool>, origin: &Origin)
     requires { IsBefore (vec_len marks.old) origin.now }
-    ensures { MarksMore marks.old.items marks.new.items (origin.now ∷ []) }
+    ensures { MarksMore marks.old.items marks.new.items (HasStage (origin.now ∷ [])) }
 {
     match origin {
         Origin::Stage(number) => marks[*number as usize] = true,
@@ -25,7 +26,7 @@ fn mark_one(marks: &mut Vec<bool>, origin: &Origin)
 /// Marks the stages among these origins.
 fn mark(marks: &mut Vec<bool>, origins: &[Origin])
     requires { All (IsBefore (vec_len marks.old)) origins.now }
-    ensures { MarksMore marks.old.items marks.new.items origins.now }
+    ensures { MarksMore marks.old.items marks.new.items (HasStage origins.now) }
 {
     for origin in origins {
         mark_one(marks, origin);
@@ -35,7 +36,7 @@ fn mark(marks: &mut Vec<bool>, origins: &[Origin])
 /// Marks the stages that these instructions name.
 fn mark_named(marks: &mut Vec<bool>, instructions: &[ResolvedInstruction])
     requires { All (λ r. All (IsBefore (vec_len marks.old)) r.origins) instructions.now }
-    ensures { MarksMore marks.old.items marks.new.items (origins_in instructions.now) }
+    ensures { MarksMore marks.old.items marks.new.items (HasStage (origins_in instructions.now)) }
 {
     for resolved in instructions {
         mark(marks, resolved.origins.as_slice());
@@ -46,22 +47,10 @@ fn mark_named(marks: &mut Vec<bool>, instructions: &[ResolvedInstruction])
 fn mark_stage(marks: &mut Vec<bool>, stage: &ResolvedStage)
     requires base { IsBefore (vec_len marks.old) stage.now.base }
     requires instructions { All (λ r. All (IsBefore (vec_len marks.old)) r.origins) stage.now.instructions }
-    ensures { MarksMore marks.old.items marks.new.items (stage_origins stage.now) }
+    ensures { MarksMore marks.old.items marks.new.items (HasStage (stage_origins stage.now)) }
 {
     mark_one(marks, &stage.base);
     mark_named(marks, stage.instructions.as_slice());
-}
-
-/// Marks for so many stages, of which none is marked.
-fn clear_marks(alloc: Global, len: usize) -> Result<Vec<bool>, Memory>
-    ensures long { IfOk result (λ marks. length marks.items ≡ len) }
-    ensures none { IfOk result (λ marks. (k : ℕ) → is_marked marks.items k ≡ false) }
-{
-    let mut marks = Vec::new(alloc);
-    for _at in 0..len {
-        marks.push(false)?;
-    }
-    Ok(marks)
 }
 
 /// Marks the stages that the target needs. A stage names only earlier ones, so one pass from the last one on is enough.

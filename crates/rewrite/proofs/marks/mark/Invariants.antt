@@ -1,6 +1,7 @@
 use Rattle.std.proofs.Common.{take}
-use Rattle.rewrite.specs.PrivateMarks.{MarksSoFar}
+use Rattle.std.specs.Prelude.{Contains}
+use Rattle.plain.specs.Marks.{MarksMore}
 use Rattle.rewrite.proofs.marks.mark.Given as goal
 
 abbrev pub invariant-loop-id : goal.invariant-loop-id
-invariant-loop-id l = MarksSoFar l.initial.marks.items l.marks.items (take l.id-index l.ids)
+invariant-loop-id l = MarksMore l.initial.marks.items l.marks.items (Contains (take l.id-index l.ids))

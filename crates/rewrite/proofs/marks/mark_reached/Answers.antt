@@ -5,11 +5,12 @@ use Rattle.std.proofs.lemmas.Option.{slice_get_read}
 use Rattle.std.specs.Vec.{vec_len}
 use Rattle.llb.specs.declared.vertex.Vertex.{Vertex}
 use Rattle.rewrite.specs.PrivateMarks.{AreReached}
-use Rattle.rewrite.proofs.MarkFacts.{marked_first, marked_step, unmarked_step, marked_all, inputs_inside}
+use Rattle.plain.proofs.MarkFacts.{unmarked_step, marked_all}
+use Rattle.rewrite.proofs.MarkFacts.{target_marked, inputs_marked, inputs_inside}
 use Rattle.rewrite.proofs.marks.mark_reached.Goals as goal
 
 pub loop-at-init : goal.loop-at-init
-loop-at-init c = marked_first _ _ c.in_ok-marks.marks.items _ _ c.in_ok-marks.ensures.long c.in_ok-marks.ensures.none c.requires.target
+loop-at-init c = target_marked _ _ c.in_ok-marks.marks.items _ _ c.in_ok-marks.ensures.long c.in_ok-marks.ensures.none c.requires.target
     (ap (λ n. slice_set c.in_ok-marks.marks.items n true) c.index.ensures) refl
 
 pub mark-requires : goal.mark-requires
@@ -28,7 +29,7 @@ loop-at-preserved-then-index c =
     let there = slice_get_read c.args.vertices.now _ (c.loop-at.at - 1) c.index-vertices-at.result refl at c.index-vertices-at.is in
     let same = c.as_slice.ensures ∙ ap (λ (v : Vertex). v.inputs) (sym c.index-vertices-at.is) in
     let marked = sym (get_or_read c.loop-at.marks.items _ _ in_marks c.index-in-loop-at.ensures false) ∙ c.if-index.true in
-    marked_step _ _ c.loop-at.at _ c.index-vertices-at.result _ _ _ c.requires.vertices.after c.loop-at.invariant c.loop-at-test.true refl there marked same
+    inputs_marked _ _ c.loop-at.at _ c.index-vertices-at.result _ _ _ c.requires.vertices.after c.loop-at.invariant c.loop-at-test.true refl there marked same
     c.mark.ensures
 
 pub loop-at-preserved : goal.loop-at-preserved
@@ -36,8 +37,8 @@ loop-at-preserved c =
     let in_marks : c.loop-at.at - 1 < length c.loop-at.marks.items =
     omega (arith, c.loop-at.invariant.within, c.loop-at-test.true, c.loop-at.invariant.long) in
     let unmarked = sym (get_or_read c.loop-at.marks.items _ _ in_marks c.index-in-loop-at.ensures false) ∙ c.if-index.false in
-    unmarked_step _ _ c.loop-at.at _ _ c.loop-at.invariant c.loop-at-test.true refl unmarked
+    unmarked_step _ _ _ c.loop-at.at _ _ c.loop-at.invariant c.loop-at-test.true refl unmarked
 
 pub returns : goal.returns
 returns c = subst (AreReached c.args.vertices.now c.args.target) (sym c.from_vec.ensures)
-    (marked_all _ _ c.loop-at.at _ c.loop-at.invariant c.loop-at-test.false)
+    (marked_all _ _ _ c.loop-at.at _ c.loop-at.invariant c.loop-at-test.false)

@@ -6,13 +6,14 @@ use Rattle.std.specs.Vec.{vec_len}
 use Rattle.rewrite.specs.Flat.{flat_vertex, flat_vertices}
 use Rattle.rewrite.specs.PrivateMarks.{AreReached}
 use Rattle.rewrite.proofs.JoinFacts.{flat_there, flat_after, as_many}
-use Rattle.rewrite.proofs.MarkFacts.{marked_first, marked_step, unmarked_step, marked_all, inputs_inside}
+use Rattle.plain.proofs.MarkFacts.{unmarked_step, marked_all}
+use Rattle.rewrite.proofs.MarkFacts.{target_marked, inputs_marked, inputs_inside}
 use Rattle.rewrite.proofs.spelling.mark_flat.Goals as goal
 
 pub loop-at-init : goal.loop-at-init
 loop-at-init c =
     let long = as_many c.args.vertices.now in
-    marked_first _ _ c.in_ok-marks.marks.items _ _ (c.in_ok-marks.ensures.long ∙ sym long) c.in_ok-marks.ensures.none
+    target_marked _ _ c.in_ok-marks.marks.items _ _ (c.in_ok-marks.ensures.long ∙ sym long) c.in_ok-marks.ensures.none
     (omega (arith, long, c.requires.target)) (ap (λ n. slice_set c.in_ok-marks.marks.items n true) c.index.ensures) (sym long)
 
 pub flat_inputs-requires-clause-inside : goal.flat_inputs-requires-clause-inside
@@ -44,7 +45,7 @@ loop-at-preserved-then-index c =
     let there = slice_get_read vs _ (c.loop-at.at - 1) c.index-vertices-at.result refl at c.index-vertices-at.is in
     let same : c.as_slice.result.now ≡ (flat_vertex vs c.index-vertices-at.result).inputs = c.as_slice.ensures ∙ c.in_ok-inputs.ensures in
     let marked = sym (get_or_read c.loop-at.marks.items _ _ in_marks c.index-in-loop-at.ensures false) ∙ c.if-index.true in
-    marked_step (flat_vertices vs) _ c.loop-at.at _ (flat_vertex vs c.index-vertices-at.result) _ _ _ (flat_after vs c.requires.vertices)
+    inputs_marked (flat_vertices vs) _ c.loop-at.at _ (flat_vertex vs c.index-vertices-at.result) _ _ _ (flat_after vs c.requires.vertices)
     c.loop-at.invariant c.loop-at-test.true refl (flat_there vs (c.loop-at.at - 1) c.index-vertices-at.result there) marked same c.mark.ensures
 
 pub loop-at-preserved : goal.loop-at-preserved
@@ -52,8 +53,8 @@ loop-at-preserved c =
     let in_marks : c.loop-at.at - 1 < length c.loop-at.marks.items =
     omega (arith, c.loop-at.invariant.within, c.loop-at-test.true, c.loop-at.invariant.long) in
     let unmarked = sym (get_or_read c.loop-at.marks.items _ _ in_marks c.index-in-loop-at.ensures false) ∙ c.if-index.false in
-    unmarked_step _ _ c.loop-at.at _ _ c.loop-at.invariant c.loop-at-test.true refl unmarked
+    unmarked_step _ _ _ c.loop-at.at _ _ c.loop-at.invariant c.loop-at-test.true refl unmarked
 
 pub returns : goal.returns
 returns c = subst (AreReached (flat_vertices c.args.vertices.now) c.args.target) (sym c.from_vec.ensures)
-    (marked_all _ _ c.loop-at.at _ c.loop-at.invariant c.loop-at-test.false)
+    (marked_all _ _ _ c.loop-at.at _ c.loop-at.invariant c.loop-at-test.false)

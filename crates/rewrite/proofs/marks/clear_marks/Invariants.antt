@@ -1,9 +1,0 @@
-use Rattle.std.proofs.Common.{◌≡◌, ℕ, false, length}
-use Rattle.rewrite.specs.PrivateMarks.{is_marked}
-use Rattle.rewrite.proofs.marks.clear_marks.Given as goal
-
-abbrev pub invariant-loop-at : goal.invariant-loop-at
-invariant-loop-at l = record {
-  long : length l.marks.items ≡ l._at;
-  none : (k : ℕ) → is_marked l.marks.items k ≡ false;
-}
