@@ -9,7 +9,7 @@ use crate::lookup::Lookup;
 use crate::token::Token;
 use crate::word::Word;
 use plain::limits::MOST_TEXT_BYTES;
-use plain::{Code, Fault, Text};
+use plain::{Code, Exact, Fault, Text};
 use std::alloc::Global;
 use words::TextFault;
 
@@ -25,6 +25,8 @@ pub fn expand<S: Lookup>(alloc: Global, word: &Word, scope: &S) -> Result<Text, 
 }
 
 /// The value of tokens, if it has no more bytes than a limit.
+///
+/// A text of several pieces is built here, and shared from then on: a variable that is the whole of another line's word is there once.
 fn expand_tokens<S: Lookup>(
     alloc: Global,
     tokens: &[Token],
@@ -33,13 +35,38 @@ fn expand_tokens<S: Lookup>(
 ) -> Result<Text, TextFault>
     ensures { Expands limit (run (S.value_of scope.now) 0 tokens.now) result }
 {
+    if let [Token::Variable(name)] = tokens {
+        return expand_variable(alloc, name, scope, limit);
+    }
     let mut text = String::new(alloc);
     match push_tokens(&mut text, tokens, scope, limit) {
-        Ok(()) => Ok(Text::from_string(text)),
+        Ok(()) => {
+            let text = Text::from_string(text).shared(alloc)?;
+            Ok(text)
+        }
         Err(fault) => {
             drop(text);
             Err(fault)
         }
+    }
+}
+
+/// The value of a variable, if it has no more bytes than a limit: a copy, which shares the bytes of a long one.
+fn expand_variable<S: Lookup>(
+    alloc: Global,
+    name: &Text,
+    scope: &S,
+    limit: usize,
+) -> Result<Text, TextFault>
+    ensures { Expands limit (text_of (S.value_of scope.now name.now)) result }
+{
+    match scope.find(name.as_str()) {
+        Some(text) if text.len() > limit => Err(Fault::Because(Code::R18)),
+        Some(text) => {
+            let text = text.copy(alloc)?;
+            Ok(text)
+        }
+        None => Ok(Text::from_str(alloc, "")?),
     }
 }
 

@@ -59,7 +59,7 @@ fn cut_row(alloc: Global, text: &str) -> Result<(Text, Text), ReadFault>
                 return Err(Fault::Because(NotRead));
             }
             let name = Text::from_str(alloc, name)?;
-            let value = Text::from_str(alloc, value)?;
+            let value = Text::from_str(alloc, value)?.shared(alloc)?;
             Ok((name, value))
         }
         None => Err(Fault::Because(NotRead)),

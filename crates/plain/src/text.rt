@@ -1,20 +1,24 @@
 ghost use Rattle.std.specs.Prelude.{◌≡◌, length, IfOk};
 ghost use Rattle.std.specs.String.{string_bytes};
+ghost use Rattle.plain.specs.PrivateHeld.{bytes_of};
 
 use crate::{Exact, Memory};
 use arrayvec::ArrayString;
 use std::alloc::Global;
 use std::cmp::Ordering;
 use std::marker::Model;
+use std::sync::Arc;
 
 /// The most bytes of a text that lies in the value itself: with more, a `Text` would take more than 32 bytes.
 const SHORT: usize = 16;
 
-/// Where a text's bytes lie: a short one's in the value itself, which takes no memory of its own and no step through a pointer.
+/// Where a text's bytes lie: a short one's in the value itself, which takes no memory of its own and no step through a pointer; a long
+/// one's in memory of its own, or in memory that its copies share, so that a value which thousands of rows hold is there once.
 #[derive(Debug, Drop)]
 enum Held {
     Short(ArrayString<SHORT>),
     Long(String),
+    Shared(Arc<String, Global>),
 }
 
 /// A text, which contracts see as the list of its bytes in UTF-8. Texts are ordered by their bytes.
@@ -65,7 +69,19 @@ impl Text {
         Ok(Text { held })
     }
 
-    /// The text as a `String`. It takes memory for a text that lies in the value itself.
+    /// The same text, whose copies share its bytes. It takes no memory for a text that lies in the value itself, or may lie there.
+    pub fn shared(self, alloc: Global) -> Result<Text, Memory>
+        ensures { IfOk result (λ text. text ≡ self) }
+    {
+        let Text { held } = self;
+        let held = match held {
+            Held::Long(text) => shared_string(alloc, text)?,
+            held => held,
+        };
+        Ok(Text { held })
+    }
+
+    /// The text as a `String`. It takes memory for a text that lies in the value itself, and for one whose bytes others share.
     pub fn into_string(self, alloc: Global) -> Result<String, Memory>
         ensures { IfOk result (λ text. string_bytes text ≡ self) }
     {
@@ -73,6 +89,10 @@ impl Text {
         match held {
             Held::Short(text) => Ok(String::from_str(alloc, text.as_str())?),
             Held::Long(text) => Ok(text),
+            Held::Shared(text) => match Arc::try_unwrap(text) {
+                Ok(text) => Ok(text),
+                Err(text) => Ok(String::from_str(alloc, text.as_str())?),
+            },
         }
     }
 
@@ -83,6 +103,7 @@ impl Text {
         match &self.held {
             Held::Short(text) => text.as_str(),
             Held::Long(text) => text.as_str(),
+            Held::Shared(text) => text.as_str(),
         }
     }
 
@@ -93,7 +114,18 @@ impl Text {
         match &self.held {
             Held::Short(text) => text.len(),
             Held::Long(text) => text.len(),
+            Held::Shared(text) => text.len(),
         }
+    }
+}
+
+/// Where the bytes of a string lie so that copies share them.
+fn shared_string(alloc: Global, text: String) -> Result<Held, Memory>
+    ensures { IfOk result (λ held. bytes_of held ≡ string_bytes text) }
+{
+    match ArrayString::from(text.as_str()) {
+        Ok(short) => Ok(Held::Short(short)),
+        Err(_) => Ok(Held::Shared(Arc::new(alloc, text)?)),
     }
 }
 
@@ -103,7 +135,12 @@ impl Exact for Text {
     }
 
     fn copy(&self, alloc: Global) -> Result<Text, Memory> {
-        Text::from_str(alloc, self.as_str())
+        match &self.held {
+            Held::Shared(text) => Ok(Text {
+                held: Held::Shared(Arc::try_clone(text)?),
+            }),
+            _ => Text::from_str(alloc, self.as_str()),
+        }
     }
 }
 

@@ -37,13 +37,14 @@ impl Args {
         }
     }
 
-    /// Gives a name a value, in place of the one that it has. After `Memory` the arguments are as they were.
+    /// Gives a name a value, in place of the one that it has. Whoever takes a copy of it shares its bytes. After `Memory` the arguments are as they were.
     pub fn set(&mut self, alloc: Global, name: &str, value: &str) -> Result<(), Memory>
         ensures ok { OnOk result (self.new ≡ map.insert self.old name.now value.now) }
         ensures err { OnErr result (self.new ≡ self.old) }
     {
         let name = String::from_str(alloc, name)?;
-        let value = Text::from_str(alloc, value)?;
+        let copied = Text::from_str(alloc, value)?;
+        let value = copied.shared(alloc)?;
         self.values.insert(name, value)?;
         Ok(())
     }

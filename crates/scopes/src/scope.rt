@@ -11,7 +11,7 @@ use crate::maps::{env_count, listed, push_arguments, push_variables, put_all, wi
 use expand::Lookup;
 use indexmap::IndexMap;
 use instructions::{Argument, Assignment};
-use plain::{Items, Memory, Text, Variable};
+use plain::{Exact, Items, Memory, Text, Variable};
 use std::alloc::Global;
 use std::marker::Model;
 use words::TextFault;
@@ -83,14 +83,16 @@ impl Scope {
         Ok(())
     }
 
-    /// Adds a variable of a base image, whose value is taken as it stands. After `Memory` the scope is as it was.
-    pub fn inherit(&mut self, alloc: Global, name: &str, value: &str) -> Result<(), Memory>
+    /// Adds a variable of a base image, whose value is taken as it stands: it shares the bytes of one that is shared. After `Memory` the
+    /// scope is as it was.
+    pub fn inherit(&mut self, alloc: Global, name: &str, value: &Text) -> Result<(), Memory>
         ensures ok { OnOk result (self.new ≡ kept (self.old ++ Env name.now value.now ∷ [])) }
         ensures err { OnErr result (self.new ≡ self.old) }
     {
         let mut line = Items::new(alloc);
         let name = Text::from_str(alloc, name)?;
-        let value = Text::from_str(alloc, value)?;
+        let value = value.copy(alloc)?;
+        let value = value.shared(alloc)?;
         line.push(Declaration::Env { name, value })?;
         self.add(alloc, line)
     }

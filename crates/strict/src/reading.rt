@@ -34,7 +34,8 @@ impl FromJson for Text {
         let Some(text) = value.as_str() else {
             return Err(Fault::Because(NotRead));
         };
-        Ok(Text::from_str(alloc, text)?)
+        let text = Text::from_str(alloc, text)?;
+        Ok(text.shared(alloc)?)
     }
 }
 
