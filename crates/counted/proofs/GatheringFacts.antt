@@ -28,6 +28,15 @@ says_none s = record {
   still = λ a. record { failed = a; contents = refl; count = refl };
 }
 
+-- what is taken in behind what is gathered is said
+pub says_taken : (contents : Option (List ℕ)) (failures : ℕ) (old new : Gathering) (text : List ℕ) → new.bytes ≡ old.bytes ++ text → new.failed ≡ old.failed
+    → Says (sink contents failures old) (sink contents failures new) text
+says_taken contents failures old new text taken same = record {
+  whole = λ a b. record { front = []; whole = sym taken; grown = Appends-nil contents; count = refl };
+  broken = λ a b. apart old.failed (sym same ∙ b) a;
+  still = λ a. record { failed = same ∙ a; contents = refl; count = refl };
+}
+
 -- ---- two calls
 
 gathered_both : {old mid new : Sink} {first second : List ℕ} → IsGathered old mid first → IsGathered mid new second → IsGathered old new (first ++ second)

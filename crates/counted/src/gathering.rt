@@ -15,20 +15,23 @@ const ROOM: usize = 65536;
 /// `Result`.
 #[derive(Drop)]
 pub struct Gathered {
+    /// As long as there is room, all the time: so taking in a piece is a copy, and asks for no memory.
     buffer: Vec<u8>,
+    /// How many bytes at the front of the buffer are gathered.
+    filled: usize,
     failed: bool,
 }
 
 impl Model for Gathered {
-    ghost use Rattle.std.specs.Prelude.{◌≤◌, vec_len, vec_capacity};
+    ghost use Rattle.std.specs.Prelude.{◌≡◌, ◌≤◌, vec_len, take};
     ghost use Rattle.counted.specs.Gathering.{Gathering, held};
     ghost use Rattle.counted.specs.declared.gathering.TheConstants.{ROOM};
 
     ghost Value = { Gathering };
 
-    ghost view = { λ g. held g.buffer.items g.failed };
+    ghost view = { λ g. held (take g.filled g.buffer.items) g.failed };
 
-    ghost invariant = { λ g. (vec_len g.buffer ≤ ROOM) × (ROOM ≤ vec_capacity g.buffer) };
+    ghost invariant = { λ g. (vec_len g.buffer ≡ ROOM) × (g.filled ≤ ROOM) };
 }
 
 impl Gathered {
@@ -36,9 +39,11 @@ impl Gathered {
     pub fn new(alloc: Global) -> Result<Gathered, Memory>
         ensures { IfOk result (λ gathered. gathered ≡ nothing) }
     {
-        let buffer = Vec::with_capacity(alloc, ROOM)?;
+        let mut buffer = Vec::with_capacity(alloc, ROOM)?;
+        buffer.resize(ROOM, 0)?;
         Ok(Gathered {
             buffer,
+            filled: 0,
             failed: false,
         })
     }
@@ -51,20 +56,24 @@ impl Gathered {
     }
 
     /// Whether there is room for so many more bytes.
+    #[inline(always)]
     fn is_room_for(&self, more: usize) -> bool
         ensures { IsTrue result ↔ (length self.now.bytes + more ≤ ROOM) }
     {
-        more <= ROOM - self.buffer.len()
+        more <= ROOM - self.filled
     }
 
     /// Takes in bytes behind those that are gathered.
+    #[inline(always)]
     fn take_in(&mut self, bytes: &[u8])
         requires { length self.old.bytes + length bytes.now ≤ ROOM }
         ensures says { (contents : Option (List ℕ)) (failures : ℕ)
             → Says (sink contents failures self.old) (sink contents failures self.new) bytes.now }
         ensures failed { self.new.failed ≡ self.old.failed }
     {
-        self.buffer.extend_from_slice(bytes).unwrap();
+        let end = self.filled + bytes.len();
+        self.buffer[self.filled..end].copy_from_slice(bytes);
+        self.filled = end;
     }
 }
 
@@ -72,6 +81,9 @@ impl Gathered {
 ///
 /// After a failed write it does nothing. The count of failed calls is a machine number, so a caller has to know that there is room for one
 /// more, unless one failed.
+///
+/// It stands in its callers' code, where the copy of a constant piece is a few stores; what is seldom done doesn't.
+#[inline(always)]
 pub fn gather<W: CountedWrite>(output: &mut W, gathered: &mut Gathered, bytes: &[u8])
     requires room { HasRoom (W.failures output.old) gathered.old }
     ensures says { Says
@@ -82,8 +94,21 @@ pub fn gather<W: CountedWrite>(output: &mut W, gathered: &mut Gathered, bytes: &
 {
     if gathered.is_room_for(bytes.len()) {
         gathered.take_in(bytes);
-        return;
+    } else {
+        gather_anew(output, gathered, bytes);
     }
+}
+
+/// Says bytes where what is gathered is written first.
+#[inline(never)]
+fn gather_anew<W: CountedWrite>(output: &mut W, gathered: &mut Gathered, bytes: &[u8])
+    requires room { HasRoom (W.failures output.old) gathered.old }
+    ensures says { Says
+        (sink (W.contents output.old) (W.failures output.old) gathered.old)
+        (sink (W.contents output.new) (W.failures output.new) gathered.new)
+        bytes.now }
+    ensures room { HasRoom (W.failures output.new) gathered.new }
+{
     flush(output, gathered);
     if gathered.is_room_for(bytes.len()) {
         gathered.take_in(bytes);
@@ -100,11 +125,15 @@ pub fn finish<W: CountedWrite>(output: &mut W, gathered: Gathered) -> Result<(),
         → Says (sink contents failures nothing) (sink (W.contents output.old) (W.failures output.old) gathered) text
         → IsWritten contents failures (W.contents output.new) (W.failures output.new) text result }
 {
-    let Gathered { buffer, failed } = gathered;
+    let Gathered {
+        buffer,
+        filled,
+        failed,
+    } = gathered;
     if failed {
         return Err(Fault::Because(Device));
     }
-    write_all(output, buffer.as_slice())
+    write_all(output, &buffer[..filled])
 }
 
 /// Writes what is gathered; then nothing is.
@@ -117,8 +146,8 @@ fn flush<W: CountedWrite>(output: &mut W, gathered: &mut Gathered)
     ensures empty { gathered.new.bytes ≡ [] }
     ensures room { HasRoom (W.failures output.new) gathered.new }
 {
-    gathered.failed = write_piece(output, gathered.failed, gathered.buffer.as_slice());
-    gathered.buffer.clear();
+    gathered.failed = write_piece(output, gathered.failed, &gathered.buffer[..gathered.filled]);
+    gathered.filled = 0;
 }
 
 /// Writes bytes past what is gathered, which is nothing.

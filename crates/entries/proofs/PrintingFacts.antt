@@ -79,6 +79,10 @@ mode-plain mode small =
     both_hold _ _ (octal-plain (mode / 512) (omega arith)) (both_hold _ _ (octal-plain (mode / 64 % 8) (omega arith))
     (both_hold _ _ (octal-plain (mode / 8 % 8) (omega arith)) (both_hold _ _ (octal-plain (mode % 8) (omega arith)) refl)))
 
+-- the four digits of a mode, and what stands behind them
+pub same_digits : {a b c d p q r s : ℕ} (rest : List ℕ) → a ≡ p → b ≡ q → c ≡ r → d ≡ s → a ∷ (b ∷ (c ∷ (d ∷ rest))) ≡ p ∷ (q ∷ (r ∷ (s ∷ rest)))
+same_digits {a} {b} {c} {d} {p} {q} {r} {s} rest first second third last = cc
+
 pub hex-plain : (bytes : List ℕ) → IsBytes bytes → list_all is_plain (encode_lower bytes) ≡ true
 unfolding encode_with
 hex-plain [] h = refl
@@ -96,33 +100,39 @@ behind_mode path uid = codes ",\"path\":" ++ (quoted path ++ (codes ",\"uid\":" 
 abbrev last_members : List ℕ → List ℕ → ℕ → Members
 last_members mode path uid = member (codes "mode") (string mode) (member (codes "path") (string path) (member (codes "uid") (number (unsigned uid)) no_members))
 
+in_quotes : (s rest : List ℕ) → quoted s ++ rest ≡ 34 ∷ (escape s ++ 34 ∷ rest)
+in_quotes s rest = ap (λ e. 34 ∷ e) (append_assoc (escape s) (34 ∷ []) rest)
+
 -- what stands in quotes and isn't escaped
-in_quotes : (s rest : List ℕ) → escape s ≡ s → quoted s ++ rest ≡ 34 ∷ (s ++ 34 ∷ rest)
-in_quotes s rest plain = ap (λ e. 34 ∷ ((e ++ 34 ∷ []) ++ rest)) plain ∙ ap (λ e. 34 ∷ e) (append_assoc s (34 ∷ []) rest)
+plain_in_quotes : (s rest : List ℕ) → escape s ≡ s → quoted s ++ rest ≡ 34 ∷ (s ++ 34 ∷ rest)
+plain_in_quotes s rest plain = in_quotes s rest ∙ ap (λ e. 34 ∷ (e ++ 34 ∷ rest)) plain
 
 last-text : (mode path : List ℕ) (uid : ℕ) → escape mode ≡ mode
-    → members_text true (last_members mode path uid) ≡ codes ",\"mode\":\"" ++ (mode ++ 34 ∷ behind_mode path uid)
+    → members_text true (last_members mode path uid) ≡ codes ",\"mode\":\"" ++ (mode ++ (codes "\",\"path\":\"" ++ (escape path ++ (codes "\",\"uid\":" ++ (decimal uid ++ codes "}")))))
 unfolding escape_byte
-last-text mode path uid plain = ap (λ e. codes ",\"mode\":" ++ e) (in_quotes mode (behind_mode path uid) plain)
+last-text mode path uid plain =
+    ap (λ e. codes ",\"mode\":" ++ e) (plain_in_quotes mode (behind_mode path uid) plain)
+    ∙ ap (λ e. codes ",\"mode\":\"" ++ (mode ++ (codes "\",\"path\":" ++ e))) (in_quotes path (codes ",\"uid\":" ++ (decimal uid ++ codes "}")))
 
-end-is : (path : List (List ℕ)) (meta : Meta) → meta.mode < 4096 → members_text true (last_members (mode_text meta.mode) (text_of path) meta.uid) ≡ end_text path meta
+end-is : (path : List (List ℕ)) (meta : Meta) → meta.mode < 4096
+    → members_text true (last_members (mode_text meta.mode) (text_of path) meta.uid) ≡ codes ",\"mode\":\"" ++ end_text path meta
 end-is path meta small = last-text (mode_text meta.mode) (text_of path) meta.uid (escape-plain (mode_text meta.mode) (mode-plain meta.mode small))
 
 pub directory-text : (path : List (List ℕ)) (meta : Meta) → meta.mode < 4096
-    → compact_text (entry_data path (Directory meta)) ≡ codes "{\"dir\":true,\"gid\":" ++ (decimal meta.gid ++ end_text path meta)
+    → compact_text (entry_data path (Directory meta)) ≡ codes "{\"dir\":true,\"gid\":" ++ (decimal meta.gid ++ (codes ",\"mode\":\"" ++ end_text path meta))
 unfolding escape_byte
 directory-text path meta small = ap (λ e. codes "{\"dir\":true,\"gid\":" ++ (decimal meta.gid ++ e)) (end-is path meta small)
 
 hex-then : (hex : List ℕ) (gid : ℕ) (rest : List ℕ) → escape hex ≡ hex
     → codes "{\"gid\":" ++ (decimal gid ++ (codes ",\"hex\":" ++ (quoted hex ++ rest))) ≡ codes "{\"gid\":" ++ (decimal gid ++ (codes ",\"hex\":\"" ++ (hex ++ (codes "\"" ++ rest))))
-hex-then hex gid rest plain = ap (λ e. codes "{\"gid\":" ++ (decimal gid ++ (codes ",\"hex\":" ++ e))) (in_quotes hex rest plain)
+hex-then hex gid rest plain = ap (λ e. codes "{\"gid\":" ++ (decimal gid ++ (codes ",\"hex\":" ++ e))) (plain_in_quotes hex rest plain)
 
 pub file-text : (path : List (List ℕ)) (meta : Meta) (bytes : List ℕ) → meta.mode < 4096 → IsBytes bytes
-    → compact_text (entry_data path (File meta bytes)) ≡ codes "{\"gid\":" ++ (decimal meta.gid ++ (codes ",\"hex\":\"" ++ (encode_lower bytes ++ (codes "\"" ++ end_text path meta))))
+    → compact_text (entry_data path (File meta bytes)) ≡ codes "{\"gid\":" ++ (decimal meta.gid ++ (codes ",\"hex\":\"" ++ (encode_lower bytes ++ (codes "\",\"mode\":\"" ++ end_text path meta))))
 unfolding escape_byte
 file-text path meta bytes small fits =
     ap (λ e. codes "{\"gid\":" ++ (decimal meta.gid ++ (codes ",\"hex\":" ++ (quoted (encode_lower bytes) ++ e)))) (end-is path meta small)
-    ∙ hex-then (encode_lower bytes) meta.gid (end_text path meta) (escape-plain (encode_lower bytes) (hex-plain bytes fits))
+    ∙ hex-then (encode_lower bytes) meta.gid (codes ",\"mode\":\"" ++ end_text path meta) (escape-plain (encode_lower bytes) (hex-plain bytes fits))
 
 encode-append : (t a b : List ℕ) → encode_with t (a ++ b) ≡ encode_with t a ++ encode_with t b
 unfolding encode_with

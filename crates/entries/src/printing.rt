@@ -1,11 +1,10 @@
-ghost use Rattle.std.specs.Prelude.{◌≡◌, ◌+◌, ◌<◌, ◌≤◌, ◌∷◌, ◌++◌, length, decimal};
+ghost use Rattle.std.specs.Prelude.{◌≡◌, ◌+◌, ◌<◌, ◌≤◌, ◌∷◌, ◌++◌, length, codes, decimal};
 ghost use Rattle.std.specs.Char.{digit_char};
 ghost use Rattle.std.specs.List.{list_all};
 ghost use Rattle.hex.specs.Hex.{encode_lower};
 ghost use Rattle.json.specs.Print.{escape, escape_byte, escape_letter};
 ghost use Rattle.paths.specs.Path.{text_of};
 ghost use Rattle.counted.specs.Gathering.{sink, Says, HasRoom};
-ghost use Rattle.serde_json.specs.Data.{string};
 ghost use Rattle.serde_json.specs.Written.{comma_if, compact_text};
 ghost use Rattle.trees.specs.declared.entry.Entry.TheVariants.{Directory, File};
 ghost use Rattle.trees.specs.Rows.{lent_names};
@@ -45,6 +44,7 @@ pub fn put_tree<W: CountedWrite>(output: &mut W, gathered: &mut Gathered, walk: 
 }
 
 /// Says an entry with its path, which has these names, behind a comma where others stand before.
+#[tactic(auto, unfolding(crate::specs::PrivatePrinting::entry_text))]
 fn put_row<W: CountedWrite>(
     output: &mut W,
     gathered: &mut Gathered,
@@ -59,44 +59,19 @@ fn put_row<W: CountedWrite>(
         (comma_if later ++ entry_text (lent_names names.now) entry.now) }
     ensures room { HasRoom (W.failures output.new) gathered.new }
 {
-    gather(output, gathered, comma_before(later));
-    put_entry(output, gathered, names, entry);
-}
-
-/// The comma that stands before a later entry.
-fn comma_before(later: bool) -> &'static [u8]
-    ensures { result.now ≡ comma_if later }
-{
-    if later { b"," } else { b"" }
-}
-
-/// Says an entry with its path.
-#[tactic(auto, unfolding(crate::specs::PrivatePrinting::entry_text))]
-fn put_entry<W: CountedWrite>(
-    output: &mut W,
-    gathered: &mut Gathered,
-    names: &[&Text],
-    entry: &Entry,
-)
-    requires room { HasRoom (W.failures output.old) gathered.old }
-    ensures says { Says
-        (sink (W.contents output.old) (W.failures output.old) gathered.old)
-        (sink (W.contents output.new) (W.failures output.new) gathered.new)
-        (entry_text (lent_names names.now) entry.now) }
-    ensures room { HasRoom (W.failures output.new) gathered.new }
-{
     match entry {
-        Entry::Directory(meta) => put_directory(output, gathered, names, *meta),
+        Entry::Directory(meta) => put_directory(output, gathered, later, names, *meta),
         Entry::File(meta, content) => {
-            put_file(output, gathered, names, *meta, content.as_slice());
+            put_file(output, gathered, later, names, *meta, content.as_slice());
         }
     }
 }
 
-/// Says a directory with its path.
+/// Says a directory with its path, behind a comma where others stand before.
 fn put_directory<W: CountedWrite>(
     output: &mut W,
     gathered: &mut Gathered,
+    later: bool,
     names: &[&Text],
     meta: Meta,
 )
@@ -104,19 +79,32 @@ fn put_directory<W: CountedWrite>(
     ensures says { Says
         (sink (W.contents output.old) (W.failures output.old) gathered.old)
         (sink (W.contents output.new) (W.failures output.new) gathered.new)
-        (compact_text (entry_data (lent_names names.now) (Directory meta))) }
+        (comma_if later ++ compact_text (entry_data (lent_names names.now) (Directory meta))) }
     ensures room { HasRoom (W.failures output.new) gathered.new }
 {
     let _mode = meta.mode.bits();
-    gather(output, gathered, b"{\"dir\":true,\"gid\":");
+    gather(output, gathered, directory_start(later));
     put_number(output, gathered, meta.gid);
+    gather(output, gathered, b",\"mode\":\"");
     put_end(output, gathered, names, meta);
 }
 
-/// Says a file with its path.
+/// What a directory's text begins with, and the comma before a later one.
+fn directory_start(later: bool) -> &'static [u8]
+    ensures { result.now ≡ comma_if later ++ codes "{\"dir\":true,\"gid\":" }
+{
+    if later {
+        b",{\"dir\":true,\"gid\":"
+    } else {
+        b"{\"dir\":true,\"gid\":"
+    }
+}
+
+/// Says a file with its path, behind a comma where others stand before.
 fn put_file<W: CountedWrite>(
     output: &mut W,
     gathered: &mut Gathered,
+    later: bool,
     names: &[&Text],
     meta: Meta,
     bytes: &[u8],
@@ -125,19 +113,26 @@ fn put_file<W: CountedWrite>(
     ensures says { Says
         (sink (W.contents output.old) (W.failures output.old) gathered.old)
         (sink (W.contents output.new) (W.failures output.new) gathered.new)
-        (compact_text (entry_data (lent_names names.now) (File meta bytes.now))) }
+        (comma_if later ++ compact_text (entry_data (lent_names names.now) (File meta bytes.now))) }
     ensures room { HasRoom (W.failures output.new) gathered.new }
 {
     let _mode = meta.mode.bits();
-    gather(output, gathered, b"{\"gid\":");
+    gather(output, gathered, file_start(later));
     put_number(output, gathered, meta.gid);
     gather(output, gathered, b",\"hex\":\"");
     put_hex(output, gathered, bytes);
-    gather(output, gathered, b"\"");
+    gather(output, gathered, b"\",\"mode\":\"");
     put_end(output, gathered, names, meta);
 }
 
-/// Says what directories and files end with: mode, path and user.
+/// What a file's text begins with, and the comma before a later one.
+fn file_start(later: bool) -> &'static [u8]
+    ensures { result.now ≡ comma_if later ++ codes "{\"gid\":" }
+{
+    if later { b",{\"gid\":" } else { b"{\"gid\":" }
+}
+
+/// Says what directories and files end with: the mode's digits, path and user.
 fn put_end<W: CountedWrite>(output: &mut W, gathered: &mut Gathered, names: &[&Text], meta: Meta)
     requires room { HasRoom (W.failures output.old) gathered.old }
     ensures says { Says
@@ -146,32 +141,40 @@ fn put_end<W: CountedWrite>(output: &mut W, gathered: &mut Gathered, names: &[&T
         (end_text (lent_names names.now) meta) }
     ensures room { HasRoom (W.failures output.new) gathered.new }
 {
-    gather(output, gathered, b",\"mode\":\"");
     put_mode(output, gathered, meta.mode);
-    gather(output, gathered, b"\",\"path\":");
-    put_path(output, gathered, names);
-    gather(output, gathered, b",\"uid\":");
+    put_names(output, gathered, names);
+    gather(output, gathered, b"\",\"uid\":");
     put_number(output, gathered, meta.uid);
     gather(output, gathered, b"}");
 }
 
-/// Says a mode as four octal digits.
+/// Says a mode as four octal digits, and what stands between them and the path: one piece costs less than two.
 fn put_mode<W: CountedWrite>(output: &mut W, gathered: &mut Gathered, mode: Mode)
     requires room { HasRoom (W.failures output.old) gathered.old }
     ensures says { Says
         (sink (W.contents output.old) (W.failures output.old) gathered.old)
         (sink (W.contents output.new) (W.failures output.new) gathered.new)
-        (mode_text mode) }
+        (mode_text mode ++ codes "\",\"path\":\"") }
     ensures room { HasRoom (W.failures output.new) gathered.new }
 {
     let bits = mode.bits();
-    let digits = [
+    let piece = [
         octal_digit(bits / 512),
         octal_digit(bits / 64 % 8),
         octal_digit(bits / 8 % 8),
         octal_digit(bits % 8),
+        b'"',
+        b',',
+        b'"',
+        b'p',
+        b'a',
+        b't',
+        b'h',
+        b'"',
+        b':',
+        b'"',
     ];
-    gather(output, gathered, &digits);
+    gather(output, gathered, &piece);
 }
 
 /// Says a number in decimal.
@@ -221,20 +224,6 @@ fn put_digits<W: CountedWrite>(output: &mut W, gathered: &mut Gathered, piece: &
     let digits = &mut digits[..2 * piece.len()];
     hex::encode_to_slice(piece, digits).unwrap();
     gather(output, gathered, digits);
-}
-
-/// Says the path of these names as a JSON string.
-fn put_path<W: CountedWrite>(output: &mut W, gathered: &mut Gathered, names: &[&Text])
-    requires room { HasRoom (W.failures output.old) gathered.old }
-    ensures says { Says
-        (sink (W.contents output.old) (W.failures output.old) gathered.old)
-        (sink (W.contents output.new) (W.failures output.new) gathered.new)
-        (compact_text (string (text_of (lent_names names.now)))) }
-    ensures room { HasRoom (W.failures output.new) gathered.new }
-{
-    gather(output, gathered, b"\"");
-    put_names(output, gathered, names);
-    gather(output, gathered, b"\"");
 }
 
 /// Says the text of the path of these names as it stands in a JSON string.

@@ -1,8 +1,0 @@
-use Rattle.counted.proofs.GatheringFacts.{says_both}
-use Rattle.counted.proofs.gathering.gather.Goals as goal
-
-pub returns-then-is_room_for-2-clause-says : goal.returns-then-is_room_for-2-clause-says
-returns-then-is_room_for-2-clause-says g c = says_both c.flush.ensures.says (c.take_in-then-is_room_for-2.ensures.says _ _)
-
-pub returns-else-is_room_for-2-clause-says : goal.returns-else-is_room_for-2-clause-says
-returns-else-is_room_for-2-clause-says g c = says_both c.flush.ensures.says c.pass.ensures.says

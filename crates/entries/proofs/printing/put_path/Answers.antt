@@ -1,5 +1,0 @@
-use Rattle.counted.proofs.GatheringFacts.{says_both}
-use Rattle.entries.proofs.printing.put_path.Goals as goal
-
-pub returns-clause-says : goal.returns-clause-says
-returns-clause-says g c = says_both c.gather.ensures.says (says_both c.put_names.ensures.says c.gather-2.ensures.says)
