@@ -1,3 +1,4 @@
+mod CutLaws
 pub mod FrontLaws
 pub mod PathLaws
 pub mod ReadingLaws

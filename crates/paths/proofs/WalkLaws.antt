@@ -1,15 +1,13 @@
 -- What a walk keeps of the path that it has come to, after each kind of piece, and the bounds that its path has.
-use Rattle.std.proofs.Common.{◌≡◌, ◌+◌, ◌-◌, ◌<◌, ◌≤◌, ◌==◌, ℕ, true, false, cond, Some, None, nat_lt, List, [], ◌∷◌, ◌++◌, length, map, take, refl, sym, ◌∙◌, ap, subst, arith, length-append}
+use Rattle.std.proofs.Common.{◌≡◌, ◌+◌, ◌-◌, ◌<◌, ◌≤◌, ℕ, true, false, Some, None, nat_lt, List, [], ◌∷◌, ◌++◌, length, take, refl, sym, ◌∙◌, ap, arith, length-append}
 use Rattle.std.specs.List.{list_all}
-use Rattle.std.proofs.lemmas.List.{take_all, take-take, take-append-le, take-map, length-take, length-map, map-append}
-use Rattle.std.proofs.lemmas.List.Sums.{count_by-le-length}
-use Rattle.std.proofs.lemmas.List.Splits.{length-slice_split}
+use Rattle.std.proofs.lemmas.List.{take_all, take-take, take-append-le, length-take}
 use Rattle.std.proofs.lemmas.Bool.{lt-ltb, le-ltb}
-use Rattle.paths.specs.Path.{climbed, IsClean, is_idle, is_up, is_name, are_short}
+use Rattle.paths.specs.Path.{climbed, IsClean, is_name, are_short}
 use Rattle.paths.specs.PrivateWalk.{IsWalk}
-use Rattle.paths.specs.Reading.{pieces, stepped, walked, limit_of}
+use Rattle.paths.specs.Reading.{pieces, walked, limit_of}
 use Rattle.paths.specs.declared.fault.PathLimit.TheVariants.{TooDeep, TooLong}
-use Rattle.paths.proofs.ReadingLaws.{list_all-take, walked-append}
+use Rattle.paths.proofs.ReadingLaws.{list_all-take}
 
 -- where nothing is beyond, all is kept
 all_kept : (kept : List (List ℕ)) (beyond : ℕ) (p : List (List ℕ)) → IsWalk kept beyond p → length p ≤ 64 → kept ≡ p
@@ -30,13 +28,13 @@ walk_up_beyond kept beyond p some h =
       more = omega (arith, length-take (length p - 1) p);
     }
 
-pub walk_up : (kept : List (List ℕ)) (beyond : ℕ) (p : List (List ℕ)) → beyond ≤ 0 → IsWalk kept beyond p → IsWalk (take (length kept - 1) kept) beyond (climbed p)
-walk_up kept beyond p none h =
+pub walk_up : (kept after : List (List ℕ)) (n beyond : ℕ) (p : List (List ℕ)) → after ≡ take (n - 1) kept → n ≡ length kept → beyond ≤ 0 → IsWalk kept beyond p → IsWalk after beyond (climbed p)
+walk_up kept after n beyond p shorter_by n_is none h =
     let more = h.more in
     let all = all_kept kept beyond p h (omega arith) in
     let shorter = length-take (length p - 1) p in
     record {
-      first = ap (λ q. take (length q - 1) q) all ∙ sym (take_all 64 (climbed p) (omega arith));
+      first = shorter_by ∙ (ap (λ m. take (m - 1) kept) n_is ∙ (ap (λ q. take (length q - 1) q) all ∙ sym (take_all 64 (climbed p) (omega arith))));
       more = omega arith;
     }
 
@@ -62,48 +60,13 @@ walk_down_beyond kept beyond p name full h =
       more = omega arith;
     }
 
--- the same of a list whose elements are read by now, as references are
-
-pub walk_up_of : {A : Type 0} (now : A → List ℕ) (items rest : List A) (n beyond : ℕ) (p : List (List ℕ)) → rest ≡ take (n - 1) items → n ≡ length items → beyond ≤ 0 → IsWalk (map now items) beyond p → IsWalk (map now rest) beyond (climbed p)
-walk_up_of now items rest n beyond p e n_is none h =
-    let same : take (length (map now items) - 1) (map now items) ≡ map now rest = ap (λ m. take (m - 1) (map now items)) (length-map items now ∙ sym n_is) ∙ (take-map now (n - 1) items ∙ ap (λ xs. map now xs) (sym e)) in
-    subst (λ kept. IsWalk kept beyond (climbed p)) same (walk_up (map now items) beyond p none h)
-
-pub walk_down_of : {A : Type 0} (now : A → List ℕ) (items after : List A) (name : A) (beyond : ℕ) (p : List (List ℕ)) → after ≡ items ++ name ∷ [] → length items < 64 → IsWalk (map now items) beyond p → IsWalk (map now after) beyond (p ++ now name ∷ [])
-walk_down_of now items after name beyond p e few h =
-    let same : map now items ++ now name ∷ [] ≡ map now after = sym (map-append now items (name ∷ [])) ∙ ap (λ xs. map now xs) (sym e) in
-    let long = length-map items now in
-    subst (λ kept. IsWalk kept beyond (p ++ now name ∷ [])) same (walk_down (map now items) beyond p (now name) (omega arith) h)
-
-pub walk_down_beyond_of : {A : Type 0} (now : A → List ℕ) (items : List A) (name : A) (beyond : ℕ) (p : List (List ℕ)) → 64 ≤ length items → IsWalk (map now items) beyond p → IsWalk (map now items) (beyond + 1) (p ++ now name ∷ [])
-walk_down_beyond_of now items name beyond p full h =
-    let long = length-map items now in
-    walk_down_beyond (map now items) beyond p (now name) (omega arith) h
-
--- a walk goes on by one piece
-pub walked_more : {A : Type 0} (now : A → List ℕ) (start : List (List ℕ)) (pieces : List A) (piece : A) → walked start (map now (pieces ++ piece ∷ [])) ≡ stepped (walked start (map now pieces)) (now piece)
-walked_more now start pieces piece =
-    ap (λ ps. walked start ps) (map-append now pieces (piece ∷ [])) ∙ walked-append start (map now pieces) (now piece ∷ [])
-
-length-stepped : (p : List (List ℕ)) (piece : List ℕ) → length (stepped p piece) ≤ length p + 1
-length-stepped p piece =
-    let shorter = length-take (length p - 1) p in
-    let longer = length-append p (piece ∷ []) in
-    elim (is_idle piece) as (λ i. length (cond i p (cond (is_up piece) (climbed p) (p ++ piece ∷ []))) ≤ length p + 1) [
-      | true ↦ omega arith
-      | false ↦ elim (is_up piece) as (λ u. length (cond u (climbed p) (p ++ piece ∷ [])) ≤ length p + 1) [ true ↦ omega arith | false ↦ omega arith ]
-    ]
-
--- a walk gets no deeper than its pieces are many
-pub length-walked : (p ps : List (List ℕ)) → length (walked p ps) ≤ length p + length ps
-length-walked p [] = omega arith
-length-walked p (piece ∷ ps) = omega (arith, length-stepped p piece, length-walked (stepped p piece) ps)
-
--- a text has at most one piece more than bytes
-pub length-pieces : (text : List ℕ) → length (pieces text) ≤ length text + 1
-length-pieces text =
-    let slashes = count_by-le-length (λ b. b == 47) text in
-    omega (arith, length-slice_split (λ b. b == 47) text)
+-- from the path that a walk has come to, the rest of a text leads to where the whole text leads from its start. Each component that
+-- was added cost the text a byte
+pub record LeadsOn (kept : List (List ℕ)) (beyond : ℕ) (rest : List ℕ) (start : List (List ℕ)) (text : List ℕ) : Type 0 where
+  pub at : List (List ℕ)
+  pub is : IsWalk kept beyond at
+  pub leads : walked at (pieces rest) ≡ walked start (pieces text)
+  pub few : length at + length rest ≤ 64 + length text
 
 -- what is told of the path that a walk has come to
 

@@ -1,5 +1,5 @@
 -- What a reading keeps of the path that it has come to, so that it keeps no more than 64 components whatever the text is:
--- the first 64, as parts of the text that is lent, and how many more there are.
+-- the first 64, and how many more there are.
 use Rattle.std.specs.Prelude.{◌≡◌, ◌-◌, ℕ, List, length, take}
 use Rattle.plain.specs.Limits.{most_components}
 

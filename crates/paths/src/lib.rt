@@ -18,6 +18,7 @@ pub mod laws;
 mod long;
 mod name;
 mod path;
+mod pieces;
 mod reading;
 
 pub use fault::{PathFault, PathLimit};

@@ -1,61 +1,61 @@
-ghost use Rattle.std.specs.Prelude.{◌≡◌, ◌≤◌, ◌<◌, ◌+◌, ◌^◌, ℕ, true, List, [], ◌∷◌, ◌++◌, if◌then◌else◌, length, map, IfOk};
+ghost use Rattle.std.specs.Prelude.{◌≡◌, ◌≤◌, ◌<◌, ◌+◌, ◌^◌, ℕ, true, List, [], ◌∷◌, ◌++◌, if◌then◌else◌, length, IfOk, OnOk};
 ghost use Rattle.std.specs.List.{list_all};
-ghost use Rattle.arrayvec.specs.ArrayVec.{array_vec_len};
 ghost use Rattle.plain.specs.Limits.{most_components};
 ghost use Rattle.paths.specs.Path.{IsClean, is_idle, is_up, is_name, are_short, climbed};
 ghost use Rattle.paths.specs.Reading.{IsRead, read_from, is_absolute, stepped, pieces, walked};
 ghost use Rattle.paths.specs.PrivateWalk.{IsWalk};
 
+use crate::pieces::{count_filled, cut_at_slash};
 use crate::{Path, PathFault, PathLimit};
-use arrayvec::ArrayVec;
 use plain::limits::{MOST_COMPONENT_BYTES, MOST_COMPONENTS};
-use plain::{Fault, Memory, Text};
+use plain::{Exact, Fault, Memory, Text};
 use std::alloc::Global;
 
 /// A walk along the pieces of a text. However many these are, it keeps no more than the first 64 components of the path that it has
-/// come to: of the others it only counts how many there are, since a path that ends with any of them is too deep. So what it keeps
-/// lies in the value itself, and a reading takes memory for its path alone.
+/// come to: of the others it only counts how many there are, since a path that ends with any of them is too deep. What it keeps
+/// becomes the path's own list, so a component is copied once. One that is too long is kept until the end: a `..` may still take it
+/// away.
 #[derive(Drop)]
-struct Walk<'a> {
-    kept: ArrayVec<&'a str, MOST_COMPONENTS>,
+struct Walk {
+    kept: Vec<Text>,
     beyond: usize,
 }
 
-impl<'a> Walk<'a> {
-    /// A walk that has come to a path.
-    fn begin(start: &'a [Text]) -> Walk<'a>
+impl Walk {
+    /// A walk that has come to a path, and has room for so many components.
+    fn begin(alloc: Global, start: &[Text], room: usize) -> Result<Walk, Memory>
         requires { length start.now ≤ most_components }
-        ensures { IsWalk (map (λ part. part.now) result.kept.items) result.beyond start.now }
+        ensures { IfOk result (λ walk. IsWalk walk.kept.items walk.beyond start.now) }
     {
-        let mut kept = ArrayVec::new();
+        let mut kept = Vec::with_capacity(alloc, room)?;
         for part in start {
-            kept.push(part.as_str());
+            kept.push(part.copy(alloc)?)?;
         }
-        Walk { kept, beyond: 0 }
+        Ok(Walk { kept, beyond: 0 })
     }
 
     /// Goes where one piece of a text leads.
-    fn step(&mut self, piece: &'a str)
+    fn step(&mut self, alloc: Global, piece: &str) -> Result<(), Memory>
         requires { self.old.beyond + 1 < 2 ^ 64 }
-        ensures { (p : List (List ℕ))
-            → IsWalk (map (λ part. part.now) self.old.kept.items) self.old.beyond p
-            → IsWalk (map (λ part. part.now) self.new.kept.items) self.new.beyond (stepped p piece.entry.now) }
+        ensures { OnOk result ((p : List (List ℕ))
+            → IsWalk self.old.kept.items self.old.beyond p
+            → IsWalk self.new.kept.items self.new.beyond (stepped p piece.now)) }
     {
         if is_idle(piece) {
-            return;
+            return Ok(());
         }
         if is_up(piece) {
             self.climb();
-            return;
+            return Ok(());
         }
-        self.enter(piece);
+        self.enter(alloc, piece)
     }
 
     /// Goes up to the parent; at the root it stays.
     fn climb(&mut self)
         ensures { (p : List (List ℕ))
-            → IsWalk (map (λ part. part.now) self.old.kept.items) self.old.beyond p
-            → IsWalk (map (λ part. part.now) self.new.kept.items) self.new.beyond (climbed p) }
+            → IsWalk self.old.kept.items self.old.beyond p
+            → IsWalk self.new.kept.items self.new.beyond (climbed p) }
     {
         if self.beyond > 0 {
             self.beyond -= 1;
@@ -65,33 +65,35 @@ impl<'a> Walk<'a> {
     }
 
     /// Goes down to a name.
-    fn enter(&mut self, name: &'a str)
+    fn enter(&mut self, alloc: Global, name: &str) -> Result<(), Memory>
         requires { self.old.beyond + 1 < 2 ^ 64 }
-        ensures { (p : List (List ℕ))
-            → IsWalk (map (λ part. part.now) self.old.kept.items) self.old.beyond p
-            → IsWalk (map (λ part. part.now) self.new.kept.items) self.new.beyond (p ++ name.entry.now ∷ []) }
+        ensures { OnOk result ((p : List (List ℕ))
+            → IsWalk self.old.kept.items self.old.beyond p
+            → IsWalk self.new.kept.items self.new.beyond (p ++ name.now ∷ [])) }
     {
         if self.kept.len() < MOST_COMPONENTS {
-            self.kept.push(name);
+            self.kept.push(Text::from_str(alloc, name)?)?;
         } else {
             self.beyond += 1;
         }
+        Ok(())
     }
 
     /// The path that the walk has come to, or the limit that it breaks.
-    fn path(&self, alloc: Global) -> Result<Path, PathFault>
-        requires names { list_all is_name (map (λ part. part.now) self.now.kept.items) ≡ true }
-        requires few { array_vec_len self.now.kept ≤ most_components }
-        ensures { (p : List (List ℕ))
-            → IsWalk (map (λ part. part.now) self.now.kept.items) self.now.beyond p → IsRead p result }
+    fn path(self) -> Result<Path, PathFault>
+        requires names { list_all is_name self.kept.items ≡ true }
+        requires few { length self.kept.items ≤ most_components }
+        ensures { (p : List (List ℕ)) → IsWalk self.kept.items self.beyond p → IsRead p result }
     {
-        if self.beyond > 0 {
+        let Walk { mut kept, beyond } = self;
+        if beyond > 0 {
             return Err(Fault::Because(PathLimit::TooDeep));
         }
-        if !are_short(&self.kept) {
+        if !are_short(&kept) {
             return Err(Fault::Because(PathLimit::TooLong));
         }
-        Ok(Path::from_parts(copy_texts(alloc, &self.kept)?))
+        kept.shrink_to_fit();
+        Ok(Path::from_parts(kept))
     }
 }
 
@@ -110,21 +112,10 @@ pub(crate) fn is_up(piece: &str) -> bool
 }
 
 /// Whether no component is too long.
-fn are_short(parts: &[&str]) -> bool
-    ensures { result ≡ are_short (map (λ part. part.now) parts.now) }
+fn are_short(parts: &[Text]) -> bool
+    ensures { result ≡ are_short parts.now }
 {
     parts.iter().all(|part| part.len() <= MOST_COMPONENT_BYTES)
-}
-
-/// A copy of each component, in order.
-fn copy_texts(alloc: Global, parts: &[&str]) -> Result<Vec<Text>, Memory>
-    ensures { IfOk result (λ copied. copied.items ≡ map (λ part. part.now) parts.now) }
-{
-    let mut copied = Vec::with_capacity(alloc, parts.len())?;
-    for part in parts {
-        copied.push(Text::from_str(alloc, part)?)?;
-    }
-    Ok(copied)
 }
 
 /// The components that a text is read from: those of the base, and none for an absolute text.
@@ -139,15 +130,19 @@ fn start<'a>(text: &str, base: &'a Path) -> &'a [Text]
 }
 
 /// The walk from there along the pieces of a text.
-fn walk_along<'a>(text: &'a str, start: &'a [Text]) -> Walk<'a>
+fn walk_along(alloc: Global, text: &str, start: &[Text]) -> Result<Walk, Memory>
     requires { length start.now ≤ most_components }
-    ensures { IsWalk (map (λ part. part.now) result.kept.items) result.beyond (walked start.now (pieces text.now)) }
+    ensures { IfOk result (λ walk. IsWalk walk.kept.items walk.beyond (walked start.now (pieces text.now))) }
 {
-    let mut walk = Walk::begin(start);
-    for piece in text.split('/') {
-        walk.step(piece);
+    let most = start.len() + count_filled(text.as_bytes());
+    let mut walk = Walk::begin(alloc, start, most.min(MOST_COMPONENTS))?;
+    let mut rest = text;
+    while let Some((piece, behind)) = cut_at_slash(rest) {
+        walk.step(alloc, piece)?;
+        rest = behind;
     }
-    walk
+    walk.step(alloc, rest)?;
+    Ok(walk)
 }
 
 impl Path {
@@ -159,8 +154,8 @@ impl Path {
     pub fn read(alloc: Global, text: &str, base: &Path) -> Result<Path, PathFault>
         ensures { IsRead (read_from text.now base.now) result }
     {
-        let walk = walk_along(text, start(text, base));
-        walk.path(alloc)
+        let walk = walk_along(alloc, text, start(text, base))?;
+        walk.path()
     }
 
     /// The path that a text leads to from this one: an absolute text replaces it. It is `Path::read` with this path as

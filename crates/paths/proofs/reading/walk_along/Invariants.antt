@@ -1,11 +1,14 @@
-use Rattle.std.proofs.Common.{map}
-use Rattle.paths.specs.PrivateWalk.{IsWalk}
-use Rattle.paths.specs.Reading.{walked}
+use Rattle.std.proofs.Common.{length}
+use denote.Text.{Utf8}
+use denote.Shadow.{shadow}
+use Rattle.paths.proofs.WalkLaws.{LeadsOn}
 use Rattle.paths.proofs.reading.walk_along.Given as goal
 
--- the walk is where the pieces so far lead
+-- from where the walk is, the rest leads to where the text leads
 abbrev pub invariant-loop-piece : goal.invariant-loop-piece
 invariant-loop-piece l =
-    (goal.iterator-loop-piece).can_next l.piece-iterator ×
-    (goal.iterator-loop-piece).is_finite l.piece-iterator ×
-    IsWalk (map (λ part. part.now) l.walk.kept.items) l.walk.beyond (walked l.start (map (λ part. part.now) l.yielded))
+    shadow (Utf8 l.rest)
+    × LeadsOn l.walk.kept.items l.walk.beyond l.rest l.start l.text
+
+abbrev pub decreases-loop-piece : goal.decreases-loop-piece
+decreases-loop-piece l = length l.rest

@@ -1,5 +1,3 @@
-use Rattle.std.proofs.Common.{arith}
-use Rattle.std.proofs.lemmas.List.{length-map}
 use Rattle.paths.specs.Reading.{pieces}
 use Rattle.paths.proofs.ReadingLaws.{names-walked, whole-pieces}
 use Rattle.paths.proofs.WalkLaws.{names_kept, few_kept}
@@ -7,11 +5,7 @@ use Rattle.paths.proofs.path.Path.read.Goals as goal
 
 pub path-requires-clause-names : goal.path-requires-clause-names
 path-requires-clause-names c =
-    names_kept _ _ _ c.walk_along-walk.ensures (names-walked c.start.result.now (pieces c.args.text.now) c.start.ensures.clean.names (whole-pieces c.args.text.now))
+    names_kept _ _ _ c.in_ok-walk.ensures (names-walked c.start.result.now (pieces c.args.text.now) c.start.ensures.clean.names (whole-pieces c.args.text.now))
 
 pub path-requires-clause-few : goal.path-requires-clause-few
-path-requires-clause-few c =
-    let kept = c.walk_along-walk.result.kept in
-    let few = few_kept _ _ _ c.walk_along-walk.ensures in
-    let many = length-map kept.items (λ part. part.now) in
-    omega arith
+path-requires-clause-few c = few_kept _ _ _ c.in_ok-walk.ensures
