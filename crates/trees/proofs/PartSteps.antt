@@ -275,6 +275,10 @@ module _ {Z : Type 0} (items : List (Arc (BTreeMap (List ℕ) NodeValue) Z)) (at
     pub put-kids : (kids : List (List ℕ × NodeValue)) → flat (lists_of items) ≡ kids → AreKids kids (flat (lists_of (set items at y))) name (Some kid)
     put-kids kids view = item-changed items at x y inside is name place kids view (Some kid) (found-changed old (arc_value y).entries name (Some kid) done.at)
 
+-- a child put among these was put among the same
+pub put-from : (name : List ℕ) (kid : NodeValue) (from from' new : List (List ℕ × NodeValue)) → from ≡ from' → IsPut name kid from new → IsPut name kid from' new
+put-from name kid from from' new same done = subst (λ (o : List (List ℕ × NodeValue)). IsPut name kid o new) same done
+
 -- the halves of a part
 pub halved-at : (name : List ℕ) (found : Option (List ℕ)) (seen kids from lower upper : List (List ℕ × NodeValue)) → IfSome found (λ c. IsWithin c seen) → found ≡ Some name → seen ≡ kids → from ≡ kids → from ≡ lower ++ upper
     → lower ≡ filter (λ e. is_gt (name_cmp name e.0)) from → upper ≡ filter (λ e. is_le (name_cmp name e.0)) from → IsHalved kids lower upper

@@ -16,7 +16,9 @@ ghost use Rattle.trees.specs.PrivateLent.{LendsKid};
 use crate::copy::Change;
 use crate::kids::Kids;
 use crate::node::Node;
-use crate::part::{Part, has_room, make_room, own, part_of_one, place, put, share, take_away};
+use crate::part::{
+    Part, has_room, make_room, own, part_of_one, place, put, put_into, share, take_away,
+};
 use crate::{CopyOptions, Entry, Meta};
 use paths::{LongPath, Path};
 use plain::{Exact, Fault, Memory, Text};
@@ -184,14 +186,24 @@ impl Children {
         ensures ok { OnOk result (ArePlanted (joined self.old) (joined self.new) name.now rest.now parent entry) }
         ensures err { OnErr result (joined self.new ≡ joined self.old) }
     {
-        match self.own_mut(alloc, name) {
-            Ok(kid) => kid.plant(alloc, rest, parent, entry),
-            Err(Fault::Because(_)) => {
-                let kid = Node::chain(alloc, rest, parent, entry)?;
-                self.insert(alloc, name, kid)
-            }
-            Err(Fault::Memory) => Err(Memory),
+        let parts = self.parts.len();
+        let at = place(self.parts.as_slice(), name);
+        let Some(part) = self.parts.get_mut(at) else {
+            let kid = Node::chain(alloc, rest, parent, entry)?;
+            return self.insert(alloc, name, kid);
+        };
+        own(alloc, part)?;
+        let Some(map) = Arc::get_mut(part) else {
+            return Err(Memory);
+        };
+        if let Some(kid) = map.get_mut(name) {
+            return kid.plant(alloc, rest, parent, entry);
         }
+        let kid = Node::chain(alloc, rest, parent, entry)?;
+        if has_room(map, parts) {
+            return put_into(alloc, map, name, kid);
+        }
+        self.insert(alloc, name, kid)
     }
 
     /// Takes away what stands at a path that goes on from a name, with all below it. Where there is no memory, nothing has changed.

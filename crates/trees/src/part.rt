@@ -26,6 +26,10 @@ pub(crate) fn place(parts: &[Part], name: &Text) -> usize
 {
     let mut low = 0;
     let mut high = parts.len();
+    // Rows in the order of a walk are placed last first, so mostly a name is in its folder's first part.
+    if high > 1 && begins_past(&parts[1], name) {
+        return 0;
+    }
     while high - low > 1 {
         let middle = low + (high - low) / 2;
         if begins_past(&parts[middle], name) {
@@ -101,6 +105,19 @@ pub(crate) fn put(alloc: Global, part: &mut Part, name: &Text, kid: Node) -> Res
     let Some(map) = Arc::get_mut(part) else {
         return Err(Memory);
     };
+    put_into(alloc, map, name, kid)
+}
+
+/// Puts a child among those of a part that nobody shares.
+pub(crate) fn put_into(
+    alloc: Global,
+    map: &mut BTreeMap<Text, Node>,
+    name: &Text,
+    kid: Node,
+) -> Result<(), Memory>
+    ensures ok { OnOk result (IsPut name.now kid map.old.entries map.new.entries) }
+    ensures err { OnErr result (map.new.entries ≡ map.old.entries) }
+{
     map.insert(name.copy(alloc)?, kid)?;
     Ok(())
 }
@@ -119,7 +136,7 @@ pub(crate) fn take_away(alloc: Global, part: &mut Part, name: &Text) -> Result<b
 }
 
 /// Whether a part, one of so many, may take one name more.
-pub(crate) fn has_room(part: &Part, parts: usize) -> bool {
+pub(crate) fn has_room(part: &BTreeMap<Text, Node>, parts: usize) -> bool {
     part.len() < FEW_NAMES + parts / PARTS_A_NAME
 }
 
