@@ -13,7 +13,7 @@ use Rattle.plans.specs.Plan.{Problem, vertex_value, uses_at}
 use Rattle.trees.specs.Cause.{TreeOrCause}
 use Rattle.cachemounts.specs.declared.holds.Hold.{Hold}
 use Rattle.runs.specs.declared.run.CacheUse.{CacheUse}
-use Rattle.board.specs.Readiness.{has_cause, any_below, stops, stops_in}
+use Rattle.board.specs.Readiness.{has_cause, any_below, stops}
 use Rattle.board.specs.Legal.{vertex_out, vertex_out_then, settles, IsSettled, HasCause, settled_by, change_of, held_caches}
 use Rattle.board.specs.declared.event.Happened.{Happened}
 use Rattle.board.specs.declared.event.Happened.TheVariants.{Claimed}
@@ -152,5 +152,6 @@ below-list p [] = refl
 below-list p (x ∷ xs) = below_shift (λ k. p (slice_index_or (x ∷ xs) k None)) (length xs) ∙ ap (λ b. p x || b) (below-list p xs)
 
 -- what stops a vertex, as two tests of a list find it
-pub stops-list : (settled : List (Option TreeOrCause)) (target vertex : ℕ) (found : Bool) → is_some (slice_index_or settled target None) ≡ false → found ≡ list_any has_cause settled → found ≡ stops_in (length settled) target (λ k. slice_index_or settled k None) vertex
-stops-list settled target vertex found e f = f ∙ (sym (below-list has_cause settled) ∙ rw e refl)
+pub stops-list : (problem : Problem) (settled : List (Option TreeOrCause)) (vertex : ℕ) (found : Bool) → length settled ≡ length problem.vertices → is_some (slice_index_or settled problem.target None) ≡ false → found ≡ list_any has_cause settled → found ≡ stops problem (λ k. slice_index_or settled k None) vertex
+stops-list problem settled vertex found long e f =
+    f ∙ (sym (below-list has_cause settled) ∙ (ap (any_below (λ k. has_cause (slice_index_or settled k None))) long ∙ rw e refl))

@@ -11,9 +11,9 @@ use Rattle.trees.specs.declared.cause.Cause.{Cause}
 use Rattle.trees.specs.Cause.{TreeOrCause}
 use Rattle.llb.specs.declared.vertex.Vertex.{Vertex}
 use Rattle.cachemounts.specs.Holds.{can_take}
-use Rattle.plans.specs.Plan.{Problem, uses_in}
-use Rattle.board.specs.Readiness.{has_tree, has_cause, stops_in}
-use Rattle.board.specs.Play.{State, value_at, have_trees, is_claimed, claim_of, ready_in, claimable, claimable_in, least, or_last, without}
+use Rattle.plans.specs.Plan.{Problem, uses_at}
+use Rattle.board.specs.Readiness.{has_tree, has_cause, stops}
+use Rattle.board.specs.Play.{State, value_at, have_trees, is_claimed, claim_of, is_ready, least_ready, claimable, least, or_last, without}
 use Rattle.board.specs.PrivateNumbers.{has}
 use Rattle.board.specs.PrivateFrontier.{times, missing, inputs_at, users_at, is_begun, is_available, AreUsers, IsFrontier, IsLowered, IsSettledIn, CanLower}
 use Rattle.board.proofs.ListLemmas.{least-some, least-missing}
@@ -245,22 +245,22 @@ regrouped true false true caches over = refl
 regrouped true false false caches over = refl
 
 -- a vertex is ready where it is available, its caches can be taken and nothing stops it
-pub ready-is : (vertices : List Vertex) (target : ℕ) (state : State) (vertex : ℕ) → ready_in vertices target state vertex ≡ ((is_available vertices state.settled state.claims vertex && can_take state.holds (uses_in vertices vertex)) && not (stops_in (length vertices) target (value_at state.settled) vertex))
-ready-is vertices target state vertex =
-    regrouped _ (is_some (value_at state.settled vertex)) (is_claimed vertex state.claims) (can_take state.holds (uses_in vertices vertex)) (stops_in (length vertices) target (value_at state.settled) vertex)
+pub ready-is : (problem : Problem) (state : State) (vertex : ℕ) → is_ready problem state vertex ≡ ((is_available problem.vertices state.settled state.claims vertex && can_take state.holds (uses_at problem vertex)) && not (stops problem (value_at state.settled) vertex))
+ready-is problem state vertex =
+    regrouped _ (is_some (value_at state.settled vertex)) (is_claimed vertex state.claims) (can_take state.holds (uses_at problem vertex)) (stops problem (value_at state.settled) vertex)
 
 -- where a vertex is stopped, none is ready
-pub none-ready : (vertices : List Vertex) (target : ℕ) (state : State) → ((vertex : ℕ) → true ≡ stops_in (length vertices) target (value_at state.settled) vertex) → least (ready_in vertices target state) (length vertices) ≡ None
-none-ready vertices target state over = least-missing (ready_in vertices target state) (length vertices) (λ vertex l. ready-is vertices target state vertex ∙ (ap (λ b. (is_available vertices state.settled state.claims vertex && can_take state.holds (uses_in vertices vertex)) && not b) (sym (over vertex)) ∙ only_if (is_available vertices state.settled state.claims vertex && can_take state.holds (uses_in vertices vertex))))
+pub none-ready : (problem : Problem) (state : State) → ((vertex : ℕ) → true ≡ stops problem (value_at state.settled) vertex) → least_ready problem state ≡ None
+none-ready problem state over = least-missing (is_ready problem state) (length problem.vertices) (λ vertex l. ready-is problem state vertex ∙ (ap (λ b. (is_available problem.vertices state.settled state.claims vertex && can_take state.holds (uses_at problem vertex)) && not b) (sym (over vertex)) ∙ only_if (is_available problem.vertices state.settled state.claims vertex && can_take state.holds (uses_at problem vertex))))
 
 -- where none is stopped, the least ready vertex is the least available one whose caches can be taken
-pub least-ready : (vertices : List Vertex) (target : ℕ) (state : State) (frontier : Frontier) → IsFrontier vertices state.settled state.claims frontier → ((vertex : ℕ) → false ≡ stops_in (length vertices) target (value_at state.settled) vertex) → least (λ vertex. has frontier.available vertex && can_take state.holds (uses_in vertices vertex)) (length vertices) ≡ least (ready_in vertices target state) (length vertices)
-least-ready vertices target state frontier is over = least_same (λ vertex. has frontier.available vertex && can_take state.holds (uses_in vertices vertex)) (ready_in vertices target state) (length vertices) (λ vertex. ap (λ b. b && can_take state.holds (uses_in vertices vertex)) (is.available vertex) ∙ sym (ready-is vertices target state vertex ∙ (ap (λ b. (is_available vertices state.settled state.claims vertex && can_take state.holds (uses_in vertices vertex)) && not b) (sym (over vertex)) ∙ and_true (is_available vertices state.settled state.claims vertex && can_take state.holds (uses_in vertices vertex)))))
+pub least-ready : (problem : Problem) (state : State) (frontier : Frontier) → IsFrontier problem.vertices state.settled state.claims frontier → ((vertex : ℕ) → false ≡ stops problem (value_at state.settled) vertex) → least (λ vertex. has frontier.available vertex && can_take state.holds (uses_at problem vertex)) (length problem.vertices) ≡ least_ready problem state
+least-ready problem state frontier is over = least_same (λ vertex. has frontier.available vertex && can_take state.holds (uses_at problem vertex)) (is_ready problem state) (length problem.vertices) (λ vertex. ap (λ b. b && can_take state.holds (uses_at problem vertex)) (is.available vertex) ∙ sym (ready-is problem state vertex ∙ (ap (λ b. (is_available problem.vertices state.settled state.claims vertex && can_take state.holds (uses_at problem vertex)) && not b) (sym (over vertex)) ∙ and_true (is_available problem.vertices state.settled state.claims vertex && can_take state.holds (uses_at problem vertex)))))
 
 -- a ready vertex is available
-pub ready-available : (vertices : List Vertex) (target : ℕ) (state : State) (vertex : ℕ) → ready_in vertices target state vertex ≡ true → is_available vertices state.settled state.claims vertex ≡ true
-ready-available vertices target state vertex ready =
-    (and_parts (is_available vertices state.settled state.claims vertex) (can_take state.holds (uses_in vertices vertex)) (and_parts (is_available vertices state.settled state.claims vertex && can_take state.holds (uses_in vertices vertex)) (not (stops_in (length vertices) target (value_at state.settled) vertex)) (sym (ready-is vertices target state vertex) ∙ ready)).0).0
+pub ready-available : (problem : Problem) (state : State) (vertex : ℕ) → is_ready problem state vertex ≡ true → is_available problem.vertices state.settled state.claims vertex ≡ true
+ready-available problem state vertex ready =
+    (and_parts (is_available problem.vertices state.settled state.claims vertex) (can_take state.holds (uses_at problem vertex)) (and_parts (is_available problem.vertices state.settled state.claims vertex && can_take state.holds (uses_at problem vertex)) (not (stops problem (value_at state.settled) vertex)) (sym (ready-is problem state vertex) ∙ ready)).0).0
 
 -- where nothing is settled and no claim is out
 pub frontier-begun : (vertices : List Vertex) (frontier : Frontier) → AreUsers vertices frontier.users.items → frontier.waiting.items ≡ map (λ vertex. length vertex.inputs) vertices → frontier.available ≡ map (λ count. count == 0) frontier.waiting.items → frontier.failed ≡ false → IsFrontier vertices (replicate (length vertices) None) [] frontier
@@ -316,16 +316,16 @@ claimable-available problem state worker vertex e = by_test (is_some (claim_of w
   where
     by_test : (b : Bool) → is_some (claim_of worker state.claims) ≡ b → is_available problem.vertices state.settled state.claims vertex ≡ true
     by_test true t = (let f : None ≡ Some vertex = rw t at e in cc)
-    by_test false t = (let f : least (ready_in problem.vertices problem.target state) (length problem.vertices) ≡ Some vertex = rw t at e in ready-available problem.vertices problem.target state vertex (least-some (ready_in problem.vertices problem.target state) (length problem.vertices) vertex f).passes)
+    by_test false t = (let f : least_ready problem state ≡ Some vertex = rw t at e in ready-available problem state vertex (least-some (is_ready problem state) (length problem.vertices) vertex f).passes)
 
 -- where vertices are stopped, a worker may claim none
-pub over-none : (vertices : List Vertex) (target : ℕ) (state : State) (worker : ℕ) → ((vertex : ℕ) → true ≡ stops_in (length vertices) target (value_at state.settled) vertex) → None ≡ claimable_in vertices target state worker
-over-none vertices target state worker over = sym (ap (cond (is_some (claim_of worker state.claims)) None) (none-ready vertices target state over) ∙ elim (is_some (claim_of worker state.claims)) as (λ b. cond {A = Option ℕ} b None None ≡ None) [ true ↦ refl | false ↦ refl ])
+pub over-none : (problem : Problem) (state : State) (worker : ℕ) → ((vertex : ℕ) → true ≡ stops problem (value_at state.settled) vertex) → None ≡ claimable problem state worker
+over-none problem state worker over = sym (ap (cond (is_some (claim_of worker state.claims)) None) (none-ready problem state over) ∙ elim (is_some (claim_of worker state.claims)) as (λ b. cond {A = Option ℕ} b None None ≡ None) [ true ↦ refl | false ↦ refl ])
 
 -- where none is, a worker without a claim may claim the least available vertex whose caches can be taken
-pub claimable-least : (vertices : List Vertex) (target : ℕ) (state : State) (worker : ℕ) (frontier : Frontier) (o : Option ℕ) → IsFrontier vertices state.settled state.claims frontier → ((vertex : ℕ) → false ≡ stops_in (length vertices) target (value_at state.settled) vertex) → is_some (claim_of worker state.claims) ≡ false → o ≡ least (λ vertex. has frontier.available vertex && can_take state.holds (uses_in vertices vertex)) (length vertices) → o ≡ claimable_in vertices target state worker
-claimable-least vertices target state worker frontier o is over free e =
-    e ∙ (least-ready vertices target state frontier is over ∙ rw free refl)
+pub claimable-least : (problem : Problem) (state : State) (worker : ℕ) (frontier : Frontier) (o : Option ℕ) → IsFrontier problem.vertices state.settled state.claims frontier → ((vertex : ℕ) → false ≡ stops problem (value_at state.settled) vertex) → is_some (claim_of worker state.claims) ≡ false → o ≡ least (λ vertex. has frontier.available vertex && can_take state.holds (uses_at problem vertex)) (length problem.vertices) → o ≡ claimable problem state worker
+claimable-least problem state worker frontier o is over free e =
+    e ∙ (least-ready problem state frontier is over ∙ rw free refl)
 
 -- the inputs of an available vertex have trees
 pub available-trees : (vertices : List Vertex) (settled : List (Option TreeOrCause)) (claims : List ClaimOut) (frontier : Frontier) (takes : ℕ → Bool) (vertex : ℕ) (v : Vertex) → IsFrontier vertices settled claims frontier → Some vertex ≡ least (λ k. has frontier.available k && takes k) (length vertices) → slice_get vertices vertex ≡ Some v → have_trees settled v.inputs ≡ true

@@ -9,9 +9,9 @@ use Rattle.cachemounts.specs.Holds.{can_take, new_holds, without_holder}
 use Rattle.trees.specs.TreeMap.{TreeMap}
 use Rattle.trees.specs.Cause.{TreeOrCause}
 use Rattle.llb.specs.declared.vertex.Vertex.{Vertex}
-use Rattle.plans.specs.Plan.{Problem, vertex_value, uses_in, uses_at}
+use Rattle.plans.specs.Plan.{Problem, vertex_value, uses_at}
 use Rattle.cachemounts.specs.declared.holds.Hold.{Hold}
-use Rattle.board.specs.Readiness.{has_tree, stops_in}
+use Rattle.board.specs.Readiness.{has_tree, stops}
 use Rattle.board.specs.declared.event.Event.{Event}
 use Rattle.board.specs.declared.event.Event.TheVariants as event
 use Rattle.board.specs.declared.event.Happened.{Happened}
@@ -83,15 +83,11 @@ abbrev pub have_trees : List (Option TreeOrCause) → List ℕ → Bool
 have_trees settled inputs = list_all (λ input. has_tree (value_at settled input)) inputs
 
 -- whether a vertex is ready: each input is settled with a tree, it is neither settled nor claimed, its caches can be taken, and nothing stops it (own)
-abbrev pub ready_in : List Vertex → ℕ → State → ℕ → Bool
-ready_in vertices target state vertex =
-    option_map_or (λ (v : Vertex). have_trees state.settled v.inputs) (slice_get vertices vertex) false
-    && ((not (is_some (value_at state.settled vertex)) && not (is_claimed vertex state.claims))
-    && (can_take state.holds (uses_in vertices vertex) && not (stops_in (length vertices) target (value_at state.settled) vertex)))
-
--- the same, of a problem (own)
 abbrev pub is_ready : Problem → State → ℕ → Bool
-is_ready problem state vertex = ready_in problem.vertices problem.target state vertex
+is_ready problem state vertex =
+    option_map_or (λ (v : Vertex). have_trees state.settled v.inputs) (slice_get problem.vertices vertex) false
+    && ((not (is_some (value_at state.settled vertex)) && not (is_claimed vertex state.claims))
+    && (can_take state.holds (uses_at problem vertex) && not (stops problem (value_at state.settled) vertex)))
 
 -- the number that was found, else n where that passes the test (own)
 abbrev pub or_last : (ℕ → Bool) → ℕ → Option ℕ → Option ℕ
@@ -108,12 +104,8 @@ abbrev pub least_ready : Problem → State → Option ℕ
 least_ready problem state = least (is_ready problem state) (length problem.vertices)
 
 -- the vertex that a worker may claim: the least that is ready, and none where the worker has a claim out (own)
-abbrev pub claimable_in : List Vertex → ℕ → State → ℕ → Option ℕ
-claimable_in vertices target state worker = if is_some (claim_of worker state.claims) then None else least (ready_in vertices target state) (length vertices)
-
--- the same, of a problem (own)
 abbrev pub claimable : Problem → State → ℕ → Option ℕ
-claimable problem state worker = claimable_in problem.vertices problem.target state worker
+claimable problem state worker = if is_some (claim_of worker state.claims) then None else least_ready problem state
 
 -- a claim that gives back as many trees as its vertex uses caches (own)
 abbrev pub claim_giving : Problem → List TreeMap → Option ClaimOut → Option ClaimOut

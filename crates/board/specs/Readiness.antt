@@ -21,9 +21,5 @@ any_below test zero = false
 any_below test (suc n) = any_below test n || test n
 
 -- whether a vertex is stopped, where each vertex is settled so: the target is settled, or some vertex is settled with a cause (own)
-abbrev pub stops_in : ℕ → ℕ → (ℕ → Option TreeOrCause) → ℕ → Bool
-stops_in count target settled vertex = is_some (settled target) || any_below (λ other. has_cause (settled other)) count
-
--- the same, of a problem (own)
 abbrev pub stops : Problem → (ℕ → Option TreeOrCause) → ℕ → Bool
-stops problem settled vertex = stops_in (length problem.vertices) problem.target settled vertex
+stops problem settled vertex = is_some (settled problem.target) || any_below (λ other. has_cause (settled other)) (length problem.vertices)

@@ -115,11 +115,9 @@ impl<'a, E: Executor> Board<'a, E> {
         ensures none { IfOk result (λ claim. IfNone claim (self.new ≡ self.old)) }
         ensures err { OnErr result (self.new ≡ self.old) }
     {
-        let vertices = self.job.graph().vertices();
         let next = state::next_claim(
             alloc,
-            vertices,
-            self.job.target(),
+            &self.job,
             self.settled.as_slice(),
             self.claims.as_slice(),
             &self.caches,
@@ -133,6 +131,7 @@ impl<'a, E: Executor> Board<'a, E> {
         growth::room(&mut self.claims, 1)?;
         // One event for this claim, one for its end, and one for the end of each that is out already.
         growth::room(&mut self.history, self.claims.len() + 2)?;
+        let vertices = self.job.graph().vertices();
         let lease = self
             .caches
             .take(alloc, worker, state::uses_of(vertices, vertex))?;

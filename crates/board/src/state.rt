@@ -1,8 +1,9 @@
-// What a board knows at a moment, as functions over slices: the methods of `Board` only call them.
-ghost use Rattle.std.specs.Prelude.{◌≡◌, ◌↔◌, ℕ, IsTrue, ◌<◌, ◌^◌, true, false, is_some, length, map, replicate, IfOk, IfSome, IfNone, [], vec_len};
+// What a board knows at a moment, as functions over its job and slices: the methods of `Board` only call them.
+ghost use Rattle.std.specs.Prelude.{◌≡◌, ◌↔◌, ℕ, IsTrue, ◌<◌, true, false, is_some, length, map, replicate, IfOk, IfSome, IfNone, [], vec_len};
 ghost use Rattle.std.specs.List.{list_any};
-ghost use Rattle.board.specs.Readiness.{has_tree, has_cause, stops_in};
-ghost use Rattle.board.specs.Play.{value_at, have_trees, claim_of, without, claimable_in};
+ghost use Rattle.board.specs.Job.{job_problem};
+ghost use Rattle.board.specs.Readiness.{has_tree, has_cause, stops};
+ghost use Rattle.board.specs.Play.{value_at, have_trees, claim_of, without, claimable};
 ghost use Rattle.board.specs.Claim.{AreInputs};
 ghost use Rattle.board.specs.Clearing.{IsLeastWorker};
 ghost use Rattle.board.specs.PrivateFrontier.{IsFrontier};
@@ -11,9 +12,10 @@ ghost use Rattle.std.specs.Option.{option_map};
 ghost use Rattle.board.specs.Problem.{tree_value};
 ghost use Rattle.plans.specs.Plan.{caches_of, uses_in};
 
-use crate::ClaimOut;
 use crate::frontier::Frontier;
+use crate::{ClaimOut, Job};
 use cachemounts::CacheStore;
+use executor::Executor;
 use llb::{Op, Vertex, VertexId};
 use plain::{Exact, Memory};
 use runs::CacheUse;
@@ -48,11 +50,12 @@ fn is_settled(settled: &[Option<TreeOrCause>], vertex: VertexId) -> bool
 }
 
 /// Whether a vertex is stopped: the target is settled, or some vertex is settled with a cause. It is one answer for all vertices.
-fn is_over(target: VertexId, settled: &[Option<TreeOrCause>], frontier: &Frontier) -> bool
-    requires { frontier.now.failed ≡ list_any has_cause settled.now }
-    ensures { (vertex : ℕ) → result ≡ stops_in (length settled.now) target (value_at settled.now) vertex }
+fn is_over<E: Executor>(job: &Job<E>, settled: &[Option<TreeOrCause>], frontier: &Frontier) -> bool
+    requires long { length settled.now ≡ length job.now.graph.vertices }
+    requires failed { frontier.now.failed ≡ list_any has_cause settled.now }
+    ensures { (vertex : ℕ) → result ≡ stops (job_problem E.out job.now) (value_at settled.now) vertex }
 {
-    is_settled(settled, target) || frontier.has_failed()
+    is_settled(settled, job.target()) || frontier.has_failed()
 }
 
 /// The caches that an operation uses.
@@ -111,28 +114,28 @@ pub(crate) struct NextClaim {
 }
 
 /// What a worker's claim is given: the least vertex that is ready, and nothing where the worker has a claim out.
-pub(crate) fn next_claim(
+pub(crate) fn next_claim<E: Executor>(
     alloc: Global,
-    vertices: &[Vertex],
-    target: VertexId,
+    job: &Job<E>,
     settled: &[Option<TreeOrCause>],
     claims: &[ClaimOut],
     caches: &CacheStore,
     frontier: &Frontier,
     worker: u32,
 ) -> Result<Option<NextClaim>, Memory>
-    requires few { length vertices.now < 2 ^ 32 }
-    requires long { length settled.now ≡ length vertices.now }
-    requires frontier { IsFrontier vertices.now settled.now claims.now frontier.now }
-    ensures which { IfOk result (λ next. option_map (λ n. n.vertex) next ≡ claimable_in vertices.now target (record { settled = settled.now; claims = claims.now; holds = caches.now.holds }) worker) }
-    ensures inputs { IfOk result (λ next. IfSome next (λ n. AreInputs vertices.now settled.now n.vertex n.inputs.items)) }
+    requires long { length settled.now ≡ length job.now.graph.vertices }
+    requires frontier { IsFrontier job.now.graph.vertices settled.now claims.now frontier.now }
+    ensures which { IfOk result (λ next. option_map (λ n. n.vertex) next
+        ≡ claimable (job_problem E.out job.now) (record { settled = settled.now; claims = claims.now; holds = caches.now.holds }) worker) }
+    ensures inputs { IfOk result (λ next. IfSome next (λ n. AreInputs job.now.graph.vertices settled.now n.vertex n.inputs.items)) }
 {
     if claim_of(claims, worker).is_some() {
         return Ok(None);
     }
-    if is_over(target, settled, frontier) {
+    if is_over(job, settled, frontier) {
         return Ok(None);
     }
+    let vertices = job.graph().vertices();
     let Some(vertex) = frontier.least(vertices, caches) else {
         return Ok(None);
     };

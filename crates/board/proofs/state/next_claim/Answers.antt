@@ -4,45 +4,55 @@ use Rattle.std.proofs.lemmas.Option.{slice_get-get_or}
 use Rattle.cachemounts.specs.Holds.{can_take}
 use Rattle.plans.specs.Plan.{uses_in}
 use Rattle.llb.specs.declared.vertex.Vertex.{Vertex}
-use Rattle.board.specs.Readiness.{stops_in}
-use Rattle.board.specs.Play.{State, value_at, claim_of}
+use Rattle.board.specs.Job.{job_problem}
+use Rattle.board.specs.Play.{State, claim_of, value_at, least}
 use Rattle.board.specs.PrivateNumbers.{has}
 use Rattle.board.proofs.FrontierSteps.{over-none, claimable-least, available-trees, least-within}
 use Rattle.board.proofs.state.next_claim.Goals as goal
 
 pub returns-then-is_over-clause-which : goal.returns-then-is_over-clause-which
-returns-then-is_over-clause-which c =
+returns-then-is_over-clause-which g c =
     let state : State = record { settled = c.args.settled.now; claims = c.args.claims.now; holds = c.args.caches.now.holds } in
-    over-none c.args.vertices.now c.args.target state c.args.worker (λ vertex. sym c.if-is_over.true ∙ (c.is_over.ensures vertex ∙ ap (λ n. stops_in n c.args.target (value_at c.args.settled.now) vertex) c.requires.long))
+    over-none (job_problem g.E.Executor.out c.args.job.now) state c.args.worker (λ vertex. sym c.if-is_over.true ∙ c.is_over.ensures vertex)
 
 pub returns-in_default-clause-which : goal.returns-in_default-clause-which
-returns-in_default-clause-which c =
+returns-in_default-clause-which g c =
     let state : State = record { settled = c.args.settled.now; claims = c.args.claims.now; holds = c.args.caches.now.holds } in
     let free : is_some (claim_of c.args.worker c.args.claims.now) ≡ false = search rules in
-    claimable-least c.args.vertices.now c.args.target state c.args.worker c.args.frontier.now None c.requires.frontier (λ vertex. sym c.if-is_over.false ∙ (c.is_over.ensures vertex ∙ ap (λ n. stops_in n c.args.target (value_at c.args.settled.now) vertex) c.requires.long)) free c.in_default.ensures
+    let here : c.vertices-vertices.result.now ≡ c.args.job.now.graph.vertices = c.vertices-vertices.ensures.value ∙ ap (λ graph. graph.vertices) c.graph.ensures.value in
+    let none : None ≡ least (λ k. has c.args.frontier.now.available k && can_take c.args.caches.now.holds (uses_in c.args.job.now.graph.vertices k)) (length c.args.job.now.graph.vertices) =
+    subst (λ vertices. None ≡ least (λ k. has c.args.frontier.now.available k && can_take c.args.caches.now.holds (uses_in vertices k)) (length vertices)) here c.in_default.ensures in
+    claimable-least (job_problem g.E.Executor.out c.args.job.now) state c.args.worker c.args.frontier.now None c.requires.frontier (λ vertex. sym c.if-is_over.false ∙ c.is_over.ensures vertex) free none
 
 pub bounds-vertices-index : goal.bounds-vertices-index
-bounds-vertices-index c =
-    let within = least-within (λ k. has c.args.frontier.now.available k && can_take c.args.caches.now.holds (uses_in c.args.vertices.now k)) (length c.args.vertices.now) c.in-Some.vertex c.in-Some.ensures in
+bounds-vertices-index g c =
+    let within = least-within (λ k. has c.args.frontier.now.available k && can_take c.args.caches.now.holds (uses_in c.vertices-vertices.result.now k)) (length c.vertices-vertices.result.now) c.in-Some.vertex c.in-Some.ensures in
     omega (arith, within, c.index.ensures)
 
 pub copies-requires : goal.copies-requires
-copies-requires c =
-    let takes : ℕ → Bool = λ k. can_take c.args.caches.now.holds (uses_in c.args.vertices.now k) in
-    let within = least-within (λ k. has c.args.frontier.now.available k && takes k) (length c.args.vertices.now) c.in-Some.vertex c.in-Some.ensures in
-    let v : Vertex = slice_index_or c.args.vertices.now c.index.result c.index-vertices-index.result in
-    let there : slice_get c.args.vertices.now c.in-Some.vertex ≡ Some v = subst (λ n. slice_get c.args.vertices.now n ≡ Some v) c.index.ensures (slice_get-get_or c.args.vertices.now c.index.result c.index-vertices-index.result (omega (arith, within, c.index.ensures))) in
-    rw c.as_slice.ensures (available-trees c.args.vertices.now c.args.settled.now c.args.claims.now c.args.frontier.now takes c.in-Some.vertex v c.requires.frontier c.in-Some.ensures there)
+copies-requires g c =
+    let takes : ℕ → Bool = λ k. can_take c.args.caches.now.holds (uses_in c.args.job.now.graph.vertices k) in
+    let here : c.vertices-vertices.result.now ≡ c.args.job.now.graph.vertices = c.vertices-vertices.ensures.value ∙ ap (λ graph. graph.vertices) c.graph.ensures.value in
+    let found : Some c.in-Some.vertex ≡ least (λ k. has c.args.frontier.now.available k && takes k) (length c.args.job.now.graph.vertices) =
+    subst (λ vertices. Some c.in-Some.vertex ≡ least (λ k. has c.args.frontier.now.available k && can_take c.args.caches.now.holds (uses_in vertices k)) (length vertices)) here c.in-Some.ensures in
+    let within = least-within (λ k. has c.args.frontier.now.available k && takes k) (length c.args.job.now.graph.vertices) c.in-Some.vertex found in
+    let v : Vertex = slice_index_or c.vertices-vertices.result.now c.index.result c.index-vertices-index.result in
+    let there : slice_get c.vertices-vertices.result.now c.in-Some.vertex ≡ Some v = subst (λ n. slice_get c.vertices-vertices.result.now n ≡ Some v) c.index.ensures (slice_get-get_or c.vertices-vertices.result.now c.index.result c.index-vertices-index.result (omega (arith, within, ap length here, c.index.ensures))) in
+    rw c.as_slice.ensures (available-trees c.args.job.now.graph.vertices c.args.settled.now c.args.claims.now c.args.frontier.now takes c.in-Some.vertex v c.requires.frontier found (subst (λ vertices. slice_get vertices c.in-Some.vertex ≡ Some v) here there))
 
 pub returns-clause-which : goal.returns-clause-which
-returns-clause-which c =
+returns-clause-which g c =
     let state : State = record { settled = c.args.settled.now; claims = c.args.claims.now; holds = c.args.caches.now.holds } in
     let free : is_some (claim_of c.args.worker c.args.claims.now) ≡ false = search rules in
-    claimable-least c.args.vertices.now c.args.target state c.args.worker c.args.frontier.now (Some c.in-Some.vertex) c.requires.frontier (λ vertex. sym c.if-is_over.false ∙ (c.is_over.ensures vertex ∙ ap (λ n. stops_in n c.args.target (value_at c.args.settled.now) vertex) c.requires.long)) free c.in-Some.ensures
+    let here : c.vertices-vertices.result.now ≡ c.args.job.now.graph.vertices = c.vertices-vertices.ensures.value ∙ ap (λ graph. graph.vertices) c.graph.ensures.value in
+    let found : Some c.in-Some.vertex ≡ least (λ k. has c.args.frontier.now.available k && can_take c.args.caches.now.holds (uses_in c.args.job.now.graph.vertices k)) (length c.args.job.now.graph.vertices) =
+    subst (λ vertices. Some c.in-Some.vertex ≡ least (λ k. has c.args.frontier.now.available k && can_take c.args.caches.now.holds (uses_in vertices k)) (length vertices)) here c.in-Some.ensures in
+    claimable-least (job_problem g.E.Executor.out c.args.job.now) state c.args.worker c.args.frontier.now (Some c.in-Some.vertex) c.requires.frontier (λ vertex. sym c.if-is_over.false ∙ c.is_over.ensures vertex) free found
 
 pub returns-clause-inputs : goal.returns-clause-inputs
-returns-clause-inputs c =
-    let within = least-within (λ k. has c.args.frontier.now.available k && can_take c.args.caches.now.holds (uses_in c.args.vertices.now k)) (length c.args.vertices.now) c.in-Some.vertex c.in-Some.ensures in
-    let v : Vertex = slice_index_or c.args.vertices.now c.index.result c.index-vertices-index.result in
-    let there : slice_get c.args.vertices.now c.in-Some.vertex ≡ Some v = subst (λ n. slice_get c.args.vertices.now n ≡ Some v) c.index.ensures (slice_get-get_or c.args.vertices.now c.index.result c.index-vertices-index.result (omega (arith, within, c.index.ensures))) in
-    record { v = v; there = there; settled_so = c.in_ok-inputs.ensures ∙ ap (map (value_at c.args.settled.now)) c.as_slice.ensures }
+returns-clause-inputs g c =
+    let here : c.vertices-vertices.result.now ≡ c.args.job.now.graph.vertices = c.vertices-vertices.ensures.value ∙ ap (λ graph. graph.vertices) c.graph.ensures.value in
+    let within = least-within (λ k. has c.args.frontier.now.available k && can_take c.args.caches.now.holds (uses_in c.vertices-vertices.result.now k)) (length c.vertices-vertices.result.now) c.in-Some.vertex c.in-Some.ensures in
+    let v : Vertex = slice_index_or c.vertices-vertices.result.now c.index.result c.index-vertices-index.result in
+    let there : slice_get c.vertices-vertices.result.now c.in-Some.vertex ≡ Some v = subst (λ n. slice_get c.vertices-vertices.result.now n ≡ Some v) c.index.ensures (slice_get-get_or c.vertices-vertices.result.now c.index.result c.index-vertices-index.result (omega (arith, within, c.index.ensures))) in
+    record { v = v; there = subst (λ vertices. slice_get vertices c.in-Some.vertex ≡ Some v) here there; settled_so = c.in_ok-inputs.ensures ∙ ap (map (value_at c.args.settled.now)) c.as_slice.ensures }

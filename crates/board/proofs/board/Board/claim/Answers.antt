@@ -17,11 +17,11 @@ use Rattle.board.proofs.FrontierSteps.{frontier-claim, available-within, claimab
 use Rattle.board.proofs.board.Board.claim.Goals as goal
 
 pub next_claim-requires-clause-long : goal.next_claim-requires-clause-long
-next_claim-requires-clause-long g c =
+next_claim-requires-clause-long g c κs within =
     let b = c.self.inside in
     let problem = job_problem g.E.Executor.out b.job in
     let is = c.self.invariant.0 in
-    ap length c.as_slice.ensures.value ∙ ((replay-right problem (run_of b.history.items b.settled.items b.claims.items b.caches.holds) (sound problem is.problem) is.replay).agrees.long ∙ ap length (search rules))
+    ap length c.as_slice.ensures.value ∙ (replay-right problem (run_of b.history.items b.settled.items b.claims.items b.caches.holds) (sound problem is.problem) is.replay).agrees.long
 
 pub returns-in_default-clause-next : goal.returns-in_default-clause-next
 returns-in_default-clause-next g c =
