@@ -26,8 +26,8 @@ use Rattle.build.specs.Meaning.{Asks, Answers, line_of}
 use Rattle.build.specs.Graph.{GraphAnswers, GraphClashes}
 use Rattle.build.specs.PrivateShowing.{IsShown}
 use Rattle.build.specs.PrivateTelling.{IsTold}
-use Rattle.build.specs.Telling.{TellsBundle}
-use Rattle.build.specs.Ends.{Devices, IsBundle, Answering, AnswersUnder, HasAnswered, EndsBy, Ends, GraphEnds}
+use Rattle.build.specs.PrivateTelling.{TellsBundle}
+use Rattle.build.specs.Ends.{Devices, IsAllLeft, Answering, AnswersUnder, HasAnswered, EndsBy, Ends, GraphEnds}
 
 -- what bytes hold
 abbrev held : List ℕ → Option (Parts Config)
@@ -36,7 +36,7 @@ held bytes = parts_of config_in bytes
 -- what was read holds what the whole bundle holds
 pub record IsReadOf (left : Option (List ℕ)) (bytes : List ℕ) : Type 0 where
   pub bundle : List ℕ
-  pub is : IsBundle left bundle
+  pub is : IsAllLeft left bundle
   pub same : held bytes ≡ held bundle
 
 long : (most : ℕ) (bytes : List ℕ) → most < length bytes → parts_within most config_in bytes ≡ None

@@ -24,9 +24,9 @@ devices left failed_reads written failed_writes =
     record { left = left; written = written; failed_reads = failed_reads; failed_writes = failed_writes }
 
 -- the bundle is all that there was to read; where that isn't known, some bytes
-abbrev pub IsBundle : Option (List ℕ) → List ℕ → Type 0
-IsBundle None bundle = ⊤
-IsBundle (Some all) bundle = bundle ≡ all
+abbrev pub IsAllLeft : Option (List ℕ) → List ℕ → Type 0
+IsAllLeft None bundle = ⊤
+IsAllLeft (Some all) bundle = bundle ≡ all
 
 -- nothing was written, and no write failed
 pub record IsUnwritten (old new : Devices) : Type 0 where
@@ -40,7 +40,7 @@ Answering = List ℕ → Status → List ℕ → Type 0
 -- an answer to the bundle was written, with the LF that ends it, and no call failed
 pub record HasAnswered (Said : Answering) (old new : Devices) (status : Status) : Type 0 where
   pub bundle : List ℕ
-  pub is : IsBundle old.left bundle
+  pub is : IsAllLeft old.left bundle
   pub text : List ℕ
   pub answers : Said bundle status text
   pub written : Appends old.written new.written (line_of text)
@@ -50,7 +50,7 @@ pub record HasAnswered (Said : Answering) (old new : Devices) (status : Status) 
 -- a write failed, and a beginning of an answer to the bundle, with its LF, was written
 pub record HasBegun (Said : Answering) (old new : Devices) : Type 0 where
   pub bundle : List ℕ
-  pub is : IsBundle old.left bundle
+  pub is : IsAllLeft old.left bundle
   pub status : Status
   pub text : List ℕ
   pub answers : Said bundle status text
@@ -61,7 +61,7 @@ pub record HasBegun (Said : Answering) (old new : Devices) : Type 0 where
 -- no answer was written, since two different operations of what would have been drawn have one address
 pub record HasClashed (Collides : List ℕ → Type 0) (old new : Devices) : Type 0 where
   pub bundle : List ℕ
-  pub is : IsBundle old.left bundle
+  pub is : IsAllLeft old.left bundle
   pub clash : Collides bundle
   pub unwritten : IsUnwritten old new
   pub failed_reads : new.failed_reads ≡ old.failed_reads

@@ -13,6 +13,9 @@ use Rattle.build.specs.declared.status.BuildFault.TheVariants.{Memory, Device, C
 use Rattle.build.specs.declared.told.Told.{Told}
 use Rattle.build.specs.Meaning.{line_of}
 use Rattle.build.specs.Telling.{status_of, text_of}
+use Rattle.plain.specs.declared.refusal.Refusal.{Refusal}
+use Rattle.evaluation.specs.declared.evaluated.Evaluated.{Evaluated}
+use Rattle.build.specs.Meaning.{Tells, Answers}
 
 -- a line of this status and this text
 abbrev pub TellsText : Status → List ℕ → Told → Type 0
@@ -34,3 +37,11 @@ IsTold Tells old before new after (Ok status) = (told : Told) × Tells told × (
 IsTold Tells old before new after (Err Memory) = (new ≡ old) × (after ≡ before)
 IsTold Tells old before new after (Err Device) = (told : Told) × Tells told × AppendsBeginning old new told.line × (after ≡ before + 1)
 IsTold Tells old before new after (Err Clash) = ⊥
+
+-- a line tells what is asked for: it is a text that does, and LF
+abbrev pub TellsAsked : Out → Result Evaluated Refusal → Told → Type 0
+TellsAsked out asked told = (text : List ℕ) × Tells out asked told.status text × (told.line ≡ line_of text)
+
+-- a line is an answer to a bundle of these bytes, and LF
+abbrev pub TellsBundle : List ℕ → Out → Told → Type 0
+TellsBundle bytes out told = (text : List ℕ) × Answers bytes out told.status text × (told.line ≡ line_of text)

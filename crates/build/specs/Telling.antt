@@ -4,8 +4,6 @@ use Rattle.std.specs.FinMap.{entries}
 use Rattle.plain.specs.declared.fault.Fault.{Fault}
 use Rattle.plain.specs.declared.fault.Fault.TheVariants.{Because, Memory}
 use Rattle.plain.specs.declared.refusal.Refusal.{Refusal}
-use Rattle.plans.specs.Value.{Out}
-use Rattle.evaluation.specs.declared.evaluated.Evaluated.{Evaluated}
 use Rattle.imageconfig.specs.Reading.{config_in}
 use Rattle.imageconfig.specs.Writing.{config_data}
 use Rattle.imageconfig.specs.declared.config.Config.{Config}
@@ -18,8 +16,7 @@ use Rattle.solver.specs.declared.solution.Solution.TheVariants as solution
 use Rattle.build.specs.declared.status.Status.{Status}
 use Rattle.build.specs.declared.status.Status.TheVariants.{Built, Failed}
 use Rattle.build.specs.declared.asking.Asked.{Asked}
-use Rattle.build.specs.declared.told.Told.{Told}
-use Rattle.build.specs.Meaning.{Asks, Tells, Answers, line_of}
+use Rattle.build.specs.Meaning.{Asks}
 
 -- what a call answers of a bundle's bytes: what they ask for, or their refusal; want of memory says nothing of them
 abbrev pub IsAsked : List ℕ → Result Asked (Fault Refusal) → Type 0
@@ -40,11 +37,3 @@ status_of (solution.Failed vertex place cause) = Failed
 abbrev pub text_of : Config → Solution → List ℕ
 text_of config (solution.Built tree) = built_text (config_data config) (entries tree)
 text_of config (solution.Failed vertex place cause) = failed_text place cause
-
--- a line tells what is asked for: it is a text that does, and LF
-abbrev pub TellsAsked : Out → Result Evaluated Refusal → Told → Type 0
-TellsAsked out asked told = (text : List ℕ) × Tells out asked told.status text × (told.line ≡ line_of text)
-
--- a line is an answer to a bundle of these bytes, and LF
-abbrev pub TellsBundle : List ℕ → Out → Told → Type 0
-TellsBundle bytes out told = (text : List ℕ) × Answers bytes out told.status text × (told.line ≡ line_of text)

@@ -10,7 +10,7 @@ ghost use Rattle.bundle.specs.Answer.{built_text, failed_text, refused_text};
 ghost use Rattle.build.specs.Lowerable.{IsLowerable};
 ghost use Rattle.build.specs.Meaning.{line_of};
 ghost use Rattle.build.specs.PrivateTelling.{TellsPlan, TellsSolution, TellsText, IsTold};
-ghost use Rattle.build.specs.Telling.{TellsAsked, TellsBundle};
+ghost use Rattle.build.specs.PrivateTelling.{TellsAsked, TellsBundle};
 ghost use Rattle.build.specs.declared.status.Status.TheVariants.{Built, Failed, Refused};
 
 use crate::asking::{Asked, ask};

@@ -12,7 +12,7 @@ use Rattle.definition.specs.declared.fault.Defect.TheVariants.{Malformed, Unknow
 use Rattle.operations.specs.declared.spelled.Spelled.{Spelled}
 use Rattle.definition.specs.Address.{addresses_of, place_of}
 use Rattle.operations.specs.Spelled.{spelled_in}
-use Rattle.definition.specs.Reading.{Tells, TellsAnswer, named_in, address_place, Spells, IsNext, IsReadAfter, grown, no_graph, IsEnd, parts_of, IsFault, IsReadAs}
+use Rattle.definition.specs.Reading.{IsReason, IsConclusive, named_in, address_place, Spells, IsNext, IsReadAfter, grown, no_graph, IsEnd, parts_of, IsFault, IsReadAs}
 
 none_some : {A : Type 0} (x : A) → None ≡ Some x → ⊥
 none_some x e = true≢false (sym (ap is_some e))
@@ -39,14 +39,14 @@ stood before d v w k h g fresh there = fresh k (there ∙ ap Some (spells-same b
 placed : (before : List Vertex) (d : Data) (v w : Vertex) → Spells before d v → Spells before d w → address_place before v ≡ None → is_some (address_place before w) ≡ true → ⊥
 placed before d v w h g none some = true≢false (sym some ∙ ap (λ x. is_some (address_place before x)) (spells-same before d w v g h) ∙ ap is_some none)
 
-ok-fault : (before : List Vertex) (d : Data) (v : Vertex) (f : Fault Defect) → Tells f → IsNext before d (Ok v) → IsNext before d (Err f) → ⊥
+ok-fault : (before : List Vertex) (d : Data) (v : Vertex) (f : Fault Defect) → IsReason f → IsNext before d (Ok v) → IsNext before d (Err f) → ⊥
 ok-fault before d v (Because (Malformed n)) t h g = unspelled before d v g.1 h.0
 ok-fault before d v (Because (Unknown n)) t h g = unnamed before d v g.1.0 g.1.1.0 g.1.1.1 h.0
 ok-fault before d v (Because (Repeated n)) t h g = stood before d v g.1.0 g.1.1.1.0 h.0 g.1.1.0 h.1.0 g.1.1.1.1
 ok-fault before d v (Because (Clash n)) t h g = placed before d v g.1.0 h.0 g.1.1.0 h.1.1 g.1.1.1.1
 ok-fault before d v Memory t h g = absurd t
 
-fault-same : (before : List Vertex) (d : Data) (f g : Fault Defect) → Tells f → Tells g → IsNext before d (Err f) → IsNext before d (Err g) → f ≡ g
+fault-same : (before : List Vertex) (d : Data) (f g : Fault Defect) → IsReason f → IsReason g → IsNext before d (Err f) → IsNext before d (Err g) → f ≡ g
 fault-same before d (Because (Malformed n)) (Because (Malformed m)) t u h g = ap (λ n. Because (Malformed n)) (h.0 ∙ sym g.0)
 fault-same before d (Because (Malformed n)) (Because (Unknown m)) t u h g = absurd (none_some g.1.0 (sym h.1 ∙ g.1.1.0))
 fault-same before d (Because (Malformed n)) (Because (Repeated m)) t u h g = absurd (unspelled before d g.1.0 h.1 g.1.1.0)
@@ -77,7 +77,7 @@ oks : (ds : List Data) (before a b : GraphValue) → IsReadAfter before ds (Ok a
 oks [] before a b h g = h ∙ sym g
 oks (d ∷ ds) before a b h g = oks ds (grown before h.0 []) a b h.1.1 (again before ds (Ok b) h.0 g.0 (spells-same before.vertices d h.0 g.0 h.1.0.0 g.1.0.0) g.1.1)
 
-ok-err : (ds : List Data) (before a : GraphValue) (f : Fault Defect) → Tells f → IsReadAfter before ds (Ok a) → IsReadAfter before ds (Err f) → ⊥
+ok-err : (ds : List Data) (before a : GraphValue) (f : Fault Defect) → IsReason f → IsReadAfter before ds (Ok a) → IsReadAfter before ds (Err f) → ⊥
 ok-err [] before a f t h g = g
 ok-err (d ∷ ds) before a f t h g =
     elim g [
@@ -85,7 +85,7 @@ ok-err (d ∷ ds) before a f t h g =
       | inr later ↦ ok-err ds (grown before h.0 []) a f t h.1.1 (again before ds (Err f) h.0 later.0 (spells-same before.vertices d h.0 later.0 h.1.0.0 later.1.0.0) later.1.1)
     ]
 
-errs : (ds : List Data) (before : GraphValue) (f g : Fault Defect) → Tells f → Tells g → IsReadAfter before ds (Err f) → IsReadAfter before ds (Err g) → f ≡ g
+errs : (ds : List Data) (before : GraphValue) (f g : Fault Defect) → IsReason f → IsReason g → IsReadAfter before ds (Err f) → IsReadAfter before ds (Err g) → f ≡ g
 errs [] before f g t u h k = absurd h
 errs (d ∷ ds) before f g t u h k =
     elim h [
@@ -103,14 +103,14 @@ errs (d ∷ ds) before f g t u h k =
 end-oks : (before : List Vertex) (d : Data) (a b : ℕ) → IsEnd before d (Ok a) → IsEnd before d (Ok b) → a ≡ b
 end-oks before d a b h g = some_same a b (sym h.1.1 ∙ ap (place_of (addresses_of before)) (some_same h.0 g.0 (sym h.1.0 ∙ g.1.0)) ∙ g.1.1)
 
-end-ok-err : (before : List Vertex) (d : Data) (a : ℕ) (f : Fault Defect) → Tells f → IsEnd before d (Ok a) → IsEnd before d (Err f) → ⊥
+end-ok-err : (before : List Vertex) (d : Data) (a : ℕ) (f : Fault Defect) → IsReason f → IsEnd before d (Ok a) → IsEnd before d (Err f) → ⊥
 end-ok-err before d a (Because (Malformed n)) t h g = none_some h.0 (sym g.1 ∙ h.1.0)
 end-ok-err before d a (Because (Unknown n)) t h g = none_some a (sym g.1.1.1 ∙ ap (place_of (addresses_of before)) (some_same g.1.0 h.0 (sym g.1.1.0 ∙ h.1.0)) ∙ h.1.1)
 end-ok-err before d a (Because (Repeated n)) t h g = g
 end-ok-err before d a (Because (Clash n)) t h g = g
 end-ok-err before d a Memory t h g = t
 
-end-errs : (before : List Vertex) (d : Data) (f g : Fault Defect) → Tells f → Tells g → IsEnd before d (Err f) → IsEnd before d (Err g) → f ≡ g
+end-errs : (before : List Vertex) (d : Data) (f g : Fault Defect) → IsReason f → IsReason g → IsEnd before d (Err f) → IsEnd before d (Err g) → f ≡ g
 end-errs before d (Because (Malformed n)) (Because (Malformed m)) t u h g = ap (λ n. Because (Malformed n)) (h.0 ∙ sym g.0)
 end-errs before d (Because (Malformed n)) (Because (Unknown m)) t u h g = absurd (none_some g.1.0 (sym h.1 ∙ g.1.1.0))
 end-errs before d (Because (Unknown n)) (Because (Malformed m)) t u h g = absurd (none_some h.1.0 (sym g.1 ∙ h.1.1.0))
@@ -128,7 +128,7 @@ end-errs before d Memory g t u h k = absurd t
 -- ---- a text
 
 -- the two forms of a fault
-fault-of : (text : List ℕ) (f : Fault Defect) → Tells f → IsReadAs text (Err f) → IsFault text f
+fault-of : (text : List ℕ) (f : Fault Defect) → IsReason f → IsReadAs text (Err f) → IsFault text f
 fault-of text (Because (Malformed n)) t h = h
 fault-of text (Because (Unknown n)) t h = h
 fault-of text (Because (Repeated n)) t h = h
@@ -150,17 +150,17 @@ both_ok text (g, a) (k, b) x y =
 abbrev pub Later : List Data × Data → (Fault Defect) → Type 0
 Later p f = IsReadAfter no_graph p.0 (Err f) ⊎ ((graph : GraphValue) × (IsReadAfter no_graph p.0 (Ok graph) × IsEnd graph.vertices p.1 (Err f)))
 
-ok_later : (p : List Data × Data) (g : GraphValue) (a : ℕ) (f : Fault Defect) → Tells f → IsReadAfter no_graph p.0 (Ok g) → IsEnd g.vertices p.1 (Ok a) → Later p f → ⊥
+ok_later : (p : List Data × Data) (g : GraphValue) (a : ℕ) (f : Fault Defect) → IsReason f → IsReadAfter no_graph p.0 (Ok g) → IsEnd g.vertices p.1 (Ok a) → Later p f → ⊥
 ok_later p g a f t all end (inl now) = ok-err p.0 no_graph g f t all now
 ok_later p g a f t all end (inr later) =
     end-ok-err g.vertices p.1 a f t end (subst (λ (m : GraphValue). IsEnd m.vertices p.1 (Err f)) (sym (oks p.0 no_graph g later.0 all later.1.0)) later.1.1)
 
-ok_fault : (text : List ℕ) (x : GraphValue × ℕ) (f : Fault Defect) → Tells f → IsReadAs text (Ok x) → IsFault text f → ⊥
+ok_fault : (text : List ℕ) (x : GraphValue × ℕ) (f : Fault Defect) → IsReason f → IsReadAs text (Ok x) → IsFault text f → ⊥
 ok_fault text (g, a) f t x (inl none) = none_some (x.0, x.1.0) (sym none.0 ∙ x.1.1.0)
 ok_fault text (g, a) f t x (inr y) =
     ok_later (x.0, x.1.0) g a f t x.1.1.1.0 x.1.1.1.1 (subst (λ (p : List Data × Data). Later p f) (same-parts text (y.0, y.1.0) (x.0, x.1.0) y.1.1.0 x.1.1.0) y.1.1.1)
 
-both_faults : (text : List ℕ) (f g : Fault Defect) → Tells f → Tells g → IsFault text f → IsFault text g → f ≡ g
+both_faults : (text : List ℕ) (f g : Fault Defect) → IsReason f → IsReason g → IsFault text f → IsFault text g → f ≡ g
 both_faults text f g t u h k =
     elim h [
       | inl none ↦ elim k [
@@ -188,7 +188,7 @@ both_faults text f g t u h k =
     ]
 
 -- a text has one reading
-pub one-reading : (text : List ℕ) (x y : Result (GraphValue × ℕ) (Fault Defect)) → TellsAnswer x → TellsAnswer y → IsReadAs text x → IsReadAs text y → x ≡ y
+pub one-reading : (text : List ℕ) (x y : Result (GraphValue × ℕ) (Fault Defect)) → IsConclusive x → IsConclusive y → IsReadAs text x → IsReadAs text y → x ≡ y
 one-reading text (Ok x) (Ok y) t u h g = ap Ok (both_ok text x y h g)
 one-reading text (Ok x) (Err g) t u h k = absurd (ok_fault text x g u h (fault-of text g u k))
 one-reading text (Err f) (Ok y) t u h k = absurd (ok_fault text y f t k (fault-of text f t h))

@@ -17,7 +17,8 @@ use Rattle.definition.specs.Address.{address_of, addresses_at, addresses_of, ver
 use Rattle.definition.specs.PrivateAddresses.{AreOnce}
 use Rattle.definition.proofs.AddressFacts.{address_of-is, length-addresses_after, addresses_after-append}
 use Rattle.strict.specs.Strict.{with_first}
-use Rattle.definition.specs.Reading.{places_of, named_in, address_place, IsPlaced, IsNext, IsReadAfter, IsAllRead, grown, no_graph}
+use Rattle.definition.specs.Reading.{places_of, named_in, address_place, IsNext, IsReadAfter, grown, no_graph}
+use Rattle.definition.specs.PrivateReading.{IsPlaced, IsAllRead}
 use Rattle.definition.proofs.PlaceFacts.{same_bytes}
 
 none_some : {A : Type 0} (x : A) → None ≡ Some x → ⊥

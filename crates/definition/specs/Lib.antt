@@ -1,4 +1,5 @@
 pub mod Address
 pub mod Definition
 pub mod PrivateAddresses
+pub mod PrivateReading
 pub mod Reading

@@ -47,20 +47,6 @@ IsNext before d (Err (Because (Repeated place))) = (place ≡ length before) × 
 IsNext before d (Err (Because (Clash place))) = (place ≡ length before) × ((vertex : Vertex) × (Spells before d vertex × (IsNew before vertex × (is_some (address_place before vertex) ≡ true))))
 IsNext before d (Err Memory) = Unit {0}
 
--- the same of what was spelled
-abbrev pub IsPlaced : List Vertex → Spelled → Result Vertex (Fault Defect) → Type 0
-IsPlaced before told (Ok vertex) = (named_in (addresses_of before) told ≡ Some vertex) × (IsNew before vertex × (address_place before vertex ≡ None))
-IsPlaced before told (Err (Because (Malformed place))) = ⊥
-IsPlaced before told (Err (Because (Unknown place))) = (place ≡ length before) × (named_in (addresses_of before) told ≡ None)
-IsPlaced before told (Err (Because (Repeated place))) = (place ≡ length before) × ((vertex : Vertex) × ((named_in (addresses_of before) told ≡ Some vertex) × ((k : ℕ) × (slice_get before k ≡ Some vertex))))
-IsPlaced before told (Err (Because (Clash place))) = (place ≡ length before) × ((vertex : Vertex) × ((named_in (addresses_of before) told ≡ Some vertex) × (IsNew before vertex × (is_some (address_place before vertex) ≡ true))))
-IsPlaced before told (Err Memory) = Unit {0}
-
--- the vertex of an answer that has its address beside it
-abbrev pub told_next : Result (Vertex × List ℕ) (Fault Defect) → Result Vertex (Fault Defect)
-told_next (Ok (vertex, address)) = Ok vertex
-told_next (Err fault) = Err fault
-
 -- a graph with one more vertex, and the lines behind it
 abbrev pub grown : GraphValue → Vertex → List ℕ → GraphValue
 grown graph vertex lines = record { vertices = graph.vertices ++ vertex ∷ []; places = graph.places ++ lines ∷ [] }
@@ -146,15 +132,6 @@ parts_in d =
 abbrev pub parts_of : List ℕ → Option (List Data × Data)
 parts_of text = option_and_then parts_in (read text)
 
--- what all operations tell, but for want of memory
-abbrev pub IsAllRead : List Data → Result GraphValue (Fault Defect) → Type 0
-IsAllRead ds (Ok graph) = IsReadAfter no_graph ds (Ok graph)
-IsAllRead ds (Err (Because (Malformed place))) = IsReadAfter no_graph ds (Err (Because (Malformed place)))
-IsAllRead ds (Err (Because (Unknown place))) = IsReadAfter no_graph ds (Err (Because (Unknown place)))
-IsAllRead ds (Err (Because (Repeated place))) = IsReadAfter no_graph ds (Err (Because (Repeated place)))
-IsAllRead ds (Err (Because (Clash place))) = IsReadAfter no_graph ds (Err (Because (Clash place)))
-IsAllRead ds (Err Memory) = Unit {0}
-
 -- a fault of a text: it has another shape; or an operation tells it, or the end after all operations
 abbrev pub IsFault : List ℕ → (Fault Defect) → Type 0
 IsFault text fault =
@@ -181,14 +158,14 @@ abbrev pub graph_code : Coded GraphValue
 graph_code = graphs.the_row.coded
 
 -- a fault that tells something
-abbrev pub Tells : Fault Defect → Type 0
-Tells Memory = ⊥
-Tells (Because (Malformed n)) = Unit {0}
-Tells (Because (Unknown n)) = Unit {0}
-Tells (Because (Repeated n)) = Unit {0}
-Tells (Because (Clash n)) = Unit {0}
+abbrev pub IsReason : Fault Defect → Type 0
+IsReason Memory = ⊥
+IsReason (Because (Malformed n)) = Unit {0}
+IsReason (Because (Unknown n)) = Unit {0}
+IsReason (Because (Repeated n)) = Unit {0}
+IsReason (Because (Clash n)) = Unit {0}
 
 -- an answer that tells something
-abbrev pub TellsAnswer : Result (GraphValue × ℕ) (Fault Defect) → Type 0
-TellsAnswer (Ok parts) = Unit {0}
-TellsAnswer (Err fault) = Tells fault
+abbrev pub IsConclusive : Result (GraphValue × ℕ) (Fault Defect) → Type 0
+IsConclusive (Ok parts) = Unit {0}
+IsConclusive (Err fault) = IsReason fault

@@ -5,7 +5,8 @@ ghost use Rattle.plain.specs.Limits.{most_vertices};
 ghost use Rattle.llb.specs.WellFormed.{is_well_formed};
 ghost use Rattle.operations.specs.Texts.{op_data};
 ghost use Rattle.definition.specs.Address.{address_of, addresses_of, vertex_address, place_of};
-ghost use Rattle.definition.specs.Reading.{no_graph, grown, address_place, told_next, IsNext, IsPlaced};
+ghost use Rattle.definition.specs.Reading.{no_graph, grown, address_place, IsNext};
+ghost use Rattle.definition.specs.PrivateReading.{told_next, IsPlaced};
 
 use crate::address::address_of;
 use crate::addresses::Addresses;

@@ -7,7 +7,7 @@ ghost use Rattle.llb.specs.Graph.{GraphValue, AreVertices};
 ghost use Rattle.llb.specs.declared.vertex.Vertex.{Vertex};
 ghost use Rattle.definition.specs.Address.{addresses_of, vertex_address, clash_after};
 ghost use Rattle.definition.specs.Definition.{AreAlike, AreProper, definition_data};
-ghost use Rattle.definition.specs.Reading.{IsReadAs, TellsAnswer, graph_of};
+ghost use Rattle.definition.specs.Reading.{IsReadAs, IsConclusive, graph_of};
 ghost use Rattle.definition.specs.declared.fault.Defect.{Defect};
 
 /// A clash is told exactly where two different operations have one address: where one is told at a place, the operation there has the
@@ -22,7 +22,7 @@ pub fn clashes_are_of_different_operations()
 
 /// A text has one reading: two answers that both tell something of it are the same.
 pub fn a_text_has_one_reading()
-    ensures { (text : List ℕ) (one other : Result (GraphValue × ℕ) (Fault Defect)) → TellsAnswer one → TellsAnswer other
+    ensures { (text : List ℕ) (one other : Result (GraphValue × ℕ) (Fault Defect)) → IsConclusive one → IsConclusive other
         → IsReadAs text one → IsReadAs text other → one ≡ other }
 {}
 

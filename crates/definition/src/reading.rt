@@ -4,7 +4,8 @@ ghost use Rattle.std.specs.Option.{option_and_then};
 ghost use Rattle.plain.specs.Limits.{most_vertices};
 ghost use Rattle.serde_json.specs.Find.{get};
 ghost use Rattle.serde_json.specs.View.{view, items_view};
-ghost use Rattle.definition.specs.Reading.{IsReadAs, IsAllRead, IsEnd, parted, parted_few, parts_in, as_list, is_first, is_end, only, end_in};
+ghost use Rattle.definition.specs.Reading.{IsReadAs, IsEnd, parted, parted_few, parts_in, as_list, is_first, is_end, only, end_in};
+ghost use Rattle.definition.specs.PrivateReading.{IsAllRead};
 ghost use Rattle.strict.specs.Gives.{Gives};
 
 use crate::known::Known;

@@ -21,7 +21,8 @@ use Rattle.instructions.specs.Instruction.{IsInstruction}
 use Rattle.instructions.specs.Parsing.{is_due, Spells, IsParsed}
 use Rattle.instructions.specs.declared.instruction.Instruction.{Instruction}
 use Rattle.instructions.proofs.InstructionLaws.{spelled_is_whole}
-use Rattle.dockerfile.specs.Dockerfile.{AreSpelled, IsSound, IsFirstDue, AreParsed, AreInstructions, IsRefused, AscendBelow, IsDockerfile}
+use Rattle.dockerfile.specs.Dockerfile.{AreSpelled, IsSound, IsFirstDue, AreInstructions, IsRefused, AscendBelow, IsDockerfile}
+use Rattle.dockerfile.specs.PrivateDockerfile.{AreParsed}
 
 -- the lines so far, and those that are left
 pub record LinesSoFar (all rest : List Line) (found : List Instruction) : Type 0 where

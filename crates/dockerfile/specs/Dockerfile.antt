@@ -31,12 +31,6 @@ pub record IsFirstDue (lines : List Line) (refusal : Refusal) : Type 0 where
   pub number : refusal.line ≡ line.number
   pub due : least (is_due line) ≡ Some refusal.code
 
--- what reading lines answers: their instructions, or the refusal of the first that spells none; want of memory says nothing of them
-abbrev pub AreParsed : List Line → Result (List Instruction) (Fault Refusal) → Type 0
-AreParsed lines (Ok instructions) = AreSpelled lines instructions
-AreParsed lines (Err (Because refusal)) = IsFirstDue lines refusal
-AreParsed lines (Err Memory) = Unit {0}
-
 -- these are the instructions of a text: those that its logical lines spell (Dockerfile reference)
 abbrev pub AreInstructions : List ℕ → List Instruction → Type 0
 AreInstructions text instructions = (lines : List Line) × AreLines text lines × AreSpelled lines instructions

@@ -1,1 +1,2 @@
 pub mod Dockerfile
+pub mod PrivateDockerfile

@@ -1,5 +1,5 @@
 ghost use Rattle.lines.specs.Text.{Answers};
-ghost use Rattle.dockerfile.specs.Dockerfile.{AreParsed};
+ghost use Rattle.dockerfile.specs.PrivateDockerfile.{AreParsed};
 
 use instructions::{Instruction, parse};
 use lines::{Line, LineFault, Reader};

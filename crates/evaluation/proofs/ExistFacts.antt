@@ -7,6 +7,8 @@ use Rattle.std.proofs.lemmas.Bool.{true≢false}
 use Rattle.std.proofs.lemmas.Bool.Decides.{nat_tests}
 use Rattle.std.proofs.lemmas.List.Elements.{All-nil, All-cons, All-head, All-tail, All-append, All-contains}
 use Rattle.std.proofs.lemmas.List.Folds.{Any-from_list_any, list_any_at}
+use Rattle.plain.specs.Marks.{is_marked}
+use Rattle.plain.proofs.MarkFacts.{reached_more}
 use Rattle.plain.specs.declared.fault.Fault.TheVariants.{Because}
 use Rattle.plain.specs.declared.refusal.Refusal.{Refusal}
 use Rattle.trees.specs.TreeMap.{TreeMap}
@@ -16,7 +18,7 @@ use Rattle.plans.specs.declared.images.Image as image
 use Rattle.rows.specs.declared.row.Origin.{Origin}
 use Rattle.rows.specs.declared.row.Origin.TheVariants.{Source as SourceOf, Stage as StageOf}
 use Rattle.scopes.specs.Evaluate.{Values}
-use Rattle.stages.specs.Needed.{is_marked, origins_in, stage_origins, Leads, IsNeeded, AreNeeded}
+use Rattle.stages.specs.Needed.{origins_in, stage_origins, Refers, Leads, IsNeeded, AreNeeded}
 use Rattle.stages.specs.Table.{TableValue, IsBefore, IsResolved, IsStage, IsTable}
 use Rattle.stages.specs.declared.stage.ResolvedInstruction.{ResolvedInstruction}
 use Rattle.stages.specs.declared.stage.ResolvedStage.{ResolvedStage}
@@ -26,7 +28,6 @@ use Rattle.evaluation.specs.Images.{ImageNames, AreSources}
 use Rattle.evaluation.specs.declared.evaluated.Evaluated.{Evaluated}
 use Rattle.evaluation.specs.declared.walk.Walk.{Walk}
 use Rattle.evaluation.proofs.ImageFacts.{TakenSoFar, taken_first, taken_some, taken_none, taken_all}
-use Rattle.evaluation.proofs.WholeFacts.{leads_more}
 
 -- the marks: a stage has one where it is the target, or where a later stage that has one names it
 
@@ -152,7 +153,7 @@ sound all target (stage ∷ stages) number look zero m at h =
           let named = refers_named number found.stage found.refers in
           let same : number ≡ m = omega (arith, at) in
           subst (IsNeeded all target) same
-          (needs.0 ++ number ∷ [], leads_more all target needs.0 (suc number + found.at) number needs.1 (record { stage = found.stage; there = there; named = named }))
+          (reached_more (Refers all) target (suc number + found.at) number needs (record { stage = found.stage; there = there; named = named }))
     ]
 sound all target (stage ∷ stages) number look (suc k) m at h =
     sound all target stages (suc number) (look_rest all number stage stages look) k m (omega (arith, at)) h

@@ -11,8 +11,9 @@ use Rattle.instructions.specs.Least.{least}
 use Rattle.instructions.specs.declared.instruction.InstructionKind.{InstructionKind}
 use Rattle.instructions.specs.declared.instruction.InstructionKind.TheVariants.{From, Arg, Env, Label, Expose, User, Workdir, StopSignal, Volume, Shell, Cmd, Entrypoint, Run, Copy}
 use Rattle.scopes.specs.Evaluate.{Values}
-use Rattle.evaluation.specs.Instruction.{after, action_in, done, due}
-use Rattle.evaluation.specs.Refusals.{Tells}
+use Rattle.evaluation.specs.Instruction.{after, action_in, due}
+use Rattle.evaluation.specs.PrivateInstruction.{done}
+use Rattle.evaluation.specs.PrivateRefusals.{EvaluatesTo}
 use Rattle.evaluation.specs.PrivateInstruction.{left_due, acted, acted_due, finished}
 use Rattle.evaluation.specs.declared.instruction.Done.{Done}
 use Rattle.evaluation.specs.declared.state.State.{State}
@@ -88,13 +89,13 @@ done_of : State → Option Action → Done
 done_of state action = record { state = state; action = action }
 
 pub told_left : (args outer : Values) (s : State) (kind : InstructionKind) (origins : List Origin) (line : ℕ) (fault : Fault Refusal)
-    → Tells (after args outer s kind) (left_due args s kind) line (Err fault) → Tells (done args outer s kind origins) (due args s kind) line (Err fault)
+    → EvaluatesTo (after args outer s kind) (left_due args s kind) line (Err fault) → EvaluatesTo (done args outer s kind origins) (due args s kind) line (Err fault)
 told_left args outer s kind origins line (Because refusal) h = (h.0, due_left args s kind refusal.code h.1)
 told_left args outer s kind origins line Memory h = tt
 
 pub told_both : (args outer : Values) (s next : State) (kind : InstructionKind) (origins : List Origin) (line : ℕ) (result : Result Done (Fault Refusal))
-    → Tells (after args outer s kind) (left_due args s kind) line (Ok next) → Tells (finished next kind origins) (acted_due next kind) line result
-    → Tells (done args outer s kind origins) (due args s kind) line result
+    → EvaluatesTo (after args outer s kind) (left_due args s kind) line (Ok next) → EvaluatesTo (finished next kind origins) (acted_due next kind) line result
+    → EvaluatesTo (done args outer s kind origins) (due args s kind) line result
 unfolding done_of
 told_both args outer s next kind origins line (Ok made) left act =
     let acts = ap (λ (t : State). acted t kind origins) left.0 ∙ acted_is args outer s kind origins in

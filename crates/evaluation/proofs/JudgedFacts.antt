@@ -7,6 +7,7 @@ use Rattle.std.proofs.lemmas.List.{map-append}
 use Rattle.std.proofs.lemmas.List.Elements.{All-nil, All-cons, All-append, All-weaker, Contains-append_right}
 use Rattle.plain.specs.Codes.{number_of}
 use Rattle.plain.specs.Limits.{most_images}
+use Rattle.plain.specs.Marks.{is_marked}
 use Rattle.plain.specs.declared.refusal.Code.{Code}
 use Rattle.plain.specs.declared.refusal.Code.TheVariants.{R18, R19, R20}
 use Rattle.plain.specs.declared.refusal.Refusal.{Refusal}
@@ -17,7 +18,6 @@ use Rattle.instructions.specs.declared.instruction.InstructionKind.{InstructionK
 use Rattle.instructions.specs.declared.instruction.InstructionKind.TheVariants.{From, Arg, Env, Label, Expose, User, Workdir, StopSignal, Volume, Shell, Cmd, Entrypoint, Run, Copy}
 use Rattle.scopes.specs.Evaluate.{Values}
 use Rattle.scopes.specs.Scope.{value_in}
-use Rattle.stages.specs.Needed.{is_marked}
 use Rattle.stages.specs.Table.{TableValue, IsTable, stage_lines, lines_of}
 use Rattle.stages.specs.declared.stage.ResolvedInstruction.{ResolvedInstruction}
 use Rattle.stages.specs.declared.stage.ResolvedStage.{ResolvedStage}

@@ -10,12 +10,12 @@ use Rattle.instructions.specs.Least.{least, Meets}
 use Rattle.scopes.specs.Evaluate.{Declares, is_one_long}
 use Rattle.scopes.specs.declared.declaration.Declaration.{Declaration}
 use Rattle.evaluation.specs.PrivateInstruction.{with_line}
-use Rattle.evaluation.specs.Refusals.{Tells}
+use Rattle.evaluation.specs.PrivateRefusals.{EvaluatesTo}
 
 pub line_told : {X : Type 0} (made : X) (codes : Code → Bool) (line : ℕ) (fault : Fault Code) (out : Fault Refusal) → out ≡ with_line fault line
-    → ((code : Code) → fault ≡ Because code → least codes ≡ Some code) → Tells made codes line (Err out)
-line_told made codes line (Because code) out is h = subst (λ (o : Fault Refusal). Tells made codes line (Err o)) (sym is) (refl, h code refl)
-line_told made codes line Memory out is h = subst (λ (o : Fault Refusal). Tells made codes line (Err o)) (sym is) tt
+    → ((code : Code) → fault ≡ Because code → least codes ≡ Some code) → EvaluatesTo made codes line (Err out)
+line_told made codes line (Because code) out is h = subst (λ (o : Fault Refusal). EvaluatesTo made codes line (Err o)) (sym is) (refl, h code refl)
+line_told made codes line Memory out is h = subst (λ (o : Fault Refusal). EvaluatesTo made codes line (Err o)) (sym is) tt
 
 same_code : (this that : Code) → Because this ≡ Because that → this ≡ that
 same_code this that e = cc

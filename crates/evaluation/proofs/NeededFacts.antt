@@ -1,12 +1,13 @@
 -- What a stage says that isn't needed changes nothing.
 use Rattle.std.specs.Prelude.{◌≡◌, ◌+◌, ℕ, suc, Bool, true, false, List, [], ◌∷◌, ◌++◌, Some, None, Result, Ok, Err, length, slice_get, refl, if◌then◌else◌}
 use Rattle.std.proofs.Common.{sym, ◌∙◌, ap, subst, arith, length-append}
+use Rattle.plain.specs.Marks.{is_marked}
 use Rattle.plain.specs.declared.refusal.Refusal.{Refusal}
 use Rattle.plans.specs.Images.{ImagesValue}
 use Rattle.scopes.specs.Evaluate.{Values}
 use Rattle.scopes.specs.Scope.{value_in}
 use Rattle.scopes.specs.declared.declaration.Declaration.{Declaration}
-use Rattle.stages.specs.Needed.{is_marked, Leads, AreNeeded}
+use Rattle.stages.specs.Needed.{Leads, AreNeeded}
 use Rattle.stages.specs.Table.{TableValue}
 use Rattle.stages.specs.declared.stage.ResolvedStage.{ResolvedStage}
 use Rattle.imageconfig.specs.declared.config.Config.{Config}

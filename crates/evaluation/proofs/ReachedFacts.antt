@@ -4,13 +4,13 @@ use Rattle.std.specs.List.{All}
 use Rattle.std.proofs.Common.{subst}
 use Rattle.std.proofs.lemmas.Option.{slice_get_within, get_or_from_slice_get}
 use Rattle.std.proofs.lemmas.List.Elements.{All-nil, All-push}
+use Rattle.plain.specs.Marks.{is_marked}
 use Rattle.plain.specs.declared.refusal.Refusal.{Refusal}
 use Rattle.plain.specs.declared.variable.Variable.{Variable}
 use Rattle.plans.specs.Images.{ImagesValue}
 use Rattle.instructions.specs.Least.{least}
 use Rattle.scopes.specs.Evaluate.{Values}
 use Rattle.scopes.specs.Scope.{value_in, run_env}
-use Rattle.stages.specs.Needed.{is_marked}
 use Rattle.stages.specs.Table.{TableValue}
 use Rattle.stages.specs.declared.stage.ResolvedInstruction.{ResolvedInstruction}
 use Rattle.stages.specs.declared.stage.ResolvedStage.{ResolvedStage}

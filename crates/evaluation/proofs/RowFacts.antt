@@ -6,6 +6,7 @@ use Rattle.std.proofs.Common.{sym, ◌∙◌, ap, subst, arith, append_assoc, ap
 use Rattle.std.proofs.lemmas.Bool.{cases_lt, true≢false}
 use Rattle.std.proofs.lemmas.List.Elements.{All-nil, All-cons, All-head, All-tail, All-push, All-weaker, All-contains_itself, Contains-append_left, Contains-append_right}
 use Rattle.plain.specs.Limits.{most_images}
+use Rattle.plain.specs.Marks.{is_marked}
 use Rattle.plain.specs.declared.refusal.Refusal.{Refusal}
 use Rattle.llb.specs.Places.{IsLine}
 use Rattle.llb.specs.declared.op.Source.{Source}
@@ -22,7 +23,7 @@ use Rattle.rows.specs.declared.row.Stage.{Stage}
 use Rattle.rows.specs.declared.row.Step.{Step}
 use Rattle.scopes.specs.Evaluate.{Values}
 use Rattle.scopes.specs.Scope.{kept, names_in, is_environment_name}
-use Rattle.stages.specs.Needed.{is_marked, origins_in, stage_origins}
+use Rattle.stages.specs.Needed.{origins_in, stage_origins}
 use Rattle.stages.specs.Table.{IsBefore, IsResolved, IsStage, stage_lines, lines_of}
 use Rattle.stages.specs.declared.stage.ResolvedInstruction.{ResolvedInstruction}
 use Rattle.stages.specs.declared.stage.ResolvedStage.{ResolvedStage}

@@ -15,10 +15,11 @@ use Rattle.instructions.specs.Least.{least}
 use Rattle.scopes.specs.Evaluate.{Values}
 use Rattle.stages.specs.declared.stage.ResolvedInstruction.{ResolvedInstruction}
 use Rattle.evaluation.specs.Images.{ImageNames, with_origins, many_due}
-use Rattle.evaluation.specs.Instruction.{done, due}
+use Rattle.evaluation.specs.Instruction.{due}
+use Rattle.evaluation.specs.PrivateInstruction.{done}
 use Rattle.imageconfig.specs.Stage.{unless_due}
 use Rattle.stages.specs.Resolved.{Answers}
-use Rattle.evaluation.specs.Refusals.{many_refused}
+use Rattle.evaluation.specs.PrivateRefusals.{many_refused}
 use Rattle.evaluation.specs.PrivateStage.{IsDone, put_to, IsPut, IsStepped, IsNext, AreNext}
 use Rattle.evaluation.specs.Stages.{next_instruction, instructions_from}
 use Rattle.evaluation.specs.declared.instruction.Done.{Done}

@@ -3,6 +3,7 @@ use Rattle.std.specs.Prelude.{◌≡◌, ℕ, Bool, true, false, List, [], ◌�
 use Rattle.std.specs.List.{All}
 use Rattle.std.proofs.Common.{sym, ◌∙◌, ap, subst}
 use Rattle.plain.specs.Limits.{most_images}
+use Rattle.plain.specs.Marks.{is_marked}
 use Rattle.plain.specs.declared.fault.Fault.{Fault}
 use Rattle.plain.specs.declared.fault.Fault.TheVariants.{Because, Memory}
 use Rattle.plain.specs.declared.refusal.Code.{Code}
@@ -11,7 +12,6 @@ use Rattle.plans.specs.Images.{ImagesValue}
 use Rattle.rows.specs.declared.row.Origin.{Origin}
 use Rattle.rows.specs.declared.row.Stage.{Stage}
 use Rattle.scopes.specs.Evaluate.{Values}
-use Rattle.stages.specs.Needed.{is_marked}
 use Rattle.stages.specs.declared.stage.ResolvedInstruction.{ResolvedInstruction}
 use Rattle.stages.specs.declared.stage.ResolvedStage.{ResolvedStage}
 use Rattle.imageconfig.specs.declared.config.Config.{Config}
@@ -21,7 +21,7 @@ use Rattle.evaluation.specs.PrivateStage.{AreNext}
 use Rattle.evaluation.specs.PrivateWalk.{AreFew, AreNamed, begun_with, IsEnded, IsWalk, IsStageAdded, IsNextStage, AreStages}
 use Rattle.imageconfig.specs.Stage.{unless_due}
 use Rattle.stages.specs.Resolved.{Answers}
-use Rattle.evaluation.specs.Refusals.{many_refused}
+use Rattle.evaluation.specs.PrivateRefusals.{many_refused}
 use Rattle.evaluation.specs.Stages.{instructions_from, with_ended, with_none, stage_from, next_stage, stages_from}
 use Rattle.evaluation.specs.declared.stage.Progress.{Progress}
 use Rattle.evaluation.specs.declared.state.State.{State}

@@ -6,6 +6,8 @@ use Rattle.std.proofs.Common.{sym, ◌∙◌, ap, subst, arith}
 use Rattle.std.proofs.lemmas.Option.{slice_get_within, get_or_from_slice_get}
 use Rattle.std.proofs.lemmas.List.Elements.{All-nil, All-cons, All-head, All-tail, All-weaker}
 use Rattle.plain.specs.Limits.{most_images, most_lines}
+use Rattle.plain.specs.Marks.{is_marked}
+use Rattle.plain.proofs.MarkFacts.{reached_more}
 use Rattle.plain.specs.declared.fault.Fault.{Fault}
 use Rattle.plain.specs.declared.refusal.Refusal.{Refusal}
 use Rattle.trees.specs.TreeMap.{TreeMap}
@@ -20,7 +22,7 @@ use Rattle.rows.specs.declared.row.Origin.TheVariants.{Source as SourceOf, Stage
 use Rattle.rows.specs.declared.row.Stage.{Stage}
 use Rattle.scopes.specs.Evaluate.{Values}
 use Rattle.stages.specs.Naming.{names_in}
-use Rattle.stages.specs.Needed.{is_marked, stage_origins, Refers, Leads, AreNeeded}
+use Rattle.stages.specs.Needed.{stage_origins, Refers, AreNeeded}
 use Rattle.stages.specs.Table.{TableValue, IsTable, IsKnown, NamesKnown, stage_lines, lines_of}
 use Rattle.stages.specs.declared.stage.ResolvedInstruction.{ResolvedInstruction}
 use Rattle.stages.specs.declared.stage.ResolvedStage.{ResolvedStage}
@@ -73,15 +75,10 @@ inner_lines (r ∷ rs) are =
 
 -- what a needed stage names is needed
 
-pub leads_more : (stages : List ResolvedStage) (from : ℕ) (path : List ℕ) (stage to : ℕ) → Leads stages from path stage → Refers stages stage to → Leads stages from (path ++ to ∷ []) to
-leads_more stages from [] stage to leads refers = (subst (λ n. Refers stages n to) (sym leads) refers, refl)
-leads_more stages from (next ∷ path) stage to leads refers = (leads.0, leads_more stages next path stage to leads.1 refers)
-
 pub named_marked : (stages : List ResolvedStage) (target : ℕ) (needed : List Bool) (number : ℕ) (stage : ResolvedStage) → AreNeeded stages target needed → slice_get stages number ≡ Some stage
     → is_marked needed number ≡ true → (to : ℕ) → Contains (stage_origins stage) (StageOf to) → is_marked needed to ≡ true
 named_marked stages target needed number stage are there marked to named =
-    let path = (are.just number).0 marked in
-    (are.just to).1 (path.0 ++ to ∷ [], leads_more stages target path.0 number to path.1 (record { stage = stage; there = there; named = named }))
+    (are.just to).1 (reached_more (Refers stages) target number to ((are.just number).0 marked) (record { stage = stage; there = there; named = named }))
 
 -- each stage of a table is such as evaluating asks for
 

@@ -18,7 +18,6 @@ use Rattle.imageconfig.specs.Steps as config
 use Rattle.actions.specs.Copy.{copy_action, copy_due}
 use Rattle.actions.specs.Run.{run_action, run_due}
 use Rattle.evaluation.specs.declared.state.State.{State}
-use Rattle.evaluation.specs.declared.instruction.Done.{Done}
 
 -- the working directory where an instruction stands: that of the configuration
 abbrev pub dir_in : State → List (List ℕ)
@@ -67,10 +66,6 @@ action_in s (Cmd command) origins = None
 action_in s (Entrypoint command) origins = None
 action_in s (Run mounts command) origins = Some (run_action s.scope (dir_in s) s.config.user s.config.shell mounts command origins)
 action_in s (Copy sources destination flags) origins = Some (copy_action s.scope (dir_in s) sources destination flags (first_of origins))
-
--- both: what it leaves and what it does
-abbrev pub done : Values → Values → State → InstructionKind → List Origin → Done
-done args outer s kind origins = record { state = after args outer s kind; action = action_in s kind origins }
 
 -- the codes that are due for an instruction where it stands: by what ARG expands, by what RUN and COPY do, else by what becomes of the
 -- configuration

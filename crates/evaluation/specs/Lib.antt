@@ -7,6 +7,7 @@ pub mod NeededLines
 pub mod PrivateInstruction
 pub mod PrivateMaking
 pub mod PrivateNames
+pub mod PrivateRefusals
 pub mod PrivateStage
 pub mod PrivateWalk
 pub mod Reached

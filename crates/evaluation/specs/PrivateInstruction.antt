@@ -17,7 +17,7 @@ use Rattle.imageconfig.specs.Steps.{changed, nothing_due}
 use Rattle.imageconfig.specs.Steps as config
 use Rattle.actions.specs.Copy.{copy_action, copy_due}
 use Rattle.actions.specs.Run.{run_action, run_due}
-use Rattle.evaluation.specs.Instruction.{dir_in, first_of}
+use Rattle.evaluation.specs.Instruction.{dir_in, first_of, after, action_in}
 use Rattle.evaluation.specs.declared.instruction.Done.{Done}
 use Rattle.evaluation.specs.declared.state.State.{State}
 
@@ -91,3 +91,7 @@ acted_due s (Copy sources destination flags) = copy_due s.scope (dir_in s) sourc
 -- what an instruction left and does by that
 abbrev pub finished : State → InstructionKind → List Origin → Done
 finished s kind origins = record { state = s; action = acted s kind origins }
+
+-- both: what it leaves and what it does
+abbrev pub done : Values → Values → State → InstructionKind → List Origin → Done
+done args outer s kind origins = record { state = after args outer s kind; action = action_in s kind origins }

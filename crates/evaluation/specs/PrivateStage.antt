@@ -9,10 +9,11 @@ use Rattle.instructions.specs.declared.instruction.InstructionKind.{InstructionK
 use Rattle.scopes.specs.Evaluate.{Values}
 use Rattle.stages.specs.declared.stage.ResolvedInstruction.{ResolvedInstruction}
 use Rattle.evaluation.specs.Images.{ImageNames, many_due}
-use Rattle.evaluation.specs.Instruction.{done, due}
+use Rattle.evaluation.specs.Instruction.{due}
+use Rattle.evaluation.specs.PrivateInstruction.{done}
 use Rattle.imageconfig.specs.Stage.{unless_due}
 use Rattle.stages.specs.Resolved.{Answers}
-use Rattle.evaluation.specs.Refusals.{Tells}
+use Rattle.evaluation.specs.PrivateRefusals.{EvaluatesTo}
 use Rattle.evaluation.specs.Stages.{step_of, next_instruction, instructions_from}
 use Rattle.evaluation.specs.declared.instruction.Done.{Done}
 use Rattle.evaluation.specs.declared.stage.Progress.{Progress}
@@ -20,7 +21,7 @@ use Rattle.evaluation.specs.declared.state.State.{State}
 
 -- what an instruction of this line answers
 unfoldable pub IsDone : Values → Values → State → InstructionKind → List Origin → ℕ → Result Done (Fault Refusal) → Type 0
-IsDone args outer s kind origins line result = Tells (done args outer s kind origins) (due args s kind) line result
+IsDone args outer s kind origins line result = EvaluatesTo (done args outer s kind origins) (due args s kind) line result
 
 -- a stage of these steps, with what an instruction of this line left and did
 abbrev pub put_to : List Step → ImageNames → ℕ → Done → Progress

@@ -1,11 +1,11 @@
 -- The states that evaluating a table comes to: what stands before each line of a needed stage, and at its end.
 use Rattle.std.specs.Prelude.{◌≡◌, ℕ, Bool, true, List, ◌∷◌, ◌++◌, Some, Ok, length}
 use Rattle.std.specs.FinMap.{get}
+use Rattle.plain.specs.Marks.{is_marked}
 use Rattle.plans.specs.Images.{ImagesValue}
 use Rattle.plans.specs.declared.images.Image as image
 use Rattle.scopes.specs.Evaluate.{Values}
 use Rattle.scopes.specs.Scope.{value_in}
-use Rattle.stages.specs.Needed.{is_marked}
 use Rattle.stages.specs.Table.{TableValue}
 use Rattle.stages.specs.declared.stage.ResolvedInstruction.{ResolvedInstruction}
 use Rattle.stages.specs.declared.stage.ResolvedStage.{ResolvedStage}

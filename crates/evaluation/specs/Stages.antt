@@ -1,12 +1,12 @@
 -- The needed stages one after another, each with its instructions one after another, up to the first line for which a code is due.
 use Rattle.std.specs.Prelude.{ℕ, Bool, List, [], ◌∷◌, ◌++◌, Option, Some, None, Result, Ok, Err, length, if◌then◌else◌}
+use Rattle.plain.specs.Marks.{is_marked}
 use Rattle.plain.specs.declared.refusal.Refusal.{Refusal}
 use Rattle.plans.specs.Images.{ImagesValue}
 use Rattle.rows.specs.declared.row.Action.{Action}
 use Rattle.rows.specs.declared.row.Step.{Step}
 use Rattle.instructions.specs.Least.{least}
 use Rattle.scopes.specs.Evaluate.{Values}
-use Rattle.stages.specs.Needed.{is_marked}
 use Rattle.stages.specs.declared.stage.ResolvedInstruction.{ResolvedInstruction}
 use Rattle.stages.specs.declared.stage.ResolvedStage.{ResolvedStage}
 use Rattle.imageconfig.specs.declared.config.Config.{Config}

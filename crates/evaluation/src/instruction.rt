@@ -8,7 +8,7 @@ ghost use Rattle.imageconfig.specs.Steps.{due as config_due};
 ghost use Rattle.actions.specs.Copy as of_copy;
 ghost use Rattle.actions.specs.Run as of_run;
 ghost use Rattle.evaluation.specs.Instruction.{after, due, dir_in, first_of};
-ghost use Rattle.evaluation.specs.Refusals.{Tells};
+ghost use Rattle.evaluation.specs.PrivateRefusals.{EvaluatesTo};
 ghost use Rattle.evaluation.specs.PrivateInstruction.{configured, variables_set, left_due, acted, acted_due, finished, with_line};
 ghost use Rattle.evaluation.specs.PrivateStage.{IsDone};
 
@@ -52,7 +52,7 @@ fn declare(
     line: u32,
     arguments: &[Argument],
 ) -> Result<State, LineFault>
-    ensures { Tells (after (arg_value given.now.args.now) (value_in given.now.outer.now) state (spelled.Arg arguments.now)) (due (arg_value given.now.args.now) state (spelled.Arg arguments.now)) line result }
+    ensures { EvaluatesTo (after (arg_value given.now.args.now) (value_in given.now.outer.now) state (spelled.Arg arguments.now)) (due (arg_value given.now.args.now) state (spelled.Arg arguments.now)) line result }
 {
     let mut state = state;
     match state
@@ -76,7 +76,7 @@ fn set_variables(
 ) -> Result<State, LineFault>
     requires whole { IsInstruction instruction.now.kind }
     requires kind { instruction.now.kind ≡ spelled.Env assignments.now }
-    ensures { Tells (variables_set state assignments.now) (config_due (value_in state.scope) state.config (spelled.Env assignments.now)) instruction.now.line result }
+    ensures { EvaluatesTo (variables_set state assignments.now) (config_due (value_in state.scope) state.config (spelled.Env assignments.now)) instruction.now.line result }
 {
     let mut state = state;
     match state.config.apply(alloc, instruction, &state.scope) {
@@ -98,7 +98,7 @@ fn set_variables(
 /// An instruction that changes the configuration alone.
 fn configure(alloc: Global, state: State, instruction: &Instruction) -> Result<State, LineFault>
     requires { IsInstruction instruction.now.kind }
-    ensures { Tells (configured state instruction.now.kind) (config_due (value_in state.scope) state.config instruction.now.kind) instruction.now.line result }
+    ensures { EvaluatesTo (configured state instruction.now.kind) (config_due (value_in state.scope) state.config instruction.now.kind) instruction.now.line result }
 {
     let mut state = state;
     match state.config.apply(alloc, instruction, &state.scope) {
@@ -218,7 +218,7 @@ fn leave(
     instruction: &Instruction,
 ) -> Result<State, LineFault>
     requires { IsInstruction instruction.now.kind }
-    ensures { Tells (after (arg_value given.now.args.now) (value_in given.now.outer.now) state instruction.now.kind) (left_due (arg_value given.now.args.now) state instruction.now.kind) instruction.now.line result }
+    ensures { EvaluatesTo (after (arg_value given.now.args.now) (value_in given.now.outer.now) state instruction.now.kind) (left_due (arg_value given.now.args.now) state instruction.now.kind) instruction.now.line result }
 {
     match &instruction.kind {
         InstructionKind::Arg { arguments } => {
@@ -249,7 +249,7 @@ fn finish(
     instruction: Instruction,
     origins: Items<Origin>,
 ) -> Result<Done, LineFault>
-    ensures { Tells (finished state instruction.kind origins) (acted_due state instruction.kind) instruction.line result }
+    ensures { EvaluatesTo (finished state instruction.kind origins) (acted_due state instruction.kind) instruction.line result }
 {
     let Instruction { line, kind } = instruction;
     match act(alloc, &state, kind, origins) {

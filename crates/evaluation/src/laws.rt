@@ -2,6 +2,7 @@
 
 ghost use Rattle.std.specs.Prelude.{◌≡◌, ◌⊎◌, ◌++◌, ℕ, List, [], Bool, true, false, Some, Ok, Err, slice_get};
 ghost use Rattle.std.specs.List.{All};
+ghost use Rattle.plain.specs.Marks.{is_marked};
 ghost use Rattle.plain.specs.declared.fault.Fault.TheVariants.{Because};
 ghost use Rattle.plain.specs.declared.refusal.Code.{Code};
 ghost use Rattle.plain.specs.declared.refusal.Refusal.{Refusal};
@@ -11,7 +12,7 @@ ghost use Rattle.llb.specs.declared.op.Source.{Source};
 ghost use Rattle.plans.specs.Images.{ImagesValue};
 ghost use Rattle.scopes.specs.Evaluate.{Values};
 ghost use Rattle.scopes.specs.Scope.{value_in, run_env, kept};
-ghost use Rattle.stages.specs.Needed.{is_marked, AreNeeded};
+ghost use Rattle.stages.specs.Needed.{AreNeeded};
 ghost use Rattle.stages.specs.Table.{TableValue, IsTable};
 ghost use Rattle.stages.specs.declared.stage.ResolvedInstruction.{ResolvedInstruction};
 ghost use Rattle.stages.specs.declared.stage.ResolvedStage.{ResolvedStage};

@@ -5,7 +5,7 @@ ghost use Rattle.instructions.specs.Instruction.{IsInstruction};
 ghost use Rattle.scopes.specs.Scope.{value_in};
 ghost use Rattle.stages.specs.declared.stage.ResolvedInstruction.{ResolvedInstruction as Resolved};
 ghost use Rattle.evaluation.specs.Images.{with_origins};
-ghost use Rattle.evaluation.specs.Refusals.{many_refused};
+ghost use Rattle.evaluation.specs.PrivateRefusals.{many_refused};
 ghost use Rattle.evaluation.specs.Stages.{step_of};
 ghost use Rattle.evaluation.specs.PrivateStage.{put_to, IsPut, IsStepped, IsNext, AreNext};
 

@@ -70,7 +70,7 @@ fn inherited(alloc: Global, variables: Vec<Variable>) -> Result<Scope, Memory>
     scopes::laws::kept_declarations_mean_the_same();
     let mut scope = Scope::new(alloc);
     for variable in variables {
-        scope.inherit(alloc, variable.name.as_str(), variable.value.as_str())?;
+        scope.inherit(alloc, variable.name.as_str(), &variable.value)?;
     }
     Ok(scope)
 }

@@ -1,8 +1,8 @@
 ghost use Rattle.std.specs.Prelude.{◌≡◌, ◌∷◌, ◌++◌, [], Some as SomeOf, IfOk};
 ghost use Rattle.std.specs.List.{All};
 ghost use Rattle.std.specs.FinMap.{get as arg_value};
+ghost use Rattle.plain.specs.Marks.{is_marked};
 ghost use Rattle.instructions.specs.Instruction.{IsInstruction};
-ghost use Rattle.stages.specs.Needed.{is_marked};
 ghost use Rattle.stages.specs.declared.stage.ResolvedInstruction.{ResolvedInstruction as Resolved};
 ghost use Rattle.scopes.specs.Scope.{value_in};
 ghost use Rattle.evaluation.specs.Stages.{with_none};

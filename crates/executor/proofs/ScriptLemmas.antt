@@ -6,7 +6,8 @@ use Rattle.runs.specs.declared.run.RunRequest.{RunRequest}
 use Rattle.executor.specs.Script.{is_line_feed, has_word, is_text, commands, script_of}
 use Rattle.ascii.specs.Pieces.{pieces}
 use Rattle.executor.specs.Edits.{SightValue, SightOrStatus}
-use Rattle.executor.specs.Fixture.{and_then, and_hold, after_command, after_commands, after_line, held_by_command, held_by_commands, held_by_line}
+use Rattle.executor.specs.Fixture.{and_then, and_hold, after_command, after_commands, held_by_command, held_by_commands}
+use Rattle.executor.specs.PrivateFixture.{after_line, held_by_line}
 
 and_then-Ok : (o : SightOrStatus) → and_then o Ok ≡ o
 and_then-Ok (Ok sight) = refl

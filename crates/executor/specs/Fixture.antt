@@ -7,7 +7,6 @@ use Rattle.std.specs.List.{join_with_byte}
 use Rattle.std.specs.FinMap.{get}
 use Rattle.paths.specs.Reading.{read_from, limit_of}
 use Rattle.plain.specs.declared.variable.Variable.{Variable}
-use Rattle.ascii.specs.Pieces.{pieces}
 use Rattle.trees.specs.TreeMap.{TreeMap}
 use Rattle.runs.specs.declared.run.RunRequest.{RunRequest}
 use Rattle.runs.specs.declared.run.RunOutcome.{RunOutcome}
@@ -18,7 +17,7 @@ use Rattle.executor.specs.declared.edit.Change.{Change}
 use Rattle.executor.specs.declared.edit.Change.TheVariants.{Write as Writing, Bump as Bumping, Remove as Removing}
 use Rattle.executor.specs.declared.edit.Edit.{Edit}
 use Rattle.executor.specs.Number.{status_of}
-use Rattle.executor.specs.Script.{has_word, is_text, commands_of}
+use Rattle.executor.specs.Script.{is_text, commands_of}
 use Rattle.executor.specs.Places.{Place, InCache, InBind, InRoot, place_of}
 use Rattle.executor.specs.Edits.{SightValue, SightOrStatus, first_sight, bind_tree, bytes_of, seen_with, held_with}
 
@@ -188,14 +187,6 @@ fixture_out request = outcome_of (after_commands request (commands_of request.wo
 -- what the fixture leaves in the caches of a request, by what they held
 abbrev pub fixture_caches : RunRequest → List TreeMap → List TreeMap
 fixture_caches request caches = held_by_commands request (commands_of request.words) (first_sight request) caches
-
--- a line of a script: its command, if it has a word
-abbrev pub after_line : RunRequest → List ℕ → SightValue → SightOrStatus
-after_line request line sight = if has_word (pieces line) then after_command request (pieces line) sight else Ok sight
-
--- what caches hold after a line of a script
-abbrev pub held_by_line : RunRequest → List ℕ → SightValue → List TreeMap → List TreeMap
-held_by_line request line sight caches = if has_word (pieces line) then held_by_command request (pieces line) sight caches else caches
 
 -- what comes next goes on from the root that was left, and isn't begun after a status other than 0
 abbrev pub root_then : RunOutcome → (TreeMap → RunOutcome) → RunOutcome

@@ -3,5 +3,6 @@ pub mod Fixture
 pub mod FixtureExits
 pub mod Number
 pub mod Places
-pub mod Script
+pub mod PrivateFixture
 pub mod PrivateOutcome
+pub mod Script

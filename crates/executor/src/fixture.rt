@@ -1,7 +1,8 @@
 ghost use Rattle.std.specs.Prelude.{◌≡◌, map, IfOk, option_copied};
 ghost use Rattle.executor.specs.PrivateOutcome.{RunsTo};
 ghost use Rattle.executor.specs.Script.{commands, commands_of, script_of};
-ghost use Rattle.executor.specs.Fixture.{after_command, after_commands, after_line, held_by_command, held_by_commands, held_by_line};
+ghost use Rattle.executor.specs.Fixture.{after_command, after_commands, held_by_command, held_by_commands};
+ghost use Rattle.executor.specs.PrivateFixture.{after_line, held_by_line};
 
 use crate::command::command_edit;
 use crate::script::split_line;

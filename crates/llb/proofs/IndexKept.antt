@@ -6,7 +6,8 @@ use Rattle.std.proofs.lemmas.List.Elements.{Contains-append_left, Contains-push}
 use Rattle.llb.specs.declared.index.Index.{Index}
 use Rattle.llb.specs.declared.vertex.Vertex.{Vertex}
 use Rattle.llb.specs.Hash.{hash_of}
-use Rattle.llb.specs.Index.{under, Enters, Keeps, IsIndexed}
+use Rattle.llb.specs.Index.{under, IsIndexed}
+use Rattle.llb.specs.PrivateIndex.{Enters, Keeps}
 use Rattle.llb.proofs.GraphKept.{last_cases}
 
 -- nothing was entered

@@ -1,6 +1,6 @@
 -- The index beside a graph's vertices (own): under each hash the numbers of vertices that were entered under it. It may have
 -- numbers of other vertices there too, since a vertex is compared before it is found.
-use Rattle.std.specs.Prelude.{◌≡◌, ◌==◌, ℕ, Some, List, [], ◌∷◌, ◌++◌, if◌then◌else◌, slice_get}
+use Rattle.std.specs.Prelude.{◌≡◌, ℕ, Some, List, [], slice_get}
 use Rattle.std.specs.List.{Contains}
 use Rattle.std.specs.Option.{unwrap_or}
 use Rattle.std.specs.Ordering.{nat_cmp}
@@ -12,14 +12,6 @@ use Rattle.llb.specs.Hash.{hash_of}
 -- the numbers under a hash, in the order of entering
 abbrev pub under : Index → ℕ → List ℕ
 under index hash = unwrap_or (get nat_cmp index.numbers hash) []
-
--- to the numbers under the hash came this one, and to those under every other hash none
-abbrev pub Enters : Index → Index → ℕ → ℕ → Type 0
-Enters old new hash number = (other : ℕ) → under new other ≡ under old other ++ (if other == hash then number ∷ [] else [])
-
--- under each hash stayed the numbers that were there
-abbrev pub Keeps : Index → Index → Type 0
-Keeps old new = (hash : ℕ) → under new hash ≡ under old hash
 
 -- each vertex has its number under its hash
 pub record IsIndexed (vertices : List Vertex) (index : Index) : Type 0 where

@@ -2,5 +2,6 @@ pub mod Graph
 pub mod Hash
 pub mod Index
 pub mod Places
+pub mod PrivateIndex
 pub mod Reach
 pub mod WellFormed

@@ -1,5 +1,6 @@
 ghost use Rattle.std.specs.Prelude.{◌≡◌, [], OnOk, OnErr};
-ghost use Rattle.llb.specs.Index.{under, Enters, Keeps};
+ghost use Rattle.llb.specs.Index.{under};
+ghost use Rattle.llb.specs.PrivateIndex.{Enters, Keeps};
 
 use plain::{Items, Memory};
 use std::alloc::Global;

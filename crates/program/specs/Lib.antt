@@ -1,2 +1,3 @@
+pub mod PrivateRuns
 pub mod Runs
 pub mod Saying

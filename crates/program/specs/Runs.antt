@@ -5,7 +5,7 @@ use Rattle.plain.specs.declared.fault.Fault.{Fault}
 use Rattle.plain.specs.declared.fault.Fault.TheVariants.{Because, Memory}
 use Rattle.clap.specs.Words.{fault_of, subcommand_of, IsAmong}
 use Rattle.clap.specs.declared.error.kind.ErrorKind.{ErrorKind}
-use Rattle.clap.specs.declared.error.kind.ErrorKind.TheVariants.{DisplayHelp, DisplayVersion, OutOfMemory}
+use Rattle.clap.specs.declared.error.kind.ErrorKind.TheVariants.{DisplayHelp, DisplayVersion}
 use Rattle.command.specs.CommandLine.{whole_command}
 use Rattle.command.specs.Tasks.{IsTaskOf}
 use Rattle.command.specs.declared.task.Task.{Task}
@@ -104,12 +104,6 @@ pub record WantsMemory (output new_output errors new_errors : Stream) (status : 
 abbrev pub SaysKind : ErrorKind → Stream → Stream → Stream → Stream → Type 0
 SaysKind kind output new_output errors new_errors =
     (IsHelp kind × SaysOn output new_output errors new_errors) ⊎ ((¬ IsHelp kind) × SaysOn errors new_errors output new_output)
-
--- words that clap refuses were refused, or there was no memory to say why
-abbrev pub IsRefused : ErrorKind → Stream → Stream → Stream → Stream → ℕ → Type 0
-IsRefused kind output new_output errors new_errors status =
-    WantsMemory output new_output errors new_errors status
-    ⊎ ((kind ≢ OutOfMemory) × SaysKind kind output new_output errors new_errors × (status ≡ 2))
 
 -- what was said on the two writers, nothing being read
 abbrev pub OnWriters : (Stream → Stream → Stream → Stream → ℕ → Type 0) → Streams → Streams → ℕ → Type 0

@@ -19,7 +19,8 @@ use Rattle.board.proofs.SoundLemmas.{sound, replay-state}
 use Rattle.board.specs.declared.claim.ClaimOut.{ClaimOut}
 use Rattle.board.specs.declared.event.Happened.{Happened}
 use Rattle.board.specs.declared.event.Happened.TheVariants.{Claimed, Settled, Abandoned}
-use Rattle.sites.specs.Seats.{SeatValue, tally_of, AreSeatsOf, AreAll, AreTallies, times, hand_of, IsBook}
+use Rattle.sites.specs.Seats.{SeatValue, tally_of, AreAll, AreTallies, times, hand_of, IsBook}
+use Rattle.sites.specs.PrivateSeats.{AreSeatsOf}
 
 -- only workers below a number have settled anything
 abbrev pub AreOf : ℕ → List Happened → Type 0

@@ -1,2 +1,3 @@
-pub mod Seats
 pub mod Cases
+pub mod PrivateSeats
+pub mod Seats

@@ -47,10 +47,6 @@ pub record IsSeatOf (run : Run) (seat : SeatValue) : Type 0 where
   pub vertex : vertex_of seat.out ≡ vertex_out run.history seat.worker
   pub tally : seat.tally ≡ tally_of seat.worker run.history
 
--- each of these seats says what the board has of its worker (own)
-abbrev pub AreSeatsOf : Run → List SeatValue → Type 0
-AreSeatsOf run seats = (k : ℕ) (default : SeatValue) → k < length seats → IsSeatOf run (slice_index_or seats k default)
-
 -- these are all seats that were given, of which there are so many: each worker has one (own)
 abbrev pub AreAll : ℕ → List SeatValue → Type 0
 AreAll given seats = (worker : ℕ) → worker < given → count_by (λ seat. worker == seat.worker) seats ≡ 1

@@ -9,7 +9,8 @@ ghost use Rattle.board.specs.Legal.{IsNextClaim};
 ghost use Rattle.board.specs.Play.{IsReplay};
 ghost use Rattle.board.specs.Play.{Claim as Claiming, Settle as Settling, Abandon as Abandoning};
 ghost use Rattle.board.specs.Problem.{IsProblem};
-ghost use Rattle.sites.specs.Seats.{SeatValue, IsMine, IsSeatOf, AreSeatsOf, tally_of};
+ghost use Rattle.sites.specs.Seats.{SeatValue, IsMine, IsSeatOf, tally_of};
+ghost use Rattle.sites.specs.PrivateSeats.{AreSeatsOf};
 
 use crate::{Case, Seat};
 use board::{Board, Claim, ClaimOut, Happened, Refused};

@@ -12,7 +12,8 @@ use Rattle.words.specs.Class.{class_of}
 use Rattle.words.specs.Parts.{Part, part_text, written}
 use Rattle.words.specs.ReadParts.{Begun, nothing, escaping, in_single, in_double, in_double_escaping, ended_by, begun_by, ended_at_end, parts_from, parts}
 use Rattle.words.proofs.PartLaws.{Means, means, means_at, begun_text, begun_more, written-parts_from}
-use Rattle.words.specs.Quote.{state_after, splits}
+use Rattle.words.specs.Quote.{state_after}
+use Rattle.words.specs.PrivateQuote.{splits}
 use Rattle.words.specs.Pairs.{is_equals, cut_parts, label_pair}
 use Rattle.words.proofs.QuoteLaws.{state_of, state_more}
 

@@ -16,7 +16,8 @@ use Rattle.words.specs.Parts.{kept, Part, blank, part_text, written}
 use Rattle.words.specs.Cutting.{words_among, words}
 use Rattle.words.specs.ReadParts.{Begun, nothing, escaping, in_single, in_double, in_double_escaping, ended_by, begun_by, ended_at_end, parts_from, parts}
 use Rattle.words.proofs.PartLaws.{Means, means, means_at, held_text-append, begun_text, begun_more}
-use Rattle.words.specs.Quote.{state_after, cuts}
+use Rattle.words.specs.Quote.{state_after}
+use Rattle.words.specs.PrivateQuote.{cuts}
 use Rattle.words.proofs.QuoteLaws.{state_of, state_more}
 
 -- the words of a text of which `word` was read since the last blank

@@ -5,5 +5,6 @@ pub mod Form
 pub mod Pairs
 pub mod Parts
 pub mod PrivateForm
+pub mod PrivateQuote
 pub mod Quote
 pub mod ReadParts

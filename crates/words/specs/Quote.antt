@@ -1,7 +1,7 @@
 -- Whether a text's next character is in quotes, and behind an escape character: all that cutting a text has to know of what is before it.
 use Rattle.std.specs.Prelude.{Bool, true, false}
 use Rattle.words.specs.declared.class.Class.{Class}
-use Rattle.words.specs.declared.class.Class.TheVariants.{Blank, SingleQuote, DoubleQuote, Equals, EscapeCharacter}
+use Rattle.words.specs.declared.class.Class.TheVariants.{SingleQuote, DoubleQuote, EscapeCharacter}
 use Rattle.words.specs.declared.quote.QuoteState.{QuoteState}
 use Rattle.words.specs.declared.quote.QuoteState.TheVariants.{Outside, Escaped, Single, Double, DoubleEscaped}
 
@@ -19,18 +19,8 @@ state_after Double EscapeCharacter = DoubleEscaped
 state_after Double _ = Double
 state_after DoubleEscaped _ = Double
 
--- whether a character of a class ends a word there: a blank outside quotes does
-abbrev pub cuts : QuoteState → Class → Bool
-cuts Outside Blank = true
-cuts _ _ = false
-
 -- whether a state is in quotes
 abbrev pub is_in_quotes : QuoteState → Bool
 is_in_quotes Outside = false
 is_in_quotes Escaped = false
 is_in_quotes _ = true
-
--- whether a character of a class splits a word into a key and a value there: an `=` outside quotes does
-abbrev pub splits : QuoteState → Class → Bool
-splits Outside Equals = true
-splits _ _ = false

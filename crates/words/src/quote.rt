@@ -1,5 +1,6 @@
 ghost use Rattle.std.specs.Prelude.{◌≡◌};
-ghost use Rattle.words.specs.Quote.{state_after, cuts, splits, is_in_quotes};
+ghost use Rattle.words.specs.Quote.{state_after, is_in_quotes};
+ghost use Rattle.words.specs.PrivateQuote.{cuts, splits};
 
 use crate::class::Class;
 

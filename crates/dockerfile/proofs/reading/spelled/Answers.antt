@@ -1,6 +1,7 @@
 use Rattle.std.proofs.Common.{List, sym, ◌∙◌, subst, Err}
 use Rattle.lines.specs.declared.line.Line.{Line}
-use Rattle.dockerfile.specs.Dockerfile.{AreSpelled, AreParsed}
+use Rattle.dockerfile.specs.Dockerfile.{AreSpelled}
+use Rattle.dockerfile.specs.PrivateDockerfile.{AreParsed}
 use Rattle.dockerfile.proofs.DockerfileFacts.{lines_first, lines_step, lines_told, lines_all}
 use Rattle.dockerfile.proofs.reading.spelled.Goals as goal
 

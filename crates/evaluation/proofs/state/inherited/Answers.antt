@@ -1,4 +1,4 @@
-use Rattle.std.proofs.Common.{◌≡◌, ℕ, List, [], ◌∷◌, ◌++◌, map, sym, ◌∙◌, ap₂, subst}
+use Rattle.std.proofs.Common.{◌≡◌, ℕ, List, [], ◌∷◌, ◌++◌, map, sym, ◌∙◌, ap, subst}
 use Rattle.plain.specs.declared.variable.Variable.{Variable}
 use Rattle.scopes.specs.Scope.{kept}
 use Rattle.scopes.specs.declared.declaration.Declaration.TheVariants.{Env}
@@ -11,7 +11,7 @@ loop-variable-init c = set_first _ _ c.new-scope.ensures
 
 pub loop-variable-preserved : goal.loop-variable-preserved
 loop-variable-preserved c =
-    let set = ap₂ (λ (name value : List ℕ). kept (c.loop-variable.scope ++ Env name value ∷ [])) c.as_str.ensures c.as_str-in-loop-variable.ensures in
+    let set = ap (λ (name : List ℕ). kept (c.loop-variable.scope ++ Env name c.in-Some.variable.value ∷ [])) c.as_str.ensures in
     set_more c.kept_declarations_mean_the_same.ensures.more _ _ _ c.in-Some.variable _ _ c.loop-variable.invariant c.in-Some.ensures.steps.0
     (c.in_ok-inherit.ensures.ok ∙ set)
 

@@ -2,7 +2,7 @@ use Rattle.std.proofs.Common.{◌≡◌, ◌++◌, ◌∷◌, [], ◌<◌, ◌�
 use Rattle.plain.specs.Limits.{most_vertices}
 use Rattle.llb.specs.Graph.{IsAfterInputs, IsNew}
 use Rattle.llb.specs.Hash.{hash_of}
-use Rattle.llb.specs.Index.{Enters}
+use Rattle.llb.specs.PrivateIndex.{Enters}
 use Rattle.llb.proofs.GraphKept.{append_keeps, found_keeps}
 use Rattle.llb.proofs.IndexKept.{keeps_indexed, append_indexed}
 use Rattle.llb.proofs.graph.Graph.add_all.Goals as goal

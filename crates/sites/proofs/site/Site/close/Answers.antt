@@ -2,7 +2,8 @@ use Rattle.std.proofs.Common.{sym, ap, ◌∙◌, subst}
 use Rattle.std.specs.Prelude.{IsSome, slice_index_or}
 use Rattle.board.specs.Board.{BoardValue, board_problem}
 use Rattle.board.specs.Play.{value_at}
-use Rattle.sites.specs.Seats.{AreAll, AreSeatsOf, AreTallies}
+use Rattle.sites.specs.Seats.{AreAll, AreTallies}
+use Rattle.sites.specs.PrivateSeats.{AreSeatsOf}
 use Rattle.sites.proofs.BookLemmas.{seat-settled}
 use Rattle.sites.proofs.TallyLemmas.{tallies, cleared-settled}
 use Rattle.sites.proofs.site.Site.close.Goals as goal

@@ -1,0 +1,35 @@
+-- What the functions that read a definition operation by operation answer (own).
+use Rattle.std.specs.Prelude.{◌≡◌, ℕ, true, Some, None, Result, Ok, Err, List, length, slice_get, is_some}
+use Rattle.serde_json.specs.Data.{Data}
+use Rattle.llb.specs.declared.vertex.Vertex.{Vertex}
+use Rattle.llb.specs.Graph.{GraphValue, IsNew}
+use Rattle.plain.specs.declared.fault.Fault.{Fault}
+use Rattle.plain.specs.declared.fault.Fault.TheVariants.{Because, Memory}
+use Rattle.definition.specs.declared.fault.Defect.{Defect}
+use Rattle.definition.specs.declared.fault.Defect.TheVariants.{Malformed, Unknown, Repeated, Clash}
+use Rattle.operations.specs.declared.spelled.Spelled.{Spelled}
+use Rattle.definition.specs.Address.{addresses_of}
+use Rattle.definition.specs.Reading.{named_in, address_place, IsReadAfter, no_graph}
+
+-- the same of what was spelled
+abbrev pub IsPlaced : List Vertex → Spelled → Result Vertex (Fault Defect) → Type 0
+IsPlaced before told (Ok vertex) = (named_in (addresses_of before) told ≡ Some vertex) × (IsNew before vertex × (address_place before vertex ≡ None))
+IsPlaced before told (Err (Because (Malformed place))) = ⊥
+IsPlaced before told (Err (Because (Unknown place))) = (place ≡ length before) × (named_in (addresses_of before) told ≡ None)
+IsPlaced before told (Err (Because (Repeated place))) = (place ≡ length before) × ((vertex : Vertex) × ((named_in (addresses_of before) told ≡ Some vertex) × ((k : ℕ) × (slice_get before k ≡ Some vertex))))
+IsPlaced before told (Err (Because (Clash place))) = (place ≡ length before) × ((vertex : Vertex) × ((named_in (addresses_of before) told ≡ Some vertex) × (IsNew before vertex × (is_some (address_place before vertex) ≡ true))))
+IsPlaced before told (Err Memory) = Unit {0}
+
+-- the vertex of an answer that has its address beside it
+abbrev pub told_next : Result (Vertex × List ℕ) (Fault Defect) → Result Vertex (Fault Defect)
+told_next (Ok (vertex, address)) = Ok vertex
+told_next (Err fault) = Err fault
+
+-- what all operations tell, but for want of memory
+abbrev pub IsAllRead : List Data → Result GraphValue (Fault Defect) → Type 0
+IsAllRead ds (Ok graph) = IsReadAfter no_graph ds (Ok graph)
+IsAllRead ds (Err (Because (Malformed place))) = IsReadAfter no_graph ds (Err (Because (Malformed place)))
+IsAllRead ds (Err (Because (Unknown place))) = IsReadAfter no_graph ds (Err (Because (Unknown place)))
+IsAllRead ds (Err (Because (Repeated place))) = IsReadAfter no_graph ds (Err (Because (Repeated place)))
+IsAllRead ds (Err (Because (Clash place))) = IsReadAfter no_graph ds (Err (Because (Clash place)))
+IsAllRead ds (Err Memory) = Unit {0}
