@@ -1,7 +1,7 @@
 use crate::spelling::{lines_of, reason};
 use instructions::{InstructionKind, parse};
 use lines::Line;
-use plain::{Fault, Memory};
+use plain::{Fault, Memory, Text};
 use scopes::{Args, Scope};
 use std::alloc::Global;
 use words::TextFault;
@@ -51,7 +51,10 @@ impl Stage {
 
     fn inherit(&mut self, alloc: Global, pair: &str) -> Result<(), Memory> {
         match pair.split_once('=') {
-            Some((name, value)) => self.scope.inherit(alloc, name, value),
+            Some((name, value)) => {
+                let value = Text::from_str(alloc, value)?;
+                self.scope.inherit(alloc, name, &value)
+            }
             None => Ok(()),
         }
     }

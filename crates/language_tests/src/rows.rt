@@ -1,11 +1,5 @@
-use crate::reading::{
-    environment_after, environment_of, is_text, lines_of, refusal_of, scope_after,
-};
-use expand::Lookup;
-use instructions::parse;
+use crate::reading::{environment_after, is_text, refusal_of};
 use plain::Code;
-use scopes::{Args, Scope};
-use std::alloc::Global;
 
 #[test]
 fn spelling_of_edge_lines(rt: HostRuntime) {
@@ -64,51 +58,4 @@ fn run_env_in_order(rt: HostRuntime) {
             "at {text}"
         );
     }
-}
-
-/// A copy of the scope of a stage behind `ARG o=out g=own`, with the build argument `g=given` and an inherited variable.
-fn inner_scope(alloc: Global) -> Option<Scope> {
-    let mut args = Args::new(alloc);
-    args.set(alloc, "g", "given").ok()?;
-    let outer = scope_after(alloc, &args, &Scope::new(alloc), "ARG o=out g=own")?;
-    let mut inner = scope_after(alloc, &args, &outer, "ARG o\nARG n\nENV e=$o$g")?;
-    inner.inherit(alloc, "base", "$o").ok()?;
-    inner.copy(alloc).ok()
-}
-
-/// Its environment, if each look-up in it finds what it ought to.
-fn inner_environment(alloc: Global) -> Option<String> {
-    let scope = inner_scope(alloc)?;
-    if scope.find("o").is_some() && scope.get("g").is_none() && scope.get("n").is_none() {
-        environment_of(alloc, &scope)
-    } else {
-        None
-    }
-}
-
-#[test]
-fn outer_arguments_need_a_bare_one(rt: HostRuntime) {
-    assert!(rt; is_text(inner_environment(rt.alloc()), "e=out;base=$o;o=out;"));
-}
-
-#[test]
-fn build_arguments_are_found(rt: HostRuntime) {
-    let mut args = Args::new(rt.alloc());
-    assert!(rt; args.set(rt.alloc(), "g", "given").is_ok());
-    assert!(rt; args.find("g").is_some() && args.find("h").is_none());
-}
-
-#[test]
-fn instructions_know_their_lines(rt: HostRuntime) {
-    let text = "# c\nFROM a\n\nRUN b \\\n c\nCOPY <<E /d\nUSER u\nE\nUSER u\n";
-    let mut wanted = [2, 4, 6, 9].iter();
-    let lines = lines_of(rt.alloc(), text).expect(&rt, "lines");
-    for line in &lines {
-        let number = match parse(rt.alloc(), line) {
-            Ok(instruction) => instruction.line,
-            Err(_) => 0,
-        };
-        assert!(rt; wanted.next() == Some(&number));
-    }
-    assert!(rt; wanted.next().is_none());
 }
