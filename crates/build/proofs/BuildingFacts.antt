@@ -25,8 +25,7 @@ use Rattle.evaluation.specs.declared.evaluated.Evaluated.{Evaluated}
 use Rattle.build.specs.Meaning.{Asks, Answers, line_of}
 use Rattle.build.specs.Graph.{GraphAnswers, GraphClashes}
 use Rattle.build.specs.PrivateShowing.{IsShown}
-use Rattle.build.specs.PrivateTelling.{IsTold}
-use Rattle.build.specs.PrivateTelling.{TellsBundle}
+use Rattle.build.specs.PrivateTelling.{TellsBundle, IsTold}
 use Rattle.build.specs.Ends.{Devices, IsAllLeft, Answering, AnswersUnder, HasAnswered, EndsBy, Ends, GraphEnds}
 
 -- what bytes hold

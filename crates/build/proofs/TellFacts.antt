@@ -20,9 +20,8 @@ use Rattle.build.specs.declared.status.BuildFault.{BuildFault}
 use Rattle.build.specs.declared.status.BuildFault.TheVariants.{Memory, Device, Clash}
 use Rattle.build.specs.declared.told.Told.{Told}
 use Rattle.build.specs.Meaning.{Asks, Tells, line_of}
-use Rattle.build.specs.PrivateTelling.{TellsText, TellsSolution, TellsPlan, IsTold}
+use Rattle.build.specs.PrivateTelling.{TellsText, TellsSolution, TellsPlan, TellsAsked, TellsBundle, IsTold}
 use Rattle.build.specs.Telling.{status_of, text_of}
-use Rattle.build.specs.PrivateTelling.{TellsAsked, TellsBundle}
 
 -- what a line tells it tells of more
 pub told_of : (These Those : Told → Type 0) → ((told : Told) → These told → Those told) → (old new : Option (List ℕ)) (before after : ℕ) (result : Result Status BuildFault)

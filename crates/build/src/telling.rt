@@ -9,8 +9,7 @@ ghost use Rattle.imageconfig.specs.Writing.{config_data};
 ghost use Rattle.bundle.specs.Answer.{built_text, failed_text, refused_text};
 ghost use Rattle.build.specs.Lowerable.{IsLowerable};
 ghost use Rattle.build.specs.Meaning.{line_of};
-ghost use Rattle.build.specs.PrivateTelling.{TellsPlan, TellsSolution, TellsText, IsTold};
-ghost use Rattle.build.specs.PrivateTelling.{TellsAsked, TellsBundle};
+ghost use Rattle.build.specs.PrivateTelling.{TellsAsked, TellsBundle, TellsPlan, TellsSolution, TellsText, IsTold};
 ghost use Rattle.build.specs.declared.status.Status.TheVariants.{Built, Failed, Refused};
 
 use crate::asking::{Asked, ask};

@@ -11,7 +11,7 @@ use Rattle.operations.specs.declared.spelled.Spelled.{Spelled}
 use Rattle.definition.specs.Address.{addresses_of}
 use Rattle.definition.specs.Reading.{named_in, address_place, IsReadAfter, no_graph}
 
--- the same of what was spelled
+-- what the next operation tells, of what was spelled: its vertex, which is new and has a new address, or its first fault, with its place
 abbrev pub IsPlaced : List Vertex → Spelled → Result Vertex (Fault Defect) → Type 0
 IsPlaced before told (Ok vertex) = (named_in (addresses_of before) told ≡ Some vertex) × (IsNew before vertex × (address_place before vertex ≡ None))
 IsPlaced before told (Err (Because (Malformed place))) = ⊥

@@ -1,5 +1,5 @@
 -- Each table has an evaluation or a refusal: there are marks of the stages that it needs, and trees of the images that these name.
-use Rattle.std.specs.Prelude.{◌≡◌, ◌<◌, ◌+◌, ◌⊎◌, ◌||◌, ◌&&◌, ℕ, zero, suc, Bool, true, false, List, [], ◌∷◌, ◌++◌, Option, Some, None, Result, Ok, Err, Contains, length, slice_get, nat_eq, refl}
+use Rattle.std.specs.Prelude.{◌≡◌, ◌<◌, ◌+◌, ◌⊎◌, ◌||◌, ◌&&◌, ℕ, zero, suc, Bool, true, false, List, [], ◌∷◌, Option, Some, None, Result, Ok, Err, Contains, length, slice_get, nat_eq, refl}
 use Rattle.std.specs.List.{All, list_any}
 use Rattle.std.specs.FinMap.{empty, get, insert, remove}
 use Rattle.std.proofs.Common.{sym, ◌∙◌, ap, subst, arith, inl, inr}

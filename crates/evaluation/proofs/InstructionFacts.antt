@@ -12,9 +12,8 @@ use Rattle.instructions.specs.declared.instruction.InstructionKind.{InstructionK
 use Rattle.instructions.specs.declared.instruction.InstructionKind.TheVariants.{From, Arg, Env, Label, Expose, User, Workdir, StopSignal, Volume, Shell, Cmd, Entrypoint, Run, Copy}
 use Rattle.scopes.specs.Evaluate.{Values}
 use Rattle.evaluation.specs.Instruction.{after, action_in, due}
-use Rattle.evaluation.specs.PrivateInstruction.{done}
 use Rattle.evaluation.specs.PrivateRefusals.{EvaluatesTo}
-use Rattle.evaluation.specs.PrivateInstruction.{left_due, acted, acted_due, finished}
+use Rattle.evaluation.specs.PrivateInstruction.{left_due, acted, acted_due, finished, done}
 use Rattle.evaluation.specs.declared.instruction.Done.{Done}
 use Rattle.evaluation.specs.declared.state.State.{State}
 

@@ -92,6 +92,6 @@ acted_due s (Copy sources destination flags) = copy_due s.scope (dir_in s) sourc
 abbrev pub finished : State → InstructionKind → List Origin → Done
 finished s kind origins = record { state = s; action = acted s kind origins }
 
--- both: what it leaves and what it does
+-- what an instruction leaves, and what it does
 abbrev pub done : Values → Values → State → InstructionKind → List Origin → Done
 done args outer s kind origins = record { state = after args outer s kind; action = action_in s kind origins }

@@ -1,6 +1,5 @@
 use Rattle.std.proofs.Common.{Ok}
-use Rattle.build.specs.PrivateTelling.{TellsPlan}
-use Rattle.build.specs.PrivateTelling.{TellsAsked}
+use Rattle.build.specs.PrivateTelling.{TellsPlan, TellsAsked}
 use Rattle.build.proofs.TellFacts.{told_of, asked_told}
 use Rattle.build.proofs.telling.tell_asked.Goals as goal
 

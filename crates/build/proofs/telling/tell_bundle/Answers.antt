@@ -1,8 +1,7 @@
 use Rattle.std.proofs.Common.{Ok}
 use Rattle.bundle.specs.Answer.{refused_text}
 use Rattle.build.specs.declared.status.Status.TheVariants.{Refused}
-use Rattle.build.specs.PrivateTelling.{TellsText}
-use Rattle.build.specs.PrivateTelling.{TellsAsked, TellsBundle}
+use Rattle.build.specs.PrivateTelling.{TellsText, TellsAsked, TellsBundle}
 use Rattle.build.proofs.TellFacts.{told_of, bundle_told, refusal_told}
 use Rattle.build.proofs.telling.tell_bundle.Goals as goal
 
