@@ -54,6 +54,32 @@ fn texts_are_strings(rt: HostRuntime) -> Result<(), Fail> {
     Ok(())
 }
 
+/// Whether a shared text and its copy are the text, and either can be had as a string of its own.
+fn expect_shared(rt: &impl Abort, alloc: Global, text: &str) -> Result<(), Memory> {
+    let shared = Text::from_str(alloc, text)?.shared(alloc)?;
+    let copy = shared.copy(alloc)?;
+    assert!(rt; shared.same(&copy) && shared.as_str() == text);
+    assert_eq!(rt; shared.into_string(alloc)?.as_str(), text);
+    assert_eq!(rt; copy.into_string(alloc)?.as_str(), text);
+    Ok(())
+}
+
+#[test]
+fn shared_texts_are_the_same_texts(rt: HostRuntime) -> Result<(), Fail> {
+    expect_shared(&rt, rt.alloc(), "short")?;
+    expect_shared(&rt, rt.alloc(), "a text of more than sixteen bytes")?;
+    Ok(())
+}
+
+#[test]
+fn no_number_is_marked_at_first(rt: HostRuntime) -> Result<(), Fail> {
+    assert_eq!(rt;
+        clear_marks(rt.alloc(), 2)?.as_slice(),
+        [false, false].as_slice()
+    );
+    Ok(())
+}
+
 #[test]
 fn bytes_need_not_be_text(rt: HostRuntime) -> Result<(), Fail> {
     let bytes = Bytes::from_slice(rt.alloc(), &[255, 0])?;
