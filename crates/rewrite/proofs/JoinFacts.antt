@@ -1,32 +1,56 @@
 -- The vertices that are joined, one after another.
-use Rattle.std.proofs.Common.{◌≡◌, ◌⊎◌, ◌↔◌, inl, inr, ◌<◌, ◌≤◌, ◌+◌, ℕ, Bool, true, false, List, [], ◌∷◌, ◌++◌, length, Option, Some, None, Ok, refl, sym, ap}
+use Rattle.std.proofs.Common.{◌≡◌, ◌⊎◌, ◌↔◌, inl, inr, ◌<◌, ◌≤◌, ◌+◌, ℕ, zero, suc, Bool, true, false, List, [], ◌∷◌, ◌++◌, length, Option, Some, None, Ok, refl, sym, ap}
 use Rattle.std.proofs.Common.{◌∙◌, subst, arith, length-append, append_assoc, append-nil}
-use Rattle.std.specs.Prelude.{Contains, IsTrue, slice_get, slice_index_or}
+use Rattle.std.specs.Prelude.{Contains, slice_get, slice_index_or}
 use Rattle.std.specs.List.{All}
-use Rattle.std.specs.Option.{option_map}
 use Rattle.std.proofs.Math.ListN.{length-set}
 use Rattle.std.proofs.lemmas.Bool.{cases_eq, cases_lt, true≢false}
-use Rattle.std.proofs.lemmas.Option.{slice_get_within, slice_get-map, get_or_from_slice_get}
-use Rattle.std.proofs.lemmas.List.{length-map, get_or_past, get_or_append_left, get_or-append-add, get_or-set_same, get_or-set_other}
-use Rattle.std.proofs.lemmas.List.Elements.{All-contains, Contains-get_or}
+use Rattle.std.proofs.lemmas.Option.{slice_get_within, slice_get-get_or, slice_get_read, get_or_from_slice_get}
+use Rattle.std.proofs.lemmas.List.{get_or_past, get_or_append_left, get_or-append-add, get_or-set_same, get_or-set_other}
+use Rattle.std.proofs.lemmas.List.Elements.{length_all_zip, All-nil, All-cons, Contains-get_or}
 use Rattle.llb.specs.declared.vertex.Vertex.{Vertex}
-use Rattle.llb.specs.Graph.{GraphValue, IsAfterInputs, AreVertices, Adds, IsFound, IsAppended}
-use Rattle.llb.specs.Places.{with_lines, places_with}
-use Rattle.llb.specs.Reach.{HasInput}
-use Rattle.llb.specs.WellFormed.{is_well_formed_on}
+use Rattle.llb.specs.Graph.{GraphValue, Adds, IsFound, IsAppended}
+use Rattle.llb.specs.Places.{AreLines, with_lines, places_with}
 use Rattle.llb.proofs.GraphLaws.{added_stands}
 use Rattle.llb.proofs.LineFacts.{contains_nil, lines_added}
 use Rattle.lowering.specs.Means.{lines_at}
 use Rattle.lowering.proofs.Fronts.{slice_get-kept}
 use Rattle.lowering.proofs.RowFacts.{slice_get-last_cases, slice_get-end}
-use Rattle.rewrite.specs.Flat.{flat_inputs, flat_vertex, flat_vertices}
-use Rattle.rewrite.specs.PrivateFlat.{AreFlatInputs, IsJoined, IsNamedJoined, AreJoined}
-use Rattle.rewrite.specs.PrivateKept.{HasName}
 use Rattle.plain.specs.Marks.{is_marked}
-use Rattle.rewrite.specs.PrivateMarks.{AreReached}
-use Rattle.rewrite.specs.Pruned.{Names, IsRenamed}
-use Rattle.rewrite.proofs.KeptFacts.{renamed_more}
-use Rattle.rewrite.proofs.SpellingFacts.{flat_low, flat_long}
+use Rattle.rewrite.specs.PrivateJoined.{HasName, AreInside, AreJoinable, IsJoined, IsNamedJoined, AreJoined}
+use Rattle.rewrite.specs.Pruned.{Names, AreNames, IsRenamed}
+
+-- what stands in a list at a number
+pub there_is : {X : Type 0} (xs : List X) (k : ℕ) → k < length xs → (x : X) × (slice_get xs k ≡ Some x)
+there_is [] k lt = absurd (omega (arith, lt))
+there_is (x ∷ xs) zero lt = (x, refl)
+there_is (x ∷ xs) (suc k) lt = there_is xs k (omega (arith, lt))
+
+-- ---- names
+
+pub names_more : (names more : Names) (olds news : List ℕ) → AreNames names olds news → AreNames (names ++ more) olds news
+names_more names more [] [] are = are
+names_more names more [] (n ∷ ns) are = are
+names_more names more (o ∷ os) [] are = are
+names_more names more (o ∷ os) (n ∷ ns) are = (slice_get-kept names more (Some n) o are.0, names_more names more os ns are.1)
+
+pub renamed_more : (names more : Names) (old new : Vertex) → IsRenamed names old new → IsRenamed (names ++ more) old new
+renamed_more names more old new is = record { op = is.op; inputs = names_more names more old.inputs new.inputs is.inputs }
+
+pub names_inside : (names : Names) (n : ℕ) (olds news : List ℕ) → AreInside names n → AreNames names olds news → All (λ i. i < n) news
+names_inside names n [] [] inside are = All-nil (λ i. i < n)
+names_inside names n [] (m ∷ ms) inside are = absurd are
+names_inside names n (o ∷ os) [] inside are = absurd are
+names_inside names n (o ∷ os) (m ∷ ms) inside are = All-cons (λ i. i < n) m ms (inside o m are.0) (names_inside names n os ms inside are.1)
+
+pub names_long : (names : Names) (olds news : List ℕ) → AreNames names olds news → length news ≡ length olds
+names_long names olds news are = sym (length_all_zip (λ old new. slice_get names old ≡ Some (Some new)) olds news are)
+
+-- what adding a vertex on its new inputs does
+pub joined_by : (old new : GraphValue) (names : Names) (vertex : Vertex) (inputs lines : List ℕ) (id : ℕ) → AreNames names vertex.inputs inputs
+    → Adds old new (record { op = vertex.op; inputs = inputs }) lines (Ok id) → IsJoined old new names vertex lines id
+joined_by old new names vertex inputs lines id are adds =
+    record { renamed = record { op = vertex.op; inputs = inputs }; is = record { op = refl; inputs = are }; adds = adds }
 
 -- ---- lines
 
@@ -271,56 +295,41 @@ join_step old marks at new newer names more v ls false name there same are marke
     subst (λ (g : GraphValue). AreJoined old marks (at + 1) g more) is_graph
     (subst (AreJoined old marks (at + 1) new) (sym is_name) (join_skip old marks at new names are marked))
 
--- ---- vertices on their flat inputs
+-- ---- all of them
 
--- a graph on flat inputs
-abbrev pub flat_graph : GraphValue → GraphValue
-flat_graph old = record { vertices = flat_vertices old.vertices; places = old.places }
+-- vertices, and beside each its lines
+abbrev pub graph_of : List Vertex → List (List ℕ) → GraphValue
+graph_of vertices places = record { vertices = vertices; places = places }
 
-pub flat_there : (vs : List Vertex) (k : ℕ) (v : Vertex) → slice_get vs k ≡ Some v → slice_get (flat_vertices vs) k ≡ Some (flat_vertex vs v)
-flat_there vs k v is = slice_get-map (flat_vertex vs) vs k ∙ ap (option_map (flat_vertex vs)) is
+input_named : (old : GraphValue) (marks : List Bool) (at : ℕ) (new : GraphValue) (names : Names) (v : Vertex) (input : ℕ) → AreJoinable old marks
+    → AreJoined old marks at new names → slice_get old.vertices at ≡ Some v → is_marked marks at ≡ true → Contains v.inputs input → HasName names input
+input_named old marks at new names v input can joined there marked among =
+    let is = can.inputs at input marked (record { v = v; there = there; among = among }) in
+    joined.named input is.0 is.1
 
-some_of : (o : Option Vertex) (f : Vertex → Vertex) (u : Vertex) → option_map f o ≡ Some u → (v : Vertex) × (o ≡ Some v) × (u ≡ f v)
-some_of None f u is = absurd cc
-some_of (Some v) f u is = (v, refl, cc)
+-- the inputs of a vertex that is marked have new numbers
+pub inputs_named : (old : GraphValue) (marks : List Bool) (at : ℕ) (new : GraphValue) (names : Names) (v : Vertex) → AreJoinable old marks
+    → AreJoined old marks at new names → slice_get old.vertices at ≡ Some v → is_marked marks at ≡ true → All (HasName names) v.inputs
+inputs_named old marks at new names v can joined there marked k d lt =
+    input_named old marks at new names v (slice_index_or v.inputs k d) can joined there marked (Contains-get_or v.inputs k d lt)
 
-pub flat_back : (vs : List Vertex) (k : ℕ) (u : Vertex) → slice_get (flat_vertices vs) k ≡ Some u → (v : Vertex) × (slice_get vs k ≡ Some v) × (u ≡ flat_vertex vs v)
-flat_back vs k u is = some_of (slice_get vs k) (flat_vertex vs) u (sym (slice_get-map (flat_vertex vs) vs k) ∙ is)
-
-pub as_many : (vs : List Vertex) → length (flat_vertices vs) ≡ length vs
-as_many vs = length-map vs (flat_vertex vs)
-
--- each stands after its inputs
-pub flat_after : (vs : List Vertex) → AreVertices vs → (k : ℕ) (u : Vertex) → slice_get (flat_vertices vs) k ≡ Some u → IsAfterInputs k u
-flat_after vs are k u is =
-    let v = flat_back vs k u is in
-    let within = slice_get_within vs k v.0 v.1 in
-    subst (IsAfterInputs k) (sym v.2) (flat_low vs are k v.0.op v.0.inputs (omega (arith, within)) (are.after k v.0 v.1))
-
--- the flat inputs of a vertex that is marked have new numbers
-pub inputs_named_flat : (old : GraphValue) (target : ℕ) (marks : List Bool) (at : ℕ) (new : GraphValue) (names : Names) (v : Vertex)
-    → AreVertices old.vertices → AreReached (flat_vertices old.vertices) target marks → AreJoined (flat_graph old) marks at new names
-    → slice_get old.vertices at ≡ Some v → is_marked marks at ≡ true → All (HasName names) (flat_inputs old.vertices v.op v.inputs)
-inputs_named_flat old target marks at new names v are reached joined there marked k d lt =
-    let ids = flat_inputs old.vertices v.op v.inputs in
-    let flat = flat_there old.vertices at v there in
-    let among : Contains ids (slice_index_or ids k d) = Contains-get_or ids k d lt in
-    let has : HasInput (flat_vertices old.vertices) at (slice_index_or ids k d) = record { v = flat_vertex old.vertices v; there = flat; among = among } in
-    let below : slice_index_or ids k d < at =
-    All-contains (λ i. i < at) ids (slice_index_or ids k d) (flat_after old.vertices are at (flat_vertex old.vertices v) flat) among in
-    joined.named (slice_index_or ids k d) below (reached.closed at (slice_index_or ids k d) marked has)
+pub lines_at_are : (graph : GraphValue) (at : ℕ) → ((k : ℕ) (lines : List ℕ) → slice_get graph.places k ≡ Some lines → AreLines lines)
+    → AreLines (lines_at graph at)
+lines_at_are graph at are = elim (cases_lt at (length graph.places)) [
+  | inl lt ↦ are at (lines_at graph at) (slice_get-get_or graph.places at [] lt)
+  | inr past ↦ (let none : [] ≡ lines_at graph at = sym (get_or_past graph.places at [] past) in subst AreLines none tt)
+]
 
 -- the vertices before a number were dealt with, and those are left
 pub record JoinedSoFar (old : GraphValue) (marks : List Bool) (rest : List Vertex) (at : ℕ) (new : GraphValue) (names : Names) : Type 0 where
   pub done : List Vertex
   pub split : old.vertices ≡ done ++ rest
   pub long : length done ≡ at
-  pub joined : AreJoined (flat_graph old) marks at new names
+  pub joined : AreJoined old marks at new names
 
 pub join_first : (old : GraphValue) (marks : List Bool) (rest : List Vertex) (new : GraphValue) (names : Names) → rest ≡ old.vertices
     → new ≡ record { vertices = []; places = [] } → names ≡ [] → JoinedSoFar old marks rest 0 new names
-join_first old marks rest new names all is none =
-    record { done = []; split = sym all; long = refl; joined = join_none (flat_graph old) marks new names is none }
+join_first old marks rest new names all is none = record { done = []; split = sym all; long = refl; joined = join_none old marks new names is none }
 
 pub join_there : (old : GraphValue) (marks : List Bool) (rest left : List Vertex) (at : ℕ) (new : GraphValue) (names : Names) (v : Vertex)
     → JoinedSoFar old marks rest at new names → rest ≡ v ∷ left → slice_get old.vertices at ≡ Some v
@@ -336,42 +345,28 @@ pub join_within : (old : GraphValue) (marks : List Bool) (rest left : List Verte
     → JoinedSoFar old marks rest at new names → rest ≡ v ∷ left → at < length old.vertices
 join_within old marks rest left at new names v so_far is = slice_get_within old.vertices at v (join_there old marks rest left at new names v so_far is)
 
--- what stands in a list of flat inputs
-pub read_flat : (vs : List Vertex) (marks : List Bool) (inputs : List (List ℕ)) (at : ℕ) (v : Vertex) (found lent : List ℕ)
-    → AreFlatInputs vs marks (length vs) inputs → slice_get vs at ≡ Some v → is_marked marks at ≡ true
-    → found ≡ slice_index_or inputs at found → lent ≡ found → lent ≡ flat_inputs vs v.op v.inputs
-read_flat vs marks inputs at v found lent are there marked read e =
-    let within = slice_get_within vs at v there in
-    e ∙ (read ∙ get_or_from_slice_get inputs at (flat_inputs vs v.op v.inputs) found (are.flat at v within marked there))
-
 pub join_on : (old : GraphValue) (marks : List Bool) (rest left : List Vertex) (at : ℕ) (new newer : GraphValue) (names more : Names) (v : Vertex)
-    (inputs ls : List ℕ) (mark : Bool) (name : Option ℕ)
+    (ls : List ℕ) (mark : Bool) (name : Option ℕ)
     → JoinedSoFar old marks rest at new names → rest ≡ v ∷ left → ls ≡ lines_at old at → is_marked marks at ≡ mark
-    → (is_marked marks at ≡ true → inputs ≡ flat_inputs old.vertices v.op v.inputs)
-    → IsNamedJoined new newer names (record { op = v.op; inputs = inputs }) ls mark name → more ≡ names ++ name ∷ [] → JoinedSoFar old marks left (at + 1) newer more
-join_on old marks rest left at new newer names more v inputs ls mark name so_far is same marked flat step added =
-    let there = join_there old marks rest left at new names v so_far is in
-    record {
-      done = so_far.done ++ v ∷ [];
-      split = so_far.split ∙ (ap (λ vs. so_far.done ++ vs) is ∙ sym (append_assoc so_far.done (v ∷ []) left));
-      long = length-append so_far.done (v ∷ []) ∙ ap (λ n. n + 1) so_far.long;
-      joined = join_step (flat_graph old) marks at new newer names more (flat_vertex old.vertices v) ls mark name
-          (flat_there old.vertices at v there) same so_far.joined marked
-          (record {
-            joined = λ m. subst (λ ins. (id : ℕ) × (name ≡ Some id) × IsJoined new newer names (record { op = v.op; inputs = ins }) ls id)
-                (flat (marked ∙ m)) (step.joined m);
-            skipped = step.skipped;
-          }) added;
-    }
+    → IsNamedJoined new newer names v ls mark name → more ≡ names ++ name ∷ [] → JoinedSoFar old marks left (at + 1) newer more
+join_on old marks rest left at new newer names more v ls mark name so_far is same marked step added = record {
+  done = so_far.done ++ v ∷ [];
+  split = so_far.split ∙ (ap (λ vs. so_far.done ++ vs) is ∙ sym (append_assoc so_far.done (v ∷ []) left));
+  long = length-append so_far.done (v ∷ []) ∙ ap (λ n. n + 1) so_far.long;
+  joined = join_step old marks at new newer names more v ls mark name (join_there old marks rest left at new names v so_far is) same so_far.joined
+      marked step added;
+}
 
 pub join_whole : (old : GraphValue) (marks : List Bool) (rest : List Vertex) (at : ℕ) (new : GraphValue) (names : Names)
-    → JoinedSoFar old marks rest at new names → length rest ≡ 0 → AreJoined (flat_graph old) marks (length old.vertices) new names
+    → JoinedSoFar old marks rest at new names → length rest ≡ 0 → AreJoined old marks (length old.vertices) new names
 join_whole old marks rest at new names so_far over =
     let all : length old.vertices ≡ at = ap length so_far.split ∙ (let n = length-append so_far.done rest in omega (arith, n, over, so_far.long)) in
-    subst (λ n. AreJoined (flat_graph old) marks n new names) (sym all) so_far.joined
+    subst (λ n. AreJoined old marks n new names) (sym all) so_far.joined
 
--- an operation is well formed on its flat inputs
-pub inputs_fit : (vs : List Vertex) (at : ℕ) (v : Vertex) → AreVertices vs → slice_get vs at ≡ Some v → IsTrue (is_well_formed_on v.op (length (flat_inputs vs v.op v.inputs)))
-inputs_fit vs at v are there =
-    let within = slice_get_within vs at v there in
-    flat_long vs are v.op v.inputs (λ k d lt. (let low = are.after at v there k d lt in omega (arith, low, within))) (are.well_formed at v there)
+-- the lines of the vertex at a number
+pub lines_are : (graph : GraphValue) (places lent : List (List ℕ)) (at : ℕ) (found lines : List ℕ) → graph.places ≡ places → lent ≡ places
+    → at < length graph.places → found ≡ slice_index_or lent at found → lines ≡ found → lines ≡ lines_at graph at
+lines_are graph places lent at found lines is same lt read e =
+    let all : lent ≡ graph.places = same ∙ sym is in
+    let there : slice_get lent at ≡ Some found = slice_get_read lent (length lent) at found refl (omega (arith, lt, ap length all)) read in
+    e ∙ sym (get_or_from_slice_get graph.places at found [] (ap (λ ps. slice_get ps at) (sym all) ∙ there))

@@ -16,7 +16,8 @@ use Rattle.llb.specs.declared.op.Op.TheVariants.{Merge as MergeOp}
 use Rattle.llb.specs.declared.vertex.Vertex.{Vertex}
 use Rattle.rewrite.specs.Flat.{IsFlattened, MergesAreFlat}
 use Rattle.rewrite.specs.Pruned.{AreNames, HasReachedFailure, IsPruned, KeepsMeaning}
-use Rattle.rewrite.proofs.PrunedFacts.{failed_within, names_first, there_is}
+use Rattle.rewrite.proofs.JoinFacts.{there_is}
+use Rattle.rewrite.proofs.PrunedFacts.{failed_within, names_first}
 
 pub built_is : {C : Type 0} (out : Out) (plan pruned : PlanValue C) (rows : Rows) (target : ℕ) (tree : TreeMap) → Means plan rows target
     → KeepsMeaning plan pruned → IsValue (problem_of out pruned) pruned.target (Ok tree)

@@ -1,8 +1,9 @@
+pub mod FlatFacts
 pub mod FlattenedFacts
 pub mod JoinFacts
-pub mod KeptFacts
 pub mod LawFacts
 pub mod MarkFacts
+pub mod OnceFacts
 pub mod PrunedFacts
 pub mod SpellSteps
 pub mod SpellingFacts

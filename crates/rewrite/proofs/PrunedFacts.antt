@@ -21,11 +21,13 @@ use Rattle.plans.proofs.ValueLaws.{value_within}
 use Rattle.lowering.specs.Meaning.{Trees, value_with}
 use Rattle.lowering.specs.Means.{world}
 use Rattle.lowering.proofs.ValueFacts.{vertex_is}
-use Rattle.rewrite.specs.PrivateKept.{AreKept}
+use Rattle.rewrite.specs.PrivateJoined.{HasName, AreJoinable, AreJoined}
 use Rattle.plain.specs.Marks.{is_marked}
 use Rattle.plain.proofs.MarkFacts.{path_within}
 use Rattle.rewrite.specs.PrivateMarks.{AreReached}
 use Rattle.rewrite.specs.Pruned.{Names, AreNames, IsRenamed, IsPruned, KeepsMeaning}
+use Rattle.rewrite.proofs.JoinFacts.{there_is}
+use Rattle.rewrite.proofs.OnceFacts.{graph_joinable, in_order, own_lines}
 
 -- what is reached is marked
 pub reached_marked : (vertices : List Vertex) (target : ℕ) (marks : List Bool) (path : List ℕ) (from to : ℕ) → AreReached vertices target marks
@@ -39,10 +41,10 @@ marked_within marks k is = elim (cases_lt k (length marks)) [ inl lt ↦ lt | in
 -- the vertices that were kept make a pruned plan
 pub kept_pruned : {C : Type 0} (plan new : PlanValue C) (graph kept : GraphValue) (target last : ℕ) (config : C) (sources : SourcesValue)
     (marks : List Bool) (names : Names)
-    → plan ≡ record { graph = graph; target = target; config = config; sources = sources } → AreReached graph.vertices target marks
-    → AreKept graph marks (length graph.vertices) kept names
+    → IsGraph graph → IsGraph kept → plan ≡ record { graph = graph; target = target; config = config; sources = sources }
+    → AreReached graph.vertices target marks → AreJoined graph marks (length graph.vertices) kept names
     → slice_get names target ≡ Some (Some last) → new ≡ record { graph = kept; target = last; config = config; sources = sources } → IsPruned plan new
-kept_pruned plan new graph kept target last config sources marks names parts reached are name is = rw (parts, is) (record {
+kept_pruned plan new graph kept target last config sources marks names olds news parts reached are name is = rw (parts, is) (record {
   names = names;
   long = are.long;
   reached = λ k. (
@@ -51,9 +53,9 @@ kept_pruned plan new graph kept target last config sources marks names parts rea
     λ n. reached.only k (are.marked k n.0 n.1),
   );
   onto = are.onto;
-  ordered = are.ordered;
+  ordered = in_order graph kept marks names olds are;
   same = are.same;
-  lines = are.lines;
+  lines = λ k id e. own_lines graph kept marks names olds are k id news e;
   last = name;
   config = refl;
   sources = refl;
@@ -63,14 +65,14 @@ kept_pruned plan new graph kept target last config sources marks names parts rea
 pub target_named : {C : Type 0} (plan : PlanValue C) (graph kept : GraphValue) (target : ℕ) (config : C) (sources : SourcesValue) (marks : List Bool)
     (names : Names) → IsPlan plan
     → plan ≡ record { graph = graph; target = target; config = config; sources = sources } → AreReached graph.vertices target marks
-    → AreKept graph marks (length graph.vertices) kept names → (last : ℕ) × (slice_get names target ≡ Some (Some last))
+    → AreJoined graph marks (length graph.vertices) kept names → (last : ℕ) × (slice_get names target ≡ Some (Some last))
 target_named plan graph kept target config sources marks names is parts reached are =
     let lt : target < length graph.vertices = rw parts at is.target in
     are.named target lt reached.has_first
 
 -- each vertex that was kept is one of the old
 old_of : (old : GraphValue) (marks : List Bool) (new : GraphValue) (names : Names) (id : ℕ) (u : Vertex)
-    → AreKept old marks (length old.vertices) new names → slice_get new.vertices id ≡ Some u
+    → AreJoined old marks (length old.vertices) new names → slice_get new.vertices id ≡ Some u
     → (k : ℕ) × (v : Vertex) × (slice_get old.vertices k ≡ Some v) × IsRenamed names v u
 old_of old marks new names id u are there =
     let k = are.onto id (slice_get_within new.vertices id u there) in
@@ -84,7 +86,7 @@ old_of old marks new names id u are there =
 -- so its sources have their trees
 pub kept_sources : {C : Type 0} (plan : PlanValue C) (graph kept : GraphValue) (target : ℕ) (config : C) (sources : SourcesValue) (marks : List Bool)
     (names : Names) → IsPlan plan
-    → plan ≡ record { graph = graph; target = target; config = config; sources = sources } → AreKept graph marks (length graph.vertices) kept names
+    → plan ≡ record { graph = graph; target = target; config = config; sources = sources } → AreJoined graph marks (length graph.vertices) kept names
     → HasSources sources kept.vertices
 kept_sources plan graph kept target config sources marks names is parts are id u there =
     let has : HasSources sources graph.vertices = rw parts at is.sources in
@@ -137,11 +139,6 @@ names_trees w names old new n (o ∷ os) [] same low are = absurd are
 names_trees w names old new n (o ∷ os) (i ∷ is) same low are =
     ap₂ (λ (t : Option TreeMap) (ts : Trees). t ∷ ts) (ap tree_of (same o i (All-head (λ k. k < n) o os low) are.0))
     (names_trees w names old new n os is same (All-tail (λ k. k < n) o os low) are.1)
-
-pub there_is : {X : Type 0} (xs : List X) (k : ℕ) → k < length xs → (x : X) × (slice_get xs k ≡ Some x)
-there_is [] k lt = absurd (omega (arith, lt))
-there_is (x ∷ xs) zero lt = (x, refl)
-there_is (x ∷ xs) (suc k) lt = there_is xs k (omega (arith, lt))
 
 -- a vertex with a new number is one of the old plan
 old_there : {C : Type 0} (old new : PlanValue C) (is : IsPruned old new) (k id : ℕ) → slice_get is.names k ≡ Some (Some id)
@@ -209,25 +206,43 @@ pub record IsMade {C : Type 0} (plan : PlanValue C) (graph kept : GraphValue) (t
     (names : Names) : Type 0 where
   pub parts : plan ≡ record { graph = graph; target = target; config = config; sources = sources }
   pub reached : AreReached graph.vertices target marks
-  pub are : AreKept graph marks (length graph.vertices) kept names
+  pub are : AreJoined graph marks (length graph.vertices) kept names
 
 pub made : {C : Type 0} (plan : PlanValue C) (graph kept : GraphValue) (target : ℕ) (config : C) (sources : SourcesValue)
-    (lent_vertices : List Vertex) (marks lent_marks : List Bool) (names : Names)
+    (vertices lent_vertices : List Vertex) (places : List (List ℕ)) (marks lent_marks : List Bool) (names : Names)
     → plan ≡ record { graph = graph; target = target; config = config; sources = sources } → lent_vertices ≡ graph.vertices
-    → AreReached lent_vertices target marks → lent_marks ≡ marks
-    → AreKept graph lent_marks (length graph.vertices) kept names → IsMade plan graph kept target config sources marks names
-made plan graph kept target config sources lent_vertices marks lent_marks names parts same reached is are = record {
+    → AreReached lent_vertices target marks → lent_marks ≡ marks → graph ≡ record { vertices = vertices; places = places }
+    → AreJoined (record { vertices = vertices; places = places }) lent_marks (length vertices) kept names
+    → IsMade plan graph kept target config sources marks names
+made plan graph kept target config sources vertices lent_vertices places marks lent_marks names parts same reached is split are = record {
   parts = parts;
   reached = subst (λ vs. AreReached vs target marks) same reached;
-  are = subst (λ ms. AreKept graph ms (length graph.vertices) kept names) is are;
+  are = subst (λ (g : GraphValue). AreJoined g marks (length g.vertices) kept names) (sym split)
+      (subst (λ ms. AreJoined (record { vertices = vertices; places = places }) ms (length vertices) kept names) is are);
 }
 
+-- what was marked can make a graph
+pub made_joinable : (graph : GraphValue) (target : ℕ) (vertices lent_vertices : List Vertex) (places : List (List ℕ)) (marks lent_marks : List Bool)
+    → IsGraph graph → lent_vertices ≡ graph.vertices → AreReached lent_vertices target marks → lent_marks ≡ marks
+    → graph ≡ record { vertices = vertices; places = places } → AreJoinable (record { vertices = vertices; places = places }) lent_marks
+made_joinable graph target vertices lent_vertices places marks lent_marks is same reached lent split =
+    subst (λ (g : GraphValue). AreJoinable g lent_marks) split
+    (graph_joinable graph target lent_marks is
+    (subst (λ vs. AreReached vs target lent_marks) same (subst (λ ms. AreReached lent_vertices target ms) (sym lent) reached)))
+
+-- the target's new number, in names that were lent
+pub made_named : {C : Type 0} (plan : PlanValue C) (graph kept : GraphValue) (target : ℕ) (config : C) (sources : SourcesValue) (marks : List Bool)
+    (names lent : Names) → IsPlan plan → IsMade plan graph kept target config sources marks names → lent ≡ names → HasName lent target
+made_named plan graph kept target config sources marks names lent is made same =
+    subst (λ (ns : Names). HasName ns target) (sym same)
+    (target_named plan graph kept target config sources marks names is made.parts made.reached made.are)
+
 pub made_pruned : {C : Type 0} (plan new : PlanValue C) (graph kept : GraphValue) (target last : ℕ) (config : C) (sources : SourcesValue)
-    (marks : List Bool) (names lent_names : Names)
+    (marks : List Bool) (names lent_names : Names) → IsGraph graph → IsGraph kept
     → IsMade plan graph kept target config sources marks names → lent_names ≡ names → slice_get lent_names target ≡ Some (Some last)
     → new ≡ record { graph = kept; target = last; config = config; sources = sources } → IsPruned plan new
-made_pruned plan new graph kept target last config sources marks names lent_names is same name now =
-    kept_pruned plan new graph kept target last config sources marks names is.parts is.reached is.are
+made_pruned plan new graph kept target last config sources marks names lent_names olds news is same name now =
+    kept_pruned plan new graph kept target last config sources marks names olds news is.parts is.reached is.are
     (subst (λ (ns : Names). slice_get ns target ≡ Some (Some last)) same name) now
 
 pub made_keeps : {C : Type 0} (plan new : PlanValue C) (kept : GraphValue) → IsPlan plan → IsGraph kept → new.graph ≡ kept → IsPruned plan new

@@ -23,7 +23,7 @@ use Rattle.plans.specs.Value.{Value, World, with_tree, tree_of, tree_at, all_tre
 use Rattle.lowering.proofs.ValueFacts.{vertex_is}
 use Rattle.rewrite.specs.Flat.{with_first, spelled_as, spelled_at, spelled_to, spelled_out, flat_inputs}
 use Rattle.rewrite.specs.PrivateFlat.{is_merge}
-use Rattle.rewrite.proofs.PrunedFacts.{there_is}
+use Rattle.rewrite.proofs.JoinFacts.{there_is}
 
 head_same : (a b : ℕ) (xs ys : List ℕ) → a ∷ xs ≡ b ∷ ys → a ≡ b
 head_same a b xs ys e = cc

@@ -1,5 +1,5 @@
 pub mod Flat
 pub mod PrivateFlat
-pub mod PrivateKept
+pub mod PrivateJoined
 pub mod PrivateMarks
 pub mod Pruned

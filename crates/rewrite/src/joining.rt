@@ -1,36 +1,61 @@
-// Puts the vertices that are marked into a new graph, on other inputs than they had, and equal ones as one.
-ghost use Rattle.std.specs.Prelude.{◌≡◌, ◌<◌, length, IsTrue, IfOk, true};
+// Puts the vertices that are marked into a new graph, equal ones as one.
+ghost use Rattle.std.specs.Prelude.{◌≡◌, ◌<◌, length, IsTrue, IfOk, Some, true, slice_get};
 ghost use Rattle.std.specs.List.{All};
 ghost use Rattle.plain.specs.Limits.{most_vertices};
 ghost use Rattle.llb.specs.Places.{AreLines};
-ghost use Rattle.llb.specs.WellFormed.{is_well_formed_on};
-ghost use Rattle.rewrite.specs.Flat.{flat_vertices};
-ghost use Rattle.rewrite.specs.PrivateFlat.{AreFlatInputs, IsJoined, IsNamedJoined, AreJoined};
-ghost use Rattle.rewrite.specs.PrivateKept.{HasName, AreInside};
-ghost use Rattle.rewrite.specs.PrivateMarks.{AreReached};
+ghost use Rattle.llb.specs.WellFormed.{is_well_formed};
+ghost use Rattle.rewrite.specs.Pruned.{AreNames};
+ghost use Rattle.rewrite.specs.PrivateJoined.{HasName, AreInside, AreJoinable, IsJoined, IsNamedJoined, AreJoined};
 
-use crate::keeping::{Kept, rename};
-use llb::{Full, Graph, Op, Vertex, VertexId};
+use llb::{Full, Graph, Vertex, VertexId};
 use plain::{Fault, Items, Memory};
 use std::alloc::Global;
 
-/// Adds a vertex, on the new numbers of these inputs and with its lines, to a graph that isn't full.
+/// The new number of a vertex that has one.
+pub(crate) fn find_name(names: &[Option<VertexId>], id: VertexId) -> VertexId
+    requires { HasName names.now id }
+    ensures { slice_get names.now id ≡ Some (Some result) }
+{
+    match names[id.index()] {
+        Some(name) => name,
+        None => unreachable!(),
+    }
+}
+
+/// The new numbers of these vertices.
+fn rename(
+    alloc: Global,
+    names: &[Option<VertexId>],
+    inputs: &[VertexId],
+) -> Result<Items<VertexId>, Memory>
+    requires { All (HasName names.now) inputs.now }
+    ensures { IfOk result (AreNames names.now inputs.now) }
+{
+    let mut found = Items::new(alloc);
+    for input in inputs {
+        let name = find_name(names, *input);
+        found.push(name)?;
+    }
+    Ok(found)
+}
+
+/// Adds a vertex, on the new numbers of its inputs and with its lines, to a graph that isn't full.
 fn join(
     alloc: Global,
     graph: &mut Graph,
     names: &[Option<VertexId>],
-    op: Op,
-    inputs: &[VertexId],
+    vertex: Vertex,
     lines: &[u32],
 ) -> Result<VertexId, Memory>
-    requires named { All (HasName names.now) inputs.now }
+    requires named { All (HasName names.now) vertex.inputs }
     requires inside { AreInside names.now (length graph.old.vertices) }
-    requires well_formed { IsTrue (is_well_formed_on op (length inputs.now)) }
+    requires well_formed { IsTrue (is_well_formed vertex) }
     requires lines { AreLines lines.now }
     requires room { length graph.old.vertices < most_vertices }
-    ensures { IfOk result (IsJoined graph.old graph.new names.now (record { op = op; inputs = inputs.now }) lines.now) }
+    ensures { IfOk result (IsJoined graph.old graph.new names.now vertex lines.now) }
 {
-    let inputs = rename(alloc, names, inputs)?;
+    let Vertex { op, inputs } = vertex;
+    let inputs = rename(alloc, names, inputs.as_slice())?;
     match graph.add_all(alloc, Vertex { op, inputs }, lines) {
         Ok(id) => Ok(id),
         Err(Fault::Memory) => Err(Memory),
@@ -43,52 +68,53 @@ fn join_marked(
     alloc: Global,
     graph: &mut Graph,
     names: &[Option<VertexId>],
-    op: Op,
-    inputs: &[VertexId],
+    vertex: Vertex,
     lines: &[u32],
     mark: bool,
 ) -> Result<Option<VertexId>, Memory>
-    requires named { mark ≡ true → All (HasName names.now) inputs.now }
+    requires named { mark ≡ true → All (HasName names.now) vertex.inputs }
     requires inside { AreInside names.now (length graph.old.vertices) }
-    requires well_formed { mark ≡ true → IsTrue (is_well_formed_on op (length inputs.now)) }
+    requires well_formed { mark ≡ true → IsTrue (is_well_formed vertex) }
     requires lines { AreLines lines.now }
     requires room { length graph.old.vertices < most_vertices }
-    ensures { IfOk result (IsNamedJoined graph.old graph.new names.now (record { op = op; inputs = inputs.now }) lines.now mark) }
+    ensures { IfOk result (IsNamedJoined graph.old graph.new names.now vertex lines.now mark) }
 {
     if mark {
-        let id = join(alloc, graph, names, op, inputs, lines)?;
+        let id = join(alloc, graph, names, vertex, lines)?;
         Ok(Some(id))
     } else {
         Ok(None)
     }
 }
 
-/// The graph of the vertices that are marked, each on its flat inputs.
+/// A graph, and the numbers in it of other vertices, by their old numbers; none for one that it doesn't have.
+#[derive(Drop)]
+pub(crate) struct Joined {
+    pub graph: Graph,
+    pub names: Items<Option<VertexId>>,
+}
+
+/// The graph of the vertices that are marked, in their order. Equal ones are one, which stands where the first of them stood and has the
+/// lines of all.
 pub(crate) fn join_all(
     alloc: Global,
-    graph: Graph,
-    target: VertexId,
+    vertices: Items<Vertex>,
+    places: Items<Items<u32>>,
     marks: &[bool],
-    inputs: &[Items<VertexId>],
-) -> Result<Kept, Memory>
-    requires reached { AreReached (flat_vertices graph.vertices) target marks.now }
-    requires inputs { AreFlatInputs graph.vertices marks.now (length graph.vertices) inputs.now }
-    ensures { IfOk result (λ kept. AreJoined (record { vertices = flat_vertices graph.vertices; places = graph.places }) marks.now
-        (length graph.vertices) kept.graph kept.names) }
+) -> Result<Joined, Memory>
+    requires { AreJoinable (record { vertices = vertices; places = places }) marks.now }
+    ensures { IfOk result (λ joined. AreJoined (record { vertices = vertices; places = places }) marks.now (length vertices) joined.graph joined.names) }
 {
-    let (vertices, places) = graph.into_parts();
     let mut graph = Graph::new(alloc);
     let mut names = Vec::new(alloc);
     let mut at = 0;
     for vertex in vertices.into_vec() {
-        let Vertex { op, inputs: _ } = vertex;
         let lines = places.as_slice()[at].as_slice();
         let name = join_marked(
             alloc,
             &mut graph,
             names.as_slice(),
-            op,
-            inputs[at].as_slice(),
+            vertex,
             lines,
             marks[at],
         )?;
@@ -96,5 +122,5 @@ pub(crate) fn join_all(
         at += 1;
     }
     let names = Items::from_vec(names);
-    Ok(Kept { graph, names })
+    Ok(Joined { graph, names })
 }

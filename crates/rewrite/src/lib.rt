@@ -10,7 +10,6 @@
 #![tactic(auto)]
 
 mod joining;
-mod keeping;
 pub mod laws;
 mod links;
 mod marks;

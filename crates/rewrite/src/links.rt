@@ -5,9 +5,8 @@ ghost use Rattle.plans.specs.Value.{Out};
 ghost use Rattle.rewrite.specs.Flat.{IsFlattened, MergesAreFlat};
 ghost use Rattle.rewrite.specs.Pruned.{KeepsMeaning};
 
-use crate::joining::join_all;
-use crate::keeping::{Kept, find_name};
-use crate::spelling::{list_flat_inputs, mark_flat};
+use crate::joining::{Joined, find_name, join_all};
+use crate::spelling::{list_flat_inputs, mark_flat, put_on};
 use plain::Memory;
 use plans::Plan;
 use std::alloc::Global;
@@ -28,13 +27,9 @@ pub fn flatten_links<C: Drop>(alloc: Global, plan: Plan<C>) -> Result<Plan<C>, M
     let (graph, target, config, sources) = plan.into_parts();
     let marks = mark_flat(alloc, graph.vertices(), target)?;
     let inputs = list_flat_inputs(alloc, graph.vertices(), marks.as_slice())?;
-    let Kept { graph: flat, names } = join_all(
-        alloc,
-        graph,
-        target,
-        marks.as_slice(),
-        inputs.as_slice(),
-    )?;
+    let (vertices, places) = graph.into_parts();
+    let vertices = put_on(vertices, inputs);
+    let Joined { graph: flat, names } = join_all(alloc, vertices, places, marks.as_slice())?;
     let _known = flat.vertices();
     let target = find_name(names.as_slice(), target);
     Ok(Plan::new(flat, target, config, sources))

@@ -4,7 +4,7 @@ ghost use Rattle.plans.specs.Plan.{problem_of, NeedsAll};
 ghost use Rattle.plans.specs.Value.{Out};
 ghost use Rattle.rewrite.specs.Pruned.{IsPruned, KeepsMeaning};
 
-use crate::keeping::{Kept, find_name, keep_all};
+use crate::joining::{Joined, find_name, join_all};
 use crate::marks::mark_reached;
 use plain::Memory;
 use plans::Plan;
@@ -22,7 +22,8 @@ pub fn prune<C: Drop>(alloc: Global, plan: Plan<C>) -> Result<Plan<C>, Memory>
 {
     let (graph, target, config, sources) = plan.into_parts();
     let marks = mark_reached(alloc, graph.vertices(), target)?;
-    let Kept { graph: kept, names } = keep_all(alloc, graph, target, marks.as_slice())?;
+    let (vertices, places) = graph.into_parts();
+    let Joined { graph: kept, names } = join_all(alloc, vertices, places, marks.as_slice())?;
     let _known = kept.vertices();
     let target = find_name(names.as_slice(), target);
     Ok(Plan::new(kept, target, config, sources))

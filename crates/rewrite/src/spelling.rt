@@ -3,7 +3,7 @@ ghost use Rattle.std.specs.Prelude.{◌≡◌, ◌<◌, ◌++◌, true, length, 
 ghost use Rattle.std.specs.List.{All};
 ghost use Rattle.llb.specs.Graph.{AreVertices};
 ghost use Rattle.rewrite.specs.Flat.{flat_inputs, flat_vertices, spelled_out, with_first};
-ghost use Rattle.rewrite.specs.PrivateFlat.{is_merge, AreFlatInputs};
+ghost use Rattle.rewrite.specs.PrivateFlat.{is_merge, AreFlatInputs, ArePutOn};
 ghost use Rattle.rewrite.specs.PrivateMarks.{AreReached};
 
 use crate::marks::mark;
@@ -139,4 +139,18 @@ pub(crate) fn list_flat_inputs(
         list.push(inputs)?;
     }
     Ok(Items::from_vec(list))
+}
+
+/// The vertices, each on the inputs that stand at its number. It takes no memory.
+pub(crate) fn put_on(vertices: Items<Vertex>, inputs: Items<Items<VertexId>>) -> Items<Vertex>
+    requires { length inputs ≡ length vertices }
+    ensures { ArePutOn vertices inputs result }
+{
+    let mut vertices = vertices.into_vec();
+    let mut at = 0;
+    for ids in inputs.into_vec() {
+        vertices[at].inputs = ids;
+        at += 1;
+    }
+    Items::from_vec(vertices)
 }

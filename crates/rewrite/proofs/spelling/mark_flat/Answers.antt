@@ -5,7 +5,7 @@ use Rattle.std.proofs.lemmas.Option.{slice_get_read}
 use Rattle.std.specs.Vec.{vec_len}
 use Rattle.rewrite.specs.Flat.{flat_vertex, flat_vertices}
 use Rattle.rewrite.specs.PrivateMarks.{AreReached}
-use Rattle.rewrite.proofs.JoinFacts.{flat_there, flat_after, as_many}
+use Rattle.rewrite.proofs.FlatFacts.{flat_there, flat_after, as_many}
 use Rattle.plain.proofs.MarkFacts.{unmarked_step, marked_all}
 use Rattle.rewrite.proofs.MarkFacts.{target_marked, inputs_marked, inputs_inside}
 use Rattle.rewrite.proofs.spelling.mark_flat.Goals as goal

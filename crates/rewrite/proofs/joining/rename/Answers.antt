@@ -2,8 +2,8 @@ use Rattle.std.proofs.Common.{◌≡◌, ◌+◌, subst, sym, take}
 use Rattle.std.specs.Prelude.{slice_get, Some}
 use Rattle.std.proofs.lemmas.List.Elements.{all_zip_more}
 use Rattle.rewrite.specs.Pruned.{AreNames}
-use Rattle.rewrite.specs.PrivateKept.{HasName}
-use Rattle.rewrite.proofs.keeping.rename.Goals as goal
+use Rattle.rewrite.specs.PrivateJoined.{HasName}
+use Rattle.rewrite.proofs.joining.rename.Goals as goal
 
 pub loop-input-preserved : goal.loop-input-preserved
 loop-input-preserved c =
