@@ -3,15 +3,16 @@ use cachemounts::CacheStore;
 use executor::Fixture;
 use llb::{Graph, Op, VertexId};
 use plain::Memory;
-use plans::{Plan, Sources};
+use plans::Plan;
 use rewrite::{flatten_links, prune};
-use samples::{add, listing, op_of, tree};
+use samples::{Row, listing, plan_of_rows};
 use solver::{Answer, solve_here};
 use std::alloc::Global;
+use std::process::Abort;
 use std::test::Fail;
 
-/// A vertex by its operation, its inputs and its line.
-type Row = (&'static str, &'static [u32], u32);
+/// The files of each plan's context.
+const FILES: [(&str, &str); 3] = [("/a/f1", "1"), ("/b/g", "2"), ("/f", "3")];
 
 /// Three linked copies one after another, as they are lowered: each a copy onto the empty tree, and a merge with what was there before.
 const THREE_LINKS: [Row; 8] = [
@@ -36,25 +37,6 @@ const LINKS_ON_THE_RIGHT: [Row; 7] = [
     ("merge", &[2, 5], 6),
 ];
 
-/// The plan of these vertices, with the one of this number as its target; `None` where one of them is no vertex.
-fn plan_of_rows(alloc: Global, rows: &[Row], target: u32) -> Result<Option<Plan<u8>>, Memory> {
-    let mut graph = Graph::new(alloc);
-    for (text, inputs, line) in rows {
-        let op = op_of(alloc, text)?;
-        if add(alloc, &mut graph, op, inputs, Some(*line))?.is_none() {
-            return Ok(None);
-        }
-    }
-    let context = tree(alloc, &[("/a/f1", "1"), ("/b/g", "2"), ("/f", "3")])?;
-    let sources = Sources::new(alloc, context);
-    let target = VertexId::new(target);
-    if target.index() < graph.len() && sources.suffice(&graph) {
-        Ok(Some(Plan::new(graph, target, 7, sources)))
-    } else {
-        Ok(None)
-    }
-}
-
 /// Writes a graph: of each vertex whether it is a merge, its inputs and its lines.
 fn write_graph(text: &mut String, graph: &Graph) -> Result<(), Fail> {
     for (number, vertex) in graph.vertices().iter().enumerate() {
@@ -76,58 +58,108 @@ fn write_graph(text: &mut String, graph: &Graph) -> Result<(), Fail> {
     Ok(())
 }
 
-/// The tree that a plan builds, in a line; or the place of a failure and its cause.
+/// A plan's graph and its target, in a line.
+fn drawn(alloc: Global, plan: &Plan<u8>) -> Result<String, Fail> {
+    let mut text = String::new(alloc);
+    write_graph(&mut text, plan.graph())?;
+    write!(text, "target {}", plan.target().number())?;
+    Ok(text)
+}
+
+/// What a plan comes to, in a line.
 fn built(alloc: Global, plan: &Plan<u8>) -> Result<String, Fail> {
     let mut caches = CacheStore::new(alloc);
-    match solve_here(alloc, plan, &Fixture, &mut caches)? {
-        Answer::Built(tree, _) => Ok(listing(alloc, &tree)?),
-        Answer::Failed { place, cause } => {
-            let mut text = String::new(alloc);
-            write!(text, "{place}: {cause}")?;
-            Ok(text)
-        }
+    let answer = solve_here(alloc, plan, &Fixture, &mut caches);
+    drop(caches);
+    match answer {
+        Ok(answer) => told(alloc, answer),
+        Err(memory) => Err(Fail::from(memory)),
     }
 }
 
-/// What a plan of these vertices is once its links are put into one, and its target; and that it builds what it built.
-fn flattened(alloc: Global, rows: &[Row], target: u32) -> Result<(String, String), Fail> {
-    let mut text = String::new(alloc);
-    let Some(plan) = plan_of_rows(alloc, rows, target)? else {
-        return Ok((text, String::new(alloc)));
-    };
-    let before = built(alloc, &plan)?;
-    let plan = prune(alloc, flatten_links(alloc, plan)?)?;
-    write_graph(&mut text, plan.graph())?;
-    write!(text, "target {}", plan.target().number())?;
-    let after = built(alloc, &plan)?;
-    if before != after {
-        write!(text, " builds{after} in place of{before}")?;
+/// The tree of an answer, in a line; or the place of a failure and its cause.
+fn told(alloc: Global, answer: Answer<u8>) -> Result<String, Fail> {
+    match answer {
+        Answer::Built(tree, _) => {
+            let list = listing(alloc, &tree);
+            drop(tree);
+            match list {
+                Ok(list) => Ok(list),
+                Err(memory) => Err(Fail::from(memory)),
+            }
+        }
+        Answer::Failed { place, cause } => Ok(format!(in alloc; "{place}: {cause}")?),
     }
-    Ok((text, after))
+}
+
+/// Whether a plan builds so.
+fn expect_built(rt: &impl Abort, alloc: Global, plan: &Plan<u8>, wanted: &str) -> Result<(), Fail> {
+    assert_eq!(rt; built(alloc, plan)?.as_str(), wanted);
+    Ok(())
+}
+
+/// Whether a plan is drawn so and builds so.
+fn expect_plan(
+    rt: &impl Abort,
+    alloc: Global,
+    plan: &Plan<u8>,
+    graph: &str,
+    tree: &str,
+) -> Result<(), Fail> {
+    assert_eq!(rt; drawn(alloc, plan)?.as_str(), graph);
+    expect_built(rt, alloc, plan, tree)
+}
+
+/// A plan with its links put into one, and without what that leaves unneeded.
+fn flattened(alloc: Global, plan: Plan<u8>) -> Result<Plan<u8>, Memory> {
+    match flatten_links(alloc, plan) {
+        Ok(flat) => prune(alloc, flat),
+        Err(memory) => Err(memory),
+    }
+}
+
+/// Whether the plan of these vertices builds so, and once its links are put into one is drawn so and builds the same.
+fn expect_flattened(
+    rt: &impl Abort,
+    alloc: Global,
+    rows: &[Row],
+    target: u32,
+    graph: &str,
+    tree: &str,
+) -> Result<(), Fail> {
+    let plan = plan_of_rows(alloc, rows, target, &FILES)?;
+    match expect_built(rt, alloc, &plan, tree) {
+        Ok(()) => {}
+        Err(fail) => {
+            drop(plan);
+            return Err(fail);
+        }
+    }
+    let flat = flattened(alloc, plan)?;
+    let done = expect_plan(rt, alloc, &flat, graph, tree);
+    drop(flat);
+    done
 }
 
 #[test]
 fn links_flatten_into_one_merge(rt: HostRuntime) -> Result<(), Fail> {
-    let (graph, tree) = flattened(rt.alloc(), &THREE_LINKS, 7)?;
-    assert_eq!(rt;
-        graph.as_str(),
-        "vertex of 1; vertex of 2; vertex 0 1 of 2; vertex 0 1 of 3; vertex 0 1 of 4; \
-        merge 0 2 3 4 of 4; target 5"
-    );
-    assert_eq!(rt; tree.as_str(), " /x/ /x/g=2");
-    Ok(())
+    let graph = "vertex of 1; vertex of 2; vertex 0 1 of 2; vertex 0 1 of 3; vertex 0 1 of 4; \
+        merge 0 2 3 4 of 4; target 5";
+    expect_flattened(&rt, rt.alloc(), &THREE_LINKS, 7, graph, " /x/ /x/g=2")
 }
 
 #[test]
 fn a_merge_on_the_right_stays(rt: HostRuntime) -> Result<(), Fail> {
-    let (graph, tree) = flattened(rt.alloc(), &LINKS_ON_THE_RIGHT, 6)?;
-    assert_eq!(rt;
-        graph.as_str(),
-        "vertex of 1; vertex of 2; vertex 0 1 of 2; vertex 0 1 of 3; vertex 0 1 of 4; \
-        merge 3 4 of 5; merge 2 5 of 6; target 6"
-    );
-    assert_eq!(rt; tree.as_str(), " /x/ /x/f1=1 /x/g=2");
-    Ok(())
+    let graph = "vertex of 1; vertex of 2; vertex 0 1 of 2; vertex 0 1 of 3; vertex 0 1 of 4; \
+        merge 3 4 of 5; merge 2 5 of 6; target 6";
+    expect_flattened(
+        &rt,
+        rt.alloc(),
+        &LINKS_ON_THE_RIGHT,
+        6,
+        graph,
+        " /x/ /x/f1=1 /x/g=2",
+    )
 }
 
 #[test]
@@ -144,14 +176,9 @@ fn equal_merges_become_one(rt: HostRuntime) -> Result<(), Fail> {
         ("run put /c 1", &[5], 8),
         ("merge", &[6, 7], 9),
     ];
-    let (graph, tree) = flattened(rt.alloc(), &rows, 8)?;
-    assert_eq!(rt;
-        graph.as_str(),
-        "vertex of 1; vertex 0 of 2; vertex 0 of 3; merge 0 1 2 of 5 6; vertex 3 of 7 8; \
-        merge 4 4 of 9; target 5"
-    );
-    assert_eq!(rt; tree.as_str(), " /a/ /b/ /c=1");
-    Ok(())
+    let graph = "vertex of 1; vertex 0 of 2; vertex 0 of 3; merge 0 1 2 of 5 6; vertex 3 of 7 8; \
+        merge 4 4 of 9; target 5";
+    expect_flattened(&rt, rt.alloc(), &rows, 8, graph, " /a/ /b/ /c=1")
 }
 
 #[test]
@@ -164,11 +191,6 @@ fn failures_stay_with_their_lines(rt: HostRuntime) -> Result<(), Fail> {
         ("merge", &[3, 2], 5),
         ("run fail 4", &[3], 6),
     ];
-    let (graph, failure) = flattened(rt.alloc(), &rows, 4)?;
-    assert_eq!(rt;
-        graph.as_str(),
-        "vertex of 1; vertex 0 of 2; vertex 0 of 3; merge 0 1 2 of 5; target 3"
-    );
-    assert_eq!(rt; failure.as_str(), "2: exit 3");
-    Ok(())
+    let graph = "vertex of 1; vertex 0 of 2; vertex 0 of 3; merge 0 1 2 of 5; target 3";
+    expect_flattened(&rt, rt.alloc(), &rows, 4, graph, "2: exit 3")
 }
