@@ -75,7 +75,7 @@ pub struct NoBoard {
 }
 
 impl<'a, E: Executor> Board<'a, E> {
-    /// A board on which nothing has happened, with a store of which no lease is out. `CacheStore::is_idle` tests that.
+    /// A board on which nothing has happened, with a store of which nobody holds anything. `CacheStore::is_idle` tests that.
     pub fn new(alloc: Global, job: Job<'a, E>, caches: CacheStore) -> Result<Board<'a, E>, NoBoard>
         requires idle { caches.holds ≡ [] }
         ensures ok { IfOk result (λ board. board ≡ record { job = job.entry; first = caches.contents; contents = caches.contents; run = begun (job_problem E.out job.entry) }) }

@@ -1,5 +1,5 @@
--- What the contents of caches are. A content is that of a private slot, or the common one, for which the slot is `None`. One that nobody has given a tree
--- back to is the empty tree.
+-- What the contents of caches are. A content is that of a private slot, or the common one, for which the slot is `None`. Until a tree is
+-- given back to it, a content is what it was at first: the empty tree, where the store began without it.
 use Rattle.std.specs.Prelude.{ℕ, ◌==◌, Bool, true, false, ◌&&◌, if◌then◌else◌, List, [], ◌∷◌, Option, Some, None, find}
 use Rattle.std.specs.List.{list_any, list_all}
 use Rattle.std.specs.Option.{option_map_or}
@@ -31,7 +31,7 @@ same_content id slot other there = same_id id other && same_slot slot there
 abbrev pub is_content : List ℕ → Option ℕ → Content → Bool
 is_content id slot content = same_content content.id content.slot id slot
 
--- the tree in a content: the empty one where no tree was ever given back (Dockerfile reference)
+-- the tree in a content: that of its first entry, and the empty one where it isn't listed (own)
 abbrev pub tree_in : List Content → List ℕ → Option ℕ → TreeMap
 tree_in contents id slot = option_map_or (λ (content : Content). content.tree) (find (is_content id slot) contents) empty_tree
 

@@ -8,7 +8,7 @@ use Rattle.cachemounts.specs.contracts.content.Content as content
 use Rattle.cachemounts.specs.declared.holds.Hold.{Hold}
 use Rattle.cachemounts.specs.declared.content.Content.{Content}
 
--- the contents that were ever held, and the holds of the leases that are out, the oldest first (own)
+-- the contents that the store began with and those that were held since, and the holds of the leases that are out, the oldest first (own)
 pub record StoreValue : Type 0 where
   pub contents : List Content
   pub holds : List Hold

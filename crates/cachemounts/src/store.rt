@@ -122,7 +122,7 @@ impl CacheStore {
         holds::count_of(self.holds.as_slice(), holder)
     }
 
-    /// Whether no lease is out.
+    /// Whether nobody holds anything.
     pub fn is_idle(&self) -> bool
         ensures { IsTrue result ↔ (self.now.holds ≡ []) }
     {
@@ -181,7 +181,7 @@ impl CacheStore {
         holds::drop_holder(&mut self.holds, holder);
     }
 
-    /// Copies of the contents that were ever held, with their trees.
+    /// Copies of the contents that the store began with and of those that were held since, with their trees.
     pub fn contents(&self, alloc: Global) -> Result<Vec<Content>, Memory>
         ensures { IfOk result (λ contents. contents.items ≡ self.now.contents) }
     {

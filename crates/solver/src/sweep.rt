@@ -25,7 +25,7 @@ use vertexrun::Ran;
 /// The worker that the sweep claims as: past those that threads have, which are numbered from 0 to 63.
 const SWEEPER: u32 = 64;
 
-/// The answer to a plan under an executor, with a store of caches of which no lease is out (`CacheStore::is_idle` tests that). It always returns.
+/// The answer to a plan under an executor, with a store of caches of which nobody holds anything (`CacheStore::is_idle` tests that). It always returns.
 /// Whatever the result, no lease is out then, and the caches hold what a legal history of the plan's problem left of what they held: those that
 /// no vertex used are as they were.
 pub fn solve_here<C: Exact, E: Executor>(

@@ -20,7 +20,7 @@ use std::mem;
 use std::sync::{Condvar, Wait};
 use std::thread::Threads;
 
-/// The solution of a plan's problem under an executor, by this many workers, with a store of caches of which no lease is out
+/// The solution of a plan's problem under an executor, by this many workers, with a store of caches of which nobody holds anything
 /// (`CacheStore::is_idle` tests that). The gate is asked around the run of each command: by the workers from 0 on, and by the caller's thread, which
 /// does what they have left, as worker 64. A thread that can't be started is no fault: its work is done by the others. It may never return. If it does, no lease
 /// is out, whatever the result, and the caches hold what a legal history of the plan's problem left of what they held: which one is the order of settles,
