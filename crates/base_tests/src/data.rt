@@ -74,7 +74,7 @@ fn shared_texts_are_the_same_texts(rt: HostRuntime) -> Result<(), Fail> {
 #[test]
 fn no_number_is_marked_at_first(rt: HostRuntime) -> Result<(), Fail> {
     assert_eq!(rt;
-        clear_marks(rt.alloc(), 2)?.as_slice(),
+        no_marks(rt.alloc(), 2)?.as_slice(),
         [false, false].as_slice()
     );
     Ok(())

@@ -37,7 +37,7 @@ pub use bytes::Bytes;
 pub use exact::Exact;
 pub use fault::Fault;
 pub use items::{Items, copied_items};
-pub use marks::clear_marks;
+pub use marks::no_marks;
 pub use memory::Memory;
 pub use mode::Mode;
 pub use owner::Owner;

@@ -5,7 +5,7 @@ use crate::Memory;
 use std::alloc::Global;
 
 /// Marks for so many numbers, of which none is marked.
-pub fn clear_marks(alloc: Global, len: usize) -> Result<Vec<bool>, Memory>
+pub fn no_marks(alloc: Global, len: usize) -> Result<Vec<bool>, Memory>
     ensures long { IfOk result (λ marks. length marks.items ≡ len) }
     ensures none { IfOk result (λ marks. (k : ℕ) → is_marked marks.items k ≡ false) }
 {

@@ -6,7 +6,7 @@ ghost use Rattle.llb.specs.Graph.{AreVertices};
 ghost use Rattle.rewrite.specs.PrivateMarks.{AreReached};
 
 use llb::{Vertex, VertexId};
-use plain::{Items, Memory, clear_marks};
+use plain::{Items, Memory, no_marks};
 use std::alloc::Global;
 
 /// Marks these vertices.
@@ -29,7 +29,7 @@ pub(crate) fn mark_reached(
     requires target { target < length vertices.now }
     ensures { IfOk result (AreReached vertices.now target) }
 {
-    let mut marks = clear_marks(alloc, vertices.len())?;
+    let mut marks = no_marks(alloc, vertices.len())?;
     marks[target.index()] = true;
     let mut at = vertices.len();
     while at > 0 {

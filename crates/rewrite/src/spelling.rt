@@ -8,7 +8,7 @@ ghost use Rattle.rewrite.specs.PrivateMarks.{AreReached};
 
 use crate::marks::mark;
 use llb::{Op, Vertex, VertexId};
-use plain::{Items, Memory, clear_marks};
+use plain::{Items, Memory, no_marks};
 use std::alloc::Global;
 
 /// Whether the operation is a merge.
@@ -92,7 +92,7 @@ pub(crate) fn mark_flat(
     requires target { target < length vertices.now }
     ensures { IfOk result (AreReached (flat_vertices vertices.now) target) }
 {
-    let mut marks = clear_marks(alloc, vertices.len())?;
+    let mut marks = no_marks(alloc, vertices.len())?;
     marks[target.index()] = true;
     let mut at = vertices.len();
     while at > 0 {

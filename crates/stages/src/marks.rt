@@ -7,7 +7,7 @@ ghost use Rattle.stages.specs.Needed.{origins_in, stage_origins, AreNeeded};
 ghost use Rattle.stages.specs.PrivateMarks.{HasStage, AreStages};
 
 use crate::stage::{ResolvedInstruction, ResolvedStage};
-use plain::{Items, Memory, clear_marks};
+use plain::{Items, Memory, no_marks};
 use rows::Origin;
 use std::alloc::Global;
 
@@ -63,7 +63,7 @@ pub(crate) fn mark_needed(
     requires target { target < length stages.now }
     ensures { IfOk result (AreNeeded stages.now target) }
 {
-    let mut marks = clear_marks(alloc, stages.len())?;
+    let mut marks = no_marks(alloc, stages.len())?;
     marks[target as usize] = true;
     let mut at = stages.len();
     while at > 0 {

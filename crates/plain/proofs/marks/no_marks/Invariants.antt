@@ -1,6 +1,6 @@
 use Rattle.std.proofs.Common.{◌≡◌, ℕ, false, length}
 use Rattle.plain.specs.Marks.{is_marked}
-use Rattle.plain.proofs.marks.clear_marks.Given as goal
+use Rattle.plain.proofs.marks.no_marks.Given as goal
 
 abbrev pub invariant-loop-at : goal.invariant-loop-at
 invariant-loop-at l = record {
