@@ -95,13 +95,13 @@ pub fn gather<W: CountedWrite>(output: &mut W, gathered: &mut Gathered, bytes: &
     if gathered.is_room_for(bytes.len()) {
         gathered.take_in(bytes);
     } else {
-        gather_anew(output, gathered, bytes);
+        gather_after_flush(output, gathered, bytes);
     }
 }
 
 /// Says bytes where what is gathered is written first.
 #[inline(never)]
-fn gather_anew<W: CountedWrite>(output: &mut W, gathered: &mut Gathered, bytes: &[u8])
+fn gather_after_flush<W: CountedWrite>(output: &mut W, gathered: &mut Gathered, bytes: &[u8])
     requires room { HasRoom (W.failures output.old) gathered.old }
     ensures says { Says
         (sink (W.contents output.old) (W.failures output.old) gathered.old)

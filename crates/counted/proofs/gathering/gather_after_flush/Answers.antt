@@ -1,5 +1,5 @@
 use Rattle.counted.proofs.GatheringFacts.{says_both}
-use Rattle.counted.proofs.gathering.gather_anew.Goals as goal
+use Rattle.counted.proofs.gathering.gather_after_flush.Goals as goal
 
 pub returns-then-is_room_for-clause-says : goal.returns-then-is_room_for-clause-says
 returns-then-is_room_for-clause-says g c = says_both c.flush.ensures.says (c.take_in.ensures.says _ _)
