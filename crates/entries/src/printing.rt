@@ -141,7 +141,7 @@ fn put_end<W: CountedWrite>(output: &mut W, gathered: &mut Gathered, names: &[&T
         (end_text (lent_names names.now) meta) }
     ensures room { HasRoom (W.failures output.new) gathered.new }
 {
-    put_mode(output, gathered, meta.mode);
+    put_mode_and_path_key(output, gathered, meta.mode);
     put_names(output, gathered, names);
     gather(output, gathered, b"\",\"uid\":");
     put_number(output, gathered, meta.uid);
@@ -149,7 +149,7 @@ fn put_end<W: CountedWrite>(output: &mut W, gathered: &mut Gathered, names: &[&T
 }
 
 /// Says a mode as four octal digits, and what stands between them and the path: one piece costs less than two.
-fn put_mode<W: CountedWrite>(output: &mut W, gathered: &mut Gathered, mode: Mode)
+fn put_mode_and_path_key<W: CountedWrite>(output: &mut W, gathered: &mut Gathered, mode: Mode)
     requires room { HasRoom (W.failures output.old) gathered.old }
     ensures says { Says
         (sink (W.contents output.old) (W.failures output.old) gathered.old)

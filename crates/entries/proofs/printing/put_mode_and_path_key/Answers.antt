@@ -1,7 +1,7 @@
 use Rattle.std.proofs.Common.{◌≡◌, ◌+◌, ◌/◌, ◌%◌, arith}
 use Rattle.counted.proofs.GatheringFacts.{says_as}
 use Rattle.entries.proofs.PrintingFacts.{same_digits}
-use Rattle.entries.proofs.printing.put_mode.Goals as goal
+use Rattle.entries.proofs.printing.put_mode_and_path_key.Goals as goal
 
 pub returns-clause-says : goal.returns-clause-says
 returns-clause-says g c =
