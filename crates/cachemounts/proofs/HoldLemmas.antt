@@ -13,7 +13,7 @@ use Rattle.plain.specs.declared.sharing.Sharing.TheVariants.{Shared, Private, Lo
 use Rattle.runs.specs.declared.run.CacheUse.{CacheUse}
 use Rattle.runs.specs.Run.{ids_differ, ids_of}
 use Rattle.cachemounts.specs.declared.holds.Access.{Access}
-use Rattle.cachemounts.specs.declared.holds.Access.TheVariants.{Common, Alone, Slot}
+use Rattle.cachemounts.specs.declared.holds.Access.TheVariants.{Together, Alone, Slot}
 use Rattle.cachemounts.specs.declared.holds.Hold.{Hold}
 use Rattle.cachemounts.specs.Holds.{IsLowestFree, same_id, is_common, is_alone, is_slot, holds_common, holds_alone, holds_slot, may_begin, can_take, first_free, lowest_free, access_for, new_hold, new_holds, of_holder, without_holder, is_holder, accesses_clash, holds_clash, is_lawful}
 
@@ -64,7 +64,7 @@ filter_less q (x ∷ xs) e = by_test (filter_less q xs) (q x) refl
     by_test rest false t = (let h = filter_le q xs in rw t (omega (arith, h)))
 
 other_slot : (m n : ℕ) (hold : Access) → m ≢ n → is_slot m hold ≡ true → is_slot n hold ≡ false
-other_slot m n Common differ e = cc
+other_slot m n Together differ e = cc
 other_slot m n Alone differ e = cc
 other_slot m n (Slot slot) differ e = ne_eqb slot n (λ same. differ (sym (eqb-true slot m e) ∙ same))
 
@@ -163,17 +163,17 @@ lawful_append (first ∷ holds) more e f beside =
     and_from _ _ (not_from_false _ none) (lawful_append holds more parts.1 f heads.1)
 
 pub alone_clash : (hold : Access) → accesses_clash hold Alone ≡ is_common hold
-alone_clash Common = refl
+alone_clash Together = refl
 alone_clash Alone = refl
 alone_clash (Slot slot) = refl
 
-common_clash : (hold : Access) → accesses_clash hold Common ≡ is_alone hold
-common_clash Common = refl
-common_clash Alone = refl
-common_clash (Slot slot) = refl
+together_clash : (hold : Access) → accesses_clash hold Together ≡ is_alone hold
+together_clash Together = refl
+together_clash Alone = refl
+together_clash (Slot slot) = refl
 
 slot_clash : (slot : ℕ) (hold : Access) → accesses_clash hold (Slot slot) ≡ is_slot slot hold
-slot_clash slot Common = refl
+slot_clash slot Together = refl
 slot_clash slot Alone = refl
 slot_clash slot (Slot other) = refl
 
@@ -182,7 +182,7 @@ begins_beside : (holder : ℕ) (holds : List Hold) (id : List ℕ) (sharing : Sh
 begins_beside holder holds id Locked e =
     any_same _ (holds_common id) (λ other. ap (λ b. same_id other.id id && b) (alone_clash other.access)) holds ∙ not-true _ e
 begins_beside holder holds id Shared e =
-    any_same _ (holds_alone id) (λ other. ap (λ b. same_id other.id id && b) (common_clash other.access)) holds ∙ not-true _ e
+    any_same _ (holds_alone id) (λ other. ap (λ b. same_id other.id id && b) (together_clash other.access)) holds ∙ not-true _ e
 begins_beside holder holds id Private e =
     any_same _ (holds_slot id (lowest_free holds id)) (λ other. ap (λ b. same_id other.id id && b) (slot_clash (lowest_free holds id) other.access)) holds ∙ (lowest_free-is holds id).free
 

@@ -5,14 +5,14 @@ use Rattle.std.specs.List.{list_any, list_all}
 use Rattle.std.specs.Option.{option_map_or}
 use Rattle.trees.specs.TreeMap.{TreeMap, empty_tree}
 use Rattle.cachemounts.specs.declared.holds.Access.{Access}
-use Rattle.cachemounts.specs.declared.holds.Access.TheVariants.{Common, Alone, Slot}
+use Rattle.cachemounts.specs.declared.holds.Access.TheVariants.{Together, Alone, Slot}
 use Rattle.cachemounts.specs.declared.holds.Hold.{Hold}
 use Rattle.cachemounts.specs.declared.content.Content.{Content}
 use Rattle.cachemounts.specs.Holds.{same_id}
 
 -- which content of its cache is held (own)
 abbrev pub slot_of : Access → Option ℕ
-slot_of Common = None
+slot_of Together = None
 slot_of Alone = None
 slot_of (Slot slot) = Some slot
 

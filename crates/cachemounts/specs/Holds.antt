@@ -9,7 +9,7 @@ use Rattle.plain.specs.declared.sharing.Sharing.{Sharing}
 use Rattle.plain.specs.declared.sharing.Sharing.TheVariants.{Shared, Private, Locked}
 use Rattle.runs.specs.declared.run.CacheUse.{CacheUse}
 use Rattle.cachemounts.specs.declared.holds.Access.{Access}
-use Rattle.cachemounts.specs.declared.holds.Access.TheVariants.{Common, Alone, Slot}
+use Rattle.cachemounts.specs.declared.holds.Access.TheVariants.{Together, Alone, Slot}
 use Rattle.cachemounts.specs.declared.holds.Hold.{Hold}
 
 -- whether two ids of caches are one (own)
@@ -18,19 +18,19 @@ same_id id other = pointwise nat_eq id other
 
 -- whether this holds the common content (own)
 abbrev pub is_common : Access → Bool
-is_common Common = true
+is_common Together = true
 is_common Alone = true
 is_common (Slot slot) = false
 
 -- whether this holds the common content alone, as a locked use does (own)
 abbrev pub is_alone : Access → Bool
-is_alone Common = false
+is_alone Together = false
 is_alone Alone = true
 is_alone (Slot slot) = false
 
 -- whether this holds a private slot (own)
 abbrev pub is_slot : ℕ → Access → Bool
-is_slot slot Common = false
+is_slot slot Together = false
 is_slot slot Alone = false
 is_slot slot (Slot other) = other == slot
 
@@ -74,7 +74,7 @@ pub record IsLowestFree (holds : List Hold) (id : List ℕ) (slot : ℕ) : Type 
 -- what a use holds of its cache once it has begun (Dockerfile reference)
 abbrev pub access_for : List Hold → List ℕ → Sharing → Access
 access_for holds id Locked = Alone
-access_for holds id Shared = Common
+access_for holds id Shared = Together
 access_for holds id Private = Slot (lowest_free holds id)
 
 -- the hold of a use that begins (own)
@@ -99,9 +99,9 @@ is_holder holder holds = list_any (λ hold. hold.holder == holder) holds
 
 -- whether one cache can't be held in both ways at once: its common content alone and by somebody else, or one slot twice (own)
 abbrev pub accesses_clash : Access → Access → Bool
-accesses_clash Common other = is_alone other
+accesses_clash Together other = is_alone other
 accesses_clash Alone other = is_common other
-accesses_clash (Slot slot) Common = false
+accesses_clash (Slot slot) Together = false
 accesses_clash (Slot slot) Alone = false
 accesses_clash (Slot slot) (Slot other) = slot == other
 

@@ -40,7 +40,7 @@ fn slot_of(access: Access) -> Option<usize>
     ensures { result ≡ slot_of access }
 {
     match access {
-        Access::Common => None,
+        Access::Together => None,
         Access::Alone => None,
         Access::Slot(slot) => Some(slot),
     }

@@ -10,7 +10,7 @@ use std::alloc::Global;
 #[derive(Clone, Copy, Debug, PartialEq, Eq)]
 pub enum Access {
     /// The common content, as a shared use holds it: others may hold it too.
-    Common,
+    Together,
     /// The common content, as a locked use holds it: nobody else does.
     Alone,
     /// The content of a private slot, by its number.
@@ -29,7 +29,7 @@ fn is_common(access: Access) -> bool
     ensures { result ≡ is_common access }
 {
     match access {
-        Access::Common => true,
+        Access::Together => true,
         Access::Alone => true,
         Access::Slot(_) => false,
     }
@@ -39,7 +39,7 @@ fn is_alone(access: Access) -> bool
     ensures { result ≡ is_alone access }
 {
     match access {
-        Access::Common => false,
+        Access::Together => false,
         Access::Alone => true,
         Access::Slot(_) => false,
     }
@@ -49,7 +49,7 @@ fn is_slot(slot: usize, access: Access) -> bool
     ensures { result ≡ is_slot slot access }
 {
     match access {
-        Access::Common => false,
+        Access::Together => false,
         Access::Alone => false,
         Access::Slot(other) => other == slot,
     }
@@ -116,7 +116,7 @@ fn access_for(holds: &[Hold], id: &Text, sharing: Sharing) -> Access
 {
     match sharing {
         Sharing::Locked => Access::Alone,
-        Sharing::Shared => Access::Common,
+        Sharing::Shared => Access::Together,
         Sharing::Private => Access::Slot(lowest_free(holds, id)),
     }
 }
