@@ -6,7 +6,8 @@ use Rattle.json.specs.declared.value.Value.{Value, Null, Bool as Boolean, Number
 use Rattle.json.proofs.Trees.{view-Array, view-Object}
 use Rattle.serde_json.specs.Data.{Num, null, boolean, number, string, array, object, item, Members, no_members, put}
 use Rattle.serde_json.specs.Read.{number_of, of_json, of_items, of_members, read}
-use Rattle.borrowed.specs.Seen.{seen, seen_items, seen_members, seen_number, in_range, items_in_range, members_in_range, data_of}
+use Rattle.borrowed.specs.Seen.{seen, seen_items, seen_members, seen_number, data_of}
+use Rattle.borrowed.specs.PrivateRange.{in_range, items_in_range, members_in_range}
 use Rattle.borrowed.specs.Lent.{items_data}
 use Rattle.borrowed.specs.PrivateText.{json_of}
 

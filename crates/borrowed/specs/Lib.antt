@@ -2,3 +2,4 @@ pub mod Seen
 pub mod Lent
 pub mod PrivateRows
 pub mod PrivateText
+pub mod PrivateRange

@@ -1,6 +1,6 @@
 -- What a JSON text's value means, where its numbers have values: the data that `serde_json` reads of the text (RFC 8259; own). Of a key that
 -- stands twice in an object the last value counts.
-use Rattle.std.specs.Prelude.{Bool, true, ◌&&◌, Option, Some, None, is_some}
+use Rattle.std.specs.Prelude.{Option, Some, None}
 use Rattle.json.specs.Json as json
 use Rattle.json.specs.Value.{value_view}
 use Rattle.json.specs.declared.value.Value.{Value}
@@ -31,26 +31,6 @@ abbrev mutual
   pub seen_members : json.Members → Members → Members
   seen_members json.no_members found = found
   seen_members (json.member k j ms) found = seen_members ms (put k (seen j) found)
-
--- each number in it has a value
-abbrev mutual
-  pub in_range : json.Json → Bool
-  in_range json.null = true
-  in_range (json.boolean b) = true
-  in_range (json.number s) = is_some (number_of s)
-  in_range (json.string s) = true
-  in_range (json.array js) = items_in_range js
-  in_range (json.object ms) = members_in_range ms
-
-  -- each number in some items has a value
-  pub items_in_range : json.Items → Bool
-  items_in_range json.no_items = true
-  items_in_range (json.item j js) = in_range j && items_in_range js
-
-  -- each number in some members has a value
-  pub members_in_range : json.Members → Bool
-  members_in_range json.no_members = true
-  members_in_range (json.member k j ms) = in_range j && members_in_range ms
 
 -- the data that a lent value stands for
 abbrev pub data_of : {A : Type 0} → Value A → Data

@@ -1,7 +1,7 @@
 ghost use Rattle.std.specs.Prelude.{◌≡◌};
 ghost use Rattle.serde_json.specs.Read.{read};
 ghost use Rattle.json.specs.Value.{value_view, items_view, members_view};
-ghost use Rattle.borrowed.specs.Seen.{in_range, items_in_range, members_in_range};
+ghost use Rattle.borrowed.specs.PrivateRange.{in_range, items_in_range, members_in_range};
 ghost use Rattle.borrowed.specs.Lent.{GivesData};
 ghost use Rattle.borrowed.specs.PrivateText.{GivesJson, json_of};
 

@@ -1,7 +1,7 @@
 use Rattle.std.proofs.Common.{◌≡◌, drop, length}
 use Rattle.json.specs.Tree.{json_tokens, items_tokens, members_tokens}
 use Rattle.json.specs.Value.{value_view, items_view, members_view}
-use Rattle.borrowed.specs.Seen.{items_in_range, members_in_range}
+use Rattle.borrowed.specs.PrivateRange.{items_in_range, members_in_range}
 use Rattle.borrowed.proofs.whole.+range.Given as goal
 
 abbrev pub decreases-is_in_range : goal.decreases-is_in_range

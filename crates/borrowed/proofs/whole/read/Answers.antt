@@ -1,6 +1,6 @@
 use Rattle.std.proofs.Common.{◌≡◌, true, false, sym, ◌∙◌}
 use Rattle.json.specs.Value.{value_view}
-use Rattle.borrowed.specs.Seen.{in_range}
+use Rattle.borrowed.specs.PrivateRange.{in_range}
 use Rattle.borrowed.proofs.SeenFacts.{read-in_range, read-out_of_range}
 use Rattle.borrowed.proofs.whole.read.Goals as goal
 
