@@ -13,7 +13,7 @@ use Rattle.plans.specs.Plan.{Problem}
 use Rattle.board.specs.Readiness.{has_tree}
 use Rattle.board.specs.Problem.{IsProblem}
 use Rattle.board.specs.Play.{Run, IsReplay, value_at, have_trees, is_claimed, claim_of, without, vertex_of}
-use Rattle.board.specs.Claim.{AreApart}
+use Rattle.board.specs.PrivateClaim.{AreApart}
 use Rattle.board.specs.Legal.{vertex_out}
 use Rattle.board.specs.PrivateFrontier.{times, missing, inputs_at, is_begun, is_available}
 use Rattle.board.proofs.ListLemmas.{claim_of-without, AreApart-without, is_claimed-false, is_claimed-none, placed-is}

@@ -5,7 +5,7 @@ use Rattle.std.specs.Prelude.{slice_get}
 use Rattle.std.proofs.lemmas.Bool.{eqb-true, eqb-false, eq-eqb, ne_eqb, cases_lt, cases_eq, or_parts, or_from}
 use Rattle.board.specs.Play.{least, or_last, claim_of, without, is_claimed}
 use Rattle.board.specs.Play.{vertex_of}
-use Rattle.board.specs.Claim.{AreApart}
+use Rattle.board.specs.PrivateClaim.{AreApart}
 use Rattle.board.specs.declared.claim.ClaimOut.{ClaimOut}
 
 -- the least number below n that passes a test, or that there is none

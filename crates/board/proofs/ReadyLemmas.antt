@@ -22,7 +22,7 @@ use Rattle.board.specs.Play.{State, value_at, claim_of, is_claimed, have_trees, 
 use Rattle.board.specs.Legal.{vertex_out, settles, IsSettled, HasTree, HasCause, IsReady, IsNext, IsSettledOnce, held_caches, settled_by}
 use Rattle.board.proofs.ListLemmas.{is_claimed-false, is_claimed-none, least-some, least-none}
 use Rattle.board.specs.Play.{vertex_of}
-use Rattle.board.specs.Claim.{AreApart}
+use Rattle.board.specs.PrivateClaim.{AreApart}
 use Rattle.board.specs.declared.event.Happened.{Happened}
 use Rattle.board.specs.declared.claim.ClaimOut.{ClaimOut}
 

@@ -29,8 +29,8 @@ use Rattle.board.specs.Play.{vertex_of}
 use Rattle.board.proofs.ReadyLemmas.{IsSound, Agrees, settled-is, claimable-some}
 use Rattle.board.proofs.PlayLemmas.{replay-value, replay-right, replay-claims, no_holders, idle_all}
 use Rattle.std.proofs.lemmas.Option.{slice_get_within}
-use Rattle.board.specs.Problem.{tree_value}
-use Rattle.board.specs.Claim.{ClaimValue, IsClaim, IsOut, IsResult, AreInputs, IsStateOf}
+use Rattle.board.specs.PrivateClaim.{tree_value, AreInputs}
+use Rattle.board.specs.Claim.{ClaimValue, IsClaim, IsOut, IsResult, IsStateOf}
 use Rattle.board.specs.declared.claim.ClaimOut.{ClaimOut}
 
 -- a problem that can be solved is sound

@@ -1,5 +1,5 @@
 -- What a claim says, and when it is a claim of a problem, is out, and has a value as its result.
-use Rattle.std.specs.Prelude.{[], ◌≡◌, ◌↔◌, ℕ, true, List, map, Option, Some, is_some, slice_get, length, refl, ◌∷◌, None}
+use Rattle.std.specs.Prelude.{◌≡◌, ◌↔◌, ℕ, true, List, Some, is_some, slice_get, length, refl}
 use Rattle.std.specs.Coded.{Coded, code_by, coded×, coded_ℕ, coded_list}
 use Rattle.trees.specs.contracts.tree.Tree as tree
 use Rattle.plans.specs.Value.{trees_at, result_of}
@@ -7,7 +7,7 @@ use Rattle.trees.specs.TreeMap.{TreeMap}
 use Rattle.trees.specs.Cause.{TreeOrCause}
 use Rattle.llb.specs.declared.vertex.Vertex.{Vertex}
 use Rattle.plans.specs.Plan.{Problem, caches_of, uses_at}
-use Rattle.board.specs.Problem.{values_in, tree_value}
+use Rattle.board.specs.Problem.{values_in}
 use Rattle.board.specs.Play.{State, claim_of, value_at}
 use Rattle.board.specs.Legal.{vertex_out, IsSettled, held_caches}
 use Rattle.board.specs.Play.{vertex_of}
@@ -56,20 +56,9 @@ abbrev pub IsResult : Problem → ClaimValue → TreeOrCause → Type 0
 IsResult problem claim value =
     (v : Vertex) → slice_get problem.vertices claim.vertex ≡ Some v → result_of problem.out problem.sources v.op claim.inputs ≡ Some value
 
--- these trees are those with which the inputs of a vertex are settled, in their order (own)
-pub record AreInputs (vertices : List Vertex) (settled : List (Option TreeOrCause)) (vertex : ℕ) (trees : List TreeMap) : Type 0 where
-  pub v : Vertex
-  pub there : slice_get vertices vertex ≡ Some v
-  pub settled_so : map tree_value trees ≡ map (value_at settled) v.inputs
-
 -- a board holds what a history says: each worker has the vertex out that the history says, a vertex is settled where the history settles it, and the holds
 -- of caches are the history's (own)
 pub record IsStateOf (problem : Problem) (history : List Happened) (state : State) : Type 0 where
   pub claims : (worker : ℕ) → vertex_of (claim_of worker state.claims) ≡ vertex_out history worker
   pub settled : (vertex : ℕ) → (is_some (value_at state.settled vertex) ≡ true) ↔ IsSettled history vertex
   pub holds : state.holds ≡ held_caches problem history
-
--- no worker has two claims out (own)
-abbrev pub AreApart : List ClaimOut → Type 0
-AreApart [] = Unit {0}
-AreApart (claim ∷ claims) = (claim_of claim.worker claims ≡ None) × AreApart claims

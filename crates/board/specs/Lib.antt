@@ -6,5 +6,6 @@ pub mod Legal
 pub mod Claim
 pub mod Clearing
 pub mod Board
+pub mod PrivateClaim
 pub mod PrivateNumbers
 pub mod PrivateFrontier

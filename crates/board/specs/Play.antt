@@ -12,8 +12,6 @@ use Rattle.llb.specs.declared.vertex.Vertex.{Vertex}
 use Rattle.plans.specs.Plan.{Problem, vertex_value, uses_at}
 use Rattle.cachemounts.specs.declared.holds.Hold.{Hold}
 use Rattle.board.specs.Readiness.{has_tree, stops}
-use Rattle.board.specs.declared.event.Event.{Event}
-use Rattle.board.specs.declared.event.Event.TheVariants as event
 use Rattle.board.specs.declared.event.Happened.{Happened}
 use Rattle.board.specs.declared.event.Happened.TheVariants.{Claimed, Settled, Abandoned}
 use Rattle.board.specs.declared.claim.ClaimOut.{ClaimOut}
@@ -34,12 +32,6 @@ pub data Step : Type 0 where
   Claim : ℕ → Step
   Settle : ℕ → List TreeMap → Step
   Abandon : ℕ → Step
-
--- the event that a step is, the trees that it gives back left out (own)
-abbrev pub event_of_step : Step → Event
-event_of_step (Claim worker) = event.Claim worker
-event_of_step (Settle worker given) = event.Settle worker
-event_of_step (Abandon worker) = event.Abandon worker
 
 -- the worker whose step it is (own)
 abbrev pub worker_of : Step → ℕ

@@ -1,15 +1,10 @@
 -- When a problem can be solved, and the values of its vertices.
-use Rattle.std.specs.Prelude.{◌<◌, List, Option, Some, Ok, length}
+use Rattle.std.specs.Prelude.{◌<◌, List, Option, length}
 use Rattle.trees.specs.Cause.{TreeOrCause}
-use Rattle.trees.specs.TreeMap.{TreeMap}
 use Rattle.llb.specs.Graph.{AreVertices}
 use Rattle.plans.specs.Plan.{Problem}
 use Rattle.plans.specs.Sources.{HasSources}
 use Rattle.plans.specs.Value.{values_of}
-
--- the value of a vertex that has this tree (own)
-abbrev pub tree_value : TreeMap → Option TreeOrCause
-tree_value tree = Some (Ok tree)
 
 -- the values of all vertices of a problem, by their ids (own)
 abbrev pub values_in : Problem → List (Option TreeOrCause)

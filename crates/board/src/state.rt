@@ -4,12 +4,11 @@ ghost use Rattle.std.specs.List.{list_any};
 ghost use Rattle.board.specs.Job.{job_problem};
 ghost use Rattle.board.specs.Readiness.{has_tree, has_cause, stops};
 ghost use Rattle.board.specs.Play.{value_at, have_trees, claim_of, without, claimable};
-ghost use Rattle.board.specs.Claim.{AreInputs};
+ghost use Rattle.board.specs.PrivateClaim.{AreInputs, tree_value};
 ghost use Rattle.board.specs.Clearing.{IsLeastWorker};
 ghost use Rattle.board.specs.PrivateFrontier.{IsFrontier};
 ghost use Rattle.board.specs.declared.claim.ClaimOut.{ClaimOut};
 ghost use Rattle.std.specs.Option.{option_map};
-ghost use Rattle.board.specs.Problem.{tree_value};
 ghost use Rattle.plans.specs.Plan.{caches_of, uses_in};
 
 use crate::frontier::Frontier;

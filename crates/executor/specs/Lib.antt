@@ -1,6 +1,6 @@
 pub mod Edits
 pub mod Fixture
-pub mod FixtureExits
+pub mod PrivateFixtureExits
 pub mod Number
 pub mod Places
 pub mod PrivateFixture

@@ -44,7 +44,7 @@ pub struct Fixture;
 
 impl Executor for Fixture {
     ghost use Rattle.executor.specs.Fixture.{fixture_out, fixture_caches};
-    ghost use Rattle.executor.specs.FixtureExits.{fixture_out-exits};
+    ghost use Rattle.executor.specs.PrivateFixtureExits.{fixture_out-exits};
     ghost use Rattle.std.specs.Prelude.{◌≡◌};
 
     ghost out = { λ _ request. fixture_out request };

@@ -17,7 +17,8 @@ use Rattle.llb.specs.declared.vertex.Vertex.{Vertex}
 use Rattle.llb.specs.Graph.{AreVertices}
 use Rattle.plans.specs.Sources.{source_tree}
 use Rattle.plans.specs.Value.{Value, tree_of, with_tree, trees_at, values_of, value_of, result_of}
-use Rattle.plans.specs.Value.{World, all_trees, tree_at, value_on}
+use Rattle.plans.specs.Value.{World, all_trees}
+use Rattle.plans.specs.PrivateValue.{tree_at, value_on}
 use Rattle.plans.proofs.ValueLaws.{value_of-is}
 use Rattle.rows.specs.declared.row.Origin.{Origin}
 use Rattle.rows.specs.declared.row.Origin.TheVariants.{Source as SourceOf, Stage as StageOf}

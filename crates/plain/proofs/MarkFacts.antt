@@ -4,7 +4,8 @@ use Rattle.std.specs.Prelude.{slice_index_or, slice_set}
 use Rattle.std.proofs.lemmas.Bool.{cases_eq, cases_lt, true≢false}
 use Rattle.std.proofs.Math.ListN.{length-set}
 use Rattle.std.proofs.lemmas.List.{get_or-set_same, get_or-set_other, get_or_past}
-use Rattle.plain.specs.Marks.{is_marked, MarksMore, IsPath, IsReached, MarksReached}
+use Rattle.plain.specs.Marks.{is_marked, IsPath, IsReached}
+use Rattle.plain.specs.PrivateMarks.{MarksMore, MarksReached}
 
 -- ---- more marks
 

@@ -2,3 +2,4 @@ pub mod Codes
 pub mod Limits
 pub mod Marks
 pub mod PrivateHeld
+pub mod PrivateMarks

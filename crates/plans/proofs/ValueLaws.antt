@@ -9,7 +9,8 @@ use Rattle.llb.specs.declared.vertex.Vertex.{Vertex}
 use Rattle.llb.specs.Graph.{IsAfterInputs, AreVertices}
 use Rattle.plans.specs.Sources.{SourcesValue}
 use Rattle.trees.specs.Cause.{TreeOrCause}
-use Rattle.plans.specs.Value.{Out, Value, World, all_trees, tree_at, with_tree, value_on, result_of, trees_at, value_in, values_from, values_of, value_of}
+use Rattle.plans.specs.Value.{Out, Value, World, all_trees, with_tree, result_of, trees_at, value_in, values_from, values_of, value_of}
+use Rattle.plans.specs.PrivateValue.{tree_at, value_on}
 
 -- two lists of values agree below n
 abbrev pub Agree : List Value → List Value → ℕ → Type 0

@@ -4,3 +4,4 @@ pub mod Plan
 pub mod Request
 pub mod Sources
 pub mod Value
+pub mod PrivateValue

@@ -130,11 +130,3 @@ pub record World : Type 0 where
 abbrev pub all_trees : List (Option TreeMap) → Option (List TreeMap)
 all_trees [] = Some []
 all_trees (tree ∷ trees) = with_tree tree (all_trees trees)
-
--- the tree of a vertex of a graph, if it has one
-abbrev pub tree_at : World → List Vertex → ℕ → Option TreeMap
-tree_at world vertices id = tree_of (value_of world.out world.sources vertices id)
-
--- the value of an operation on the trees of these vertices
-abbrev pub value_on : World → List Vertex → Op → List ℕ → Value
-value_on world vertices op inputs = option_and_then (result_of world.out world.sources op) (all_trees (map (tree_at world vertices) inputs))

@@ -8,12 +8,12 @@ use Rattle.std.proofs.lemmas.Bool.{eqb-true, eq-eqb, cases_order}
 use Rattle.trees.specs.TreeMap.{TreeMap}
 use Rattle.plans.specs.Plan.{Problem}
 use Rattle.board.specs.Problem.{IsProblem}
-use Rattle.board.specs.Play.{Run, Step, Claim, Settle, Abandon, Move, event_of_step, step_of, claim_of, without, claimable, next, moved, go, IsReplay}
+use Rattle.board.specs.Play.{Run, Step, Claim, Settle, Abandon, Move, step_of, claim_of, without, claimable, next, moved, go, IsReplay}
 use Rattle.board.specs.Claim.{ClaimValue, IsClaim, IsOut, IsGivenBack, claim_out}
-use Rattle.replay.specs.PrivateFollowing.{AreClaims, AreOut, IsAt, IsTaken, Applies}
+use Rattle.replay.specs.PrivateFollowing.{AreClaims, AreOut, IsAt, IsTaken, Applies, event_of_step}
 use Rattle.board.proofs.ListLemmas.{AreApart-push, AreApart-without, claim_of-push}
 use Rattle.board.specs.Play.{vertex_of}
-use Rattle.board.specs.Claim.{AreApart}
+use Rattle.board.specs.PrivateClaim.{AreApart}
 use Rattle.board.proofs.StepLemmas.{claim-free, next-some, next-none}
 use Rattle.board.proofs.SoundLemmas.{sound, next_claim-is}
 use Rattle.board.proofs.PlayLemmas.{replay-right}

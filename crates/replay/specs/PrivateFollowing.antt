@@ -1,11 +1,13 @@
--- The claims that `follow` keeps: those that are out, in their order.
+-- The claims that `follow` keeps: those that are out, in their order. And which event a step of the board is.
 use Rattle.std.specs.Prelude.{◌≡◌, ℕ, List, [], ◌∷◌, ◌++◌, map, Some, ◌⊎◌, slice_get}
 use Rattle.std.specs.List.{remove}
 use Rattle.plans.specs.Plan.{Problem}
 use Rattle.board.specs.Claim.{ClaimValue, IsClaim, claim_out}
-use Rattle.board.specs.Claim.{AreApart}
+use Rattle.board.specs.PrivateClaim.{AreApart}
 use Rattle.board.specs.Legal.{Possible, event_of}
 use Rattle.board.specs.declared.event.Event.{Event}
+use Rattle.board.specs.declared.event.Event.TheVariants as event
+use Rattle.board.specs.Play.{Step, Claim, Settle, Abandon}
 use Rattle.board.specs.declared.event.Happened.{Happened}
 use Rattle.board.specs.declared.claim.ClaimOut.{ClaimOut}
 
@@ -38,3 +40,9 @@ abbrev pub Applies : Problem → Event → List Happened → List Happened → T
 Applies problem event before after =
     ((happened : Happened) × (event_of happened ≡ event) × Possible problem before happened × (after ≡ before ++ happened ∷ []))
     ⊎ (((happened : Happened) → event_of happened ≡ event → ¬ Possible problem before happened) × (after ≡ before))
+
+-- the event that a step is, the trees that it gives back left out (own)
+abbrev pub event_of_step : Step → Event
+event_of_step (Claim worker) = event.Claim worker
+event_of_step (Settle worker given) = event.Settle worker
+event_of_step (Abandon worker) = event.Abandon worker

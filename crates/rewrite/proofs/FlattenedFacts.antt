@@ -14,7 +14,8 @@ use Rattle.llb.specs.Reach.{Leads, Reaches}
 use Rattle.llb.proofs.LineFacts.{contains_nil, contains_here, contains_cases}
 use Rattle.plans.specs.Plan.{PlanValue, IsPlan, NeedsAll, problem_of, IsValue, vertex_value}
 use Rattle.plans.specs.Sources.{SourcesValue, HasSource, HasSources}
-use Rattle.plans.specs.Value.{Out, World, tree_at, value_of}
+use Rattle.plans.specs.Value.{Out, World, value_of}
+use Rattle.plans.specs.PrivateValue.{tree_at}
 use Rattle.lowering.specs.Meaning.{Trees, value_with}
 use Rattle.lowering.specs.Means.{world}
 use Rattle.lowering.proofs.ValueFacts.{vertex_is}

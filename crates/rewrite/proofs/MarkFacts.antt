@@ -4,7 +4,8 @@ use Rattle.std.specs.Prelude.{slice_get, slice_set, Contains}
 use Rattle.std.specs.List.{All}
 use Rattle.std.proofs.lemmas.Option.{slice_get_within}
 use Rattle.std.proofs.lemmas.List.Elements.{Contains-push, Contains-push_cases, Contains-append_left, All-contains, All-weaker}
-use Rattle.plain.specs.Marks.{is_marked, MarksMore}
+use Rattle.plain.specs.Marks.{is_marked}
+use Rattle.plain.specs.PrivateMarks.{MarksMore}
 use Rattle.plain.proofs.MarkFacts.{MarkedFrom, marks_none, marks_one, marks_same, marks_both, marked_first, marked_step}
 use Rattle.llb.specs.declared.vertex.Vertex.{Vertex}
 use Rattle.llb.specs.Graph.{IsAfterInputs}

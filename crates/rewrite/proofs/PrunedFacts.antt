@@ -16,7 +16,8 @@ use Rattle.llb.specs.Reach.{HasInput, Leads, Reaches}
 use Rattle.llb.proofs.LineFacts.{contains_nil, contains_here, contains_there, contains_cases}
 use Rattle.plans.specs.Plan.{PlanValue, IsPlan, NeedsAll, problem_of, IsValue, vertex_value}
 use Rattle.plans.specs.Sources.{SourcesValue, HasSource, HasSources}
-use Rattle.plans.specs.Value.{Out, World, tree_of, tree_at, value_of}
+use Rattle.plans.specs.Value.{Out, World, tree_of, value_of}
+use Rattle.plans.specs.PrivateValue.{tree_at}
 use Rattle.plans.proofs.ValueLaws.{value_within}
 use Rattle.lowering.specs.Meaning.{Trees, value_with}
 use Rattle.lowering.specs.Means.{world}

@@ -19,7 +19,8 @@ use Rattle.llb.specs.Graph.{AreVertices}
 use Rattle.llb.specs.Reach.{Reaches}
 use Rattle.llb.specs.WellFormed.{is_well_formed_on}
 use Rattle.llb.proofs.LineFacts.{contains_nil, contains_here, contains_there, contains_cases}
-use Rattle.plans.specs.Value.{Value, World, with_tree, tree_of, tree_at, all_trees, value_of, value_on}
+use Rattle.plans.specs.Value.{Value, World, with_tree, tree_of, all_trees, value_of}
+use Rattle.plans.specs.PrivateValue.{tree_at, value_on}
 use Rattle.lowering.proofs.ValueFacts.{vertex_is}
 use Rattle.rewrite.specs.Flat.{with_first, spelled_as, spelled_at, spelled_to, spelled_out, flat_inputs}
 use Rattle.rewrite.specs.PrivateFlat.{is_merge}

@@ -1,6 +1,6 @@
 -- Which vertices are marked.
 use Rattle.std.specs.Prelude.{ℕ, Bool, List, length}
-use Rattle.plain.specs.Marks.{MarksReached}
+use Rattle.plain.specs.PrivateMarks.{MarksReached}
 use Rattle.llb.specs.declared.vertex.Vertex.{Vertex}
 use Rattle.llb.specs.Reach.{HasInput}
 

@@ -1,7 +1,7 @@
 // Marks the vertices that a target reaches.
 ghost use Rattle.std.specs.Prelude.{◌<◌, length, vec_len, Contains, IfOk};
 ghost use Rattle.std.specs.List.{All};
-ghost use Rattle.plain.specs.Marks.{MarksMore};
+ghost use Rattle.plain.specs.PrivateMarks.{MarksMore};
 ghost use Rattle.llb.specs.Graph.{AreVertices};
 ghost use Rattle.rewrite.specs.PrivateMarks.{AreReached};
 

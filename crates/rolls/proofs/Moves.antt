@@ -9,7 +9,8 @@ use Rattle.atomic_table.proofs.Lists.{at_set, set_else}
 use Rattle.rolls.specs.declared.note.Note.{Note}
 use Rattle.rolls.specs.declared.rule.View.{View}
 use Rattle.rolls.proofs.RollLemmas.{of_worker-here, of_worker-other}
-use Rattle.rolls.specs.Rolls.{of_worker, nobody, opener, knower, giver, sitter, seated, handing, with_sitter, with_giver, Fits, Keeps, noted, Wrote, Learnt}
+use Rattle.rolls.specs.Rolls.{of_worker, nobody, opener, knower, giver, sitter, with_sitter, with_giver, Fits, Keeps, noted, Wrote, Learnt}
+use Rattle.rolls.specs.PrivateSeats.{seated, handing}
 
 off : {A : Type 0} → false ≡ true → A
 off e = absurd (true≢false (sym e))

@@ -51,14 +51,6 @@ giver given = record { keeps = false; all = []; gives = true; given = given; sit
 abbrev pub sitter : ℕ → List Note → View
 sitter worker mine = record { keeps = false; all = []; gives = false; given = 0; sits = true; worker = worker; mine = mine }
 
--- the keeper with a slip beside it (own)
-abbrev pub seated : List (ℕ × Note) → ℕ → List Note → View
-seated all worker mine = record { keeps = true; all = all; gives = false; given = 0; sits = true; worker = worker; mine = mine }
-
--- the keeper with the giver beside it (own)
-abbrev pub handing : List (ℕ × Note) → ℕ → View
-handing all given = record { keeps = true; all = all; gives = true; given = given; sits = false; worker = 0; mine = [] }
-
 -- a seat that takes over what a slip knows (own)
 abbrev pub with_sitter : View → View → View
 with_sitter v w = record { keeps = v.keeps; all = v.all; gives = v.gives; given = v.given; sits = w.sits; worker = w.worker; mine = w.mine }

@@ -5,7 +5,8 @@ use Rattle.std.specs.List.{All}
 use Rattle.std.proofs.lemmas.Option.{slice_get_within}
 use Rattle.std.proofs.lemmas.List.{append-nil, append_assoc}
 use Rattle.std.proofs.lemmas.List.Elements.{Contains-push, Contains-push_cases, Contains-append_left, Contains-append_right, Contains-append_cases, All-contains, All-weaker, All-nil, All-cons, All-append, All-head, All-tail}
-use Rattle.plain.specs.Marks.{is_marked, MarksMore}
+use Rattle.plain.specs.Marks.{is_marked}
+use Rattle.plain.specs.PrivateMarks.{MarksMore}
 use Rattle.plain.proofs.MarkFacts.{MarkedFrom, marks_none, marks_one, marks_same, marks_both, reached_more, path_within, marked_first, marked_step, marked_all}
 use Rattle.rows.specs.declared.row.Origin.{Origin}
 use Rattle.rows.specs.declared.row.Origin.TheVariants.{Source as SourceOf, Stage as StageOf}

@@ -1,7 +1,7 @@
 // Marks the stages that a target needs.
 ghost use Rattle.std.specs.Prelude.{◌<◌, [], ◌∷◌, length, vec_len, IfOk};
 ghost use Rattle.std.specs.List.{All};
-ghost use Rattle.plain.specs.Marks.{MarksMore};
+ghost use Rattle.plain.specs.PrivateMarks.{MarksMore};
 ghost use Rattle.stages.specs.Table.{IsBefore};
 ghost use Rattle.stages.specs.Needed.{origins_in, stage_origins, AreNeeded};
 ghost use Rattle.stages.specs.PrivateMarks.{HasStage, AreStages};

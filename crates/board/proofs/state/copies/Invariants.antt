@@ -1,6 +1,6 @@
 use Rattle.std.proofs.Common.{◌≡◌, map, take}
 use Rattle.board.specs.Play.{value_at}
-use Rattle.board.specs.Problem.{tree_value}
+use Rattle.board.specs.PrivateClaim.{tree_value}
 use Rattle.board.proofs.state.copies.Given as goal
 
 abbrev pub invariant-loop-input : goal.invariant-loop-input

@@ -1,6 +1,6 @@
 use Rattle.std.proofs.Common.{take}
 use Rattle.std.specs.Prelude.{Contains}
-use Rattle.plain.specs.Marks.{MarksMore}
+use Rattle.plain.specs.PrivateMarks.{MarksMore}
 use Rattle.rewrite.proofs.marks.mark.Given as goal
 
 abbrev pub invariant-loop-id : goal.invariant-loop-id

@@ -1,5 +1,5 @@
 use Rattle.std.proofs.Common.{take}
-use Rattle.plain.specs.Marks.{MarksMore}
+use Rattle.plain.specs.PrivateMarks.{MarksMore}
 use Rattle.stages.specs.PrivateMarks.{HasStage}
 use Rattle.stages.proofs.marks.mark.Given as goal
 

@@ -1,6 +1,6 @@
 use Rattle.std.proofs.Common.{subst, sym, ap, ◌∙◌, ◌++◌, ◌∷◌, [], take}
 use Rattle.std.proofs.lemmas.List.{take_more}
-use Rattle.plain.specs.Marks.{MarksMore}
+use Rattle.plain.specs.PrivateMarks.{MarksMore}
 use Rattle.stages.specs.Needed.{origins_in}
 use Rattle.stages.specs.PrivateMarks.{HasStage}
 use Rattle.stages.proofs.MarkFacts.{both_marked, origins_in-push}

@@ -1,5 +1,5 @@
 use Rattle.std.proofs.Common.{subst, ◌∷◌, []}
-use Rattle.plain.specs.Marks.{MarksMore}
+use Rattle.plain.specs.PrivateMarks.{MarksMore}
 use Rattle.stages.specs.Needed.{origins_in}
 use Rattle.stages.specs.PrivateMarks.{HasStage}
 use Rattle.stages.proofs.MarkFacts.{both_marked}

@@ -1,5 +1,6 @@
 use Rattle.std.proofs.Common.{◌≡◌, rules, refl, sym, ap, ◌∙◌, subst}
-use Rattle.rolls.specs.Rolls.{knower, of_worker, seated}
+use Rattle.rolls.specs.Rolls.{knower, of_worker}
+use Rattle.rolls.specs.PrivateSeats.{seated}
 use Rattle.rolls.proofs.Moves.{spares, joins_as, learns_as, cuts_as, beside, learnt, known}
 use Rattle.rolls.proofs.roll.Roll.agree.Goals as goal
 

@@ -1,5 +1,6 @@
 use Rattle.std.proofs.Common.{◌≡◌, ◌≤◌, [], rules, refl, sym, ap, ◌∙◌, subst}
-use Rattle.rolls.specs.Rolls.{knower, of_worker, handing}
+use Rattle.rolls.specs.Rolls.{knower, of_worker}
+use Rattle.rolls.specs.PrivateSeats.{handing}
 use Rattle.rolls.proofs.Moves.{spares, meets_as, learns_as, parts_as, handed, learnt, known}
 use Rattle.rolls.proofs.roll.Roll.complete.Goals as goal
 
