@@ -7,7 +7,7 @@ use Rattle.std.proofs.lemmas.Bool.{true≢false}
 use Rattle.std.proofs.lemmas.Bool.Decides.{nat_tests}
 use Rattle.std.proofs.lemmas.List.Elements.{All-nil, All-cons, All-head, All-tail, All-append, All-contains}
 use Rattle.std.proofs.lemmas.List.Folds.{Any-from_list_any, list_any_at}
-use Rattle.plain.specs.Marks.{is_marked}
+use Rattle.plain.specs.Marks.{is_marked, IsPath}
 use Rattle.plain.proofs.MarkFacts.{reached_more}
 use Rattle.plain.specs.declared.fault.Fault.TheVariants.{Because}
 use Rattle.plain.specs.declared.refusal.Refusal.{Refusal}
@@ -18,7 +18,7 @@ use Rattle.plans.specs.declared.images.Image as image
 use Rattle.rows.specs.declared.row.Origin.{Origin}
 use Rattle.rows.specs.declared.row.Origin.TheVariants.{Source as SourceOf, Stage as StageOf}
 use Rattle.scopes.specs.Evaluate.{Values}
-use Rattle.stages.specs.Needed.{origins_in, stage_origins, Refers, Leads, IsNeeded, AreNeeded}
+use Rattle.stages.specs.Needed.{origins_in, stage_origins, Refers, IsNeeded, AreNeeded}
 use Rattle.stages.specs.Table.{TableValue, IsBefore, IsResolved, IsStage, IsTable}
 use Rattle.stages.specs.declared.stage.ResolvedInstruction.{ResolvedInstruction}
 use Rattle.stages.specs.declared.stage.ResolvedStage.{ResolvedStage}
@@ -188,7 +188,7 @@ all_before : (number : ℕ) (stage : ResolvedStage) → IsStage number stage →
 all_before number stage is = All-cons (IsBefore number) stage.base (origins_in stage.instructions) is.base (origins_before number stage.instructions is.instructions)
 
 complete : (table : TableValue) → IsTable table → (path : List ℕ) (from to : ℕ) → is_marked (marks_from table.target 0 table.stages) from ≡ true
-    → Leads table.stages from path to → is_marked (marks_from table.target 0 table.stages) to ≡ true
+    → IsPath (Refers table.stages) from path to → is_marked (marks_from table.target 0 table.stages) to ≡ true
 complete table is [] from to marked leads = subst (λ (n : ℕ). is_marked (marks_from table.target 0 table.stages) n ≡ true) leads marked
 complete table is (next ∷ path) from to marked leads =
     let refers = leads.0 in

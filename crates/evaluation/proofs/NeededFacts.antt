@@ -1,13 +1,13 @@
 -- What a stage says that isn't needed changes nothing.
 use Rattle.std.specs.Prelude.{◌≡◌, ◌+◌, ℕ, suc, Bool, true, false, List, [], ◌∷◌, ◌++◌, Some, None, Result, Ok, Err, length, slice_get, refl, if◌then◌else◌}
 use Rattle.std.proofs.Common.{sym, ◌∙◌, ap, subst, arith, length-append}
-use Rattle.plain.specs.Marks.{is_marked}
+use Rattle.plain.specs.Marks.{is_marked, IsPath}
 use Rattle.plain.specs.declared.refusal.Refusal.{Refusal}
 use Rattle.plans.specs.Images.{ImagesValue}
 use Rattle.scopes.specs.Evaluate.{Values}
 use Rattle.scopes.specs.Scope.{value_in}
 use Rattle.scopes.specs.declared.declaration.Declaration.{Declaration}
-use Rattle.stages.specs.Needed.{Leads, AreNeeded}
+use Rattle.stages.specs.Needed.{AreNeeded, Refers}
 use Rattle.stages.specs.Table.{TableValue}
 use Rattle.stages.specs.declared.stage.ResolvedStage.{ResolvedStage}
 use Rattle.imageconfig.specs.declared.config.Config.{Config}
@@ -23,7 +23,7 @@ use Rattle.evaluation.proofs.WholeFacts.{named_marked}
 -- the same stages are needed
 
 leads_same : (marks : List Bool) (stages others : List ResolvedStage) (target : ℕ) → AreNeeded stages target marks → SameWhereMarked marks stages others
-    → (path : List ℕ) (from to : ℕ) → is_marked marks from ≡ true → Leads stages from path to → Leads others from path to
+    → (path : List ℕ) (from to : ℕ) → is_marked marks from ≡ true → IsPath (Refers stages) from path to → IsPath (Refers others) from path to
 leads_same marks stages others target are same [] from to marked leads = leads
 leads_same marks stages others target are same (next ∷ path) from to marked leads =
     let refers = leads.0 in
@@ -31,7 +31,7 @@ leads_same marks stages others target are same (next ∷ path) from to marked le
     (record { stage = refers.stage; there = sym (same.same from marked) ∙ refers.there; named = refers.named }, leads_same marks stages others target are same path next to on leads.1)
 
 leads_marked : (marks : List Bool) (stages others : List ResolvedStage) (target : ℕ) → AreNeeded stages target marks → SameWhereMarked marks stages others
-    → (path : List ℕ) (from to : ℕ) → is_marked marks from ≡ true → Leads others from path to → is_marked marks to ≡ true
+    → (path : List ℕ) (from to : ℕ) → is_marked marks from ≡ true → IsPath (Refers others) from path to → is_marked marks to ≡ true
 leads_marked marks stages others target are same [] from to marked leads = subst (λ (n : ℕ). is_marked marks n ≡ true) leads marked
 leads_marked marks stages others target are same (next ∷ path) from to marked leads =
     let refers = leads.0 in

@@ -1,6 +1,6 @@
 -- Which vertices of a graph a vertex rests on (own, after BuildKit's LLB, where an operation names its inputs).
 use Rattle.std.specs.Prelude.{◌≡◌, ℕ, Some, List, slice_get, Contains}
-use Rattle.plain.specs.Marks.{IsPath}
+use Rattle.plain.specs.Marks.{IsReached}
 use Rattle.llb.specs.declared.vertex.Vertex.{Vertex}
 
 -- a vertex has another one among its inputs
@@ -9,10 +9,6 @@ pub record HasInput (vertices : List Vertex) (vertex input : ℕ) : Type 0 where
   pub there : slice_get vertices vertex ≡ Some v
   pub among : Contains v.inputs input
 
--- each vertex of a path is an input of the one before it, and the last one is `to`
-abbrev pub Leads : List Vertex → ℕ → List ℕ → ℕ → Type 0
-Leads vertices from path to = IsPath (HasInput vertices) from path to
-
 -- a vertex is the target, or is reached from it by inputs
 abbrev pub Reaches : List Vertex → ℕ → ℕ → Type 0
-Reaches vertices target vertex = (path : List ℕ) × Leads vertices target path vertex
+Reaches vertices target vertex = IsReached (HasInput vertices) target vertex

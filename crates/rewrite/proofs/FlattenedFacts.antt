@@ -10,7 +10,8 @@ use Rattle.llb.specs.declared.op.Op.{Op}
 use Rattle.llb.specs.declared.op.Op.TheVariants.{Merge as MergeOp}
 use Rattle.llb.specs.declared.vertex.Vertex.{Vertex}
 use Rattle.llb.specs.Graph.{GraphValue, IsGraph, AreVertices}
-use Rattle.llb.specs.Reach.{Leads, Reaches}
+use Rattle.plain.specs.Marks.{IsPath}
+use Rattle.llb.specs.Reach.{Reaches, HasInput}
 use Rattle.llb.proofs.LineFacts.{contains_nil, contains_here, contains_cases}
 use Rattle.plans.specs.Plan.{PlanValue, IsPlan, NeedsAll, problem_of, IsValue, vertex_value}
 use Rattle.plans.specs.Sources.{SourcesValue, HasSource, HasSources}
@@ -143,7 +144,7 @@ module _ {C : Type 0} (old new : PlanValue C) (is : IsFlattened old new) where
   -- ---- what is reached
 
   -- a path on flat inputs leads on in the flattened plan
-  flat_leads : (path : List ℕ) (from to first last : ℕ) → Leads (flat_vertices old.graph.vertices) from path to
+  flat_leads : (path : List ℕ) (from to first last : ℕ) → IsPath (HasInput (flat_vertices old.graph.vertices)) from path to
       → slice_get is.names from ≡ Some (Some first) → slice_get is.names to ≡ Some (Some last) → Reaches new.graph.vertices first last
   flat_leads [] from to first last leads is_first is_last = ([], same_name is.names from first last is_first (ap (slice_get is.names) leads ∙ is_last))
   flat_leads (next ∷ path) from to first last leads is_first is_last =
@@ -200,8 +201,8 @@ abbrev IsNoMerge : List Vertex → ℕ → Type 0
 IsNoMerge vs to = (u : Vertex) → slice_get vs to ≡ Some u → u.op ≢ MergeOp
 
 module _ (vs : List Vertex) (are : AreVertices vs) where
-  path_on : (a b c : ℕ) (path more : List ℕ) → Leads vs a path b → Leads vs b more c → Leads vs a (path ++ more) c
-  path_on a b c [] more first second = subst (λ n. Leads vs n more c) (sym first) second
+  path_on : (a b c : ℕ) (path more : List ℕ) → IsPath (HasInput vs) a path b → IsPath (HasInput vs) b more c → IsPath (HasInput vs) a (path ++ more) c
+  path_on a b c [] more first second = subst (λ n. IsPath (HasInput vs) n more c) (sym first) second
   path_on a b c (next ∷ path) more first second = (first.0, path_on next b c path more first.1 second)
 
   -- a flat input is reached
@@ -215,7 +216,7 @@ module _ (vs : List Vertex) (are : AreVertices vs) where
       (i ∷ [], (record { v = v; there = there; among = subst (λ ins. Contains ins i) (flat_other vs v.op v.inputs other) among }, refl))
 
   -- what is reached on flat inputs is reached
-  pub flat_reached : (path : List ℕ) (from to : ℕ) → Leads (flat_vertices vs) from path to → Reaches vs from to
+  pub flat_reached : (path : List ℕ) (from to : ℕ) → IsPath (HasInput (flat_vertices vs)) from path to → Reaches vs from to
   flat_reached [] from to leads = ([], leads)
   flat_reached (next ∷ path) from to leads =
       let v = flat_back vs from leads.0.v leads.0.there in
@@ -232,7 +233,7 @@ module _ (vs : List Vertex) (are : AreVertices vs) where
 
   -- from a merge on, over the one that stands first in it
   over_first : (v u : Vertex) (from first to : ℕ) (rest path : List ℕ) → slice_get vs from ≡ Some v → flat_inputs vs v.op v.inputs ≡ spelled_out vs first ++ rest
-      → slice_get vs first ≡ Some u → u.op ≡ MergeOp → IsNoMerge vs to → Leads (flat_vertices vs) first path to → Reaches (flat_vertices vs) from to
+      → slice_get vs first ≡ Some u → u.op ≡ MergeOp → IsNoMerge vs to → IsPath (HasInput (flat_vertices vs)) first path to → Reaches (flat_vertices vs) from to
   over_first v u from first to rest [] there flat is merge plain leads = absurd (plain u (ap (slice_get vs) (sym leads) ∙ is) merge)
   over_first v u from first to rest (next ∷ path) there flat is merge plain leads =
       let x = flat_back vs first leads.0.v leads.0.there in
@@ -270,7 +271,7 @@ module _ (vs : List Vertex) (are : AreVertices vs) where
       on_to v from next to there (subst (λ ins. Contains ins next) (sym (flat_other vs v.op v.inputs other)) among) on
 
   -- a path to a vertex that isn't a merge leads on over flat inputs
-  pub reached_flat : (path : List ℕ) (from to : ℕ) → Leads vs from path to → IsNoMerge vs to → Reaches (flat_vertices vs) from to
+  pub reached_flat : (path : List ℕ) (from to : ℕ) → IsPath (HasInput vs) from path to → IsNoMerge vs to → Reaches (flat_vertices vs) from to
   reached_flat [] from to leads plain = ([], leads)
   reached_flat (next ∷ path) from to leads plain =
       over leads.0.v from next to (is_merge leads.0.v.op) leads.0.there refl leads.0.among plain (reached_flat path next to leads.1 plain)

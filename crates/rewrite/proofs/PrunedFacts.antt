@@ -12,7 +12,7 @@ use Rattle.trees.specs.declared.cause.Cause.{Cause}
 use Rattle.llb.specs.declared.op.Op.{Op}
 use Rattle.llb.specs.declared.vertex.Vertex.{Vertex}
 use Rattle.llb.specs.Graph.{GraphValue, IsGraph, AreVertices}
-use Rattle.llb.specs.Reach.{HasInput, Leads, Reaches}
+use Rattle.llb.specs.Reach.{HasInput, Reaches}
 use Rattle.llb.proofs.LineFacts.{contains_nil, contains_here, contains_there, contains_cases}
 use Rattle.plans.specs.Plan.{PlanValue, IsPlan, NeedsAll, problem_of, IsValue, vertex_value}
 use Rattle.plans.specs.Sources.{SourcesValue, HasSource, HasSources}
@@ -23,7 +23,7 @@ use Rattle.lowering.specs.Meaning.{Trees, value_with}
 use Rattle.lowering.specs.Means.{world}
 use Rattle.lowering.proofs.ValueFacts.{vertex_is}
 use Rattle.rewrite.specs.PrivateJoined.{HasName, AreJoinable, AreJoined}
-use Rattle.plain.specs.Marks.{is_marked}
+use Rattle.plain.specs.Marks.{is_marked, IsPath}
 use Rattle.plain.proofs.MarkFacts.{path_within}
 use Rattle.rewrite.specs.PrivateMarks.{AreReached}
 use Rattle.rewrite.specs.Pruned.{Names, AreNames, IsRenamed, IsPruned, KeepsMeaning}
@@ -32,7 +32,7 @@ use Rattle.rewrite.proofs.OnceFacts.{graph_joinable, in_order, own_lines}
 
 -- what is reached is marked
 pub reached_marked : (vertices : List Vertex) (target : ℕ) (marks : List Bool) (path : List ℕ) (from to : ℕ) → AreReached vertices target marks
-    → is_marked marks from ≡ true → Leads vertices from path to → is_marked marks to ≡ true
+    → is_marked marks from ≡ true → IsPath (HasInput vertices) from path to → is_marked marks to ≡ true
 reached_marked vertices target marks path from to are marked leads =
     path_within (HasInput vertices) (is_marked marks) from path to are.closed marked leads
 
@@ -114,7 +114,7 @@ pub same_name : (names : Names) (k a b : ℕ) → slice_get names k ≡ Some (So
 same_name names k a b first second = (let f : Some (Some a) ≡ Some (Some b) = sym first ∙ second in cc)
 
 -- a path leads on in the pruned plan
-leads_on : {C : Type 0} (old new : PlanValue C) (is : IsPruned old new) (path : List ℕ) (from to first last : ℕ) → Leads old.graph.vertices from path to
+leads_on : {C : Type 0} (old new : PlanValue C) (is : IsPruned old new) (path : List ℕ) (from to first last : ℕ) → IsPath (HasInput old.graph.vertices) from path to
     → slice_get is.names from ≡ Some (Some first) → slice_get is.names to ≡ Some (Some last) → Reaches new.graph.vertices first last
 leads_on old new is [] from to first last leads is_first is_last = ([], same_name is.names from first last is_first (ap (slice_get is.names) leads ∙ is_last))
 leads_on old new is (next ∷ path) from to first last leads is_first is_last =

@@ -1,6 +1,6 @@
 -- Which stages a target needs.
 use Rattle.std.specs.Prelude.{◌≡◌, ◌↔◌, ◌++◌, ℕ, Bool, true, List, [], ◌∷◌, Some, length, slice_get, Contains}
-use Rattle.plain.specs.Marks.{is_marked, IsPath}
+use Rattle.plain.specs.Marks.{is_marked, IsReached}
 use Rattle.rows.specs.declared.row.Origin.{Origin}
 use Rattle.rows.specs.declared.row.Origin.TheVariants.{Stage as StageOf}
 use Rattle.stages.specs.declared.stage.ResolvedInstruction.{ResolvedInstruction}
@@ -21,14 +21,10 @@ pub record Refers (stages : List ResolvedStage) (from to : ℕ) : Type 0 where
   pub there : slice_get stages from ≡ Some stage
   pub named : Contains (stage_origins stage) (StageOf to)
 
--- each stage of a path is named by the one before it, and the last one is `to`
-abbrev pub Leads : List ResolvedStage → ℕ → List ℕ → ℕ → Type 0
-Leads stages from path to = IsPath (Refers stages) from path to
-
 -- a stage is needed: it is the target, or is named by a stage that is needed. So the stages that are needed are the least set that has the
 -- target and, with each stage, all that it names, as the law `the_least_stages_are_needed` says (Dockerfile reference, multi-stage builds)
 abbrev pub IsNeeded : List ResolvedStage → ℕ → ℕ → Type 0
-IsNeeded stages target stage = (path : List ℕ) × Leads stages target path stage
+IsNeeded stages target stage = IsReached (Refers stages) target stage
 
 -- a set of stages has the target and, with each stage, all that it names
 pub record IsClosed (stages : List ResolvedStage) (target : ℕ) (has : ℕ → Bool) : Type 0 where
