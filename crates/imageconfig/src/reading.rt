@@ -29,12 +29,50 @@ fn set_at<'a>(value: &'a Value, key: &str) -> Option<&'a Value>
     }
 }
 
+/// A text, whose copies share its bytes.
+fn shared_text(alloc: Global, value: &Value) -> Result<Text, ReadFault>
+    ensures { Gives result (as_str (view value.now)) }
+{
+    let text = Text::from_json(alloc, value)?;
+    Ok(text.shared(alloc)?)
+}
+
+/// The same texts, whose copies share their bytes.
+fn shared_texts(alloc: Global, texts: Items<Text>) -> Result<Items<Text>, Memory>
+    ensures { IfOk result (λ shared. shared ≡ texts) }
+{
+    let mut shared = Items::new(alloc);
+    for text in texts.into_vec() {
+        shared.push(text.shared(alloc)?)?;
+    }
+    Ok(shared)
+}
+
+/// The same rows, with values whose copies share their bytes.
+fn shared_rows(alloc: Global, rows: Items<(Text, Text)>) -> Result<Items<(Text, Text)>, Memory>
+    ensures { IfOk result (λ shared. shared ≡ rows) }
+{
+    let mut shared = Items::new(alloc);
+    for (name, value) in rows.into_vec() {
+        shared.push((name, value.shared(alloc)?))?;
+    }
+    Ok(shared)
+}
+
+/// A list of texts, whose copies share their bytes.
+fn shared_list(alloc: Global, value: &Value) -> Result<Items<Text>, ReadFault>
+    ensures { Gives result (list_in as_str (view value.now)) }
+{
+    let texts = read_list(alloc, value)?;
+    Ok(shared_texts(alloc, texts)?)
+}
+
 /// A list of texts that stands at a key, empty where none does.
 fn texts_at(alloc: Global, value: &Value, key: &str) -> Result<Items<Text>, ReadFault>
     ensures { Gives result (field [] (list_in as_str) key.now (view value.now)) }
 {
     match set_at(value, key) {
-        Some(value) => read_list(alloc, value),
+        Some(value) => shared_list(alloc, value),
         None => Ok(Items::new(alloc)),
     }
 }
@@ -44,7 +82,7 @@ fn text_at(alloc: Global, value: &Value, key: &str) -> Result<Text, ReadFault>
     ensures { Gives result (field [] as_str key.now (view value.now)) }
 {
     match set_at(value, key) {
-        Some(value) => Text::from_json(alloc, value),
+        Some(value) => shared_text(alloc, value),
         None => Ok(Text::from_string(String::new(alloc))),
     }
 }
@@ -138,6 +176,7 @@ fn read_labels(alloc: Global, value: &Value) -> Result<Rows, ReadFault>
     ensures { Gives result (labels_in (view value.now)) }
 {
     let texts = read_rows::<Text>(alloc, value)?;
+    let texts = shared_rows(alloc, texts)?;
     let mut rows = Rows::new(alloc);
     rows.set_all(alloc, texts)?;
     Ok(rows)

@@ -34,8 +34,7 @@ impl FromJson for Text {
         let Some(text) = value.as_str() else {
             return Err(Fault::Because(NotRead));
         };
-        let text = Text::from_str(alloc, text)?;
-        Ok(text.shared(alloc)?)
+        Ok(Text::from_str(alloc, text)?)
     }
 }
 
