@@ -66,14 +66,32 @@ fn read_folder<R: Files + AllocGlobal + Clone + Drop>(
     ensures { IfErr result IsBefore }
 {
     let mut found = Folder::new(alloc);
+    match read_all(rt, alloc, folder, &mut found) {
+        Ok(()) => Ok(found),
+        Err(fault) => {
+            drop(found);
+            Err(fault)
+        }
+    }
+}
+
+/// Adds all files and directories of a folder.
+fn read_all<R: Files + AllocGlobal + Clone + Drop>(
+    rt: &R,
+    alloc: Global,
+    folder: &str,
+    found: &mut Folder,
+) -> Result<(), PackFault>
+    ensures { IfErr result IsBefore }
+{
     let mut left = Vec::new(alloc);
     left.push(Path::root(alloc))?;
     // There are fewer directories than that; what isn't read by then is no folder.
     for _ in 0..u64::MAX {
         let Some(path) = left.pop() else {
-            return Ok(found);
+            return Ok(());
         };
-        read_names(rt, alloc, folder, &path, &mut found, &mut left)?;
+        read_names(rt, alloc, folder, &path, found, &mut left)?;
     }
     Err(PackFault::Ended)
 }
@@ -110,14 +128,39 @@ fn read_row<R: Files + AllocGlobal>(
     let kind = row.file_type()?;
     let path = path.join(alloc, row.file_name())?;
     if kind.is_dir() {
-        found.add_directory(alloc, &path)?;
-        left.push(path)?;
-        return Ok(());
+        return add_directory(alloc, path, found, left);
     }
     if !kind.is_file() {
         return Err(PackFault::Ended);
     }
+    add_file(rt, alloc, row, &path, found)
+}
+
+/// Adds a directory, and lists it among those that are still to be read.
+fn add_directory(
+    alloc: Global,
+    path: Path,
+    found: &mut Folder,
+    left: &mut Vec<Path>,
+) -> Result<(), PackFault>
+    ensures { IfErr result IsBefore }
+{
+    found.add_directory(alloc, &path)?;
+    left.push(path)?;
+    Ok(())
+}
+
+/// Adds a file with the bytes that the machine has in it.
+fn add_file<R: Files + AllocGlobal>(
+    rt: &R,
+    alloc: Global,
+    row: &DirEntry<R>,
+    path: &Path,
+    found: &mut Folder,
+) -> Result<(), PackFault>
+    ensures { IfErr result IsBefore }
+{
     let bytes = fs::read(rt, row.path())?;
-    found.add_file(alloc, &path, Bytes::from_vec(bytes))?;
+    found.add_file(alloc, path, Bytes::from_vec(bytes))?;
     Ok(())
 }
