@@ -9,6 +9,7 @@
 // ```
 #![tactic(auto)]
 
+mod copying;
 pub mod laws;
 mod run;
 

@@ -1,3 +1,4 @@
+use crate::copying::with_copy;
 use paths::Path;
 use plain::{Exact, Items, Memory, Sharing, Text, Variable};
 use std::alloc::Global;
@@ -85,13 +86,14 @@ impl Exact for RunRequest {
     }
 
     fn copy(&self, alloc: Global) -> Result<RunRequest, Memory> {
-        let root = self.root.copy(alloc)?;
-        let binds = self.binds.copy(alloc)?;
-        let caches = self.caches.copy(alloc)?;
-        let env = self.env.copy(alloc)?;
-        let dir = self.dir.copy(alloc)?;
-        let user = self.user.copy(alloc)?;
-        let words = self.words.copy(alloc)?;
+        let copied = self.root.copy(alloc)?;
+        let copied = with_copy(alloc, copied, &self.binds)?;
+        let copied = with_copy(alloc, copied, &self.caches)?;
+        let copied = with_copy(alloc, copied, &self.env)?;
+        let copied = with_copy(alloc, copied, &self.dir)?;
+        let copied = with_copy(alloc, copied, &self.user)?;
+        let copied = with_copy(alloc, copied, &self.words)?;
+        let ((((((root, binds), caches), env), dir), user), words) = copied;
         Ok(RunRequest {
             root,
             binds,
