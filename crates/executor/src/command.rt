@@ -35,22 +35,15 @@ pub(crate) enum Command {
 fn command_of(name: &str) -> Option<Command>
     ensures { result ≡ command_of name.now }
 {
-    if name == "put" {
-        Some(Command::Put)
-    } else if name == "cat" {
-        Some(Command::Cat)
-    } else if name == "show" {
-        Some(Command::Show)
-    } else if name == "rm" {
-        Some(Command::Remove)
-    } else if name == "bump" {
-        Some(Command::Bump)
-    } else if name == "true" {
-        Some(Command::True)
-    } else if name == "fail" {
-        Some(Command::Fail)
-    } else {
-        None
+    match name {
+        "put" => Some(Command::Put),
+        "cat" => Some(Command::Cat),
+        "show" => Some(Command::Show),
+        "rm" => Some(Command::Remove),
+        "bump" => Some(Command::Bump),
+        "true" => Some(Command::True),
+        "fail" => Some(Command::Fail),
+        _ => None,
     }
 }
 

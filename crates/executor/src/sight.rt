@@ -2,8 +2,8 @@ ghost use Rattle.std.specs.Prelude.{◌≡◌, Option, Some, IfOk, OnOk, slice_g
 ghost use Rattle.std.specs.FinMap.{get};
 ghost use Rattle.trees.specs.TreeMap.{TreeMap};
 ghost use Rattle.executor.specs.PrivateOutcome.{Gives, SeesNext, SeesTree, RunsTo};
-ghost use Rattle.executor.specs.Places.{place_of};
-ghost use Rattle.executor.specs.Edits.{first_sight, bind_tree, bytes_of, seen_with, held_with, with_bind_if, changed, with_change};
+ghost use Rattle.executor.specs.Places.{bind_from, path_from, place_in, place_of};
+ghost use Rattle.executor.specs.Edits.{first_sight, bind_tree, bytes_of, seen_after, seen_with, held_with, with_bind_if, changed, with_change};
 ghost use Rattle.executor.specs.Fixture.{bytes_in, bytes_or_refused};
 
 use crate::Request;
@@ -129,16 +129,35 @@ impl Sight {
         ensures { RunsTo (seen_with request.now self.old (Some edit)) (held_with request.now caches.old.items (Some edit)) self.new caches.new.items result }
     {
         let Edit { path, change } = edit;
-        if let Some((number, cache)) = find_cache(request, &path) {
-            let path = path_from(alloc, &cache.target, &path)?;
-            return Ok(change_cache(alloc, caches, number, &path, change)?);
+        match find_cache(request, &path) {
+            Some((number, cache)) => Ok(change_below(
+                alloc,
+                caches,
+                number,
+                &cache.target,
+                &path,
+                change,
+            )?),
+            None => self.change_seen(alloc, request, &path, change),
         }
-        match find_bind(request, &path) {
+    }
+
+    /// Makes the change of a command at a path that leads into no cache.
+    fn change_seen(
+        &mut self,
+        alloc: Global,
+        request: &Request,
+        path: &Path,
+        change: Change,
+    ) -> Result<(), Stop>
+        ensures { SeesNext (seen_after self.old change (place_in None (bind_from 0 request.now.binds path.now) path.now)) self.new result }
+    {
+        match find_bind(request, path) {
             Some((number, bind)) => {
-                let path = path_from(alloc, &bind.target, &path)?;
+                let path = path_from(alloc, &bind.target, path)?;
                 self.change_bind(alloc, number, bind, &path, change)
             }
-            None => change_or_refuse(alloc, &mut self.root, &path, change),
+            None => change_or_refuse(alloc, &mut self.root, path, change),
         }
     }
 }
@@ -151,6 +170,26 @@ fn change_or_refuse(alloc: Global, tree: &mut Tree, path: &Path, change: Change)
         Ok(()) => Ok(()),
         Err(Fault::Because(_)) => Err(Fault::Because(REFUSED)),
         Err(Fault::Memory) => Err(Fault::Memory),
+    }
+}
+
+/// Makes a change in a cache at a path that leads to or under its target; where it can't be made, the cache stays as it was.
+fn change_below(
+    alloc: Global,
+    caches: &mut Vec<Tree>,
+    number: usize,
+    target: &Path,
+    path: &Path,
+    change: Change,
+) -> Result<(), Memory>
+    ensures { OnOk result (caches.new.items ≡ with_change caches.old.items number (path_from target.now path.now) change (slice_get caches.old.items number)) }
+{
+    match path_from(alloc, target, path) {
+        Ok(path) => change_cache(alloc, caches, number, &path, change),
+        Err(memory) => {
+            drop(change);
+            Err(memory)
+        }
     }
 }
 
