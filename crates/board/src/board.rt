@@ -6,9 +6,9 @@ ghost use Rattle.plans.specs.Plan.{uses_at};
 ghost use Rattle.board.specs.Board.{board_problem, IsStep, AreContents, AreLeft};
 ghost use Rattle.board.specs.Job.{job_problem};
 ghost use Rattle.board.specs.Problem.{IsProblem};
-ghost use Rattle.board.specs.Play.{begun, claim_of, value_at, unsettled_count, IsReplay};
+ghost use Rattle.board.specs.Play.{begun, claim_of, claimable, value_at, unsettled_count, IsReplay};
 ghost use Rattle.board.specs.Play.{Claim as Claiming, Settle as Settling, Abandon as Abandoning};
-ghost use Rattle.board.specs.Claim.{IsClaim, IsOut, IsResult, IsGivenBack};
+ghost use Rattle.board.specs.Claim.{IsClaim, IsOut, IsResult, IsGivenBack, AreInputs};
 ghost use Rattle.board.specs.Clearing.{IsCleared};
 ghost use Rattle.board.specs.Legal.{IsNextClaim};
 
@@ -124,22 +124,13 @@ impl<'a, E: Executor> Board<'a, E> {
             &self.frontier,
             worker,
         )?;
-        let Some(next) = next else {
-            return Ok(None);
-        };
-        let NextClaim { vertex, inputs } = next;
-        growth::room(&mut self.claims, 1)?;
-        // One event for this claim, one for its end, and one for the end of each that is out already.
-        growth::room(&mut self.history, self.claims.len() + 2)?;
-        let vertices = self.job.graph().vertices();
-        let lease = self
-            .caches
-            .take(alloc, worker, state::uses_of(vertices, vertex))?;
-        let at = self.history.len();
-        self.frontier.withdraw(vertex);
-        growth::add(&mut self.claims, ClaimOut { worker, vertex, at });
-        growth::add(&mut self.history, Happened::Claimed { worker, vertex });
-        Ok(Some(Claim::new(worker, vertex, at, inputs, lease)))
+        match next {
+            Some(next) => {
+                let claim = self.claim_vertex(alloc, worker, next)?;
+                Ok(Some(claim))
+            }
+            None => Ok(None),
+        }
     }
 
     /// Settles the vertex of a claim with its value, and gives trees back to the caches that the vertex uses, in the order of its uses. The claim
@@ -292,6 +283,34 @@ impl<'a, E: Executor> Board<'a, E> {
             frontier: _,
         } = self;
         caches
+    }
+
+    /// Claims a vertex for the worker that may claim it next. After `Memory` the board is as it was.
+    fn claim_vertex(&mut self, alloc: Global, worker: u32, next: NextClaim) -> Result<Claim, Memory>
+        requires next { claimable (board_problem E.out self.old) self.old.run.state worker ≡ Some next.vertex }
+        requires inputs { AreInputs self.old.job.graph.vertices self.old.run.state.settled next.vertex next.inputs.items }
+        ensures vertex { IfOk result (λ claim. claim.vertex ≡ next.vertex) }
+        ensures worker { IfOk result (λ claim. claim.worker ≡ worker) }
+        ensures of { IfOk result (IsClaim (board_problem E.out self.new)) }
+        ensures out { IfOk result (IsOut self.new.run.state) }
+        ensures caches { IfOk result (λ claim. claim.caches
+            ≡ map (tree_held self.old.contents) (new_holds worker self.old.run.state.holds (uses_at (board_problem E.out self.old) claim.vertex))) }
+        ensures run { OnOk result (IsStep E.out (Claiming worker) self.old self.new) }
+        ensures err { OnErr result (self.new ≡ self.old) }
+    {
+        let NextClaim { vertex, inputs } = next;
+        growth::room(&mut self.claims, 1)?;
+        // One event for this claim, one for its end, and one for the end of each that is out already.
+        growth::room(&mut self.history, self.claims.len() + 2)?;
+        let vertices = self.job.graph().vertices();
+        let lease = self
+            .caches
+            .take(alloc, worker, state::uses_of(vertices, vertex))?;
+        let at = self.history.len();
+        self.frontier.withdraw(vertex);
+        growth::add(&mut self.claims, ClaimOut { worker, vertex, at });
+        growth::add(&mut self.history, Happened::Claimed { worker, vertex });
+        Ok(Claim::new(worker, vertex, at, inputs, lease))
     }
 
     /// Gives up a claim that is out.

@@ -1,19 +1,11 @@
-use Rattle.std.proofs.Common.{◌≡◌, ◌∙◌, Some, None, arith, rules, sym, subst, ap, map, length, true}
+use Rattle.std.proofs.Common.{◌≡◌, ◌∙◌, Some, None, rules, subst, ap, length}
 use Rattle.board.specs.Job.{job_problem}
-use Rattle.runs.specs.Run.{ids_differ, ids_of}
-use Rattle.cachemounts.specs.Holds.{can_take, new_holds}
-use Rattle.cachemounts.specs.Content.{tree_held}
-use Rattle.cachemounts.specs.Changes.{Takes}
-use Rattle.cachemounts.specs.Store.{IsAfter}
-use Rattle.plans.specs.Plan.{uses_at}
-use Rattle.board.specs.Play.{claimable, Claim}
-use Rattle.board.specs.Claim.{IsClaim, IsOut}
-use Rattle.board.specs.Board.{board_problem, IsStep}
+use Rattle.board.specs.Play.{claimable}
+use Rattle.board.specs.Board.{board_problem}
 use Rattle.board.specs.Legal.{IsNextClaim}
 use Rattle.board.proofs.PlayLemmas.{replay-right}
-use Rattle.board.proofs.SoundLemmas.{sound, claim-is, claim-can, next_claim-is}
-use Rattle.board.proofs.BoardLemmas.{board_of, run_of, claim-gone, claim-out, copies-count}
-use Rattle.board.proofs.FrontierSteps.{frontier-claim, available-within, claimable-available}
+use Rattle.board.proofs.SoundLemmas.{sound, next_claim-is}
+use Rattle.board.proofs.BoardLemmas.{run_of}
 use Rattle.board.proofs.board.Board.claim.Goals as goal
 
 pub next_claim-requires-clause-long : goal.next_claim-requires-clause-long
@@ -23,107 +15,18 @@ next_claim-requires-clause-long g c κs within =
     let is = c.self.invariant.0 in
     ap length c.as_slice.ensures.value ∙ (replay-right problem (run_of b.history.items b.settled.items b.claims.items b.caches.holds) (sound problem is.problem) is.replay).agrees.long
 
-pub returns-in_default-clause-next : goal.returns-in_default-clause-next
-returns-in_default-clause-next g c =
+pub returns-in-None-clause-next : goal.returns-in-None-clause-next
+returns-in-None-clause-next g c =
     let b = c.self.inside in
     let problem = job_problem g.E.Executor.out b.job in
     let run = run_of b.history.items b.settled.items b.claims.items b.caches.holds in
     let none : None ≡ claimable problem run.state c.args.worker = search rules in
     subst (λ v. IsNextClaim (board_problem g.E.Executor.out v) v.run.history c.args.worker None) c.self.view_is (next_claim-is problem run c.args.worker None c.self.invariant.0.problem c.self.invariant.0.replay none)
 
-pub withdraw-requires : goal.withdraw-requires
-withdraw-requires g c =
-    let b = c.self.inside in
-    let t = c.in-Some.next in
-    let problem = job_problem g.E.Executor.out b.job in
-    let state = (run_of b.history.items b.settled.items b.claims.items b.caches.holds).state in
-    let can : claimable problem state c.args.worker ≡ Some t.vertex = search rules in
-    available-within b.job.graph.vertices b.settled.items b.claims.items b.frontier t.vertex c.self.invariant.2 (claimable-available problem state c.args.worker t.vertex can)
-
-pub take-requires-clause-free : goal.take-requires-clause-free
-take-requires-clause-free g c =
-    let b = c.self.inside in
-    let t = c.in-Some.next in
-    let problem = job_problem g.E.Executor.out b.job in
-    let run = run_of b.history.items b.settled.items b.claims.items b.caches.holds in
-    let can : claimable problem run.state c.args.worker ≡ Some t.vertex = search rules in
-    (claim-can problem run c.args.worker t.vertex c.self.invariant.0.problem c.self.invariant.0.replay can).0
-
-pub take-requires-clause-may : goal.take-requires-clause-may
-take-requires-clause-may g c =
-    let b = c.self.inside in
-    let t = c.in-Some.next in
-    let problem = job_problem g.E.Executor.out b.job in
-    let run = run_of b.history.items b.settled.items b.claims.items b.caches.holds in
-    let can : claimable problem run.state c.args.worker ≡ Some t.vertex = search rules in
-    let uses : c.uses_of.result.now ≡ uses_at problem t.vertex = search rules in
-    subst (λ u. can_take b.caches.holds u ≡ true) (sym uses) (claim-can problem run c.args.worker t.vertex c.self.invariant.0.problem c.self.invariant.0.replay can).1
-
-pub take-requires-clause-differ : goal.take-requires-clause-differ
-take-requires-clause-differ g c =
-    let b = c.self.inside in
-    let t = c.in-Some.next in
-    let problem = job_problem g.E.Executor.out b.job in
-    let run = run_of b.history.items b.settled.items b.claims.items b.caches.holds in
-    let can : claimable problem run.state c.args.worker ≡ Some t.vertex = search rules in
-    let uses : c.uses_of.result.now ≡ uses_at problem t.vertex = search rules in
-    subst (λ u. ids_differ (ids_of u) ≡ true) (sym uses) (claim-can problem run c.args.worker t.vertex c.self.invariant.0.problem c.self.invariant.0.replay can).2
-
-pub invariant_of-self-2 : goal.invariant_of-self-2
-invariant_of-self-2 g c =
-    let b = c.self.inside in
-    let t = c.in-Some.next in
-    let problem = job_problem g.E.Executor.out b.job in
-    let can : claimable problem (run_of b.history.items b.settled.items b.claims.items b.caches.holds).state c.args.worker ≡ Some t.vertex = search rules in
-    let uses : c.uses_of.result.now ≡ uses_at problem t.vertex = search rules in
-    let after : IsAfter (Takes c.args.worker (uses_at problem t.vertex)) b.caches c.take.new.self = subst (λ u. IsAfter (Takes c.args.worker u) b.caches c.take.new.self) uses c.in_ok-lease.ensures.ok in
-    let gone = claim-gone g.E.Executor.out b.job b.first.items b.caches c.take.new.self b.history.items c.add-2.new.list.items b.settled.items b.claims.items c.add.new.list.items c.args.worker t.vertex c.len-at.result c.self.invariant.0 can (search rules) (search rules) (search rules) after in
-    let more = frontier-claim b.job.graph.vertices b.settled.items b.claims.items c.add.new.list.items b.frontier c.withdraw.new.self (record { worker = c.args.worker; vertex = t.vertex; at = c.len-at.result }) c.self.invariant.2 (claimable-available problem (run_of b.history.items b.settled.items b.claims.items b.caches.holds).state c.args.worker t.vertex can) c.withdraw.ensures (search rules) in
-    (gone.board, omega (arith, c.self.invariant.1, c.in_ok-room-2.ensures.room, c.room-2.ensures.len, c.room.ensures.len, c.add.ensures.len, c.add-2.ensures.len, c.add-2.ensures.capacity, c.len.ensures), more)
-
-pub returns-clause-run : goal.returns-clause-run
-returns-clause-run g c =
-    let b = c.self.inside in
-    let t = c.in-Some.next in
-    let problem = job_problem g.E.Executor.out b.job in
-    let can : claimable problem (run_of b.history.items b.settled.items b.claims.items b.caches.holds).state c.args.worker ≡ Some t.vertex = search rules in
-    let uses : c.uses_of.result.now ≡ uses_at problem t.vertex = search rules in
-    let after : IsAfter (Takes c.args.worker (uses_at problem t.vertex)) b.caches c.take.new.self = subst (λ u. IsAfter (Takes c.args.worker u) b.caches c.take.new.self) uses c.in_ok-lease.ensures.ok in
-    let gone = claim-gone g.E.Executor.out b.job b.first.items b.caches c.take.new.self b.history.items c.add-2.new.list.items b.settled.items b.claims.items c.add.new.list.items c.args.worker t.vertex c.len-at.result c.self.invariant.0 can (search rules) (search rules) (search rules) after in
-    subst (λ v. IsStep g.E.Executor.out (Claim c.args.worker) v (board_of b.job b.first.items c.take.new.self c.add-2.new.list.items b.settled.items c.add.new.list.items)) c.self.view_is gone.goes
-
-pub returns-clause-next : goal.returns-clause-next
-returns-clause-next g c =
+pub returns-in_ok-claim-in-Some-clause-next : goal.returns-in_ok-claim-in-Some-clause-next
+returns-in_ok-claim-in-Some-clause-next g c =
     let b = c.self.inside in
     let problem = job_problem g.E.Executor.out b.job in
     let run = run_of b.history.items b.settled.items b.claims.items b.caches.holds in
-    let vertex = c.new.result.vertex in
-    let given : Some vertex ≡ claimable problem run.state c.args.worker = search rules in
-    subst (λ v. IsNextClaim (board_problem g.E.Executor.out v) v.run.history c.args.worker (Some vertex)) c.self.view_is (next_claim-is problem run c.args.worker (Some vertex) c.self.invariant.0.problem c.self.invariant.0.replay given)
-
-pub returns-clause-of : goal.returns-clause-of
-returns-clause-of g c =
-    let b = c.self.inside in
-    let t = c.in-Some.next in
-    let problem = job_problem g.E.Executor.out b.job in
-    let uses : c.uses_of.result.now ≡ uses_at problem t.vertex = search rules in
-    let count = copies-count b.caches c.args.worker (uses_at problem t.vertex) c.in_ok-lease.lease (subst (λ u. c.in_ok-lease.lease ≡ record { holder = c.args.worker; trees = map (tree_held b.caches.contents) (new_holds c.args.worker b.caches.holds u) }) uses c.in_ok-lease.ensures.lease) in
-    subst (IsClaim problem) (sym c.new.ensures) (claim-is problem (run_of b.history.items b.settled.items b.claims.items b.caches.holds) c.args.worker t.vertex c.len-at.result t.inputs.items c.in_ok-lease.lease.trees c.self.invariant.0.problem c.self.invariant.0.replay (search rules) count)
-
-pub returns-clause-out : goal.returns-clause-out
-returns-clause-out g c =
-    let b = c.self.inside in
-    let t = c.in-Some.next in
-    let problem = job_problem g.E.Executor.out b.job in
-    let can : claimable problem (run_of b.history.items b.settled.items b.claims.items b.caches.holds).state c.args.worker ≡ Some t.vertex = search rules in
-    subst (IsOut (run_of b.history.items b.settled.items c.add.new.list.items c.take.new.self.holds).state) (sym c.new.ensures) (claim-out problem (run_of b.history.items b.settled.items b.claims.items b.caches.holds).state c.args.worker t.vertex c.len-at.result c.add.new.list.items can (search rules))
-
-pub returns-clause-caches : goal.returns-clause-caches
-returns-clause-caches g c =
-    let b = c.self.inside in
-    let t = c.in-Some.next in
-    let problem = job_problem g.E.Executor.out b.job in
-    let uses : c.uses_of.result.now ≡ uses_at problem t.vertex = search rules in
-    let here : c.in_ok-lease.lease.trees ≡ map (tree_held b.caches.contents) (new_holds c.args.worker b.caches.holds (uses_at problem t.vertex)) = subst (λ u. c.in_ok-lease.lease.trees ≡ map (tree_held b.caches.contents) (new_holds c.args.worker b.caches.holds u)) uses (ap (λ l. l.trees) c.in_ok-lease.ensures.lease) in
-    subst (λ claim. claim.caches ≡ map (tree_held c.args.self.now.contents) (new_holds c.args.worker c.args.self.now.run.state.holds (uses_at (board_problem g.E.Executor.out c.args.self.now) claim.vertex))) (sym c.new.ensures)
-    (subst (λ v. c.in_ok-lease.lease.trees ≡ map (tree_held v.contents) (new_holds c.args.worker v.run.state.holds (uses_at (board_problem g.E.Executor.out v) t.vertex))) c.self.view_is here)
+    let given : Some c.in_ok-claim-in-Some.claim.vertex ≡ claimable problem run.state c.args.worker = search rules in
+    subst (λ v. IsNextClaim (board_problem g.E.Executor.out v) v.run.history c.args.worker (Some c.in_ok-claim-in-Some.claim.vertex)) c.self.view_is (next_claim-is problem run c.args.worker (Some c.in_ok-claim-in-Some.claim.vertex) c.self.invariant.0.problem c.self.invariant.0.replay given)
