@@ -8,7 +8,8 @@ ghost use Rattle.board.specs.Job.{job_problem};
 ghost use Rattle.board.specs.Problem.{IsProblem};
 ghost use Rattle.board.specs.Play.{begun, claim_of, claimable, value_at, unsettled_count, IsReplay};
 ghost use Rattle.board.specs.Play.{Claim as Claiming, Settle as Settling, Abandon as Abandoning};
-ghost use Rattle.board.specs.Claim.{IsClaim, IsOut, IsResult, IsGivenBack, AreInputs};
+ghost use Rattle.board.specs.Claim.{IsClaim, IsOut, IsResult, IsGivenBack};
+ghost use Rattle.board.specs.PrivateClaim.{AreInputs};
 ghost use Rattle.board.specs.Clearing.{IsCleared};
 ghost use Rattle.board.specs.Legal.{IsNextClaim};
 

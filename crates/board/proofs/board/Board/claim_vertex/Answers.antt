@@ -7,7 +7,8 @@ use Rattle.cachemounts.specs.Changes.{Takes}
 use Rattle.cachemounts.specs.Store.{IsAfter}
 use Rattle.plans.specs.Plan.{uses_at, uses_in}
 use Rattle.board.specs.Play.{claimable, Claim}
-use Rattle.board.specs.Claim.{IsClaim, IsOut, AreInputs}
+use Rattle.board.specs.Claim.{IsClaim, IsOut}
+use Rattle.board.specs.PrivateClaim.{AreInputs}
 use Rattle.board.specs.Board.{board_problem, IsStep}
 use Rattle.board.proofs.SoundLemmas.{claim-is, claim-can}
 use Rattle.board.proofs.BoardLemmas.{board_of, run_of, claim-gone, claim-out, copies-count}
