@@ -1,4 +1,5 @@
-ghost use Rattle.std.specs.Prelude.{◌≡◌, ◌<◌, IfOk, Some, None, codes, option_map};
+ghost use Rattle.std.specs.Prelude.{◌≡◌, ◌<◌, IfOk, Some, None, codes, length, option_map, true};
+ghost use Rattle.std.specs.List.{list_all};
 ghost use Rattle.std.specs.Option.{option_and_then};
 ghost use Rattle.serde_json.specs.Find.{get, as_str};
 ghost use Rattle.strict.specs.Gives.{Gives};
@@ -23,16 +24,34 @@ fn is_octal(digit: u8) -> bool
     b'0' <= digit && digit <= b'7'
 }
 
+/// Whether all characters are digits from 0 to 7.
+fn are_octal(digits: &[u8]) -> bool
+    ensures { result ≡ list_all is_octal digits.now }
+{
+    digits.iter().all(|digit| is_octal(*digit))
+}
+
 /// The mode that a text spells: it is four octal digits.
 fn mode_of(text: &str) -> Option<Mode>
     ensures { result ≡ mode_of text.now }
 {
     let digits = text.as_bytes();
-    if digits.len() != 4 || !digits.iter().all(|digit| is_octal(*digit)) {
+    if digits.len() != 4 || !are_octal(digits) {
         return None;
     }
-    let value = |at: usize| u16::from(digits[at] - b'0');
-    Mode::new(512 * value(0) + 64 * value(1) + 8 * value(2) + value(3))
+    let high = 512 * digit_at(digits, 0) + 64 * digit_at(digits, 1);
+    let low = 8 * digit_at(digits, 2) + digit_at(digits, 3);
+    Mode::new(high + low)
+}
+
+/// The value of the digit at a position.
+fn digit_at(digits: &[u8], at: usize) -> u16
+    requires within { at < length digits.now }
+    requires octal { list_all is_octal digits.now ≡ true }
+    ensures value { result ≡ digit_at digits.now at }
+    ensures small { result < 8 }
+{
+    u16::from(digits[at] - b'0')
 }
 
 /// The mode that a value is.
