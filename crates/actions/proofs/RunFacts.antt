@@ -1,5 +1,5 @@
 -- What is told of a RUN's mounts, by what was read of them.
-use Rattle.std.specs.Prelude.{◌≡◌, ◌||◌, ◌&&◌, ℕ, Bool, true, false, not, List, map, Some, None, refl}
+use Rattle.std.specs.Prelude.{◌≡◌, ◌||◌, ◌&&◌, ℕ, Bool, true, false, not, List, map, Option, Some, None, refl}
 use Rattle.std.specs.List.{list_any}
 use Rattle.std.proofs.Common.{sym, ap, ap₂, ◌∙◌}
 use Rattle.plain.specs.declared.refusal.Code.TheVariants.{R17, R18}
@@ -85,6 +85,9 @@ all_read dir mounts binds more caches some stand found others b c s e m o f g =
 
 -- the action that the mounts give
 pub run_is : (scope : List Declaration) (dir : List (List ℕ)) (user : List ℕ) (shell : List (List ℕ)) (mounts : List Mount) (command : Command) (origins : List Origin) (found : List Bind) (others : List CacheUse) (exec : Exec)
-    → found ≡ binds_of dir mounts → others ≡ caches_of dir mounts → exec ≡ exec_of scope dir user shell found others command → Some (run_action scope dir user shell mounts command origins) ≡ Some (Run exec origins)
-run_is scope dir user shell mounts command origins found others exec f o e =
-    ap (λ (x : Exec). Some (Run x origins)) (sym (e ∙ ap₂ (λ (x : List Bind) (y : List CacheUse). exec_of scope dir user shell x y command) f o))
+    → ◌≡◌ {A = Option (List Bind × List CacheUse)} (Some (binds_of dir mounts, caches_of dir mounts)) (Some (found, others)) → exec ≡ exec_of scope dir user shell found others command → Some (run_action scope dir user shell mounts command origins) ≡ Some (Run exec origins)
+run_is scope dir user shell mounts command origins found others exec read e =
+    let due : List Bind × List CacheUse = (binds_of dir mounts, caches_of dir mounts) in
+    let here : List Bind × List CacheUse = (found, others) in
+    let same : due ≡ here = same_Some due here read in
+    ap (λ (x : Exec). Some (Run x origins)) (sym (e ∙ ap (λ (x : List Bind × List CacheUse). exec_of scope dir user shell x.0 x.1 command) (sym same)))

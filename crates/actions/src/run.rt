@@ -1,12 +1,13 @@
 ghost use Rattle.std.specs.Prelude.{◌≡◌, Some, IfOk};
 ghost use Rattle.instructions.specs.Least.{Meets};
-ghost use Rattle.actions.specs.Run.{words_of, exec_of, run_action, run_due};
+ghost use Rattle.actions.specs.Run.{binds_of, caches_of, words_of, exec_of, run_action, run_due};
 
 use crate::Surroundings;
 use crate::mounts::{mounts_stand_together, read_mounts, whole_binds, whole_caches};
 use instructions::Command;
 use llb::{Bind, Exec};
 use options::Mount;
+use paths::Path;
 use plain::{Code, Exact, Fault, Items, Memory, Text, copied_items};
 use rows::{Action, Origin};
 use runs::CacheUse;
@@ -51,6 +52,27 @@ fn exec_of(
     })
 }
 
+/// The binds and the caches of a RUN, or the least code that is due for its mounts.
+fn mounts_of(
+    alloc: Global,
+    mounts: Items<Mount>,
+    dir: &Path,
+) -> Result<(Items<Bind>, Items<CacheUse>), TextFault>
+    ensures { Meets (Some (binds_of dir.now mounts, caches_of dir.now mounts)) (run_due dir.now mounts) result }
+{
+    let (binds, caches) = read_mounts(alloc, mounts, dir)?;
+    if !mounts_stand_together(alloc, binds.as_slice(), caches.as_slice())? {
+        return Err(Fault::Because(Code::R17));
+    }
+    let Some(binds) = whole_binds(alloc, binds)? else {
+        return Err(Fault::Because(Code::R18));
+    };
+    let Some(caches) = whole_caches(alloc, caches)? else {
+        return Err(Fault::Because(Code::R18));
+    };
+    Ok((binds, caches))
+}
+
 /// What a RUN does. The trees of its binds come from `origins`, one for each bind in their order.
 ///
 /// It runs the words of the list, or the shell's words and the text as one word more, in the working directory, as the user, in the
@@ -69,16 +91,7 @@ pub fn run_action(
 ) -> Result<Action, TextFault>
     ensures { Meets (Some (run_action at.now.scope.now at.now.dir.now at.now.user.now at.now.shell.now mounts command origins)) (run_due at.now.dir.now mounts) result }
 {
-    let (binds, caches) = read_mounts(alloc, mounts, at.dir)?;
-    if !mounts_stand_together(alloc, binds.as_slice(), caches.as_slice())? {
-        return Err(Fault::Because(Code::R17));
-    }
-    let Some(binds) = whole_binds(alloc, binds)? else {
-        return Err(Fault::Because(Code::R18));
-    };
-    let Some(caches) = whole_caches(alloc, caches)? else {
-        return Err(Fault::Because(Code::R18));
-    };
+    let (binds, caches) = mounts_of(alloc, mounts, at.dir)?;
     let exec = exec_of(alloc, binds, caches, command, at)?;
     Ok(Action::Run {
         exec,

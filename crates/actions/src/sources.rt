@@ -6,10 +6,12 @@ ghost use Rattle.options.specs.Lists.{all_some};
 ghost use Rattle.globs.specs.Glob.{is_malformed};
 ghost use Rattle.llb.specs.WellFormed.{is_pattern};
 ghost use Rattle.scopes.specs.Scope.{value_in};
+ghost use Rattle.instructions.specs.declared.instruction.Source.TheVariants.{Files, Document};
 ghost use Rattle.actions.specs.Copy.{body_text, file_source, file_sources, is_empty_source};
 ghost use Rattle.actions.specs.PrivateTexts.{short, near, is_some_and, is_misspelled};
 
 use crate::texts::short_value;
+use expand::Word;
 use globs::Glob;
 use instructions::{Body, Source};
 use llb::FileSource;
@@ -46,23 +48,38 @@ fn content_of(alloc: Global, text: Text) -> Result<Content, Memory>
     )
 }
 
+/// A pattern of files with its text expanded, or none where it is past the limits.
+fn near_files(alloc: Global, word: Word, scope: &Scope) -> Result<Option<FileSource>, Memory>
+    ensures { IfOk result (λ found. found ≡ near (file_source (value_in scope.now) (Files word))) }
+{
+    match short_value(alloc, &word, scope)? {
+        Some(text) => Ok(Some(FileSource::Pattern(text))),
+        None => Ok(None),
+    }
+}
+
+/// The file that a heredoc gives, or none where the name or the text is past the limits.
+fn near_document(
+    alloc: Global,
+    name: Text,
+    body: Body,
+    scope: &Scope,
+) -> Result<Option<FileSource>, Memory>
+    ensures { IfOk result (λ found. found ≡ near (file_source (value_in scope.now) (Document name body))) }
+{
+    match (Name::new(name), short_body(alloc, body, scope)?) {
+        (Some(name), Some(text)) => Ok(Some(FileSource::Data(name, content_of(alloc, text)?))),
+        _ => Ok(None),
+    }
+}
+
 /// A source with its text expanded, or none where it is past the limits.
 fn near_source(alloc: Global, source: Source, scope: &Scope) -> Result<Option<FileSource>, Memory>
     ensures { IfOk result (λ found. found ≡ near (file_source (value_in scope.now) source)) }
 {
     match source {
-        Source::Files(word) => match short_value(alloc, &word, scope)? {
-            Some(text) => Ok(Some(FileSource::Pattern(text))),
-            None => Ok(None),
-        },
-        Source::Document { name, body } => {
-            match (Name::new(name), short_body(alloc, body, scope)?) {
-                (Some(name), Some(text)) => {
-                    Ok(Some(FileSource::Data(name, content_of(alloc, text)?)))
-                }
-                _ => Ok(None),
-            }
-        }
+        Source::Files(word) => near_files(alloc, word, scope),
+        Source::Document { name, body } => near_document(alloc, name, body, scope),
     }
 }
 

@@ -1,32 +1,9 @@
-use Rattle.std.proofs.Common.{sym, ◌∙◌}
-use Rattle.actions.proofs.RunFacts.{clash_told, bind_told, cache_told, all_read, AreRead, run_is}
+use Rattle.actions.proofs.RunFacts.{run_is}
 use Rattle.actions.proofs.run.run_action.Goals as goal
 
-pub returns-then-not-branch : goal.returns-then-not-branch
-returns-then-not-branch c =
-    clash_told c.args.at.now.dir.now c.args.mounts c.as_slice.result.now c.as_slice-2.result.now c.in_ok-mounts_stand_together.field-0
-    (c.as_slice.ensures ∙ c.in_ok-binds.ensures.binds) (c.as_slice-2.ensures ∙ c.in_ok-binds.ensures.caches) c.in_ok-mounts_stand_together.ensures c.if-not-branch.true
-
-pub returns-in_default : goal.returns-in_default
-returns-in_default c =
-    bind_told c.args.at.now.dir.now c.args.mounts c.as_slice.result.now c.in_ok-binds.binds c.as_slice-2.result.now c.in_ok-mounts_stand_together.field-0
-    (c.as_slice.ensures ∙ c.in_ok-binds.ensures.binds) (c.as_slice-2.ensures ∙ c.in_ok-binds.ensures.caches) c.in_ok-mounts_stand_together.ensures c.if-not-branch.false
-    c.in_ok-binds.ensures.binds (sym c.in_default.is ∙ c.in_ok-binds-2.ensures)
-
-pub returns-in_default-2 : goal.returns-in_default-2
-returns-in_default-2 c =
-    cache_told c.args.at.now.dir.now c.args.mounts c.as_slice.result.now c.as_slice-2.result.now c.in_ok-binds.caches c.in_ok-mounts_stand_together.field-0
-    (c.as_slice.ensures ∙ c.in_ok-binds.ensures.binds) (c.as_slice-2.ensures ∙ c.in_ok-binds.ensures.caches) c.in_ok-mounts_stand_together.ensures c.if-not-branch.false
-    c.in_ok-binds.ensures.caches (sym c.in_default-2.is ∙ c.in_ok-caches.ensures)
-
 pub returns : goal.returns
-returns c =
-    let read : AreRead c.args.at.now.dir.now c.args.mounts c.in-Some.binds c.in-Some-2.caches =
-    all_read c.args.at.now.dir.now c.args.mounts c.as_slice.result.now c.in_ok-binds.binds c.as_slice-2.result.now c.in_ok-binds.caches c.in_ok-mounts_stand_together.field-0
-    c.in-Some.binds c.in-Some-2.caches
-    (c.as_slice.ensures ∙ c.in_ok-binds.ensures.binds) (c.as_slice-2.ensures ∙ c.in_ok-binds.ensures.caches) c.in_ok-mounts_stand_together.ensures c.if-not-branch.false
-    c.in_ok-binds.ensures.binds c.in_ok-binds.ensures.caches (sym c.in-Some.is ∙ c.in_ok-binds-2.ensures) (sym c.in-Some-2.is ∙ c.in_ok-caches.ensures) in (
-      run_is c.args.at.now.scope.now c.args.at.now.dir.now c.args.at.now.user.now c.args.at.now.shell.now c.args.mounts c.args.command c.args.origins c.in-Some.binds c.in-Some-2.caches c.in_ok-exec.exec
-          read.same_binds read.same_caches c.in_ok-exec.ensures,
-      read.none_due,
-    )
+returns c = (
+  run_is c.args.at.now.scope.now c.args.at.now.dir.now c.args.at.now.user.now c.args.at.now.shell.now c.args.mounts c.args.command c.args.origins c.in_ok-binds.binds c.in_ok-binds.caches c.in_ok-exec.exec
+      c.in_ok-binds.ensures.0 c.in_ok-exec.ensures,
+  c.in_ok-binds.ensures.1,
+)
