@@ -1,6 +1,6 @@
 -- The values of the vertices of a graph (BuildKit's LLB): the tree of each, or the cause of its failure. An executor is known by
 -- its answers alone, so that all that is said here holds for every executor.
-use Rattle.std.specs.Prelude.{ℕ, Option, Some, None, Result, Ok, Err, List, [], ◌∷◌, ◌++◌, map, slice_index_or}
+use Rattle.std.specs.Prelude.{ℕ, Option, Some, None, Result, Ok, Err, List, [], ◌∷◌, ◌++◌, slice_index_or}
 use Rattle.std.specs.Option.{option_map, option_and_then}
 use Rattle.trees.specs.TreeMap.{TreeMap, empty_tree}
 use Rattle.trees.specs.Cause.{TreeOrCause}
