@@ -4,7 +4,6 @@ ghost use Rattle.std.specs.Prelude.{◌≡◌, ◌+◌, ◌≤◌, ◌∷◌, �
 ghost use Rattle.std.specs.String.{string_bytes};
 ghost use Rattle.indexmap.specs.IndexMap.{spare};
 ghost use Rattle.scopes.specs.Scope.{kept, env_names, arg_names};
-ghost use Rattle.scopes.specs.declared.declaration.Declaration.TheVariants.{Env, Arg};
 ghost use Rattle.scopes.specs.PrivateMaps.{declaration_of, declared, variable_rows, argument_rows};
 
 use crate::declaration::Declaration;
@@ -101,24 +100,6 @@ fn put(
     }
 }
 
-/// The ENV that an entry stands for.
-fn env_of(alloc: Global, name: &String, value: &Text) -> Result<Declaration, Memory>
-    ensures { IfOk result (λ declaration. declaration ≡ Env (string_bytes name.now) value.now) }
-{
-    let name = Text::from_str(alloc, name.as_str())?;
-    let value = value.copy(alloc)?;
-    Ok(Declaration::Env { name, value })
-}
-
-/// The ARG that an entry stands for.
-fn arg_of(alloc: Global, name: &String, value: &Option<Text>) -> Result<Declaration, Memory>
-    ensures { IfOk result (λ declaration. declaration ≡ Arg (string_bytes name.now) value.now) }
-{
-    let name = Text::from_str(alloc, name.as_str())?;
-    let value = value.copy(alloc)?;
-    Ok(Declaration::Arg { name, value })
-}
-
 /// The declarations of the two maps: the ENVs, and then the ARGs.
 pub(crate) fn listed(
     alloc: Global,
@@ -129,10 +110,14 @@ pub(crate) fn listed(
 {
     let mut line = Items::new(alloc);
     for (name, value) in variables.iter() {
-        line.push(env_of(alloc, name, value)?)?;
+        let name = Text::from_str(alloc, name.as_str())?;
+        let value = value.copy(alloc)?;
+        line.push(Declaration::Env { name, value })?;
     }
     for (name, value) in arguments.iter() {
-        line.push(arg_of(alloc, name, value)?)?;
+        let name = Text::from_str(alloc, name.as_str())?;
+        let value = value.copy(alloc)?;
+        line.push(Declaration::Arg { name, value })?;
     }
     Ok(line)
 }
