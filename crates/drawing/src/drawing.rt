@@ -22,7 +22,11 @@ pub fn draw<C: Drop>(alloc: Global, plan: Plan<C>) -> Result<Text, DrawFault>
     ensures { IsDrawn plan result }
 {
     let simple = simplify(alloc, plan)?;
-    match write(alloc, &simple) {
+    let _known = simple.graph();
+    let written = write(alloc, &simple);
+    // The plan is let go by name: the proof would walk all its parts at each end of the function.
+    drop(simple);
+    match written {
         Ok(text) => Ok(text),
         Err(Fault::Because(_)) => {
             clashes_are_of_different_operations();

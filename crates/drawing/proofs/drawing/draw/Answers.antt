@@ -1,5 +1,4 @@
-use Rattle.std.proofs.Common.{subst}
-use Rattle.plans.specs.Plan.{PlanValue, IsPlan}
+use Rattle.std.proofs.Common.{rules}
 use Rattle.drawing.proofs.DrawFacts.{drawn, clashes}
 use Rattle.drawing.proofs.drawing.draw.Goals as goal
 
@@ -11,6 +10,5 @@ returns-in-Ok g c =
 
 pub returns-in-Err-Because : goal.returns-in-Err-Because
 returns-in-Err-Because g c =
-    let plans : IsPlan c.in_ok-simple.simple = subst (λ (p : PlanValue g.row.C.Denot). IsPlan p) c.simple.view_is c.simple.invariant in
-    clashes c.args.plan c.in_ok-simple.simple c.in-Err-Because.field-0 c.in-Err-Because.field-0-0 c.in-Err-Because.field-0-is
-    c.clashes_are_of_different_operations.ensures.told plans c.in_ok-simple.ensures.simplified c.in-Err-Because.ensures.written
+    clashes c.args.plan c.in_ok-simple.simple c.in-Err-Because.field-0 c.in-Err-Because.field-0-0 (search rules)
+    c.clashes_are_of_different_operations.ensures.told c.graph-known.ensures.plan c.in_ok-simple.ensures.simplified c.in-Err-Because.ensures-1.written
