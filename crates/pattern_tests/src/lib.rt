@@ -1,5 +1,5 @@
 // Tests of `globs` and `ignorefile`: examples from the rules, what a table of rows can't write down, and large inputs. The tables stand
-// in `pattern_rows`.
+// in `tables`.
 #![tactic(auto)]
 
 #[cfg(test)]

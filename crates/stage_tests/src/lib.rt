@@ -2,7 +2,7 @@
 // is proved twice.
 //
 // Each shows what no clause says: an example from the rules, or that a call succeeds where there is memory. Whole builds, the table of
-// `program_rows`, go through the rest of what these crates do.
+// `tables`, go through the rest of what these crates do.
 #![tactic(auto)]
 
 #[cfg(test)]

@@ -1,4 +1,3 @@
-use crate::rows::FILES;
 use lines::{Escape, Line, LineFault, Reader, is_flag, is_mark};
 use plain::{Code, Exact, Fault, Memory, Refusal};
 use std::alloc::Global;
@@ -14,7 +13,7 @@ fn read(alloc: Global, text: &[u8]) -> Result<Vec<Line>, LineFault> {
     reader.finish(alloc)
 }
 
-/// A logical line as the rows show it.
+/// A logical line as `tables` shows it.
 fn show_line(alloc: Global, line: &Line) -> Result<String, Fail> {
     let mut shown = format!(in alloc; "{}:{}", line.number, line.text.as_str())?;
     for heredoc in line.heredocs.as_slice() {
@@ -28,7 +27,7 @@ fn show_line(alloc: Global, line: &Line) -> Result<String, Fail> {
     Ok(shown)
 }
 
-/// What a text gives, as the rows show it.
+/// What a text gives, as `tables` shows it.
 fn show(alloc: Global, answer: Result<Vec<Line>, LineFault>) -> Result<String, Fail> {
     match answer {
         Ok(lines) => {
@@ -46,29 +45,6 @@ fn show(alloc: Global, answer: Result<Vec<Line>, LineFault>) -> Result<String, F
         }
         Err(Fault::Memory) => Err(Fail::from(Memory)),
     }
-}
-
-/// The text that a row shows.
-fn unmask(alloc: Global, row: &str) -> Result<String, Fail> {
-    let text = row.replace(alloc, "⏎", "\n")?;
-    let text = text.replace(alloc, "␍", "\r")?;
-    let text = text.replace(alloc, "⇥", "\t")?;
-    Ok(text.replace(alloc, "⊙", "\u{feff}")?)
-}
-
-#[test]
-fn rows_of_files(rt: HostRuntime) -> Result<(), Fail> {
-    let alloc = rt.alloc();
-    for row in FILES.lines() {
-        let Some((text, wanted)) = row.split_once('»') else {
-            assert!(rt; false, "at {row}");
-            return Ok(());
-        };
-        let text = unmask(alloc, text)?;
-        let found = show(alloc, read(alloc, text.as_bytes()))?;
-        assert_eq!(rt; found, unmask(alloc, wanted)?, "at {row}");
-    }
-    Ok(())
 }
 
 /// Tries a text, in pieces and whole.

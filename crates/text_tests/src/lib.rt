@@ -9,5 +9,3 @@ mod arguments;
 mod files;
 #[cfg(test)]
 mod flag_values;
-#[cfg(test)]
-mod rows;

@@ -1,16 +1,14 @@
-// Reads definitions, one a line: a name, ` | `, and the text of a definition; or `many N`, a definition of N operations that is too long for a
-// line of a table. It answers the name and, behind a colon, the fault and its place; or how many vertices were read, which one the result
+// `definitions`: a name, ` | `, and the text of a definition; or `many N`, a definition of N operations that is too long for a
+// line of a table. The answer is the name and, behind a colon, the fault and its place; or how many vertices were read, which one the result
 // is, and whether the graph is written as the text stood.
 //
-// The cases are data: `stdin` has them, and `stdout` what the rules say of each. The addresses in them were computed by another program.
-#![tactic(auto)]
+// The addresses in the cases were computed by another program.
 
 use definition::{Defect, read, write};
 use llb::{Graph, VertexId};
 use plain::{Fault, Memory, Text};
 use plans::{Plan, Sources};
 use std::alloc::Global;
-use std::io;
 use trees::Tree;
 
 /// The text of an operation that stands alone, and its address.
@@ -19,23 +17,13 @@ const SCRATCH: &str = r#"{"inputs":[],"op":"source","source":"scratch"}"#;
 const SCRATCH_ADDRESS: &str =
     "sha256:76552e79413bf55d0c5d1deb6d66827a826db17e8dac7a4d75392760fd22987b";
 
-fn main(rt: HostRuntime) -> io::Result<()> {
-    for line in rt.lines(rt.alloc()) {
-        let case = line?;
-        let (name, text) = case
-            .as_str()
-            .split_once(" | ")
-            .unwrap_or((case.as_str(), ""));
-        match answer(rt.alloc(), text) {
-            Ok(answer) => println!(rt; "{name}: {answer}")?,
-            Err(Memory) => println!(rt; "{name}: out of memory")?,
-        }
-    }
-    Ok(())
+pub fn answer(alloc: Global, case: &str) -> Result<String, Memory> {
+    let (name, text) = case.split_once(" | ").unwrap_or((case, ""));
+    let answer = answer_to_case(alloc, text)?;
+    Ok(format!(in alloc; "{name}: {answer}")?)
 }
 
-/// The answer to a case.
-fn answer(alloc: Global, case: &str) -> Result<String, Memory> {
+fn answer_to_case(alloc: Global, case: &str) -> Result<String, Memory> {
     match case {
         "many 16384" => answer_to_text(alloc, many(alloc, 16_384)?.as_str()),
         "many 16385" => answer_to_text(alloc, many(alloc, 16_385)?.as_str()),

@@ -87,12 +87,28 @@ fn copy(alloc: Global, trees: &[Tree], tree: &mut Tree, text: &str) -> Result<()
     let (meta, rest) = cut(rest);
     let (dest, sources) = cut(rest);
     let from = tree_at(trees, number)?;
-    let options = options_of(meta, dest);
-    if is_plain(alloc, &options, dest)? != (meta == "-") {
+    if has_flags(alloc, meta, dest)? == (meta == "-") {
         return Err(Fault::Memory);
     }
+    copy_found(alloc, tree, from, meta, dest, sources)
+}
+
+/// Whether a copy of these options is another one than that of a COPY without flags.
+fn has_flags(alloc: Global, meta: &str, dest: &str) -> Result<bool, Memory> {
+    let options = options_of(meta, dest);
+    Ok(!is_plain(alloc, &options, dest)?)
+}
+
+fn copy_found(
+    alloc: Global,
+    tree: &mut Tree,
+    from: &Tree,
+    meta: &str,
+    dest: &str,
+    sources: &str,
+) -> Result<(), TreeFault> {
     let source = CopySource::Found(paths_of(alloc, sources)?);
-    copy_source(alloc, tree, from, source, dest, &options)
+    copy_source(alloc, tree, from, source, dest, &options_of(meta, dest))
 }
 
 /// Whether a copy of these options is the same as those of a COPY without flags.

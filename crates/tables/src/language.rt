@@ -1,36 +1,20 @@
-// Answers cases of the language, one a line: `spell TEXT` with the instructions that a Dockerfile spells, `word TEXT` and `body TEXT`
-// with the values of a text with quotes and of one without, `env TEXT` with RUN's environment behind lines. In a case and in its
+// `language`: `spell TEXT` with the instructions that a Dockerfile spells, `word TEXT` and `body TEXT`
+// with the values of a text with quotes and of one without, `env TEXT` with RUN's environment behind lines; behind `=>` stands the answer. In a case and in its
 // answer a LF is written `¶`.
-//
-// The cases are data: `stdin` has them, and `stdout` what the rules say of each.
-#![tactic(auto)]
-
-mod lookup;
-mod showing;
-mod spelling;
-mod stage;
 
 use crate::spelling::{spelling_of, values_of};
 use crate::stage::{code_text, environment_after};
 use expand::Kind;
 use plain::Memory;
 use std::alloc::Global;
-use std::io;
 use words::TextFault;
 
-fn main(rt: HostRuntime) -> io::Result<()> {
-    for line in rt.lines(rt.alloc()) {
-        let case = line?;
-        match answer(rt.alloc(), case.as_str()) {
-            Ok(answer) => println!(rt; "{case} => {answer}")?,
-            Err(Memory) => println!(rt; "{case} => out of memory")?,
-        }
-    }
-    Ok(())
+pub fn answer(alloc: Global, case: &str) -> Result<String, Memory> {
+    let answer = answer_to_case(alloc, case)?;
+    Ok(format!(in alloc; "{case} => {answer}")?)
 }
 
-/// The answer to a case.
-fn answer(alloc: Global, case: &str) -> Result<String, Memory> {
+fn answer_to_case(alloc: Global, case: &str) -> Result<String, Memory> {
     let unfolded = replaced(alloc, case, '¶', "\n")?;
     let answer = match answer_unfolded(alloc, unfolded.as_str()) {
         Ok(answer) => answer,

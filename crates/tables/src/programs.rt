@@ -1,17 +1,15 @@
-// Runs the program on cases, one a line: a name, ` | `, the words of a command line, ` | `, and what stands on standard input. It
-// answers the name, and on a line of its own each the exit status, what was written on standard output and what on standard error; a LF
+// `programs`: a name, ` | `, the words of a command line, ` | `, and what stands on standard input. The
+// answer is the name, and on a line of its own each the exit status, what the program wrote on standard output and what on standard error; a LF
 // in them is written `¶`.
 //
-// The cases are data: `stdin` has them, and `stdout` what the rules say of each. Names that begin with `example_` are the bundles and the
-// packed folder of `examples/`, those that begin with `bundle_` are about the bundle itself, and those with `pack_` pack the folders of `data/`.
-#![tactic(auto)]
+// Names that begin with `example_` are the bundles and the packed folder of `examples/`, those that begin with `bundle_` are about the bundle
+// itself, and those with `pack_` pack the folders of `data/`.
 
 use counted::Counted;
 use executor::Fixture;
 use plain::Memory;
 use program::run_program;
 use std::alloc::Global;
-use std::io;
 use std::io::Cursor;
 use std::rt::Files;
 use std::sync::Wait;
@@ -28,24 +26,22 @@ struct Ended {
     errors: String,
 }
 
-fn main(rt: HostRuntime) -> io::Result<()> {
-    for line in rt.lines(rt.alloc()) {
-        let case = line?;
-        let (name, run) = case
-            .as_str()
-            .split_once(" | ")
-            .unwrap_or((case.as_str(), ""));
-        println!(rt; "{name}")?;
-        match run_case(rt.alloc(), &rt, &rt, run) {
-            Ok(ended) => {
-                println!(rt; "    {}", ended.status)?;
-                println!(rt; "    out {}", ended.output)?;
-                println!(rt; "    err {}", ended.errors)?;
-            }
-            Err(Memory) => println!(rt; "    out of memory")?,
-        }
-    }
-    Ok(())
+pub fn answer<F: Files + AllocGlobal + Clone + Drop>(
+    alloc: Global,
+    rt: &(impl Threads + Wait + Sync),
+    files: &F,
+    case: &str,
+) -> Result<String, Memory> {
+    let (name, run) = case.split_once(" | ").unwrap_or((case, ""));
+    let ended = run_case(alloc, rt, files, run)?;
+    ended_text(alloc, name, ended)
+}
+
+fn ended_text(alloc: Global, name: &str, ended: Ended) -> Result<String, Memory> {
+    let status = ended.status;
+    let output = ended.output.as_str();
+    let errors = ended.errors.as_str();
+    Ok(format!(in alloc; "{name}\n    {status}\n    out {output}\n    err {errors}")?)
 }
 
 /// Runs the program on what stands behind a case's name.

@@ -1,28 +1,17 @@
-// Answers command lines, one a line, whose words are cut at each space: what they ask for, or the kind of fault. Behind ` | ` stands a part of
-// what is told of the fault.
-//
-// The cases are data: `stdin` has them, and `stdout` what the rules say of each.
-#![tactic(auto)]
+// `commands`: command lines, whose words are cut at each space, and behind `=>` what they ask for, or the kind of fault. Behind ` | `
+// stands a part of what is told of the fault.
 
 use clap::Error;
 use command::{Task, read_command};
 use plain::Memory;
 use std::alloc::Global;
-use std::io;
 
-fn main(rt: HostRuntime) -> io::Result<()> {
-    for line in rt.lines(rt.alloc()) {
-        let case = line?;
-        match answer(rt.alloc(), case.as_str()) {
-            Ok(answer) => println!(rt; "{case} => {answer}")?,
-            Err(Memory) => println!(rt; "{case} => out of memory")?,
-        }
-    }
-    Ok(())
+pub fn answer(alloc: Global, case: &str) -> Result<String, Memory> {
+    let answer = answer_to_case(alloc, case)?;
+    Ok(format!(in alloc; "{case} => {answer}")?)
 }
 
-/// The answer to a case.
-fn answer(alloc: Global, case: &str) -> Result<String, Memory> {
+fn answer_to_case(alloc: Global, case: &str) -> Result<String, Memory> {
     let (line, part) = case.split_once(" | ").unwrap_or((case, ""));
     let words: Vec<&str> = line.split(' ').collect(alloc)?;
     match read_command(alloc, words.as_slice()) {

@@ -1,3 +1,17 @@
+// `trees`: a name, and behind ` | ` each its steps; the answer is the name and what they tell. Every case has trees by their numbers, of which 0 is empty;
+// a step begins with a number. Steps that change a copy of the tree of this number, which becomes the next tree:
+//
+// - `N files PATH ..` puts files that hold their own paths; `N file META PATH TEXT` and `N folder META PATH` put one entry, of a mode in
+//   octal digits, a user and a group, as `644:0:0`; `N dirs PATH`, `N remove PATH`
+// - `N below PATH` takes what lies under a path; `N over M` lays the tree M over it, and `N merged` all trees from N on over each other
+// - `N copy M META DEST SOURCE ..` is a COPY from the tree M, with `-` for no owner and mode; `N heredoc NAME TEXT DEST` one of a heredoc
+//
+// A cause is told, and the copy is the next tree as it is then. Other steps tell something alone: `N show` a tree, `N root` what its root
+// has, `N sums` a number for all trees from N on together, and `N run SCRIPT`, `N mounted SCRIPT` and `N idle SCRIPT` what a command comes
+// to on the tree N.
+//
+// Cases whose names begin with `list_` are made by `tools/tree-lists`, which answers them by maps from paths to entries that share nothing.
+
 use crate::changing::change;
 use crate::reading::{cut, tree_at, trees_from};
 use crate::running::{tell_idle, tell_mounted, tell_run};
@@ -6,27 +20,43 @@ use plain::{Exact, Fault, Memory};
 use std::alloc::Global;
 use trees::Tree;
 
+pub fn answer(alloc: Global, case: &str) -> Result<String, Memory> {
+    let (name, steps) = case.split_once(" | ").unwrap_or((case, ""));
+    let told = told_by(alloc, steps)?;
+    Ok(format!(in alloc; "{name}: {told}")?)
+}
+
+/// What the steps of a case tell.
+fn told_by(alloc: Global, steps: &str) -> Result<String, Memory> {
+    let mut case = Case::new(alloc)?;
+    let mut told = String::new(alloc);
+    let done = case.take_steps(alloc, &mut told, steps);
+    drop(case);
+    match done {
+        Ok(()) => Ok(told),
+        Err(memory) => {
+            drop(told);
+            Err(memory)
+        }
+    }
+}
+
 /// The trees of a case, by their numbers.
 #[derive(Drop)]
-pub struct Case {
+struct Case {
     trees: Vec<Tree>,
 }
 
 impl Case {
     /// The empty tree alone.
-    pub fn new(alloc: Global) -> Result<Case, Memory> {
+    fn new(alloc: Global) -> Result<Case, Memory> {
         let mut trees = Vec::new(alloc);
         trees.push(Tree::empty(alloc))?;
         Ok(Case { trees })
     }
 
     /// Takes steps in order, and tells what they say.
-    pub fn take_steps(
-        &mut self,
-        alloc: Global,
-        told: &mut String,
-        steps: &str,
-    ) -> Result<(), Memory> {
+    fn take_steps(&mut self, alloc: Global, told: &mut String, steps: &str) -> Result<(), Memory> {
         for step in steps.split(" | ") {
             self.take_step(alloc, told, step)?;
         }

@@ -1,0 +1,109 @@
+// Answers tables of cases. `stdin` has the tables, one after another: a line `== NAME` begins one, and each line after it is a case of it.
+// `stdout` has what the rules say: the same heading, and the answers in the same order, each with its case or the name of it. A module for each
+// table says what its cases and answers are.
+//
+// A case costs nothing to prove, and one program is compiled for all of them. Where an answer is another one than `stdout` has,
+// `diff -U0 -F '^== ' stdout out/stdout` shows it with its table.
+#![tactic(auto)]
+
+mod changing;
+mod commands;
+mod definitions;
+mod files;
+mod language;
+mod lookup;
+mod patterns;
+mod programs;
+mod reading;
+mod running;
+mod showing;
+mod spelling;
+mod stage;
+mod steps;
+mod telling;
+
+use plain::Memory;
+use std::alloc::Global;
+use std::io;
+use std::rt::Files;
+use std::sync::Wait;
+use std::thread::Threads;
+
+/// The tables.
+#[derive(Clone, Copy)]
+enum Table {
+    Commands,
+    Files,
+    Language,
+    Patterns,
+    IgnoreFiles,
+    Trees,
+    Definitions,
+    Programs,
+    /// No heading stands before the case, or one of another name.
+    Unknown,
+}
+
+fn main(rt: HostRuntime) -> io::Result<()> {
+    let mut table = Table::Unknown;
+    for line in rt.lines(rt.alloc()) {
+        let line = line?;
+        match answer_to_line(rt.alloc(), &rt, &rt, &mut table, line.as_str()) {
+            Ok(answer) => println!(rt; "{answer}")?,
+            Err(Memory) => println!(rt; "{line}: out of memory, or no case")?,
+        }
+    }
+    Ok(())
+}
+
+/// A heading as it stands, and the table that it begins; or the answer to a case.
+fn answer_to_line<F: Files + AllocGlobal + Clone + Drop>(
+    alloc: Global,
+    rt: &(impl Threads + Wait + Sync),
+    files: &F,
+    table: &mut Table,
+    line: &str,
+) -> Result<String, Memory> {
+    match line.strip_prefix("== ") {
+        Some(name) => {
+            *table = table_of(name);
+            Ok(String::from_str(alloc, line)?)
+        }
+        None => answer(alloc, rt, files, *table, line),
+    }
+}
+
+fn table_of(name: &str) -> Table {
+    match name {
+        "commands" => Table::Commands,
+        "files" => Table::Files,
+        "language" => Table::Language,
+        "patterns" => Table::Patterns,
+        "ignore files" => Table::IgnoreFiles,
+        "trees" => Table::Trees,
+        "definitions" => Table::Definitions,
+        "programs" => Table::Programs,
+        _ => Table::Unknown,
+    }
+}
+
+/// The answer to a case, with the case or its name before it.
+fn answer<F: Files + AllocGlobal + Clone + Drop>(
+    alloc: Global,
+    rt: &(impl Threads + Wait + Sync),
+    files: &F,
+    table: Table,
+    case: &str,
+) -> Result<String, Memory> {
+    match table {
+        Table::Commands => commands::answer(alloc, case),
+        Table::Files => files::answer(alloc, case),
+        Table::Language => language::answer(alloc, case),
+        Table::Patterns => patterns::answer_of_pattern(alloc, case),
+        Table::IgnoreFiles => patterns::answer_of_ignore_file(alloc, case),
+        Table::Trees => steps::answer(alloc, case),
+        Table::Definitions => definitions::answer(alloc, case),
+        Table::Programs => programs::answer(alloc, rt, files, case),
+        Table::Unknown => Err(Memory),
+    }
+}
