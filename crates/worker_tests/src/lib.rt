@@ -1,4 +1,7 @@
-// Tests of `workers`: what no clause says. That workers run at the same time, that a locked cache is held by one at a time, that the gate is asked around
+// Tests of what runs in threads, `sites` and `workers`. They stand in a crate of their own, since a library with tests in it is proved twice.
+//
+// They show what no clause says: that two threads share a site, and a build of theirs settles what its target
+// needs; that workers run at the same time, that a locked cache is held by one at a time, that the gate is asked around
 // commands alone, and that random plans have the same answer whatever the number of workers.
 #![tactic(auto)]
 
@@ -8,5 +11,7 @@ mod answers;
 mod caches;
 #[cfg(test)]
 mod overlaps;
+#[cfg(test)]
+mod pairs;
 #[cfg(test)]
 mod randoms;

@@ -7,8 +7,8 @@ use Rattle.executor.specs.declared.executor.Executor.{Ghosts}
 use Rattle.std.proofs.Crossing as any
 use Rattle.sites.specs.contracts.site.Desk as Desk
 use Rattle.sites.proofs.Crosses.{desk_sync, job_sync}
-use Rattle.site_tests.specs.contracts.pairs.Tools as Tools
-use Rattle.site_tests.proofs.pairs.work_all.Goals as goal
+use Rattle.worker_tests.specs.contracts.pairs.Tools as Tools
+use Rattle.worker_tests.proofs.pairs.work_all.Goals as goal
 
 -- what the two workers share may be lent to several threads. (It stands here, since a file of its own would be read where the tests aren't there.)
 tools_sync : (κ : NamedLft) (E : RattleType) (g : Ghosts E.Denot) → IsSync E → IsSync (Tools.the_row κ E g)

@@ -14,7 +14,7 @@ use Rattle.rows.specs.declared.row.Step.{Step}
 use Rattle.lowering.specs.Meaning.{Rows}
 use Rattle.rows.specs.WellFormed.{NamesOnly, StageNames, RowNames, IsNamed, HasTree, IsStep, IsRow, IsWellFormed}
 use Rattle.rows.proofs.WellFormedLaws.{rows_are}
-use Rattle.lowering_tests.specs.PrivateFiles.{run_stage, two_stages}
+use Rattle.plan_tests.specs.PrivateFiles.{run_stage, two_stages}
 
 stage_names : (P : Origin → Type 0) (line : ℕ) (word : List ℕ) → P (run_stage line word).base → StageNames P (run_stage line word)
 stage_names P line word base = record {

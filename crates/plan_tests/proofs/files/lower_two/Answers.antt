@@ -1,5 +1,5 @@
-use Rattle.lowering_tests.proofs.FileFacts.{two_are, two_have, two_at, no_images}
-use Rattle.lowering_tests.proofs.files.lower_two.Goals as goal
+use Rattle.plan_tests.proofs.FileFacts.{two_are, two_have, two_at, no_images}
+use Rattle.plan_tests.proofs.files.lower_two.Goals as goal
 
 pub lower_program-requires-clause-rows : goal.lower_program-requires-clause-rows
 lower_program-requires-clause-rows c = two_are c.in_ok-rows.rows _ _ c.in_ok-rows.ensures

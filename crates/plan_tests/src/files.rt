@@ -1,6 +1,6 @@
 // Files of two stages, each of one RUN on the empty tree, and their plans written down by hand.
 ghost use Rattle.std.specs.Prelude.{◌≡◌, ◌<◌, ◌+◌, IfOk};
-ghost use Rattle.lowering_tests.specs.PrivateFiles.{run_exec, run_stage, two_stages};
+ghost use Rattle.plan_tests.specs.PrivateFiles.{run_exec, run_stage, two_stages};
 
 use llb::{Exec, Source, VertexId};
 use lowering::lower_program;

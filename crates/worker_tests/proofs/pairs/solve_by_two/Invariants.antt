@@ -1,5 +1,5 @@
 use Rattle.board.specs.Board.{board_problem}
-use Rattle.site_tests.proofs.pairs.solve_by_two.Given as goal
+use Rattle.worker_tests.proofs.pairs.solve_by_two.Given as goal
 
 -- the site's problem is that of the board which is given to it
 abbrev pub ghosts-tallies_of_two-J-Case : goal.ghosts-tallies_of_two-J-Case
