@@ -68,31 +68,68 @@ fn answer_to_graph(
     Ok(format!(in alloc; "{count} vertices, result {result}, {words}")?)
 }
 
-/// Whether a graph and its result are written as this text.
+/// Whether a graph and its result are written as this text. The plan is lent and let go by name: a `?` walks all that is held at it.
 fn is_written_as(
     alloc: Global,
     graph: Graph,
     target: VertexId,
     text: &str,
 ) -> Result<bool, Memory> {
-    let sources = sources(alloc)?;
-    if target.index() >= graph.len() || !sources.suffice(&graph) {
-        return Ok(false);
+    match plan_of(alloc, graph, target) {
+        Ok(Some(plan)) => {
+            let is_same = is_plan_written_as(alloc, &plan, text);
+            drop(plan);
+            is_same
+        }
+        Ok(None) => Ok(false),
+        Err(memory) => Err(memory),
     }
-    match write(alloc, &Plan::new(graph, target, (), sources)) {
+}
+
+fn is_plan_written_as(alloc: Global, plan: &Plan<()>, text: &str) -> Result<bool, Memory> {
+    match write(alloc, plan) {
         Ok(written) => Ok(written.as_str() == text),
         Err(Fault::Because(_)) => Ok(false),
         Err(Fault::Memory) => Err(Memory),
     }
 }
 
+/// The plan of a graph with the sources that the table names; none if it has others, or the result isn't in it.
+fn plan_of(alloc: Global, graph: Graph, target: VertexId) -> Result<Option<Plan<()>>, Memory> {
+    match sources(alloc) {
+        Ok(sources) => {
+            if target.index() < graph.len() && sources.suffice(&graph) {
+                return Ok(Some(Plan::new(graph, target, (), sources)));
+            }
+            drop(sources);
+            drop(graph);
+            Ok(None)
+        }
+        Err(memory) => {
+            drop(graph);
+            Err(memory)
+        }
+    }
+}
+
 /// The trees of the sources that the table names.
 fn sources(alloc: Global) -> Result<Sources, Memory> {
     let mut sources = Sources::new(alloc, Tree::empty(alloc));
-    for name in ["a", "context", "Scratch", "image:a"] {
-        sources.add_image(Text::from_str(alloc, name)?, Tree::empty(alloc))?;
+    match add_images(alloc, &mut sources) {
+        Ok(()) => Ok(sources),
+        Err(memory) => {
+            drop(sources);
+            Err(memory)
+        }
     }
-    Ok(sources)
+}
+
+fn add_images(alloc: Global, sources: &mut Sources) -> Result<(), Memory> {
+    for name in ["a", "context", "Scratch", "image:a"] {
+        let name = Text::from_str(alloc, name)?;
+        sources.add_image(name, Tree::empty(alloc))?;
+    }
+    Ok(())
 }
 
 /// The definition of so many operations: the empty tree, which is the result, and directories in it.
