@@ -1,5 +1,5 @@
 -- The parts of a component's pattern, and what each holds of (Go's filepath.Match). Characters are Unicode scalar values, and case counts.
-use Rattle.std.specs.Prelude.{◌≡◌, ℕ, Bool, true, false, ◌&&◌, List, ◌∷◌, map, not, nat_le, nat_eq, if◌then◌else◌}
+use Rattle.std.specs.Prelude.{◌≡◌, ◌↔◌, ℕ, Bool, true, false, ◌&&◌, List, ◌∷◌, map, not, nat_le, nat_eq, if◌then◌else◌}
 use Rattle.std.specs.List.{list_any}
 use Rattle.std.specs.Str.{chars, IsUtf8, is_utf8}
 use Rattle.globs.specs.declared.part.Range.{Range}
@@ -36,6 +36,10 @@ relates_to_name parts name = is_utf8 name && can_be_cut takes_any holds parts (c
 -- the parts of a pattern that is a plain name: each of its characters
 abbrev pub plain_parts : List ℕ → List Part
 plain_parts name = map (λ c. Exactly c) (chars name)
+
+-- a pattern stands for a name: it relates to it, and to no other one
+abbrev pub StandsFor : List Part → List ℕ → Type 0
+StandsFor parts name = (other : List ℕ) → (relates_to_name parts other ≡ true) ↔ (other ≡ name)
 
 -- a name is the only one that a pattern relates to
 abbrev pub IsOnlyName : List Part → List ℕ → Type 0

@@ -1,6 +1,6 @@
 ghost use Rattle.std.specs.Prelude.{◌≡◌, ◌↔◌, ℕ, IsTrue, List, ◌∷◌, Some, IfOk, IfSome};
 ghost use Rattle.std.specs.Str.{chars};
-ghost use Rattle.globs.specs.Component.{RelatesToName, relates_to_name, plain_parts, IsOnlyName, BeginsWith};
+ghost use Rattle.globs.specs.Component.{RelatesToName, relates_to_name, plain_parts, StandsFor, IsOnlyName, BeginsWith};
 ghost use Rattle.globs.specs.Grammar.{is_spelled_out};
 ghost use Rattle.globs.specs.PrivateShape.{ending_parts, beginning_parts};
 ghost use Rattle.globs.specs.Reading.{parts_of};
@@ -161,13 +161,28 @@ impl Component {
         }
     }
 
+    /// The name that the pattern stands for, where it has no sign of patterns; none for others, also where they relate to one name alone.
+    /// Whoever has a folder's names in order looks for it, and need not go through them.
+    pub fn spelled_name(&self) -> Option<&Text>
+        ensures { IfSome result (λ name. StandsFor self.now name.now) }
+    {
+        match &self.shape {
+            Shape::Plain(own) => {
+                // What `as_str` says of it: the name is text.
+                let _text = own.as_str();
+                Some(own)
+            }
+            Shape::Ending(_) | Shape::Beginning(_) | Shape::Parts(_) => None,
+        }
+    }
+
     /// The one name that the pattern relates to, where it has no sign of patterns; none for others, also where they relate to one name.
     pub fn plain_name(&self) -> Option<&str>
         ensures { IfSome result (λ name. IsOnlyName self.now name.now) }
     {
-        match &self.shape {
-            Shape::Plain(own) => Some(own.as_str()),
-            Shape::Ending(_) | Shape::Beginning(_) | Shape::Parts(_) => None,
+        match self.spelled_name() {
+            Some(name) => Some(name.as_str()),
+            None => None,
         }
     }
 

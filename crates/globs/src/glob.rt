@@ -66,6 +66,14 @@ impl Glob {
         }
     }
 
+    /// The pattern's components, from the root down, lent: it relates to a path if it has as many names, and each component relates to
+    /// its name.
+    pub fn components(&self) -> &[Component]
+        ensures { result.now ≡ self.now }
+    {
+        self.components.as_slice()
+    }
+
     /// Whether the pattern relates to a path: it has as many components, and each relates to its name. It takes no memory, and costs
     /// at most the pattern's length times the path's.
     pub fn matches(&self, path: &Path) -> bool
