@@ -1,5 +1,5 @@
 -- The children of a node as the list of their names and maps, in the order of the names.
-use Rattle.std.specs.Prelude.{◌≡◌, ℕ, Bool, true, false, ◌&&◌, cond, T, IsTrue, Option, Some, None, ◌↔◌, List, [], ◌∷◌, ◌++◌, map, is_some, option_and_then, option_map}
+use Rattle.std.specs.Prelude.{◌≡◌, ℕ, Bool, true, false, ◌&&◌, cond, T, IsTrue, Option, Some, None, ◌↔◌, List, [], ◌∷◌, ◌++◌, is_some, option_and_then, option_map}
 use Rattle.std.proofs.Common.{sym, ap, refl, ◌∙◌, subst, true≢false, append_assoc, unwrap_or}
 use Rattle.std.specs.Ordering.{eq_by_cmp, is_lt, ordering_reverse, match_ordering}
 use Rattle.std.specs.declared.cmp.Ordering.{Ordering}
@@ -15,19 +15,12 @@ use Rattle.std.specs.FinMap.Entries.{is_sorted, below_all, same_entries}
 use Rattle.trees.specs.declared.entry.Entry.{Entry}
 use Rattle.paths.specs.Order.{name_cmp}
 use Rattle.trees.specs.TreeMap.{TreeMap}
-use Rattle.trees.specs.PrivateNode.{NodeValue, map_of, joined}
+use Rattle.trees.specs.PrivateNode.{NodeValue, map_of, kid_maps, joined}
 use Rattle.trees.proofs.TreeLaws.{same_tree}
 use Rattle.paths.proofs.FrontLaws.{both_hold, both_first, both_second, name_itself}
 use Rattle.trees.proofs.NodeSteps.{node_of}
 use Rattle.trees.proofs.PartLists.{less, find-append, not-below, below-from_under, sorted-under}
 use Rattle.trees.proofs.NodeLaws.{get-map_of_root, get-map_of_cons, get-joined, get-joined_root, lookup-find}
-
--- the names and maps of children
-abbrev pub kid_map : List ℕ × NodeValue → List ℕ × TreeMap
-kid_map kid = (kid.0, map_of kid.1)
-
-abbrev pub kid_maps : List (List ℕ × NodeValue) → List (List ℕ × TreeMap)
-kid_maps kids = map kid_map kids
 
 find-kid_maps : (q : List ℕ) (kids : List (List ℕ × NodeValue)) → find name_cmp q (kid_maps kids) ≡ option_map map_of (find name_cmp q kids)
 find-kid_maps q [] = refl

@@ -2,6 +2,7 @@ pub mod WayLaws
 pub mod TreeLaws
 pub mod CauseLaws
 pub mod SubtreeLaws
+pub mod BranchLaws
 pub mod OverLaws
 pub mod RemoveLaws
 pub mod CopyLaws
@@ -13,6 +14,7 @@ mod PartLists
 mod PartSteps
 mod RowLists
 mod WalkSteps
+mod BranchSteps
 mod TreeSteps
 mod OverSteps
 mod CutSteps

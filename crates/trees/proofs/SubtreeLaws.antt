@@ -34,7 +34,7 @@ row-below q (c ∷ cs) entry rest o (d ∷ ds) same =
     by_name true below there none found = found
     by_name false below there none found = none
 
-find-below : (top q : List (List ℕ)) (rows : List (List (List ℕ) × Entry)) → find path_cmp q (entries_below top rows) ≡ find path_cmp (top ++ q) rows
+pub find-below : (top q : List (List ℕ)) (rows : List (List (List ℕ) × Entry)) → find path_cmp q (entries_below top rows) ≡ find path_cmp (top ++ q) rows
 find-below top q [] = refl
 find-below top q (row ∷ rows) = row-below q row.0 row.1 (entries_below top rows) (find path_cmp (top ++ q) rows) top (find-below top q rows)
 

@@ -2,6 +2,7 @@ pub mod TreeMap
 pub mod Cause
 pub mod Rows
 pub mod Walk
+pub mod Branch
 pub mod Put
 pub mod Make
 pub mod Remove

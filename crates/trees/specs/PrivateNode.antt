@@ -132,6 +132,10 @@ abbrev pub begins_with : List ℕ → List (List ℕ) → Bool
 begins_with name [] = false
 begins_with name (c ∷ cs) = eq_by_cmp name_cmp c name
 
+-- the names and maps of children
+abbrev pub kid_maps : List (List ℕ × NodeValue) → List (List ℕ × TreeMap)
+kid_maps kids = map (λ kid. (kid.0, map_of kid.1)) kids
+
 -- the rows of a child, seen from its parent
 abbrev pub below_name : List ℕ → List (List (List ℕ) × Entry) → List (List (List ℕ) × Entry)
 below_name name rows = map (λ row. (name ∷ row.0, row.1)) rows

@@ -3,7 +3,8 @@
 // A tree is, for contracts, a finite map from paths to entries in which the root and all parents are directories (`IsTree` of
 // specs/TreeMap.antt); how it is stored can't be seen. One entry is put at a path (`put_into`), a directory is made with its parents
 // (`made`), a path is taken away (`removed`), a COPY places its sources (`copied`), and trees are laid over each other (`over`,
-// `merged`). Each gives a tree or a cause (`TreeOrCause`). A `Walk` lends all entries with the names on the way to them, one after another.
+// `merged`). Each gives a tree or a cause (`TreeOrCause`). A `Walk` lends all entries with the names on the way to them, one after another, and
+// a `Branch` what stands at one path, its children by their names.
 // The crate knows no patterns: the sources of a COPY are paths.
 //
 // ```
@@ -14,6 +15,7 @@
 #![tactic(auto)]
 
 mod apply;
+mod branch;
 mod cause;
 mod changes;
 mod children;
@@ -30,6 +32,7 @@ mod put;
 mod tree;
 mod walk;
 
+pub use branch::{Branch, Branches};
 pub use cause::{Cause, TreeFault, TreeOrCause};
 pub use content::Content;
 pub use copy::{CopyOptions, CopySource};

@@ -1,4 +1,4 @@
-ghost use Rattle.std.specs.Prelude.{◌≡◌, ◌↔◌, ◌<◌, ℕ, true, Some, None, List, [], ◌∷◌, ◌++◌, is_some, drop, length, IsTrue, IfOk, OnOk, OnErr, MatchOption, option_copied};
+ghost use Rattle.std.specs.Prelude.{◌≡◌, ◌↔◌, ◌<◌, ℕ, true, Some, None, List, [], ◌∷◌, ◌++◌, is_some, drop, length, IsTrue, IfOk, OnOk, OnErr, MatchOption, option_copied, option_and_then};
 ghost use Rattle.std.specs.FinMap.{get, empty, entries};
 ghost use Rattle.paths.specs.Path.{IsClean};
 ghost use Rattle.trees.specs.TreeMap.{is_blocked, is_directory, meta_of};
@@ -74,6 +74,13 @@ impl Node {
         ensures { entries (map_of self.now) ≡ ([], self.now.top) ∷ rows_of result }
     {
         self.kids.iter()
+    }
+
+    /// What stands right below this node under a name.
+    pub(crate) fn child(&self, name: &Text) -> Option<&Node>
+        ensures { (rest : List (List ℕ)) → get (map_of self.now) (name.now ∷ rest) ≡ option_and_then (λ child. get (map_of child.now) rest) result }
+    {
+        self.kids.get(name)
     }
 
     /// Whether this node's entry is a directory.

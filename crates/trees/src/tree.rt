@@ -17,7 +17,7 @@ use crate::changes::is_any_missing;
 use crate::folder::place_sources;
 use crate::node::Node;
 use crate::put::cause_at;
-use crate::{Cause, CopyOptions, CopySource, Entry, Meta, TreeFault, Walk};
+use crate::{Branch, Cause, CopyOptions, CopySource, Entry, Meta, TreeFault, Walk};
 use paths::Path;
 use plain::{Exact, Fault, Memory};
 use std::alloc::Global;
@@ -90,6 +90,13 @@ impl Tree {
         ensures { IfOk result (λ walk. walk.left ≡ entries self.now) }
     {
         Walk::of(alloc, &self.root)
+    }
+
+    /// The whole tree, lent as a branch.
+    pub fn branch(&self) -> Branch<'_>
+        ensures { result ≡ self.now }
+    {
+        Branch::of(&self.root)
     }
 
     /// What lies under a path, as a tree of its own: the directory at the path is its root. Of the root it is a copy of the tree.

@@ -1,6 +1,5 @@
 use Rattle.std.proofs.Common.{◌≡◌, ◌++◌, ◌+◌, ◌↔◌, List, ℕ, length}
-use Rattle.trees.specs.PrivateNode.{NodeValue, joined, height_of}
-use Rattle.trees.proofs.KidLists.{kid_maps}
+use Rattle.trees.specs.PrivateNode.{NodeValue, kid_maps, joined, height_of}
 use Rattle.trees.proofs.+comparing.Given as goal
 
 -- the maps stand for the same where the children that are left are the same
