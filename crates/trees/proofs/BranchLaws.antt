@@ -1,17 +1,19 @@
--- What the entries of a branch are, where it is known what stands at each of its paths.
-use Rattle.std.specs.Prelude.{◌≡◌, ℕ, Bool, true, false, cond, T, Option, Some, None, List, [], ◌∷◌, ◌++◌, nat_eq}
+-- What the entries of a tree and of a branch are, where it is known what stands at each path.
+use Rattle.std.specs.Prelude.{◌≡◌, ℕ, Bool, true, false, cond, T, Option, Some, None, List, [], ◌∷◌, ◌++◌, is_some, nat_eq}
 use Rattle.std.proofs.Common.{sym, ap, refl, ◌∙◌, subst, true≢false}
 use Rattle.std.proofs.lemmas.Option.{same_Some, none-some}
-use Rattle.std.specs.Ordering.{is_lt, ordering_then}
+use Rattle.std.specs.List.{AllByRecursion}
+use Rattle.std.specs.Ordering.{eq_by_cmp, is_eq, is_lt, ordering_then}
 use Rattle.std.specs.Cmp.{tied_itself}
 use Rattle.std.specs.Cmp.Lexicographic.{nat_list_cmp_total, pointwise, texts_ties}
 use Rattle.std.specs.FinMap.{get, entries, entries_sorted, get-entries, find}
 use Rattle.std.specs.FinMap.Entries.{is_sorted, below_all, same_entries}
 use Rattle.paths.specs.OrderLaws.{path_cmp_total, path_cmp-IsAntisymmetric}
 use Rattle.paths.specs.Order.{path_cmp}
+use Rattle.paths.specs.Path.{IsClean}
 use Rattle.paths.proofs.FrontLaws.{both_hold, both_first, both_second, name_same}
 use Rattle.trees.specs.declared.entry.Entry.{Entry}
-use Rattle.trees.specs.TreeMap.{TreeMap}
+use Rattle.trees.specs.TreeMap.{TreeMap, IsTree}
 use Rattle.trees.specs.Subtree.{path_below, with_entry, entries_below}
 use Rattle.trees.proofs.SubtreeLaws.{find-below}
 
@@ -21,6 +23,27 @@ is-true false h = absurd h
 
 holds : (b : Bool) → b ≡ true → T b
 holds b e = subst T (sym e) tt
+
+-- ---- all entries of a tree
+
+-- what holds of each path at which something is found holds of each path in a list
+found-all : (P : List (List ℕ) → Type 0) (rows : List (List (List ℕ) × Entry)) → ((q : List (List ℕ)) → is_some (find path_cmp q rows) ≡ true → P q) → AllByRecursion (λ row. P row.0) rows
+found-all P [] h = tt
+found-all P (row ∷ rows) h = (h row.0 (here row rows), found-all P rows (λ q s. h q (later q row rows s)))
+  where
+    here : (row : List (List ℕ) × Entry) (rows : List (List (List ℕ) × Entry)) → is_some (find path_cmp row.0 (row ∷ rows)) ≡ true
+    here row rows = ap (λ o. is_some (cond (is_eq o) (Some row.1) (find path_cmp row.0 rows))) (tied_itself path_cmp_total row.0)
+
+    found : (tie : Bool) (entry : Entry) (o : Option Entry) → is_some o ≡ true → is_some (cond tie (Some entry) o) ≡ true
+    found true entry o s = refl
+    found false entry o s = s
+
+    later : (q : List (List ℕ)) (row : List (List ℕ) × Entry) (rows : List (List (List ℕ) × Entry)) → is_some (find path_cmp q rows) ≡ true → is_some (find path_cmp q (row ∷ rows)) ≡ true
+    later q row rows s = found (eq_by_cmp path_cmp q row.0) row.1 (find path_cmp q rows) s
+
+-- each row of a tree has a clean path
+pub clean-rows : (tree : TreeMap) → IsTree tree → AllByRecursion (λ row. IsClean row.0) (entries tree)
+clean-rows tree h = found-all IsClean (entries tree) (λ q s. h.clean q (ap is_some (get-entries tree q) ∙ s))
 
 -- ---- the entries of a child
 

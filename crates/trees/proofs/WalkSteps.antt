@@ -4,13 +4,11 @@ use Rattle.std.proofs.Common.{sym, ap, refl, ◌∙◌, subst, true≢false, ari
 use Rattle.std.proofs.lemmas.List.{map-append, length-map}
 use Rattle.std.specs.List.{AllByRecursion}
 use Rattle.std.specs.Option.{option_to_list}
-use Rattle.std.specs.Ordering.{eq_by_cmp, is_eq}
-use Rattle.std.specs.Cmp.{tied_itself}
+use Rattle.std.specs.Ordering.{eq_by_cmp}
 use Rattle.std.specs.FinMap.{get, entries, get-entries, find}
 use Rattle.std.specs.declared.vec.Vec.{Vec}
 use Rattle.plain.specs.Limits.{most_components}
 use Rattle.paths.specs.Order.{path_cmp}
-use Rattle.paths.specs.OrderLaws.{path_cmp_total}
 use Rattle.paths.specs.Path.{IsClean}
 use Rattle.paths.proofs.FrontLaws.{path_same}
 use Rattle.trees.specs.declared.entry.Entry.{Entry}
@@ -18,6 +16,7 @@ use Rattle.trees.specs.TreeMap.{TreeMap, IsTree}
 use Rattle.trees.specs.Rows.{lent_names}
 use Rattle.trees.specs.PrivateNode.{NodeValue, map_of, below_name}
 use Rattle.trees.specs.PrivateWalk.{rows_of, rows_left, IsOnWay}
+use Rattle.trees.proofs.BranchLaws.{clean-rows}
 
 -- what comes next is given, and the walk goes on below it
 rows_left-enter : (names : List (List ℕ)) (above : List (List (List ℕ × NodeValue))) (name : List ℕ) (kid : NodeValue) (rest below : List (List ℕ × NodeValue)) → length names ≡ length above → entries (map_of kid) ≡ ([], kid.top) ∷ rows_of below
@@ -120,25 +119,6 @@ leaves names names' above above' kids left (Some name) way none popped named som
     )
 
 -- ---- a walk begins
-
--- what holds of each path at which something is found holds of each path in a list
-found-all : (P : List (List ℕ) → Type 0) (rows : List (List (List ℕ) × Entry)) → ((q : List (List ℕ)) → is_some (find path_cmp q rows) ≡ true → P q) → AllByRecursion (λ row. P row.0) rows
-found-all P [] h = tt
-found-all P (row ∷ rows) h = (h row.0 (here row rows), found-all P rows (λ q s. h q (later q row rows s)))
-  where
-    here : (row : List (List ℕ) × Entry) (rows : List (List (List ℕ) × Entry)) → is_some (find path_cmp row.0 (row ∷ rows)) ≡ true
-    here row rows = ap (λ o. is_some (cond (is_eq o) (Some row.1) (find path_cmp row.0 rows))) (tied_itself path_cmp_total row.0)
-
-    found : (tie : Bool) (entry : Entry) (o : Option Entry) → is_some o ≡ true → is_some (cond tie (Some entry) o) ≡ true
-    found true entry o s = refl
-    found false entry o s = s
-
-    later : (q : List (List ℕ)) (row : List (List ℕ) × Entry) (rows : List (List (List ℕ) × Entry)) → is_some (find path_cmp q rows) ≡ true → is_some (find path_cmp q (row ∷ rows)) ≡ true
-    later q row rows s = found (eq_by_cmp path_cmp q row.0) row.1 (find path_cmp q rows) s
-
--- each row of a tree has a clean path
-pub clean-rows : (tree : TreeMap) → IsTree tree → AllByRecursion (λ row. IsClean row.0) (entries tree)
-clean-rows tree h = found-all IsClean (entries tree) (λ q s. h.clean q (ap is_some (get-entries tree q) ∙ s))
 
 -- so a walk from the root is on its way
 pub begins : {Z : Type 0} (names : Vec (Bor (List ℕ)) Z) (above : Vec (List (List ℕ × NodeValue)) Z) (kids : List (List ℕ × NodeValue)) (root : NodeValue) → IsTree (map_of root) → entries (map_of root) ≡ ([], root.top) ∷ rows_of kids → names.items ≡ [] → above.items ≡ []
