@@ -35,7 +35,7 @@ input_treeless problem vertex input are has none =
     ∙ ap (λ (o : Option (List TreeMap)). tree_of (option_and_then (result_of problem.out problem.sources has.v.op) o)) trees
 
 -- so a vertex from which a path leads to one without a tree has none
-treeless : (problem : Problem) (path : List ℕ) (from to : ℕ) → AreVertices problem.vertices → IsPath (HasInput problem.vertices) from path to → tree_of (vertex_value problem to) ≡ None → tree_of (vertex_value problem from) ≡ None
+pub treeless : (problem : Problem) (path : List ℕ) (from to : ℕ) → AreVertices problem.vertices → IsPath (HasInput problem.vertices) from path to → tree_of (vertex_value problem to) ≡ None → tree_of (vertex_value problem from) ≡ None
 treeless problem [] from to are leads none = rw leads none
 treeless problem (next ∷ path) from to are leads none =
     input_treeless problem from next are leads.0 (treeless problem path next to are leads.1 none)

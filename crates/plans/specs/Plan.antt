@@ -1,6 +1,7 @@
 -- What a build has to solve: a graph, the vertex whose tree is wanted, the configuration that goes with that tree, and the trees
 -- of the graph's sources.
-use Rattle.std.specs.Prelude.{◌≡◌, ◌<◌, ℕ, Some, Result, Ok, Err, List, [], ◌∷◌, length, slice_get, refl}
+use Rattle.std.specs.Prelude.{◌≡◌, ◌<◌, ◌≤◌, ℕ, Some, Result, Ok, Err, List, [], ◌∷◌, length, slice_get, slice_index_or, refl}
+use Rattle.std.specs.List.{All}
 use Rattle.std.specs.Option.{option_map_or}
 use Rattle.std.specs.Coded.{Coded, code_by, coded×, coded_ℕ}
 use Rattle.trees.specs.TreeMap.{TreeMap}
@@ -13,6 +14,7 @@ use Rattle.llb.specs.declared.op.Op.TheVariants.{Source as SourceOp, Exec as Exe
 use Rattle.llb.specs.declared.vertex.Vertex.{Vertex}
 use Rattle.llb.specs.contracts.graph.Graph as graph
 use Rattle.llb.specs.Graph.{GraphValue, IsGraph}
+use Rattle.llb.specs.Places.{least_line}
 use Rattle.llb.specs.Reach.{Reaches}
 use Rattle.plans.specs.Sources.{SourcesValue, sources_code, HasSources}
 use Rattle.plans.specs.Request.{request_of}
@@ -64,6 +66,15 @@ IsValue problem id value = vertex_value problem id ≡ Some value
 -- the target needs every vertex: each one is the target or is reached from it by inputs (own)
 abbrev pub NeedsAll : Problem → Type 0
 NeedsAll problem = (vertex : ℕ) → vertex < length problem.vertices → Reaches problem.vertices problem.target vertex
+
+-- the least line behind a vertex of the problem; 0 where there is none (own)
+abbrev pub line_at : Problem → ℕ → ℕ
+line_at problem vertex = least_line (slice_index_or problem.places vertex [])
+
+-- the lines of a problem are in order: no input's least line is greater than its vertex's (own)
+abbrev pub HasLinesInOrder : Problem → Type 0
+HasLinesInOrder problem =
+    (vertex : ℕ) (v : Vertex) → slice_get problem.vertices vertex ≡ Some v → All (λ input. line_at problem input ≤ line_at problem vertex) v.inputs
 
 -- the caches that an operation uses, in their order
 abbrev pub caches_of : Op → List CacheUse
