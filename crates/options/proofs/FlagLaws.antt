@@ -1,12 +1,12 @@
 -- Laws of flags that COPY and RUN know: what they say is well-formed.
-use Rattle.std.specs.Prelude.{◌≡◌, ◌≢◌, ◌<◌, ℕ, suc, ◌+◌, ◌-◌, ◌*◌, ◌&&◌, nat_le, Bool, true, false, not, List, [], ◌∷◌}
+use Rattle.std.specs.Prelude.{◌≡◌, ◌≢◌, ◌<◌, ℕ, suc, ◌+◌, ◌-◌, ◌*◌, ◌&&◌, ◌||◌, nat_le, Bool, true, false, not, List, [], ◌∷◌}
 use Rattle.std.specs.Prelude.{Option, Some, None, option_map, option_and_then, length, map, if◌then◌else◌, codes, refl}
-use Rattle.std.specs.List.{find, list_all}
+use Rattle.std.specs.List.{find, list_all, list_any}
 use Rattle.std.proofs.Common.{sym, ◌∙◌, ap, subst, true≢false, arith}
 use Rattle.std.proofs.lemmas.Bool.Decides.{nat_tests}
 use Rattle.std.proofs.lemmas.List.{length-map}
 use Rattle.std.proofs.lemmas.Slice.Eq.{bytes_eq-Decides}
-use Rattle.options.specs.Copy.{is_copy_flag, are_copy_flags, value_of, read_if, flags_with, copy_flags}
+use Rattle.options.specs.Copy.{is_copy_flag, are_copy_flags, value_of, read_if, flags_with, copy_flags, has_from}
 use Rattle.options.specs.Lists.{all_some, has_twice}
 use Rattle.options.specs.Mount.{mount_in, mounts}
 use Rattle.options.specs.Numbers.{owner_of, octal_digit, mode_with, mode_of}
@@ -80,6 +80,24 @@ pub from_is_filled : (flags : List Flag) (said : CopyFlags) (name : List ℕ) �
 unfolding are_copy_flags copy_flags
 from_is_filled flags said name known h from =
     from_named flags name (and_first (list_all is_copy_flag flags) (not (has_twice (λ flag. is_named flag.name) flags)) known)
+    (sym (from_said flags said (read_if owner_of (value_of (codes "chown") flags)) (read_if mode_of (value_of (codes "chmod") flags)) h) ∙ from)
+
+-- where something is said of `--from`, the flag is there
+
+found_there_by : (flag : Flag) (flags : List Flag) (name : List ℕ) (named : Bool)
+    → (value_of (codes "from") flags ≡ Some name → list_any (is_named (codes "from")) flags ≡ true) → Names flag flags named name
+    → (named || list_any (is_named (codes "from")) flags) ≡ true
+found_there_by flag flags name true rest h = refl
+found_there_by flag flags name false rest h = rest h
+
+found_there : (flags : List Flag) (name : List ℕ) → value_of (codes "from") flags ≡ Some name → list_any (is_named (codes "from")) flags ≡ true
+found_there [] name h = absurd (none_is name h)
+found_there (flag ∷ flags) name h = found_there_by flag flags name (is_named (codes "from") flag) (found_there flags name) h
+
+pub from_is_there : (flags : List Flag) (said : CopyFlags) (name : List ℕ) → copy_flags flags ≡ Some said → said.from ≡ Some name → has_from flags ≡ true
+unfolding copy_flags has_from
+from_is_there flags said name h from =
+    found_there flags name
     (sym (from_said flags said (read_if owner_of (value_of (codes "chown") flags)) (read_if mode_of (value_of (codes "chmod") flags)) h) ∙ from)
 
 -- a mode has permission bits alone
