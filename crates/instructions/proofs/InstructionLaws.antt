@@ -1,12 +1,12 @@
 -- What each instruction keeps that a line spells: each rule follows from a code that isn't due.
-use Rattle.std.specs.Prelude.{◌≡◌, ◌<◌, ◌≤◌, ℕ, suc, ◌-◌, ◌==◌, ◌||◌, nat_lt, Bool, true, false, not, List, [], ◌∷◌, length, map, Option, Some, None, option_map, option_and_then, if◌then◌else◌, refl}
+use Rattle.std.specs.Prelude.{◌≡◌, ◌<◌, ◌≤◌, ℕ, suc, ◌-◌, ◌==◌, ◌||◌, ◌&&◌, nat_lt, Bool, true, false, not, List, [], ◌∷◌, length, map, Option, Some, None, option_map, option_and_then, if◌then◌else◌, refl}
 use Rattle.std.specs.List.{list_all, list_any}
 use Rattle.std.proofs.Common.{sym, ◌∙◌, ap, subst, arith}
 use Rattle.std.proofs.lemmas.Bool.{true≢false}
 use Rattle.std.proofs.lemmas.Bool.Decides.{nat_tests}
 use Rattle.std.proofs.lemmas.List.{length-map, length-take}
 use Rattle.plain.specs.Limits.{most_mounts}
-use Rattle.plain.specs.declared.refusal.Code.TheVariants.{R06, R07, R10, R18}
+use Rattle.plain.specs.declared.refusal.Code.TheVariants.{R06, R07, R08, R10, R18}
 use Rattle.ascii.specs.Names.{is_name}
 use Rattle.lines.specs.declared.escape.Escape.{Escape}
 use Rattle.lines.specs.declared.line.Heredoc.{Heredoc}
@@ -17,12 +17,12 @@ use Rattle.words.specs.Flag.{flags, behind_flags}
 use Rattle.words.specs.Form.{json_form}
 use Rattle.words.specs.Pairs.{pair, label_pair}
 use Rattle.words.specs.declared.flag.Flag.{Flag}
-use Rattle.options.specs.Copy.{are_copy_flags, copy_flags}
+use Rattle.options.specs.Copy.{are_copy_flags, copy_flags, has_from}
 use Rattle.options.specs.Lists.{all_some}
 use Rattle.options.specs.Mount.{mounts}
 use Rattle.options.specs.declared.copy.CopyFlags.{CopyFlags}
 use Rattle.options.specs.declared.mount.Mount.{Mount}
-use Rattle.options.proofs.FlagLaws.{mounts-length, from_is_filled}
+use Rattle.options.proofs.FlagLaws.{mounts-length, from_is_filled, from_is_there}
 use Rattle.expand.specs.Value.{Parts}
 use Rattle.expand.specs.Word.{word}
 use Rattle.expand.specs.declared.kind.Kind.TheVariants.{Quoted}
@@ -35,7 +35,7 @@ use Rattle.instructions.specs.Env.{pairs_among, pair_alone, pairs_in, has_pairs,
 use Rattle.instructions.specs.Env as env
 use Rattle.instructions.specs.Expanded.{all_words, is_list, texts, kind_of}
 use Rattle.instructions.specs.From.{stage_from, stage_in, has_bad_name}
-use Rattle.instructions.specs.Instruction.{argument_names, assignment_names, HasWord, IsInstruction}
+use Rattle.instructions.specs.Instruction.{argument_names, assignment_names, HasWord, is_files, IsInstruction}
 use Rattle.instructions.specs.Label.{label_of, labels_of, label_pairs}
 use Rattle.instructions.specs.Least.{least}
 use Rattle.instructions.specs.OneWord.{one_word_read}
@@ -48,6 +48,7 @@ use Rattle.instructions.specs.declared.instruction.Instruction.{Instruction}
 use Rattle.instructions.specs.declared.instruction.InstructionKind.{InstructionKind}
 use Rattle.instructions.specs.declared.instruction.InstructionKind.TheVariants as instruction
 use Rattle.instructions.specs.declared.instruction.Source.{Source}
+use Rattle.instructions.specs.declared.instruction.Source.TheVariants as copy_source
 use Rattle.instructions.specs.declared.keyword.Keyword.{Keyword}
 use Rattle.instructions.specs.declared.keyword.Keyword.TheVariants.{From, Arg, Env, Label, Expose, User, Workdir, StopSignal, Volume, Shell, Cmd, Entrypoint, Run, Copy}
 use Rattle.instructions.proofs.LeastLaws.{none_due}
@@ -226,6 +227,43 @@ arguments_there None d found h = absurd (none_is found h)
 arguments_there (Some ss) None found h = absurd (none_is found h)
 arguments_there (Some ss) (Some destination) found h = ap (λ (f : List Source × Parts). Some f.0) (some_is (ss, destination) found h)
 
+-- where a line has no heredocs, its sources are patterns
+
+with_pattern : (pattern : Parts) (rest : Option (List Source)) (found : List Source) → ((ss : List Source) → rest ≡ Some ss → list_all is_files ss ≡ true)
+    → option_map (λ ss. copy_source.Files pattern ∷ ss) rest ≡ Some found → list_all is_files found ≡ true
+with_pattern pattern None found deeper h = absurd (none_is found h)
+with_pattern pattern (Some ss) found deeper h = subst (λ us. list_all is_files us ≡ true) (some_is (copy_source.Files pattern ∷ ss) found h) (deeper ss refl)
+
+with_word : (o : Option Parts) (os : List (Option Source)) (found : List Source) → ((ss : List Source) → all_some os ≡ Some ss → list_all is_files ss ≡ true)
+    → all_some (option_map (λ pattern. copy_source.Files pattern) o ∷ os) ≡ Some found → list_all is_files found ≡ true
+with_word None os found deeper h = absurd (none_is found h)
+with_word (Some pattern) os found deeper h = with_pattern pattern (all_some os) found deeper h
+
+patterns_alone : (listed : Bool) (e : Escape) (ts : List (List ℕ)) (found : List Source) → all_some (sources listed e [] ts) ≡ Some found → list_all is_files found ≡ true
+patterns_alone listed e [] found h = subst (λ us. list_all is_files us ≡ true) (some_is [] found h) refl
+patterns_alone listed e (t ∷ ts) found h = with_word (word (kind_of listed) e t) (sources listed e [] ts) found (patterns_alone listed e ts) h
+
+-- where heredocs aren't refused and `--from` is there, the line has none
+
+not_some : (some other from : Bool) → (some && (other || from)) ≡ false → from ≡ true → some ≡ false
+not_some false other from h e = refl
+not_some true other from h e = absurd (true≢false (sym e ∙ or_second other from h))
+
+none_left : (hs : List Heredoc) → (length hs == 0) ≡ true → hs ≡ []
+none_left [] e = refl
+none_left (h ∷ hs) e = absurd (grind (arith, nat_tests))
+
+no_heredocs : (listed : Bool) (hs : List Heredoc) (ts : List (List ℕ)) (fs : List Flag) → copy.are_refused listed hs ts fs ≡ false → has_from fs ≡ true → hs ≡ []
+no_heredocs listed hs ts fs allowed from =
+    none_left hs (not_true (length hs == 0) (not_some (not (length hs == 0)) (listed || not (copy.are_all_sources hs (but_last ts))) (has_from fs) allowed from))
+
+from_patterns : (listed : Bool) (e : Escape) (hs : List Heredoc) (ts : List (List ℕ)) (fs : List Flag) (said : CopyFlags) (found : List Source)
+    → copy.are_refused listed hs ts fs ≡ false → copy_flags fs ≡ Some said → all_some (sources listed e hs (but_last ts)) ≡ Some found
+    → (name : List ℕ) → said.from ≡ Some name → list_all is_files found ≡ true
+from_patterns listed e hs ts fs said found allowed k there name from =
+    let none : hs ≡ [] = no_heredocs listed hs ts fs allowed (from_is_there fs said name k from) in
+    patterns_alone listed e (but_last ts) found (subst (λ gs. all_some (sources listed e gs (but_last ts)) ≡ Some found) none there)
+
 copy_by : (o : Option (List Source × Parts)) (s : Option CopyFlags) (i : InstructionKind)
     → ((found : List Source × Parts) (said : CopyFlags) → o ≡ Some found → s ≡ Some said → IsInstruction (instruction.Copy found.0 found.1 said)) → copy_from o s ≡ Some i → IsInstruction i
 copy_by None s i h e = absurd (none_is i e)
@@ -278,9 +316,11 @@ whole (Some Copy) line rest i h e =
     let ts = texts line.escape behind in
     let listed = is_list behind in
     copy_by (copy.arguments_of listed line.escape line.heredocs ts) (copy_flags (flags rest)) i
-    (λ found said j k. (
-      some_sources listed line.escape line.heredocs ts found.0 (due R06) (arguments_there (all_some (sources listed line.escape line.heredocs (but_last ts))) (word (kind_of listed) line.escape (copy.last_of ts)) found j),
+    (λ found said j k.
+    let there = arguments_there (all_some (sources listed line.escape line.heredocs (but_last ts))) (word (kind_of listed) line.escape (copy.last_of ts)) found j in (
+      some_sources listed line.escape line.heredocs ts found.0 (due R06) there,
       λ name. from_is_filled (flags rest) said name (not_true (are_copy_flags (flags rest)) (due R07)) k,
+      from_patterns listed line.escape line.heredocs ts (flags rest) said found.0 (due R08) k there,
     )) e
 
 pub spelled_is_whole : (line : Line) (i : Instruction) → Spells line i → IsInstruction i.kind

@@ -26,7 +26,7 @@ pub fn the_least_code_is_told()
 {}
 
 /// What each instruction keeps that a line spells: names are names, there are as many arguments as there have to be, and no more
-/// mounts than are allowed.
+/// mounts than are allowed. A `--from` names something, and no heredoc stands beside it.
 pub fn spelled_instructions_are_whole()
     ensures { (line : Line) (i : Instruction) → Spells line i → IsInstruction i.kind }
 {}
