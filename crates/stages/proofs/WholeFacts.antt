@@ -1,7 +1,7 @@
 -- What each table keeps, of the stages of a file.
-use Rattle.std.proofs.Common.{suc, zero, ◌≡◌, ◌<◌, ◌≤◌, ◌&&◌, ◌+◌, ℕ, Bool, true, false, List, [], ◌∷◌, ◌++◌, Option, Some, None, length, map, refl, sym, ap, ◌∙◌, subst, arith, if◌then◌else◌}
-use Rattle.std.specs.Prelude.{slice_get, is_some, Ok, Err}
-use Rattle.std.specs.List.{All, cons_option}
+use Rattle.std.proofs.Common.{inl, inr, suc, zero, ◌≡◌, ◌<◌, ◌≤◌, ◌&&◌, ◌+◌, ℕ, Bool, true, false, List, [], ◌∷◌, ◌++◌, Option, Some, None, length, map, refl, sym, ap, ◌∙◌, subst, arith, if◌then◌else◌}
+use Rattle.std.specs.Prelude.{slice_get, is_some, Ok, Err, Contains}
+use Rattle.std.specs.List.{All, cons_option, list_all, filter_map}
 use Rattle.std.proofs.lemmas.Bool.{true≢false}
 use Rattle.std.proofs.lemmas.List.{length_push, length-append, append_assoc}
 use Rattle.std.proofs.lemmas.List.Elements.{All-nil, All-cons, All-head, All-tail, filter_map-append}
@@ -11,19 +11,26 @@ use Rattle.plain.specs.declared.refusal.Code.TheVariants.{R05, R13}
 use Rattle.plain.specs.declared.refusal.Refusal.{Refusal}
 use Rattle.plain.specs.declared.fault.Fault.{Fault}
 use Rattle.plain.specs.declared.fault.Fault.TheVariants.{Because, Memory}
+use Rattle.options.specs.declared.copy.CopyFlags.{CopyFlags}
 use Rattle.expand.specs.Value.{Parts}
-use Rattle.instructions.specs.Instruction.{IsInstruction}
+use Rattle.instructions.specs.Instruction.{is_files, IsInstruction}
 use Rattle.instructions.specs.Least.{least}
 use Rattle.instructions.specs.declared.instruction.Argument.{Argument}
 use Rattle.instructions.specs.declared.instruction.Instruction.{Instruction}
+use Rattle.instructions.specs.declared.instruction.InstructionKind.TheVariants.{Copy}
+use Rattle.instructions.specs.declared.instruction.Source.{Source}
 use Rattle.llb.specs.Places.{AscendFrom, AreLines}
+use Rattle.llb.specs.declared.op.Source.TheVariants.{Context}
+use Rattle.llb.proofs.LineFacts.{contains_nil, contains_cases}
+use Rattle.rows.specs.declared.row.Origin.{Origin}
+use Rattle.rows.specs.declared.row.Origin.TheVariants.{Source as SourceOf, Stage as StageOf}
 use Rattle.scopes.specs.Evaluate.{Values}
 use Rattle.scopes.specs.declared.declaration.Declaration.{Declaration}
 use Rattle.dockerfile.specs.Dockerfile.{AscendBelow, IsDockerfile}
 use Rattle.stages.specs.declared.resolving.Draft.{Draft}
 use Rattle.stages.specs.declared.stage.ResolvedInstruction.{ResolvedInstruction}
 use Rattle.stages.specs.declared.stage.ResolvedStage.{ResolvedStage}
-use Rattle.stages.specs.Naming.{Names, Known}
+use Rattle.stages.specs.Naming.{Names, Known, copy_reference, led_to, origins_of}
 use Rattle.stages.specs.Before.{begun, declared_by, name_begun, stage_names, outer_scope}
 use Rattle.stages.specs.Due.{outer_due, other_due, due_behind, begun_due}
 use Rattle.stages.specs.Table.{TableValue, unless_begun, stage_instructions, stages_behind, stages_of, lines_of, IsResolved, IsStage, IsTable, IsKnown, NamesKnown}
@@ -51,6 +58,25 @@ cons_none x xs e = cc
 abbrev IsWhole : Instruction → Type 0
 IsWhole i = IsInstruction i.kind
 
+-- a COPY from a stage has a `--from`, so its sources are patterns
+
+only_context : (other : ℕ) → Contains (SourceOf Context ∷ []) (StageOf other) → ⊥
+only_context other h = elim (contains_cases {X = Origin} (SourceOf Context) (StageOf other) [] h) [
+  | inl same ↦ (let is : StageOf other ≡ SourceOf Context = same in cc)
+  | inr none ↦ contains_nil {X = Origin} (StageOf other) none
+]
+
+patterns_by : (known : Known) (names : Names) (sources : List Source) (from : Option (List ℕ)) (other : ℕ)
+    → ((name : List ℕ) → from ≡ Some name → list_all is_files sources ≡ true)
+    → Contains (filter_map (led_to known names) (copy_reference from ∷ [])) (StageOf other) → list_all is_files sources ≡ true
+patterns_by known names sources None other files h = absurd (only_context other h)
+patterns_by known names sources (Some name) other files h = files name refl
+
+pub patterns_there : (known : Known) (names : Names) (sources : List Source) (destination : Parts) (flags : CopyFlags) (other : ℕ)
+    → IsInstruction (Copy sources destination flags) → Contains (origins_of known names (Copy sources destination flags)) (StageOf other)
+    → list_all is_files sources ≡ true
+patterns_there known names sources destination flags other whole h = patterns_by known names sources flags.from other whole.2 h
+
 -- each instruction of a stage is resolved
 
 body_by : (known : Known) (names : Names) (i : Instruction) (b : Option (Parts × Option (List ℕ))) (rs : List ResolvedInstruction) → begun i.kind ≡ b
@@ -64,6 +90,9 @@ body_by known names i None rs begins whole more counted =
       inner = begins;
       count = All-head IsCounted (resolved_as known names i) rs counted;
       before = origins_before known names i.kind;
+      patterns = λ sources destination flags other is h.
+          patterns_there known names sources destination flags other (subst IsInstruction is whole)
+          (subst (λ kind. Contains (origins_of known names kind) (StageOf other)) is h);
     }) (more (All-tail IsCounted (resolved_as known names i) rs counted))
 
 body_resolved : (known : Known) (names : Names) (is : List Instruction) → All IsWhole is → All IsCounted (stage_instructions known names is)

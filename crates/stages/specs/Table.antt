@@ -1,11 +1,14 @@
 -- The stages of a file with what their names lead to, as a function of its instructions.
-use Rattle.std.specs.Prelude.{◌≡◌, ◌<◌, ◌≤◌, ◌++◌, ℕ, List, [], ◌∷◌, map, Option, Some, None, IsTrue, option_map, length, slice_get}
-use Rattle.std.specs.List.{All, cons_option}
+use Rattle.std.specs.Prelude.{◌≡◌, ◌<◌, ◌≤◌, ◌++◌, ℕ, true, List, [], ◌∷◌, map, Option, Some, None, IsTrue, option_map, length, slice_get, Contains}
+use Rattle.std.specs.List.{All, cons_option, list_all}
 use Rattle.std.specs.Option.{unwrap_or}
 use Rattle.plain.specs.Limits.{most_lines, most_stages}
+use Rattle.options.specs.declared.copy.CopyFlags.{CopyFlags}
 use Rattle.expand.specs.Value.{Parts}
-use Rattle.instructions.specs.Instruction.{IsInstruction}
+use Rattle.instructions.specs.Instruction.{is_files, IsInstruction}
 use Rattle.instructions.specs.declared.instruction.Instruction.{Instruction}
+use Rattle.instructions.specs.declared.instruction.InstructionKind.TheVariants.{Copy}
+use Rattle.instructions.specs.declared.instruction.Source.{Source}
 use Rattle.llb.specs.Places.{AreLines}
 use Rattle.llb.specs.WellFormed.{is_well_formed_source}
 use Rattle.llb.specs.declared.op.Source.TheVariants.{Scratch, Context, Image}
@@ -71,12 +74,14 @@ IsBefore number (SourceOf source) = IsTrue (is_well_formed_source source)
 IsBefore number (StageOf other) = other < number
 
 -- an instruction of the stage of this number is whole, begins no stage, and has one origin for each tree that it names: one for a COPY, one
--- for each bind of a RUN, and none for another
+-- for each bind of a RUN, and none for another. No source of a COPY from a stage is a heredoc
 pub record IsResolved (number : ℕ) (r : ResolvedInstruction) : Type 0 where
   pub whole : IsInstruction r.instruction.kind
   pub inner : begun r.instruction.kind ≡ None
   pub count : length r.origins ≡ length (references r.instruction.kind)
   pub before : All (IsBefore number) r.origins
+  pub patterns : (sources : List Source) (destination : Parts) (flags : CopyFlags) (other : ℕ) → r.instruction.kind ≡ Copy sources destination flags
+      → Contains r.origins (StageOf other) → list_all is_files sources ≡ true
 
 -- the stage of this number names only what it may, and its instructions are resolved
 pub record IsStage (number : ℕ) (stage : ResolvedStage) : Type 0 where

@@ -1,11 +1,18 @@
 // What is proved of the definitions alone. The functions do nothing: their contracts are laws.
 
-ghost use Rattle.std.specs.Prelude.{◌≡◌, ℕ, List, Bool, true, Option, Ok, Err};
+ghost use Rattle.std.specs.Prelude.{◌≡◌, ℕ, List, Bool, true, Option, Ok, Err, Contains};
+ghost use Rattle.std.specs.List.{list_all};
 ghost use Rattle.plain.specs.declared.refusal.Refusal.{Refusal};
+ghost use Rattle.options.specs.declared.copy.CopyFlags.{CopyFlags};
+ghost use Rattle.expand.specs.Value.{Parts};
+ghost use Rattle.instructions.specs.Instruction.{is_files, IsInstruction};
 ghost use Rattle.instructions.specs.declared.instruction.Instruction.{Instruction};
+ghost use Rattle.instructions.specs.declared.instruction.InstructionKind.TheVariants.{Copy};
+ghost use Rattle.instructions.specs.declared.instruction.Source.{Source};
+ghost use Rattle.rows.specs.declared.row.Origin.TheVariants.{Stage as StageOf};
 ghost use Rattle.scopes.specs.Evaluate.{Values};
 ghost use Rattle.dockerfile.specs.Dockerfile.{AscendBelow};
-ghost use Rattle.stages.specs.Naming.{Known};
+ghost use Rattle.stages.specs.Naming.{Known, Names, origins_of};
 ghost use Rattle.stages.specs.Needed.{Refers, IsNeeded, IsClosed};
 ghost use Rattle.stages.specs.Refusals.{IsDue, IsLeastDue};
 ghost use Rattle.stages.specs.Resolved.{resolved};
@@ -30,4 +37,11 @@ pub fn the_least_stages_are_needed()
     ensures named { (stages : List ResolvedStage) (target from to : ℕ) → IsNeeded stages target from → Refers stages from to → IsNeeded stages target to }
     ensures least { (stages : List ResolvedStage) (target : ℕ) (has : ℕ → Bool) → IsClosed stages target has → (stage : ℕ) → IsNeeded stages target stage
         → has stage ≡ true }
+{}
+
+/// No source of a COPY from a stage is a heredoc: only `--from` leads to a stage, and a line with it spells a COPY of patterns alone.
+pub fn a_copy_from_a_stage_has_no_heredocs()
+    ensures { (known : Known) (names : Names) (sources : List Source) (destination : Parts) (flags : CopyFlags) (number : ℕ)
+        → IsInstruction (Copy sources destination flags) → Contains (origins_of known names (Copy sources destination flags)) (StageOf number)
+        → list_all is_files sources ≡ true }
 {}
