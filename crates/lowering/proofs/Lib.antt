@@ -4,11 +4,14 @@ pub mod Fronts
 pub mod Growing
 pub mod InputFacts
 pub mod MeaningLaws
+pub mod NeededFacts
+pub mod OrderFacts
 pub mod OutcomeFacts
 pub mod PlanFacts
 pub mod PositionLaws
 pub mod PutFacts
 pub mod Rooms
 pub mod RowFacts
+pub mod SerialFacts
 pub mod StepFacts
 pub mod ValueFacts

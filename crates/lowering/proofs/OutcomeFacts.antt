@@ -27,18 +27,19 @@ use Rattle.rows.specs.declared.row.Step.{Step}
 use Rattle.rows.specs.declared.row.Stage.{Stage}
 use Rattle.lowering.specs.Meaning.{Rows, Trees, origin_tree, listed, value_with, laid_over, action_value, tree_after, stage_tree, trees_from}
 use Rattle.lowering.specs.Meaning.{tree_of_stage, failure_of, step_failures, stage_failures, failures_from, Fails}
-use Rattle.lowering.specs.Outcome.{IsOutcome, AreAlike}
+use Rattle.lowering.specs.Outcome.{IsOutcome}
 use Rattle.rows.specs.WellFormed.{NamesOnly, RowNames, IsNamed, HasTree, IsAction, IsStep, IsRow, IsWellFormed}
 use Rattle.lowering.proofs.RowFacts.{slice_get-last_cases}
+use Rattle.lowering.proofs.SerialFacts.{serial_there}
 use Rattle.lowering.proofs.ValueFacts.{failure_there}
 
 -- two outcomes
 pub agree : (w : World) (rows : Rows) (target : ℕ) (this that : Result TreeMap (ℕ × Cause)) → IsOutcome w rows target this
-    → IsOutcome w rows target that → AreAlike this that
+    → IsOutcome w rows target that → this ≡ that
 agree w rows target (Ok tree) (Ok other) this that = (let f : Some tree ≡ Some other = sym this ∙ that in cc)
 agree w rows target (Ok tree) (Err failure) this that = (let f : Some tree ≡ None = sym this ∙ that.0 in cc)
 agree w rows target (Err failure) (Ok tree) this that = (let f : Some tree ≡ None = sym that ∙ this.0 in cc)
-agree w rows target (Err failure) (Err other) this that = tt
+agree w rows target (Err failure) (Err other) this that = (let f : Some failure ≡ Some other = sym this.1 ∙ that.1 in cc)
 
 -- there is a tree, or something else is so
 abbrev IsThere : Type 0 → Option TreeMap → Type 0
@@ -235,7 +236,7 @@ outcome_by : (w : World) (rows : Rows) (target : ℕ) (o : Option TreeMap) → t
     → IsThere (SomeFails w rows) (tree_of_stage w rows target) → (outcome : Result TreeMap (ℕ × Cause)) × IsOutcome w rows target outcome
 outcome_by w rows target (Some tree) e there = (Ok tree, e)
 outcome_by w rows target None e (inl tree) = (let f : None ≡ Some tree.0 = sym e ∙ tree.1 in absurd cc)
-outcome_by w rows target None e (inr failure) = (Err failure.0, (e, failure.1))
+outcome_by w rows target None e (inr failure) = (let first = serial_there w rows failure.0.0 failure.0.1 failure.1 in (Err first.0, (e, first.1)))
 
 -- a well-formed file has an outcome
 pub outcome_is : (w : World) (rows : Rows) (target : ℕ) (stage : Stage) → IsWellFormed rows → All (RowNames (HasTree w.sources)) rows

@@ -100,7 +100,7 @@ failure_is on line (Some (Err why)) cause h = elim (contains_cases {X = ℕ × C
 pub failure_there : (on line : ℕ) (value : Value) (cause : Cause) → line ≡ on → value ≡ Some (Err cause) → Contains (failure_of on value) (line, cause)
 failure_there on line value cause same is = rw (same, is) (contains_here {X = ℕ × Cause} (on, cause) [])
 
-place_is : (line id l k : ℕ) → HasPlace ((line, id) ∷ []) l k → (l ≡ line) × (k ≡ id)
+pub place_is : (line id l k : ℕ) → HasPlace ((line, id) ∷ []) l k → (l ≡ line) × (k ≡ id)
 place_is line id l k h = elim (contains_cases {X = ℕ × ℕ} (line, id) (l, k) [] h) [
   | inl same ↦ (ap (λ (p : ℕ × ℕ). p.0) same, ap (λ (p : ℕ × ℕ). p.1) same)
   | inr none ↦ absurd (contains_nil {X = ℕ × ℕ} (l, k) none)

@@ -1,5 +1,6 @@
 pub mod Meaning
 pub mod Means
+pub mod Order
 pub mod Outcome
 pub mod Positions
 pub mod PrivateGrowth

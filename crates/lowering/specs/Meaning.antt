@@ -1,6 +1,7 @@
 -- What the stages of a Dockerfile give, from left to right (Dockerfile reference). Nothing here knows a graph, a vertex or a worker.
-use Rattle.std.specs.Prelude.{ℕ, List, [], ◌∷◌, ◌++◌, map, true, false, Option, Some, None, Ok, Err, slice_index_or, Contains}
+use Rattle.std.specs.Prelude.{ℕ, List, [], ◌∷◌, ◌++◌, map, true, false, Option, Some, None, Result, Ok, Err, slice_index_or, Contains}
 use Rattle.std.specs.Option.{option_and_then}
+use Rattle.std.specs.Result.{result_err}
 use Rattle.trees.specs.TreeMap.{TreeMap, empty_tree}
 use Rattle.trees.specs.Over.{over}
 use Rattle.trees.specs.declared.cause.Cause.{Cause}
@@ -99,3 +100,38 @@ failures_of w rows = failures_from w [] rows
 -- an instruction on this line fails with this cause
 abbrev pub Fails : World → Rows → ℕ → Cause → Type 0
 Fails w rows line cause = Contains (failures_of w rows) (line, cause)
+
+-- ---- the run that stops at the first failure (own): the stages in the order of the file, instruction by instruction
+
+-- what the run of an instruction ends with, by its value: the tree that it leaves, or its line and its cause if it fails. One that has no
+-- value doesn't fail, and leaves no tree (own)
+abbrev pub run_end : ℕ → Value → Result (Option TreeMap) (ℕ × Cause)
+run_end line None = Ok None
+run_end line (Some (Ok tree)) = Ok (Some tree)
+run_end line (Some (Err cause)) = Err (line, cause)
+
+-- a run goes on from what it has left, and after a failure it doesn't (own)
+abbrev pub goes_on : {X Y : Type 0} → (X → Result Y (ℕ × Cause)) → Result X (ℕ × Cause) → Result Y (ℕ × Cause)
+goes_on rest (Ok left) = rest left
+goes_on rest (Err failure) = Err failure
+
+-- what instructions leave that are run one after another on a tree, or the first failure (own)
+abbrev pub serial_steps : World → Trees → Option TreeMap → List Step → Result (Option TreeMap) (ℕ × Cause)
+serial_steps w trees before [] = Ok before
+serial_steps w trees before (step ∷ steps) =
+    goes_on (λ tree. serial_steps w trees tree steps) (run_end step.line (action_value w trees before step.action))
+
+-- what a stage leaves, or its first failure; one that is left out isn't run (own)
+abbrev pub serial_stage : World → Trees → Option Stage → Result (Option TreeMap) (ℕ × Cause)
+serial_stage w trees None = Ok None
+serial_stage w trees (Some stage) = serial_steps w trees (origin_tree w trees stage.base) stage.steps
+
+-- the trees of some stages and of those after them, which are run one after another, or the first failure (own)
+abbrev pub serial_from : World → Trees → Rows → Result Trees (ℕ × Cause)
+serial_from w trees [] = Ok trees
+serial_from w trees (row ∷ rows) = goes_on (λ tree. serial_from w (trees ++ tree ∷ []) rows) (serial_stage w trees row)
+
+-- the first failure of a file: the line and the cause of the instruction at which the run of all its stages stops; none if it doesn't stop
+-- (own)
+abbrev pub serial : World → Rows → Option (ℕ × Cause)
+serial w rows = result_err (serial_from w [] rows)

@@ -5,6 +5,7 @@
 // one vertex, whichever lines they stand on, and the vertex has the lines of all of them.
 //
 // Its central definition is `stage_tree` (specs/Meaning.antt), what a stage's instructions give one after another; it knows no graph.
+// Beside it stands `serial`, the first failure of a file in its order.
 //
 // ```
 // let plan = lower_program(alloc, rows, 1, config, sources)?;   // the second stage is the target
