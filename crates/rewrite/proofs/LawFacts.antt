@@ -9,7 +9,7 @@ use Rattle.llb.proofs.LineFacts.{least_of}
 use Rattle.plans.specs.Plan.{PlanValue, IsPlan, NeedsAll, problem_of, IsValue, vertex_value}
 use Rattle.plans.specs.Value.{Out, Value, tree_of}
 use Rattle.plans.proofs.NeedsLaws.{failing_leaves}
-use Rattle.lowering.specs.Meaning.{Rows}
+use Rattle.lowering.specs.Meaning.{Rows, tree_of_stage, Fails}
 use Rattle.lowering.specs.Means.{world, lines_at, AreLined, Means}
 use Rattle.lowering.specs.Outcome.{IsOutcome}
 use Rattle.llb.specs.declared.op.Op.TheVariants.{Merge as MergeOp}
@@ -31,7 +31,7 @@ treeless (Some (Err cause)) not = refl
 treeless (Some (Ok tree)) not = absurd (not tree refl)
 
 -- each vertex of a pruned plan has a line
-lined : {C : Type 0} (plan pruned : PlanValue C) (id : ℕ) → AreLined plan.graph → IsPruned plan pruned → id < length pruned.graph.vertices
+pub lined : {C : Type 0} (plan pruned : PlanValue C) (id : ℕ) → AreLined plan.graph → IsPruned plan pruned → id < length pruned.graph.vertices
     → (line : ℕ) × Contains (lines_at pruned.graph id) line
 lined plan pruned id are is lt =
     let k = is.onto id lt in
@@ -39,9 +39,9 @@ lined plan pruned id are is lt =
     (line.0, subst (λ ls. Contains ls line.0) (sym (is.lines k.0 id k.1)) line.1)
 
 -- a failure behind which there is a line
-failure_lined : {C : Type 0} (out : Out) (plan new : PlanValue C) (rows : Rows) (target id line : ℕ) (cause : Cause) → Means plan rows target
+pub failure_lined : {C : Type 0} (out : Out) (plan new : PlanValue C) (rows : Rows) (target id line : ℕ) (cause : Cause) → Means plan rows target
     → (some : ℕ) × Contains (lines_at new.graph id) some → IsPlan new → KeepsMeaning plan new → NeedsAll (problem_of out new)
-    → IsValue (problem_of out new) id (Err cause) → line ≡ least_line (lines_at new.graph id) → IsOutcome (world out plan.sources) rows target (Err (line, cause))
+    → IsValue (problem_of out new) id (Err cause) → line ≡ least_line (lines_at new.graph id) → (tree_of_stage (world out plan.sources) rows target ≡ None) × Fails (world out plan.sources) rows line cause
 failure_lined out plan new rows target id line cause means some plans keeps needs fails least =
     let lt : id < length new.graph.vertices = failed_within out new id cause fails in
     let behind : Contains (lines_at new.graph id) line =
@@ -60,7 +60,7 @@ failure_lined out plan new rows target id line cause means some plans keeps need
 pub failure_is : {C : Type 0} (out : Out) (plan pruned : PlanValue C) (rows : Rows) (target id line : ℕ) (cause : Cause) → Means plan rows target
     → AreLined plan.graph → IsPlan pruned → IsPruned plan pruned → KeepsMeaning plan pruned
     → NeedsAll (problem_of out pruned) → IsValue (problem_of out pruned) id (Err cause) → line ≡ least_line (lines_at pruned.graph id)
-    → IsOutcome (world out plan.sources) rows target (Err (line, cause))
+    → (tree_of_stage (world out plan.sources) rows target ≡ None) × Fails (world out plan.sources) rows line cause
 failure_is out plan pruned rows target id line cause means are plans is keeps needs fails least =
     failure_lined out plan pruned rows target id line cause means (lined plan pruned id are is (failed_within out pruned id cause fails)) plans keeps
     needs fails least
@@ -68,7 +68,7 @@ failure_is out plan pruned rows target id line cause means are plans is keeps ne
 -- ---- flattened plans
 
 -- each vertex of a flattened plan has a line
-flat_lined : {C : Type 0} (plan flat : PlanValue C) (id : ℕ) → AreLined plan.graph → IsFlattened plan flat → id < length flat.graph.vertices
+pub flat_lined : {C : Type 0} (plan flat : PlanValue C) (id : ℕ) → AreLined plan.graph → IsFlattened plan flat → id < length flat.graph.vertices
     → (line : ℕ) × Contains (lines_at flat.graph id) line
 flat_lined plan flat id are is lt =
     let k = is.onto id lt in
@@ -78,7 +78,7 @@ flat_lined plan flat id are is lt =
 pub flat_failure_is : {C : Type 0} (out : Out) (plan flat : PlanValue C) (rows : Rows) (target id line : ℕ) (cause : Cause) → Means plan rows target
     → AreLined plan.graph → IsPlan flat → IsFlattened plan flat → KeepsMeaning plan flat
     → NeedsAll (problem_of out flat) → IsValue (problem_of out flat) id (Err cause) → line ≡ least_line (lines_at flat.graph id)
-    → IsOutcome (world out plan.sources) rows target (Err (line, cause))
+    → (tree_of_stage (world out plan.sources) rows target ≡ None) × Fails (world out plan.sources) rows line cause
 flat_failure_is out plan flat rows target id line cause means are plans is keeps needs fails least =
     failure_lined out plan flat rows target id line cause means (flat_lined plan flat id are is (failed_within out flat id cause fails)) plans keeps
     needs fails least

@@ -4,6 +4,7 @@ pub mod JoinFacts
 pub mod LawFacts
 pub mod MarkFacts
 pub mod OnceFacts
+pub mod OrderFacts
 pub mod PrunedFacts
 pub mod SpellSteps
 pub mod SpellingFacts

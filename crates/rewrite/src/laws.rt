@@ -1,12 +1,15 @@
 // The laws of pruned and of flattened plans, claimed: each function's contract is one law, and its body is empty.
-ghost use Rattle.std.specs.Prelude.{◌≡◌, ℕ, Some, Ok, Err};
+ghost use Rattle.std.specs.Prelude.{◌≡◌, ◌≤◌, ℕ, Some, None, Ok, Err};
 ghost use Rattle.trees.specs.TreeMap.{TreeMap};
 ghost use Rattle.trees.specs.declared.cause.Cause.{Cause};
+ghost use Rattle.llb.specs.Graph.{IsGraph};
 ghost use Rattle.llb.specs.Places.{least_line};
-ghost use Rattle.plans.specs.Plan.{PlanValue, IsPlan, NeedsAll, problem_of, IsValue};
+ghost use Rattle.plans.specs.Plan.{PlanValue, IsPlan, NeedsAll, HasLinesInOrder, problem_of, IsValue};
 ghost use Rattle.plans.specs.Value.{Out};
-ghost use Rattle.lowering.specs.Meaning.{Rows};
+ghost use Rattle.lowering.specs.Meaning.{Rows, tree_of_stage, Fails};
 ghost use Rattle.lowering.specs.Means.{world, lines_at, AreLined, Means};
+ghost use Rattle.rows.specs.Order.{IsInOrder};
+ghost use Rattle.lowering.specs.Order.{LinesInOrder};
 ghost use Rattle.lowering.specs.Outcome.{IsOutcome};
 ghost use Rattle.rewrite.specs.Flat.{IsFlattened, MergesAreFlat};
 ghost use Rattle.rewrite.specs.Pruned.{IsPruned, KeepsMeaning};
@@ -24,7 +27,7 @@ pub fn a_named_failure_fails<C>()
     ensures { (out : Out) (plan pruned : PlanValue C) (rows : Rows) (target id line : ℕ) (cause : Cause)
         → Means plan rows target → AreLined plan.graph → IsPlan pruned → IsPruned plan pruned → KeepsMeaning plan pruned
         → NeedsAll (problem_of out pruned) → IsValue (problem_of out pruned) id (Err cause) → line ≡ least_line (lines_at pruned.graph id)
-        → IsOutcome (world out plan.sources) rows target (Err (line, cause)) }
+        → (tree_of_stage (world out plan.sources) rows target ≡ None) × Fails (world out plan.sources) rows line cause }
 {}
 
 /// Where a vertex of a flattened plan fails, the least line behind it is that of an instruction that fails so, and the file's target has no
@@ -33,6 +36,38 @@ pub fn a_flattened_failure_fails<C>()
     ensures { (out : Out) (plan flat : PlanValue C) (rows : Rows) (target id line : ℕ) (cause : Cause)
         → Means plan rows target → AreLined plan.graph → IsPlan flat → IsFlattened plan flat → KeepsMeaning plan flat
         → NeedsAll (problem_of out flat) → IsValue (problem_of out flat) id (Err cause) → line ≡ least_line (lines_at flat.graph id)
+        → (tree_of_stage (world out plan.sources) rows target ≡ None) × Fails (world out plan.sources) rows line cause }
+{}
+
+/// Pruning and flattening keep lines in order, of every plan.
+pub fn lines_are_kept_in_order<C>()
+    ensures pruned { (plan pruned : PlanValue C) → IsPruned plan pruned → LinesInOrder plan.graph → LinesInOrder pruned.graph }
+    ensures flat { (plan flat : PlanValue C) → IsFlattened plan flat → LinesInOrder plan.graph → LinesInOrder flat.graph }
+{}
+
+/// Pruning and flattening leave each vertex a line.
+pub fn a_line_is_kept_behind_each_vertex<C>()
+    ensures pruned { (plan pruned : PlanValue C) → IsPruned plan pruned → AreLined plan.graph → AreLined pruned.graph }
+    ensures flat { (plan flat : PlanValue C) → IsFlattened plan flat → AreLined plan.graph → AreLined flat.graph }
+{}
+
+/// Pruning keeps the least lines in order, of every plan: no input's is greater than its vertex's. So does flattening if each vertex has a
+/// line, as in the plan of a file.
+pub fn least_lines_are_kept_in_order<C>()
+    ensures pruned { (out : Out) (plan pruned : PlanValue C) → IsPruned plan pruned → HasLinesInOrder (problem_of out plan)
+        → HasLinesInOrder (problem_of out pruned) }
+    ensures flat { (out : Out) (plan flat : PlanValue C) → IsGraph plan.graph → AreLined plan.graph → IsFlattened plan flat
+        → HasLinesInOrder (problem_of out plan) → HasLinesInOrder (problem_of out flat) }
+{}
+
+/// In a plan that keeps the meaning of a file's, as a pruned or a flattened one does and the file's own: a vertex that fails, on the least
+/// line of all that fail, does so as the first instruction of the file that fails. The file's lines ascend, and the target of its plan needs
+/// every vertex.
+pub fn the_least_failure_is_the_first<C>()
+    ensures { (out : Out) (plan new : PlanValue C) (rows : Rows) (target id line : ℕ) (cause : Cause) → Means plan rows target
+        → IsInOrder rows → NeedsAll (problem_of out plan) → AreLined new.graph → IsPlan new → KeepsMeaning plan new → NeedsAll (problem_of out new)
+        → IsValue (problem_of out new) id (Err cause) → line ≡ least_line (lines_at new.graph id)
+        → ((other : ℕ) (why : Cause) → IsValue (problem_of out new) other (Err why) → line ≤ least_line (lines_at new.graph other))
         → IsOutcome (world out plan.sources) rows target (Err (line, cause)) }
 {}
 
