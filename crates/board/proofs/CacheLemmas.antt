@@ -1,6 +1,7 @@
 -- What stops a vertex, and who holds which caches, through a history.
-use Rattle.std.proofs.Common.{◌≡◌, ℕ, zero, suc, ◌==◌, Bool, true, false, not, ◌||◌, cond, List, [], ◌∷◌, ◌++◌, length, map, Option, Some, None, is_some, Ok, Err, refl, sym, ap, ◌∙◌, subst}
-use Rattle.std.specs.List.{list_any, slice_index_or}
+use Rattle.std.proofs.Common.{◌≡◌, ℕ, zero, suc, ◌==◌, Bool, true, false, not, ◌&&◌, cond, List, [], ◌∷◌, ◌++◌, length, map, Option, Some, None, is_some, Ok, Err, refl, sym, ap, ◌∙◌, subst}
+use Rattle.std.specs.List.{list_any}
+use Rattle.std.specs.Prelude.{nat_lt}
 use Rattle.std.proofs.lemmas.Bool.{eqb-true, or_from}
 use Rattle.std.proofs.lemmas.List.Folds.{list_any-append}
 use Rattle.std.proofs.lemmas.List.Sums.{fold-append}
@@ -9,7 +10,7 @@ use Rattle.cachemounts.specs.Holds.{can_take, new_holds, of_holder, without_hold
 use Rattle.cachemounts.proofs.HoldLemmas.{lawful-takes, lawful-filter, of_holder-takes, of_holder-without, length-new_holds, any_filter_none}
 use Rattle.cachemounts.specs.Changes.{holds_then, holders}
 use Rattle.cachemounts.proofs.ContentLemmas.{holders-push}
-use Rattle.plans.specs.Plan.{Problem, vertex_value, uses_at}
+use Rattle.plans.specs.Plan.{Problem, vertex_value, uses_at, line_at}
 use Rattle.trees.specs.Cause.{TreeOrCause}
 use Rattle.cachemounts.specs.declared.holds.Hold.{Hold}
 use Rattle.runs.specs.declared.run.CacheUse.{CacheUse}
@@ -22,14 +23,14 @@ any_below-same : (test other : ℕ → Bool) → ((k : ℕ) → test k ≡ other
 any_below-same test other same zero = refl
 any_below-same test other same (suc n) = rw (any_below-same test other same n, same n) refl
 
-any_below-none : (test : ℕ → Bool) (n : ℕ) → ((k : ℕ) → test k ≡ false) → any_below test n ≡ false
+pub any_below-none : (test : ℕ → Bool) (n : ℕ) → ((k : ℕ) → test k ≡ false) → any_below test n ≡ false
 any_below-none test zero none = refl
 any_below-none test (suc n) none = or_from _ _ (any_below-none test n none) (none n)
 
 -- what stops a vertex hangs on nothing but with what each vertex is settled
 pub stops-same : (problem : Problem) (settled other : ℕ → Option TreeOrCause) → ((k : ℕ) → settled k ≡ other k) → (vertex : ℕ) → stops problem settled vertex ≡ stops problem other vertex
 stops-same problem settled other same vertex =
-    rw (same problem.target, any_below-same (λ k. has_cause (settled k)) (λ k. has_cause (other k)) (λ k. ap has_cause (same k)) (length problem.vertices)) refl
+    rw (same problem.target, any_below-same (λ k. has_cause (settled k) && not (nat_lt (line_at problem vertex) (line_at problem k))) (λ k. has_cause (other k) && not (nat_lt (line_at problem vertex) (line_at problem k))) (λ k. ap (λ v. has_cause v && not (nat_lt (line_at problem vertex) (line_at problem k))) (same k)) (length problem.vertices)) refl
 
 no_cause_at : (b : Bool) (value : Option TreeOrCause) → (b ≡ true → has_cause value ≡ true → ⊥) → has_cause (cond b value None) ≡ false
 no_cause_at false value none = refl
@@ -39,14 +40,14 @@ no_cause_at true value none = by_test (has_cause value) refl
     by_test true e = absurd (none refl e)
     by_test false e = e
 
-has_cause-is : (value : Option TreeOrCause) → has_cause value ≡ true → (cause : _) × (value ≡ Some (Err cause))
+pub has_cause-is : (value : Option TreeOrCause) → has_cause value ≡ true → (cause : _) × (value ≡ Some (Err cause))
 has_cause-is (Some (Ok tree)) e = cc
 has_cause-is (Some (Err cause)) e = (cause, refl)
 has_cause-is None e = cc
 
 -- where the target isn't settled and no vertex with a cause, nothing stops any vertex
 pub nothing-stops : (problem : Problem) (history : List Happened) → ¬ IsSettled history problem.target → ((other : ℕ) → IsSettled history other → ¬ HasCause problem other) → (vertex : ℕ) → stops problem (settled_by problem history) vertex ≡ false
-nothing-stops problem history target none vertex = or_from _ _ (unset (list_any (settles problem.target) history) refl) (any_below-none (λ other. has_cause (settled_by problem history other)) (length problem.vertices) (λ other. no_cause_at (list_any (settles other) history) (vertex_value problem other) (λ s c. none other s (has_cause-is (vertex_value problem other) c))))
+nothing-stops problem history target none vertex = or_from _ _ (unset (list_any (settles problem.target) history) refl) (any_below-none (λ other. has_cause (settled_by problem history other) && not (nat_lt (line_at problem vertex) (line_at problem other))) (length problem.vertices) (λ other. ap (λ b. b && not (nat_lt (line_at problem vertex) (line_at problem other))) (no_cause_at (list_any (settles other) history) (vertex_value problem other) (λ s c. none other s (has_cause-is (vertex_value problem other) c)))))
   where
     unset : (b : Bool) → list_any (settles problem.target) history ≡ b → is_some (cond (list_any (settles problem.target) history) (vertex_value problem problem.target) None) ≡ false
     unset true e = absurd (target e)
@@ -137,21 +138,3 @@ AreHeld-end problem history happened worker is ends leaves = record {
     counts by u e false t =
         let f : vertex_out history by ≡ Some u = rw t at (sym (ends by) ∙ (sym (vertex_out_push history happened by) ∙ e)) in
         ap length (of_holder-without worker by holds) ∙ rw t (is.counts by u f)
-
-or_swap : (a b c : Bool) → ((a || b) || c) ≡ (a || (b || c))
-or_swap true b c = refl
-or_swap false b c = refl
-
-below_shift : (test : ℕ → Bool) (n : ℕ) → any_below test (suc n) ≡ (test 0 || any_below (λ k. test (suc k)) n)
-below_shift test zero = elim (test 0) as (λ b. (false || b) ≡ (b || false)) [ true ↦ refl | false ↦ refl ]
-below_shift test (suc n) = ap (λ b. b || test (suc n)) (below_shift test n) ∙ or_swap (test 0) (any_below (λ k. test (suc k)) n) (test (suc n))
-
--- some number below a list's length finds what some element is
-pub below-list : (p : Option TreeOrCause → Bool) (xs : List (Option TreeOrCause)) → any_below (λ k. p (slice_index_or xs k None)) (length xs) ≡ list_any p xs
-below-list p [] = refl
-below-list p (x ∷ xs) = below_shift (λ k. p (slice_index_or (x ∷ xs) k None)) (length xs) ∙ ap (λ b. p x || b) (below-list p xs)
-
--- what stops a vertex, as two tests of a list find it
-pub stops-list : (problem : Problem) (settled : List (Option TreeOrCause)) (vertex : ℕ) (found : Bool) → length settled ≡ length problem.vertices → is_some (slice_index_or settled problem.target None) ≡ false → found ≡ list_any has_cause settled → found ≡ stops problem (λ k. slice_index_or settled k None) vertex
-stops-list problem settled vertex found long e f =
-    f ∙ (sym (below-list has_cause settled) ∙ (ap (any_below (λ k. has_cause (slice_index_or settled k None))) long ∙ rw e refl))

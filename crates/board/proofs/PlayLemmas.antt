@@ -1,5 +1,5 @@
 -- What holds of every replay: its history is legal, what is settled are the vertices' values, each once, and it never gets stuck.
-use Rattle.std.proofs.Common.{◌≡◌, ◌≢◌, ℕ, suc, ◌<◌, ◌≤◌, Bool, true, false, not, ◌||◌, ◌==◌, cond, ◌⊎◌, inl, inr, List, [], ◌∷◌, ◌++◌, length, map, Option, Some, None, is_some, Ok, Err, refl, sym, ap, ◌∙◌, subst, arith, append_assoc, append-nil}
+use Rattle.std.proofs.Common.{◌≡◌, ◌≢◌, ℕ, suc, ◌<◌, ◌≤◌, Bool, true, false, not, ◌==◌, cond, ◌⊎◌, inl, inr, List, [], ◌∷◌, ◌++◌, length, map, Option, Some, None, is_some, Ok, Err, refl, sym, ap, ◌∙◌, subst, arith, append_assoc, append-nil}
 use Rattle.std.specs.Prelude.{slice_get}
 use Rattle.std.specs.List.{list_any, slice_index_or}
 use Rattle.std.proofs.lemmas.Bool.{both_ways, not-false, not-true, or_parts, eq-eqb}
@@ -8,11 +8,11 @@ use Rattle.trees.specs.Cause.{TreeOrCause}
 use Rattle.llb.specs.declared.vertex.Vertex.{Vertex}
 use Rattle.plans.specs.Plan.{Problem, vertex_value, uses_at}
 use Rattle.cachemounts.specs.declared.holds.Hold.{Hold}
-use Rattle.board.specs.Play.{Run, Step, Claim, Settle, Abandon, Move, worker_of, step_of, value_at, claim_of, least, least_ready, claimable, next, moved, go, go_all, begun, play, IsReplay}
-use Rattle.board.specs.Legal.{vertex_out, settles, IsSettled, HasTree, HasCause, IsReady, IsNextClaim, IsOver, Possible, GoesOn, IsLegal, StepsOn, held_caches}
+use Rattle.board.specs.Play.{Run, Step, Claim, Settle, Abandon, Move, worker_of, step_of, value_at, claim_of, least, claimable, next, moved, go, go_all, begun, play, IsReplay}
+use Rattle.board.specs.Legal.{vertex_out, settles, IsSettled, HasTree, HasCause, IsReady, IsNextClaim, Possible, GoesOn, IsLegal, StepsOn, held_caches}
 use Rattle.board.proofs.ListLemmas.{IsLeast, least-some, least-none, claim_of-worker}
 use Rattle.board.specs.Play.{vertex_of}
-use Rattle.board.proofs.ReadyLemmas.{IsSound, Agrees, claimable-some, claimable-none, settled-is, no_cause-is, cause-is}
+use Rattle.board.proofs.ReadyLemmas.{IsSound, Agrees, claimable-some, claimable-none, no_cause-is, cause-is}
 use Rattle.cachemounts.specs.Holds.{is_holder}
 use Rattle.cachemounts.proofs.HoldLemmas.{can_take-free}
 use Rattle.board.specs.Readiness.{has_cause}
@@ -163,32 +163,6 @@ never-stuck problem run sound has_target right idle target_open no_cause = by_le
 pub idle_all : (problem : Problem) (run : Run) → IsRight problem run → run.state.claims ≡ [] → (worker : ℕ) → vertex_out run.history worker ≡ None
 idle_all problem run right none worker = sym (right.agrees.claims worker) ∙ ap (λ claims. vertex_of (claim_of worker claims)) none
 
-none_either : (b : Bool) (o : Option ℕ) → o ≡ None → cond b None o ≡ None
-none_either true o e = refl
-none_either false o e = e
-
--- where no claim is out and the machine finds no vertex ready, the target is settled or some vertex is settled with a cause
-pub replay-ends : (problem : Problem) (run : Run) → IsSound problem → HasTarget problem → IsReplay problem run → run.state.claims ≡ [] → least_ready problem run.state ≡ None → (is_some (value_at run.state.settled problem.target) || list_any has_cause run.state.settled) ≡ true
-replay-ends problem run sound has_target replay free none = by_test (is_some (value_at run.state.settled problem.target) || list_any has_cause run.state.settled) refl
-  where
-    right : IsRight problem run
-    right = replay-right problem run sound replay
-
-    nothing : claimable problem run.state 0 ≡ None
-    nothing = none_either (is_some (claim_of 0 run.state.claims)) (least_ready problem run.state) none
-
-    refute : ((vertex_out run.history 0 ≢ None) ⊎ ((vertex : ℕ) → ¬ IsReady problem run.history vertex)) → (is_some (value_at run.state.settled problem.target) || list_any has_cause run.state.settled) ≡ false → ⊥
-    refute (inl busy) e = busy (idle_all problem run right free 0)
-    refute (inr no_ready) e =
-        let parts = or_parts (is_some (value_at run.state.settled problem.target)) (list_any has_cause run.state.settled) e in
-        let target : list_any (settles problem.target) run.history ≡ false = sym (settled-is problem run.history run.state right.agrees problem.target) ∙ parts.0 in
-        let ready = never-stuck problem run sound has_target right (idle_all problem run right free) (both_ways (list_any (settles problem.target) run.history) target) (no_cause-is problem run.history run.state right.agrees parts.1) in
-        no_ready ready.0 ready.1
-
-    by_test : (b : Bool) → (is_some (value_at run.state.settled problem.target) || list_any has_cause run.state.settled) ≡ b → (is_some (value_at run.state.settled problem.target) || list_any has_cause run.state.settled) ≡ true
-    by_test true e = e
-    by_test false e = absurd (refute (claimable-none problem run.history run.state right.agrees 0 nothing) e)
-
 -- what a worker's claim gives: the next vertex, or none where it may claim none
 pub replay-claims : (problem : Problem) (run : Run) (worker : ℕ) → IsSound problem → IsReplay problem run → IsNextClaim problem run.history worker (claimable problem run.state worker)
 replay-claims problem run worker sound replay = by_vertex (claimable problem run.state worker) refl
@@ -200,11 +174,11 @@ replay-claims problem run worker sound replay = by_vertex (claimable problem run
     by_vertex (Some vertex) e = claimable-some problem run.history run.state agrees worker vertex e
     by_vertex None e = claimable-none problem run.history run.state agrees worker e
 
--- where no worker has a vertex out and none is ready, the board is over
-pub idle-over : (problem : Problem) (run : Run) → IsSound problem → HasTarget problem → IsRight problem run → ((worker : ℕ) → vertex_out run.history worker ≡ None) → ((vertex : ℕ) → ¬ IsReady problem run.history vertex) → IsOver problem run.history
-idle-over problem run sound has_target right idle none = by_test (list_any (settles problem.target) run.history) refl (list_any has_cause run.state.settled) refl
+-- where no worker has a vertex out and none is ready, the target is settled or some vertex is settled with a cause
+pub idle-ends : (problem : Problem) (run : Run) → IsSound problem → HasTarget problem → IsRight problem run → ((worker : ℕ) → vertex_out run.history worker ≡ None) → ((vertex : ℕ) → ¬ IsReady problem run.history vertex) → IsSettled run.history problem.target ⊎ ((vertex : ℕ) × IsSettled run.history vertex × HasCause problem vertex)
+idle-ends problem run sound has_target right idle none = by_test (list_any (settles problem.target) run.history) refl (list_any has_cause run.state.settled) refl
   where
-    by_test : (b : Bool) → list_any (settles problem.target) run.history ≡ b → (d : Bool) → list_any has_cause run.state.settled ≡ d → IsOver problem run.history
+    by_test : (b : Bool) → list_any (settles problem.target) run.history ≡ b → (d : Bool) → list_any has_cause run.state.settled ≡ d → IsSettled run.history problem.target ⊎ ((vertex : ℕ) × IsSettled run.history vertex × HasCause problem vertex)
     by_test true e d f = inl e
     by_test false e true f = inr (cause-is problem run.history run.state right.agrees f)
     by_test false e false f =

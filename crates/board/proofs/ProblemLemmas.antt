@@ -1,9 +1,10 @@
 -- A plan's problem can be solved; and in such a problem an operation has a result on the trees of its vertex's inputs.
-use Rattle.std.proofs.Common.{◌≡◌, ◌∙◌, ◌⊎◌, inl, inr, ℕ, suc, ◌+◌, ◌==◌, Bool, true, false, cond, List, [], ◌∷◌, length, Option, Some, None, is_some, Ok, refl, sym, ap, subst, arith}
+use Rattle.std.proofs.Common.{◌≡◌, ◌∙◌, ◌⊎◌, inl, inr, ℕ, suc, ◌<◌, ◌+◌, ◌==◌, Bool, true, false, cond, List, [], ◌∷◌, length, Option, Some, None, is_some, Ok, Err, refl, sym, ap, subst, arith}
 use Rattle.std.specs.Prelude.{IsTrue, slice_get}
 use Rattle.std.specs.List.{All, list_any, slice_index_or}
 use Rattle.std.specs.Option.{option_map, option_and_then}
 use Rattle.std.proofs.lemmas.Bool.{and_parts, eqb-true}
+use Rattle.std.proofs.lemmas.List.Elements.{All-cons}
 use Rattle.trees.specs.TreeMap.{TreeMap}
 use Rattle.trees.specs.Cause.{TreeOrCause}
 use Rattle.llb.specs.declared.op.CopyFiles.{CopyFiles}
@@ -14,7 +15,7 @@ use Rattle.llb.specs.WellFormed.{is_well_formed_on, is_well_formed_exec, is_well
 use Rattle.plans.specs.Plan.{PlanValue, IsPlan, Problem, problem_of, vertex_value}
 use Rattle.plans.specs.Sources.{SourcesValue, source_tree, HasSource}
 use Rattle.plans.specs.Value.{Out, Value, trees_at, with_tree, tree_of, copy_value, result_of}
-use Rattle.plans.proofs.ValueLaws.{value_of-is}
+use Rattle.plans.proofs.ValueLaws.{value_of-is, value_within}
 use Rattle.board.specs.Legal.{HasTree}
 use Rattle.board.specs.Problem.{IsProblem, values_in}
 
@@ -91,3 +92,40 @@ pub valued-there : (problem : Problem) (vertex : ℕ) (v : Vertex) → IsProblem
 valued-there problem vertex v is there all =
     let trees = all_trees problem v.inputs all in
     rw (value-there problem vertex v trees.0 is there trees.1) (result-some problem.out problem.sources v.op trees.0 (formed-there problem vertex v trees.0 is there trees.1) (is.sources vertex v there))
+
+-- ---- what a value says of the inputs
+
+some_of : (o : Option TreeOrCause) → is_some o ≡ true → (value : TreeOrCause) × (o ≡ Some value)
+some_of None e = cc
+some_of (Some value) e = (value, refl)
+
+-- only a vertex of the problem has a value
+pub value-within : (problem : Problem) (vertex : ℕ) → is_some (vertex_value problem vertex) ≡ true → vertex < length problem.vertices
+unfolding vertex_value
+value-within problem vertex e =
+    let value = some_of (slice_index_or (values_in problem) vertex None) e in
+    value_within problem.out problem.sources problem.vertices vertex value.0 value.1
+
+trees_of : (o : Option (List TreeMap)) (f : List TreeMap → Value) → is_some (option_and_then f o) ≡ true → (trees : List TreeMap) × (o ≡ Some trees)
+trees_of None f e = cc
+trees_of (Some trees) f e = (trees, refl)
+
+has_tree_of : (value : Value) (trees : Option (List TreeMap)) (all : List TreeMap) → with_tree (tree_of value) trees ≡ Some all → ((tree : TreeMap) × (value ≡ Some (Ok tree))) × ((rest : List TreeMap) × (trees ≡ Some rest))
+has_tree_of None trees all e = cc
+has_tree_of (Some (Err cause)) trees all e = cc
+has_tree_of (Some (Ok tree)) None all e = cc
+has_tree_of (Some (Ok tree)) (Some rest) all e = ((tree, refl), (rest, refl))
+
+each_tree : (values : List Value) (inputs : List ℕ) (trees : List TreeMap) → trees_at values inputs ≡ Some trees → All (λ input. (tree : TreeMap) × (slice_index_or values input None ≡ Some (Ok tree))) inputs
+each_tree values [] trees e = λ k d l. absurd (omega (arith, l))
+each_tree values (input ∷ inputs) trees e =
+    let parts = has_tree_of (slice_index_or values input None) (trees_at values inputs) trees e in
+    All-cons (λ i. (tree : TreeMap) × (slice_index_or values i None ≡ Some (Ok tree))) input inputs parts.0 (each_tree values inputs parts.1.0 parts.1.1)
+
+-- the inputs of a vertex that has a value have trees
+pub inputs-have-trees : (problem : Problem) (vertex : ℕ) (v : Vertex) → IsProblem problem → slice_get problem.vertices vertex ≡ Some v → is_some (vertex_value problem vertex) ≡ true → All (λ input. HasTree problem input) v.inputs
+unfolding vertex_value
+inputs-have-trees problem vertex v is there e =
+    let here : is_some (option_and_then (result_of problem.out problem.sources v.op) (trees_at (values_in problem) v.inputs)) ≡ true = ap is_some (sym (value_of-is problem.out problem.sources problem.vertices vertex v is.vertices there)) ∙ e in
+    let trees = trees_of (trees_at (values_in problem) v.inputs) (result_of problem.out problem.sources v.op) here in
+    each_tree (values_in problem) v.inputs trees.0 trees.1

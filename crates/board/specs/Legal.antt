@@ -90,11 +90,6 @@ abbrev pub IsNextClaim : Problem → List Happened → ℕ → Option ℕ → Ty
 IsNextClaim problem history worker (Some vertex) = IsNext problem history worker vertex
 IsNextClaim problem history worker None = (vertex_out history worker ≢ None) ⊎ ((vertex : ℕ) → ¬ IsReady problem history vertex)
 
--- a board is over: the target is settled, or some vertex is settled with a cause (own)
-abbrev pub IsOver : Problem → List Happened → Type 0
-IsOver problem history =
-    IsSettled history problem.target ⊎ ((vertex : ℕ) × IsSettled history vertex × HasCause problem vertex)
-
 -- what may happen after a history: the claim of the least ready vertex by a worker that has none out, and a settle of the vertex that the worker has out,
 -- with as many trees as it uses caches, or an abandon of it (own)
 abbrev pub Possible : Problem → List Happened → Happened → Type 0

@@ -1,8 +1,8 @@
 -- What a board keeps so that a ready vertex needn't be looked for, and how it goes with what is settled and claimed (own).
-use Rattle.std.specs.Prelude.{◌≡◌, ◌≢◌, ℕ, ◌+◌, ◌≤◌, ◌==◌, Bool, true, false, not, ◌&&◌, ◌||◌, if◌then◌else◌, List, [], ◌∷◌, Option, is_some, Ok, Err, drop, length, slice_get, slice_index, slice_index_or}
-use Rattle.std.specs.List.{list_any}
+use Rattle.std.specs.Prelude.{◌≡◌, ◌≢◌, ℕ, ◌+◌, ◌≤◌, ◌==◌, Bool, true, false, not, ◌&&◌, ◌||◌, if◌then◌else◌, List, [], ◌∷◌, Option, Some, None, is_some, Ok, Err, drop, length, min, nat_lt, slice_get, slice_index, slice_index_or}
 use Rattle.std.specs.Option.{option_map_or}
 use Rattle.trees.specs.Cause.{TreeOrCause}
+use Rattle.llb.specs.Places.{least_line}
 use Rattle.llb.specs.declared.vertex.Vertex.{Vertex}
 use Rattle.board.specs.Readiness.{has_tree, has_cause}
 use Rattle.board.specs.Play.{value_at, have_trees, is_claimed}
@@ -42,15 +42,51 @@ pub record AreUsers (vertices : List Vertex) (users : List (List ℕ)) : Type 0 
   pub long : length users ≡ length vertices
   pub used : (input user : ℕ) → times user (users_at users input) ≡ times input (inputs_at vertices user)
 
--- what is kept goes with what is settled and claimed (own)
-pub record IsFrontier (vertices : List Vertex) (settled : List (Option TreeOrCause)) (claims : List ClaimOut) (frontier : Frontier) : Type 0 where
+-- the least line behind a vertex; 0 where there is none (own)
+abbrev pub line_in : List (List ℕ) → ℕ → ℕ
+line_in places vertex = least_line (slice_index_or places vertex [])
+
+-- a vertex is settled with a cause, and this is the least line behind it (own)
+pub record HasFailedOn (places : List (List ℕ)) (settled : List (Option TreeOrCause)) (line : ℕ) : Type 0 where
+  pub vertex : ℕ
+  pub failed : has_cause (value_at settled vertex) ≡ true
+  pub on : line_in places vertex ≡ line
+
+-- the least line of all vertices that are settled with a cause; none where no vertex is (own)
+abbrev pub IsFailedLine : List (List ℕ) → List (Option TreeOrCause) → Option ℕ → Type 0
+IsFailedLine places settled None = (vertex : ℕ) → has_cause (value_at settled vertex) ≡ false
+IsFailedLine places settled (Some line) =
+    HasFailedOn places settled line × ((vertex : ℕ) → has_cause (value_at settled vertex) ≡ true → line ≤ line_in places vertex)
+
+-- whether a line comes before that of each failure (own)
+abbrev pub comes_before : ℕ → Option ℕ → Bool
+comes_before line None = true
+comes_before line (Some failed) = nat_lt line failed
+
+-- the least line of all failures with one more (own)
+abbrev pub with_failed : ℕ → Option ℕ → ℕ
+with_failed line None = line
+with_failed line (Some failed) = min line failed
+
+-- what is kept goes with what is settled and claimed: each vertex in the set is available, and each available one whose line comes before that of each
+-- failure is in it (own)
+pub record IsFrontier (vertices : List Vertex) (places : List (List ℕ)) (settled : List (Option TreeOrCause)) (claims : List ClaimOut) (frontier : Frontier) : Type 0 where
   pub users : AreUsers vertices frontier.users.items
   pub waiting : (vertex : ℕ) → slice_index frontier.waiting.items vertex ≡ missing settled (inputs_at vertices vertex)
   pub waiting_long : length frontier.waiting.items ≡ length vertices
-  pub available : (vertex : ℕ) → has frontier.available vertex ≡ is_available vertices settled claims vertex
+  pub available : (vertex : ℕ) → has frontier.available vertex ≡ true → is_available vertices settled claims vertex ≡ true
+  pub kept : (vertex : ℕ) → is_available vertices settled claims vertex ≡ true → comes_before (line_in places vertex) frontier.failed ≡ true
+      → has frontier.available vertex ≡ true
   pub available_long : length frontier.available ≡ length vertices
   pub begun : (vertex : ℕ) → is_begun settled claims vertex ≡ true → missing settled (inputs_at vertices vertex) ≡ 0
-  pub failed : frontier.failed ≡ list_any has_cause settled
+  pub failed : IsFailedLine places settled frontier.failed
+
+-- some vertices were taken out of the set, none of them one whose line comes before that of each failure (own)
+pub record IsThinned (places : List (List ℕ)) (old new : Frontier) : Type 0 where
+  pub same : new ≡ record old { available = new.available }
+  pub long : length new.available ≡ length old.available
+  pub fewer : (vertex : ℕ) → has new.available vertex ≡ true → has old.available vertex ≡ true
+  pub kept : (vertex : ℕ) → has old.available vertex ≡ true → comes_before (line_in places vertex) old.failed ≡ true → has new.available vertex ≡ true
 
 -- a user was noted for each of its inputs, as often as it is one (own)
 pub record IsNoted (user : ℕ) (inputs : List ℕ) (old new : List (List ℕ)) : Type 0 where
@@ -64,12 +100,12 @@ pub record IsLowered (users waiting_before waiting_after : List ℕ) (available_
   pub available : (user : ℕ) → has available_after user ≡ (has available_before user || (not (slice_index waiting_before user == 0) && (slice_index waiting_after user == 0)))
   pub available_long : length available_after ≡ length available_before
 
--- what is kept after a vertex was settled so (own)
-abbrev pub IsSettledIn : ℕ → TreeOrCause → Frontier → Frontier → Type 0
-IsSettledIn vertex (Ok tree) old new =
+-- what is kept after a vertex of this line was settled so (own)
+abbrev pub IsSettledIn : ℕ → ℕ → TreeOrCause → Frontier → Frontier → Type 0
+IsSettledIn vertex line (Ok tree) old new =
     IsLowered (users_at old.users.items vertex) old.waiting.items new.waiting.items old.available new.available
     × (new.users.items ≡ old.users.items) × (new.failed ≡ old.failed)
-IsSettledIn vertex (Err cause) old new = new ≡ record old { failed = true }
+IsSettledIn vertex line (Err cause) old new = new ≡ record old { failed = Some (with_failed line old.failed) }
 
 -- users may be noted as having one input more: none waits for fewer inputs than it is in the list (own)
 abbrev pub CanLower : List ℕ → List ℕ → Type 0

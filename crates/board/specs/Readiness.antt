@@ -1,7 +1,7 @@
 -- What stops a vertex. The machine and the rules over histories both take it from here, so that another rule is one change for both.
-use Rattle.std.specs.Prelude.{ℕ, zero, suc, Bool, true, false, ◌||◌, Option, Some, None, is_some, Ok, Err, length}
+use Rattle.std.specs.Prelude.{ℕ, zero, suc, Bool, true, false, not, ◌||◌, ◌&&◌, Option, Some, None, is_some, Ok, Err, length, nat_lt}
 use Rattle.trees.specs.Cause.{TreeOrCause}
-use Rattle.plans.specs.Plan.{Problem}
+use Rattle.plans.specs.Plan.{Problem, line_at}
 
 -- whether a vertex is settled with a tree (own)
 abbrev pub has_tree : Option TreeOrCause → Bool
@@ -20,6 +20,9 @@ abbrev pub any_below : (ℕ → Bool) → ℕ → Bool
 any_below test zero = false
 any_below test (suc n) = any_below test n || test n
 
--- whether a vertex is stopped, where each vertex is settled so: the target is settled, or some vertex is settled with a cause (own)
+-- whether a vertex is stopped, where each vertex is settled so: the target is settled, or a vertex is settled with a cause whose least line is not greater
+-- than this one's (own)
 abbrev pub stops : Problem → (ℕ → Option TreeOrCause) → ℕ → Bool
-stops problem settled vertex = is_some (settled problem.target) || any_below (λ other. has_cause (settled other)) (length problem.vertices)
+stops problem settled vertex =
+    is_some (settled problem.target)
+    || any_below (λ other. has_cause (settled other) && not (nat_lt (line_at problem vertex) (line_at problem other))) (length problem.vertices)

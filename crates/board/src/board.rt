@@ -67,7 +67,7 @@ impl<'a, E: Executor> Model for Board<'a, E> {
           run = record { history = b.history.items; state = record { settled = b.settled.items; claims = b.claims.items; holds = b.caches.holds } };
         })
         × (vec_len b.history + vec_len b.claims ≤ vec_capacity b.history)
-        × IsFrontier b.job.graph.vertices b.settled.items b.claims.items b.frontier };
+        × IsFrontier b.job.graph.vertices b.job.graph.places b.settled.items b.claims.items b.frontier };
 }
 
 /// The store, given back where there was no memory for its board.
@@ -88,7 +88,7 @@ impl<'a, E: Executor> Board<'a, E> {
         let Ok(first) = caches.contents(alloc) else {
             return Err(NoBoard { caches });
         };
-        let Ok(frontier) = Frontier::new(alloc, job.graph().vertices()) else {
+        let Ok(frontier) = Frontier::new(alloc, job.graph()) else {
             return Err(NoBoard { caches });
         };
         Ok(Board {
@@ -122,7 +122,7 @@ impl<'a, E: Executor> Board<'a, E> {
             self.settled.as_slice(),
             self.claims.as_slice(),
             &self.caches,
-            &self.frontier,
+            &mut self.frontier,
             worker,
         )?;
         match next {
@@ -165,7 +165,8 @@ impl<'a, E: Executor> Board<'a, E> {
         let vertex = claim.vertex();
         let lease = claim.into_lease();
         state::drop_claim(&mut self.claims, worker);
-        self.frontier.settle(vertex, &value);
+        let line = self.job.graph().least_place(vertex);
+        self.frontier.settle(vertex, line, &value);
         self.settled[vertex.index()] = Some(value);
         self.caches.give(lease, given);
         growth::add(

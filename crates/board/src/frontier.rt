@@ -6,35 +6,39 @@ ghost use Rattle.cachemounts.specs.Holds.{can_take};
 ghost use Rattle.plans.specs.Plan.{uses_in};
 ghost use Rattle.board.specs.Play.{least};
 ghost use Rattle.board.specs.PrivateNumbers.{has};
-ghost use Rattle.board.specs.PrivateFrontier.{users_at, IsFrontier, AreUsers, IsNoted, IsLowered, IsSettledIn, CanLower};
+ghost use Rattle.board.specs.PrivateFrontier.{users_at, line_in, comes_before, with_failed, IsFrontier, IsThinned, AreUsers, IsNoted, IsLowered, IsSettledIn, CanLower};
 
 use crate::number_set::NumberSet;
 use crate::state;
 use cachemounts::CacheStore;
-use llb::{Vertex, VertexId};
+use llb::{Graph, Vertex, VertexId};
 use plain::{Items, Memory};
 use std::alloc::Global;
 use trees::TreeOrCause;
 
 /// The available vertices: those whose inputs are settled with trees and that were not begun, which is that they are neither claimed nor settled. Beside
-/// them is what tells which vertices a settle makes available. It has room for every vertex, so that only `new` takes memory.
+/// them is what tells which vertices a settle makes available, and which ones failures stop: those whose line doesn't come before that of each failure. It
+/// has room for every vertex, so that only `new` takes memory.
+///
+/// A vertex that a failure stops stays stopped. So the first claim that comes to it takes it out of the set, and no other one passes over it.
 #[derive(Drop)]
 pub(crate) struct Frontier {
     /// For each vertex those that it is an input of, each as often as it is one.
     users: Vec<Items<VertexId>>,
     /// For each vertex how many of its inputs aren't settled with a tree.
     waiting: Vec<usize>,
+    /// The available vertices, without some of those that failures stop.
     available: NumberSet,
-    /// Whether some vertex is settled with a cause.
-    failed: bool,
+    /// The least line of the vertices that are settled with a cause, if any is.
+    failed: Option<u32>,
 }
 
 impl Frontier {
     /// What is available where no vertex was begun.
-    pub(crate) fn new(alloc: Global, vertices: &[Vertex]) -> Result<Frontier, Memory>
-        requires { AreVertices vertices.now }
-        ensures { IfOk result (IsFrontier vertices.now (replicate (length vertices.now) None) []) }
+    pub(crate) fn new(alloc: Global, graph: &Graph) -> Result<Frontier, Memory>
+        ensures { IfOk result (IsFrontier graph.now.vertices graph.now.places (replicate (length graph.now.vertices) None) []) }
     {
+        let vertices = graph.vertices();
         let users = users(alloc, vertices)?;
         let waiting = input_counts(alloc, vertices)?;
         let available = without_inputs(alloc, waiting.as_slice())?;
@@ -42,20 +46,24 @@ impl Frontier {
             users,
             waiting,
             available,
-            failed: false,
+            failed: None,
         })
     }
 
-    /// The least available vertex whose caches can be taken.
-    pub(crate) fn least(&self, vertices: &[Vertex], caches: &CacheStore) -> Option<VertexId>
-        requires few { length vertices.now < 2 ^ 32 }
-        requires long { length self.now.available ≡ length vertices.now }
-        ensures { result ≡ least (λ vertex. has self.now.available vertex && can_take caches.now.holds (uses_in vertices.now vertex)) (length vertices.now) }
+    /// The least available vertex whose caches can be taken and that no failure stops. Vertices before it that one stops are taken out.
+    pub(crate) fn least(&mut self, graph: &Graph, caches: &CacheStore) -> Option<VertexId>
+        requires few { length graph.now.vertices < 2 ^ 32 }
+        requires long { length self.old.available ≡ length graph.now.vertices }
+        ensures which { result ≡ least (λ vertex. has self.old.available vertex && (can_take caches.now.holds (uses_in graph.now.vertices vertex)
+            && comes_before (line_in graph.now.places vertex) self.old.failed)) (length graph.now.vertices) }
+        ensures thinned { IsThinned graph.now.places self.old self.new }
     {
         let mut from = 0;
         while let Some(number) = self.available.first_from(from) {
             let vertex = VertexId::new(number as u32);
-            if caches.can_take(state::uses_of(vertices, vertex)) {
+            if !self.comes_before(graph.least_place(vertex)) {
+                self.available.remove(number);
+            } else if caches.can_take(state::uses_of(graph.vertices(), vertex)) {
                 return Some(vertex);
             }
             from = number + 1;
@@ -63,11 +71,14 @@ impl Frontier {
         None
     }
 
-    /// Whether some vertex is settled with a cause.
-    pub(crate) fn has_failed(&self) -> bool
-        ensures { result ≡ self.now.failed }
+    /// Whether a line comes before that of each failure.
+    fn comes_before(&self, line: u32) -> bool
+        ensures { result ≡ comes_before line self.now.failed }
     {
-        self.failed
+        match self.failed {
+            Some(failed) => line < failed,
+            None => true,
+        }
     }
 
     /// Leaves a vertex out, since it is claimed.
@@ -86,20 +97,31 @@ impl Frontier {
         self.available.insert(vertex.index());
     }
 
-    /// Makes the vertices available for which the tree of this one, settled so, is the last that was missing.
-    pub(crate) fn settle(&mut self, vertex: VertexId, value: &TreeOrCause)
+    /// Takes in that a vertex of this line is settled: its tree makes those vertices available for which it was the last that was missing; its cause stops the
+    /// vertices of its line and of later ones.
+    pub(crate) fn settle(&mut self, vertex: VertexId, line: u32, value: &TreeOrCause)
         requires vertex { vertex < vec_len self.old.users }
         requires waiting { CanLower (users_at self.old.users.items vertex) self.old.waiting.items }
         requires room { length self.old.available ≡ length self.old.waiting.items }
-        ensures { IsSettledIn vertex value.now self.old self.new }
+        ensures { IsSettledIn vertex line value.now self.old self.new }
     {
         match value {
             Ok(_) => {
                 let users = self.users[vertex.index()].as_slice();
                 lower(users, self.waiting.as_mut_slice(), &mut self.available);
             }
-            Err(_) => self.failed = true,
+            Err(_) => self.failed = Some(with_failed(line, self.failed)),
         }
+    }
+}
+
+/// The least line of all failures with one more.
+fn with_failed(line: u32, failed: Option<u32>) -> u32
+    ensures { result ≡ with_failed line failed }
+{
+    match failed {
+        Some(failed) => failed.min(line),
+        None => line,
     }
 }
 

@@ -1,15 +1,15 @@
 // What holds of every board, for all lists of events: laws about the definitions alone, each the contract of one function with an empty body. A board is
 // a problem and what has happened on it, and `IsReplay` is what `Board`'s type keeps of the two.
-ghost use Rattle.std.specs.Prelude.{◌≡◌, ◌≢◌, ◌<◌, ℕ, true, List, [], length, Some, None, map};
+ghost use Rattle.std.specs.Prelude.{◌≡◌, ◌≢◌, ◌<◌, ◌≤◌, ℕ, true, List, [], length, Some, None, map};
 ghost use Rattle.cachemounts.specs.Holds.{is_lawful};
-ghost use Rattle.plans.specs.Plan.{Problem, IsValue};
+ghost use Rattle.plans.specs.Plan.{Problem, IsValue, NeedsAll, line_at, HasLinesInOrder};
 ghost use Rattle.board.specs.Problem.{IsProblem};
 ghost use Rattle.trees.specs.Cause.{TreeOrCause};
 ghost use Rattle.board.specs.Play.{Run, Step, worker_of, go, play, value_at, claimable, IsReplay};
 ghost use Rattle.board.specs.Claim.{ClaimValue, IsOut, IsStateOf};
 ghost use Rattle.board.specs.declared.event.Event.{Event};
 ghost use Rattle.board.specs.declared.event.Happened.{Happened};
-ghost use Rattle.board.specs.Legal.{without_trees, vertex_out, IsSettled, HasCause, IsReady, IsNextClaim, IsOver, IsLegal, Plays, StepsOn, IsSettledOnce};
+ghost use Rattle.board.specs.Legal.{without_trees, vertex_out, IsSettled, HasTree, HasCause, IsReady, IsNextClaim, IsLegal, Plays, StepsOn, IsSettledOnce};
 
 /// In every board the history is legal: each event was possible after those before it.
 pub fn history_is_legal()
@@ -71,12 +71,20 @@ pub fn some_vertex_is_ready()
         → (vertex : ℕ) × IsReady problem run.history vertex }
 {}
 
-/// So where no worker has a claim out and no vertex is ready, the target is settled or some vertex is settled with a cause.
-pub fn an_idle_board_is_over()
-    ensures { (problem : Problem) (run : Run) → IsProblem problem → IsReplay problem run
+/// So where no worker has a claim out, no vertex is ready and the target isn't settled with a tree, some vertex is settled with a cause. Where the target needs
+/// every vertex and lines are in order, one of least line among these has the least line of all vertices that fail: an idle board has the first failure.
+pub fn an_idle_board_has_the_first_failure()
+    ensures some { (problem : Problem) (run : Run) → IsProblem problem → IsReplay problem run
         → ((worker : ℕ) → vertex_out run.history worker ≡ None)
         → ((vertex : ℕ) → ¬ IsReady problem run.history vertex)
-        → IsOver problem run.history }
+        → ¬ (IsSettled run.history problem.target × HasTree problem problem.target)
+        → (vertex : ℕ) × IsSettled run.history vertex × HasCause problem vertex }
+    ensures first { (problem : Problem) (run : Run) → IsProblem problem → IsReplay problem run → NeedsAll problem → HasLinesInOrder problem
+        → ((worker : ℕ) → vertex_out run.history worker ≡ None)
+        → ((vertex : ℕ) → ¬ IsReady problem run.history vertex)
+        → ¬ (IsSettled run.history problem.target × HasTree problem problem.target)
+        → (first : ℕ) → ((other : ℕ) → IsSettled run.history other → HasCause problem other → line_at problem first ≤ line_at problem other)
+        → (vertex : ℕ) → HasCause problem vertex → line_at problem first ≤ line_at problem vertex }
 {}
 
 /// What a list of steps leaves is what the rules leave of it: those that are possible when their turn comes, and no others.

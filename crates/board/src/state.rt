@@ -1,8 +1,7 @@
 // What a board knows at a moment, as functions over its job and slices: the methods of `Board` only call them.
 ghost use Rattle.std.specs.Prelude.{◌≡◌, ◌↔◌, ℕ, IsTrue, ◌<◌, true, false, is_some, length, map, replicate, IfOk, IfSome, IfNone, [], vec_len};
-ghost use Rattle.std.specs.List.{list_any};
 ghost use Rattle.board.specs.Job.{job_problem};
-ghost use Rattle.board.specs.Readiness.{has_tree, has_cause, stops};
+ghost use Rattle.board.specs.Readiness.{has_tree};
 ghost use Rattle.board.specs.Play.{value_at, have_trees, claim_of, without, claimable};
 ghost use Rattle.board.specs.PrivateClaim.{AreInputs, tree_value};
 ghost use Rattle.board.specs.Clearing.{IsLeastWorker};
@@ -46,15 +45,6 @@ fn is_settled(settled: &[Option<TreeOrCause>], vertex: VertexId) -> bool
     ensures { result ≡ is_some (value_at settled.now vertex) }
 {
     matches!(settled.get(vertex.index()), Some(Some(_)))
-}
-
-/// Whether a vertex is stopped: the target is settled, or some vertex is settled with a cause. It is one answer for all vertices.
-fn is_over<E: Executor>(job: &Job<E>, settled: &[Option<TreeOrCause>], frontier: &Frontier) -> bool
-    requires long { length settled.now ≡ length job.now.graph.vertices }
-    requires failed { frontier.now.failed ≡ list_any has_cause settled.now }
-    ensures { (vertex : ℕ) → result ≡ stops (job_problem E.out job.now) (value_at settled.now) vertex }
-{
-    is_settled(settled, job.target()) || frontier.has_failed()
 }
 
 /// The caches that an operation uses.
@@ -112,30 +102,33 @@ pub(crate) struct NextClaim {
     pub inputs: Vec<Tree>,
 }
 
-/// What a worker's claim is given: the least vertex that is ready, and nothing where the worker has a claim out.
+/// What a worker's claim is given: the least vertex that is ready, and nothing where the worker has a claim out. Vertices that failures stop may
+/// be taken out of the frontier.
 pub(crate) fn next_claim<E: Executor>(
     alloc: Global,
     job: &Job<E>,
     settled: &[Option<TreeOrCause>],
     claims: &[ClaimOut],
     caches: &CacheStore,
-    frontier: &Frontier,
+    frontier: &mut Frontier,
     worker: u32,
 ) -> Result<Option<NextClaim>, Memory>
     requires long { length settled.now ≡ length job.now.graph.vertices }
-    requires frontier { IsFrontier job.now.graph.vertices settled.now claims.now frontier.now }
+    requires frontier { IsFrontier job.now.graph.vertices job.now.graph.places settled.now claims.now frontier.old }
     ensures which { IfOk result (λ next. option_map (λ n. n.vertex) next
         ≡ claimable (job_problem E.out job.now) (record { settled = settled.now; claims = claims.now; holds = caches.now.holds }) worker) }
     ensures inputs { IfOk result (λ next. IfSome next (λ n. AreInputs job.now.graph.vertices settled.now n.vertex n.inputs.items)) }
+    ensures frontier { IsFrontier job.now.graph.vertices job.now.graph.places settled.now claims.now frontier.new }
 {
     if claim_of(claims, worker).is_some() {
         return Ok(None);
     }
-    if is_over(job, settled, frontier) {
+    if is_settled(settled, job.target()) {
         return Ok(None);
     }
-    let vertices = job.graph().vertices();
-    let Some(vertex) = frontier.least(vertices, caches) else {
+    let graph = job.graph();
+    let vertices = graph.vertices();
+    let Some(vertex) = frontier.least(graph, caches) else {
         return Ok(None);
     };
     let inputs = copies(alloc, settled, vertices[vertex.index()].inputs.as_slice())?;

@@ -22,7 +22,7 @@ withdraw-requires g c =
     let problem = job_problem g.E.Executor.out b.job in
     let run = run_of b.history.items b.settled.items b.claims.items b.caches.holds in
     let can : claimable problem run.state c.args.worker ≡ Some vertex = subst (λ v. claimable (board_problem g.E.Executor.out v) v.run.state c.args.worker ≡ Some vertex) (sym c.self.view_is) c.requires.next in
-    available-within b.job.graph.vertices b.settled.items b.claims.items b.frontier vertex c.self.invariant.2 (claimable-available problem run.state c.args.worker vertex can)
+    available-within b.job.graph.vertices b.job.graph.places b.settled.items b.claims.items b.frontier vertex c.self.invariant.2 (claimable-available problem run.state c.args.worker vertex can)
 
 pub take-requires-clause-free : goal.take-requires-clause-free
 take-requires-clause-free g c =
@@ -63,7 +63,7 @@ invariant_of-self-2 g c =
     let uses : c.uses_of.result.now ≡ uses_at problem vertex = c.uses_of.ensures ∙ ap (λ vertices. uses_in vertices vertex) (c.vertices-vertices.ensures.value ∙ ap (λ graph. graph.vertices) c.graph.ensures.value) in
     let after : IsAfter (Takes c.args.worker (uses_at problem vertex)) b.caches c.take.new.self = subst (λ u. IsAfter (Takes c.args.worker u) b.caches c.take.new.self) uses c.in_ok-lease.ensures.ok in
     let gone = claim-gone g.E.Executor.out b.job b.first.items b.caches c.take.new.self b.history.items c.add-2.new.list.items b.settled.items b.claims.items c.add.new.list.items c.args.worker vertex c.len-at.result c.self.invariant.0 can (search rules) (search rules) (search rules) after in
-    let more = frontier-claim b.job.graph.vertices b.settled.items b.claims.items c.add.new.list.items b.frontier c.withdraw.new.self (record { worker = c.args.worker; vertex = vertex; at = c.len-at.result }) c.self.invariant.2 (claimable-available problem run.state c.args.worker vertex can) c.withdraw.ensures (search rules) in
+    let more = frontier-claim b.job.graph.vertices b.job.graph.places b.settled.items b.claims.items c.add.new.list.items b.frontier c.withdraw.new.self (record { worker = c.args.worker; vertex = vertex; at = c.len-at.result }) c.self.invariant.2 (claimable-available problem run.state c.args.worker vertex can) c.withdraw.ensures (search rules) in
     (gone.board, omega (arith, c.self.invariant.1, c.in_ok-room-2.ensures.room, c.room-2.ensures.len, c.room.ensures.len, c.add.ensures.len, c.add-2.ensures.len, c.add-2.ensures.capacity, c.len.ensures), more)
 
 pub returns-clause-run : goal.returns-clause-run

@@ -23,7 +23,7 @@ invariant_of-self g c =
     let gone = abandon-gone g.E.Executor.out b.job b.first.items b.caches c.leave.new.self b.history.items c.add.new.list.items b.settled.items b.claims.items c.drop_claim.new.claims.items claim c.self.invariant.0 vertex_out (search rules) (search rules) c.leave.ensures.after in
     let fewer = c.drop_claim.ensures.fewer claim vertex_out in
     let alone = replay-alone (job_problem g.E.Executor.out b.job) (run_of b.history.items b.settled.items b.claims.items b.caches.holds) claim c.self.invariant.0.problem c.self.invariant.0.replay vertex_out in
-    let left = frontier-abandon b.job.graph.vertices b.settled.items b.claims.items c.drop_claim.new.claims.items b.frontier c.restore.new.self claim c.self.invariant.2 alone c.restore.ensures (search rules) in
+    let left = frontier-abandon b.job.graph.vertices b.job.graph.places b.settled.items b.claims.items c.drop_claim.new.claims.items b.frontier c.restore.new.self claim c.self.invariant.2 alone c.restore.ensures (search rules) in
     (gone.board, omega (arith, fewer, c.self.invariant.1, c.add.ensures.len, c.add.ensures.capacity), left)
 
 pub returns : goal.returns

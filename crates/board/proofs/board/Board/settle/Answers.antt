@@ -9,7 +9,7 @@ use Rattle.board.specs.Claim.{IsClaim, IsOut, IsResult, claim_out}
 use Rattle.board.specs.Board.{IsStep}
 use Rattle.board.proofs.SoundLemmas.{claim-within, claim-unsettled, claim-count, unsettled-fewer, result-is}
 use Rattle.board.proofs.BoardLemmas.{slice_get-set, run_of, board_of, settle-gone}
-use Rattle.board.specs.PrivateFrontier.{users_at, CanLower, IsSettledIn}
+use Rattle.board.specs.PrivateFrontier.{users_at, line_in, CanLower, IsSettledIn}
 use Rattle.board.proofs.FrontierLemmas.{replay-alone}
 use Rattle.board.proofs.FrontierSteps.{frontier-settle, can-lower}
 use Rattle.board.proofs.board.Board.settle.Goals as goal
@@ -30,7 +30,7 @@ settle-requires-clause-waiting g c =
     let problem = job_problem g.E.Executor.out b.job in
     let out : IsOut (run_of b.history.items b.settled.items b.claims.items b.caches.holds).state claim = subst (λ v. IsOut v.run.state claim) (sym c.self.view_is) c.requires.out in
     let alone = replay-alone problem (run_of b.history.items b.settled.items b.claims.items b.caches.holds) (claim_out claim) c.self.invariant.0.problem c.self.invariant.0.replay out in
-    subst (λ v. CanLower (users_at b.frontier.users.items v) b.frontier.waiting.items) (sym c.vertex-vertex.ensures) (can-lower b.job.graph.vertices b.settled.items b.claims.items b.frontier claim.vertex c.self.invariant.2 alone.unsettled)
+    subst (λ v. CanLower (users_at b.frontier.users.items v) b.frontier.waiting.items) (sym c.vertex-vertex.ensures) (can-lower b.job.graph.vertices b.job.graph.places b.settled.items b.claims.items b.frontier claim.vertex c.self.invariant.2 alone.unsettled)
 
 pub settle-requires-clause-room : goal.settle-requires-clause-room
 settle-requires-clause-room g c = c.self.invariant.2.available_long ∙ sym c.self.invariant.2.waiting_long
@@ -72,8 +72,9 @@ invariant_of-self g c =
     let gone = settle-gone g.E.Executor.out b.job b.first.items b.caches c.give.new.self b.history.items c.add.new.list.items b.settled.items now b.claims.items c.drop_claim.new.claims.items (claim_out claim) c.args.given.items c.args.value c.self.invariant.0 out given is (search rules) (rw at refl) (search rules) after in
     let fewer = c.drop_claim.ensures.fewer (claim_out claim) (rw c.worker-worker.ensures out) in
     let alone = replay-alone problem (run_of b.history.items b.settled.items b.claims.items b.caches.holds) (claim_out claim) c.self.invariant.0.problem c.self.invariant.0.replay out in
-    let settles : IsSettledIn claim.vertex c.args.value b.frontier c.settle.new.self = subst (λ v. IsSettledIn v c.args.value b.frontier c.settle.new.self) c.vertex-vertex.ensures c.settle.ensures in
-    let left = frontier-settle b.job.graph.vertices b.settled.items now b.claims.items c.drop_claim.new.claims.items b.frontier c.settle.new.self (claim_out claim) c.args.value c.self.invariant.2 alone settles (rw at refl) (search rules) in
+    let settles : IsSettledIn claim.vertex c.least_place-line.result c.args.value b.frontier c.settle.new.self = subst (λ v. IsSettledIn v c.least_place-line.result c.args.value b.frontier c.settle.new.self) c.vertex-vertex.ensures c.settle.ensures in
+    let on : c.least_place-line.result ≡ line_in b.job.graph.places claim.vertex = c.least_place-line.ensures ∙ (ap (λ graph. line_in graph.places c.vertex-vertex.result) c.graph.ensures.value ∙ ap (line_in b.job.graph.places) c.vertex-vertex.ensures) in
+    let left = frontier-settle b.job.graph.vertices b.job.graph.places b.settled.items now b.claims.items c.drop_claim.new.claims.items b.frontier c.settle.new.self (claim_out claim) c.least_place-line.result c.args.value c.self.invariant.2 alone on settles (rw at refl) (search rules) in
     (gone.board, omega (arith, fewer, c.self.invariant.1, c.add.ensures.len, c.add.ensures.capacity), left)
 
 pub returns-clause-run : goal.returns-clause-run
