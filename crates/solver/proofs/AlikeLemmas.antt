@@ -1,11 +1,12 @@
 -- Solutions and answers where the target needs every vertex.
-use Rattle.std.proofs.Common.{◌≡◌, ◌∙◌, Some, Ok, sym}
+use Rattle.std.proofs.Common.{◌≡◌, ◌∙◌, ◌≤◌, ℕ, Some, Ok, sym, arith}
+use Rattle.trees.specs.declared.cause.Cause.{Cause}
 use Rattle.llb.specs.Graph.{AreVertices}
-use Rattle.plans.specs.Plan.{PlanValue, IsPlan, Problem, problem_of, NeedsAll}
+use Rattle.plans.specs.Plan.{PlanValue, IsPlan, Problem, problem_of, NeedsAll, line_at, HasLinesInOrder}
 use Rattle.plans.specs.Value.{Out}
 use Rattle.plans.proofs.NeedsLaws.{failing_leaves}
 use Rattle.solver.specs.Answer.{IsAnswer, AreAlike}
-use Rattle.solver.specs.Solution.{IsSolution}
+use Rattle.solver.specs.Solution.{IsFailure, IsSolution}
 use Rattle.solver.specs.Solution.{AreAlike as AreAlikeSolutions}
 use Rattle.solver.specs.declared.answer.Answer.{Answer}
 use Rattle.solver.specs.declared.answer.Answer.TheVariants.{Built, Failed}
@@ -30,3 +31,12 @@ alike out plan (Built tree config) (Failed place cause) is needs this that =
 alike out plan (Failed place cause) (Built tree config) is needs this that =
     failing_leaves (problem_of out plan) this.0 cause tree is.graph.vertices needs this.1.value that.0
 alike out plan (Failed place cause) (Failed other why) is needs this that = tt
+
+-- where lines are in order too, two failures have one line
+pub one_line : (problem : Problem) (vertex place other line : ℕ) (cause why : Cause) → NeedsAll problem → HasLinesInOrder problem → IsFailure problem vertex place cause → IsFailure problem other line why → place ≡ line
+one_line problem vertex place other line cause why needs in_order this that =
+    let here : place ≤ line_at problem other = this.first needs in_order other why that.value in
+    let there : line ≤ line_at problem vertex = that.first needs in_order vertex cause this.value in
+    let own = this.least in
+    let beside = that.least in
+    omega (arith, here, there, own, beside)

@@ -1,2 +1,3 @@
 pub mod Solution
 pub mod Answer
+pub mod PrivateSolution

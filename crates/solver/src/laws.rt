@@ -1,9 +1,11 @@
 // What follows where a plan's target needs every vertex: each function's contract is one law, and its body is empty.
-ghost use Rattle.plans.specs.Plan.{PlanValue, IsPlan, Problem, problem_of, NeedsAll};
+ghost use Rattle.std.specs.Prelude.{◌≡◌, ℕ};
+ghost use Rattle.trees.specs.declared.cause.Cause.{Cause};
+ghost use Rattle.plans.specs.Plan.{PlanValue, IsPlan, Problem, problem_of, NeedsAll, HasLinesInOrder};
 ghost use Rattle.plans.specs.Value.{Out};
 ghost use Rattle.board.specs.Problem.{IsProblem};
 ghost use Rattle.solver.specs.Answer.{IsAnswer, AreAlike};
-ghost use Rattle.solver.specs.Solution.{IsSolution};
+ghost use Rattle.solver.specs.Solution.{IsFailure, IsSolution};
 ghost use Rattle.solver.specs.Solution.{AreAlike as AreAlikeSolutions};
 ghost use Rattle.solver.specs.declared.answer.Answer.{Answer};
 ghost use Rattle.solver.specs.declared.solution.Solution.{Solution};
@@ -21,4 +23,10 @@ pub fn answers_agree<C>()
     ensures { (out : Out) (plan : PlanValue C) (this that : Answer C)
         → IsPlan plan → NeedsAll (problem_of out plan)
         → IsAnswer out plan this → IsAnswer out plan that → AreAlike this that }
+{}
+
+/// Where lines are in order too, all failures that solutions name have one line: that of the first vertex that fails.
+pub fn failures_name_the_first_line()
+    ensures { (problem : Problem) (vertex place other line : ℕ) (cause why : Cause) → NeedsAll problem → HasLinesInOrder problem
+        → IsFailure problem vertex place cause → IsFailure problem other line why → place ≡ line }
 {}

@@ -1,9 +1,10 @@
-ghost use Rattle.std.specs.Prelude.{◌≡◌, ◌<◌, ℕ, [], None, Some, Ok, Err, false, length, IfOk, IfSome, IfNone};
+ghost use Rattle.std.specs.Prelude.{◌≡◌, ◌+◌, ℕ, [], None, Some, Ok, false, length, IfOk, IfSome, IfNone};
 ghost use Rattle.trees.specs.TreeMap.{TreeMap};
 ghost use Rattle.board.specs.Board.{board_problem};
 ghost use Rattle.board.specs.Legal.{IsReady};
 ghost use Rattle.board.specs.Play.{value_at};
-ghost use Rattle.board.specs.Readiness.{has_tree, has_cause};
+ghost use Rattle.board.specs.Readiness.{has_tree};
+ghost use Rattle.solver.specs.PrivateSolution.{IsLeastFailure};
 ghost use Rattle.solver.specs.Solution.{IsSolution, IsBuilt};
 
 use board::Board;
@@ -18,7 +19,7 @@ use trees::{Cause, Tree};
 pub enum Solution {
     /// The tree that is the value of the target.
     Built(Tree),
-    /// A vertex that fails with this cause, and the least of the lines behind it; 0 where it has none.
+    /// The failure of least line: a vertex, the least of the lines behind it, 0 where it has none, and the cause with which it fails.
     Failed {
         vertex: VertexId,
         place: u32,
@@ -27,7 +28,7 @@ pub enum Solution {
 }
 
 /// The solution of a board on which no claim is out and no vertex is ready: a copy of the target's tree where it is settled with one, else the
-/// first vertex that is settled with a cause.
+/// vertex of least line that is settled with a cause.
 pub(crate) fn solution_of<E: Executor>(alloc: Global, board: &Board<E>) -> Result<Solution, Memory>
     requires idle { board.now.run.state.claims ≡ [] }
     requires over { (vertex : ℕ) → ¬ IsReady (board_problem E.out board.now) board.now.run.history vertex }
@@ -39,11 +40,14 @@ pub(crate) fn solution_of<E: Executor>(alloc: Global, board: &Board<E>) -> Resul
     if let Some(tree) = tree_of(board, board.job().target()) {
         return Ok(Solution::Built(tree.copy(alloc)?));
     }
-    let Some(failure) = first_failure(board) else {
+    let Some(failure) = least_failure(board) else {
         unreachable!();
     };
-    let Failure { vertex, cause } = failure;
-    let place = board.job().graph().least_place(vertex);
+    let Failure {
+        vertex,
+        place,
+        cause,
+    } = failure;
     Ok(Solution::Failed {
         vertex,
         place,
@@ -51,29 +55,53 @@ pub(crate) fn solution_of<E: Executor>(alloc: Global, board: &Board<E>) -> Resul
     })
 }
 
-/// A vertex that is settled with a cause.
+/// A vertex that is settled with a cause, and the least line behind it.
 #[derive(Clone, Copy)]
 struct Failure {
     vertex: VertexId,
+    place: u32,
     cause: Cause,
 }
 
-/// The first vertex that is settled with a cause, if there is one.
-fn first_failure<E: Executor>(board: &Board<E>) -> Option<Failure>
-    ensures found { IfSome result (λ failure. value_at board.now.run.state.settled failure.vertex ≡ Some (Err failure.cause)) }
-    ensures none { IfNone result ((vertex : ℕ) → vertex < length board.now.job.graph.vertices
-        → has_cause (value_at board.now.run.state.settled vertex) ≡ false) }
+/// Of the vertices that are settled with a cause one of the least line, if any is.
+fn least_failure<E: Executor>(board: &Board<E>) -> Option<Failure>
+    ensures { IsLeastFailure (board_problem E.out board.now) board.now.run.state.settled (length board.now.job.graph.vertices) result }
 {
+    let mut least = None;
     for number in 0..board.job().graph().vertices().len() as u32 {
-        let vertex = VertexId::new(number);
-        if let Some(Err(cause)) = board.value(vertex) {
-            return Some(Failure {
-                vertex,
-                cause: *cause,
-            });
-        }
+        least = lesser_failure(board, least, VertexId::new(number));
     }
-    None
+    least
+}
+
+/// The failure of lesser line, of this one and that of a vertex, if it is settled with a cause.
+fn lesser_failure<E: Executor>(
+    board: &Board<E>,
+    least: Option<Failure>,
+    vertex: VertexId,
+) -> Option<Failure>
+    requires { IsLeastFailure (board_problem E.out board.now) board.now.run.state.settled vertex least }
+    ensures { IsLeastFailure (board_problem E.out board.now) board.now.run.state.settled (vertex + 1) result }
+{
+    let Some(Err(cause)) = board.value(vertex) else {
+        return least;
+    };
+    let place = board.job().graph().least_place(vertex);
+    let here = Failure {
+        vertex,
+        place,
+        cause: *cause,
+    };
+    match least {
+        Some(failure) => {
+            if place < failure.place {
+                Some(here)
+            } else {
+                Some(failure)
+            }
+        }
+        None => Some(here),
+    }
 }
 
 /// The tree with which a vertex is settled.

@@ -1,10 +1,8 @@
-use Rattle.std.proofs.Common.{◌≡◌, ◌∙◌, Some, Ok, Err, [], false, sym, ap, subst}
-use Rattle.std.specs.List.{slice_index_or}
-use Rattle.llb.specs.Places.{least_line}
+use Rattle.std.proofs.Common.{◌≡◌, ◌∙◌, Some, Ok, Err, false, sym, ap, subst}
 use Rattle.board.specs.Board.{board_problem}
 use Rattle.board.specs.Play.{value_at}
 use Rattle.board.specs.Readiness.{has_tree}
-use Rattle.solver.proofs.SolutionLemmas.{settled-value, cause-found}
+use Rattle.solver.proofs.SolutionLemmas.{settled-value, cause-found, least-at-end, first-is}
 use Rattle.solver.proofs.solution.solution_of.Goals as goal
 
 pub returns-in-Some-clause-solution : goal.returns-in-Some-clause-solution
@@ -21,14 +19,19 @@ unreachable-requires g c =
     let is = c.history-known.ensures in
     let target : c.target.result ≡ board.job.target = c.target.ensures ∙ ap (λ job. job.target) c.job.ensures in
     let treeless : has_tree (value_at board.run.state.settled board.job.target) ≡ false = subst (λ v. has_tree (value_at board.run.state.settled v) ≡ false) target c.in_default.ensures.none in
-    cause-found (board_problem g.E.Executor.out board) board.run is.problem is.replay c.requires.idle c.requires.over treeless c.in_default-first_failure.ensures.none
+    cause-found (board_problem g.E.Executor.out board) board.run is.problem is.replay c.requires.idle c.requires.over treeless c.in_default-least_failure.ensures
 
 pub returns-clause-solution : goal.returns-clause-solution
 returns-clause-solution g c =
     let board = c.args.board.now in
     let is = c.history-known.ensures in
-    let failure = c.in-Some-first_failure.failure in
+    let failure = c.in-Some-least_failure.failure in
+    let least = c.in-Some-least_failure.ensures in
+    let target : c.target.result ≡ board.job.target = c.target.ensures ∙ ap (λ job. job.target) c.job.ensures in
+    let treeless : has_tree (value_at board.run.state.settled board.job.target) ≡ false = subst (λ v. has_tree (value_at board.run.state.settled v) ≡ false) target c.in_default.ensures.none in
     record {
-      value = settled-value (board_problem g.E.Executor.out board) board.run failure.vertex (Err failure.cause) is.problem is.replay c.in-Some-first_failure.ensures.found;
-      least = ◌∙◌ {b = least_line (slice_index_or c.graph.result.now.places failure.vertex [])} c.least_place-place.ensures (ap (λ graph. least_line (slice_index_or graph.places failure.vertex [])) (c.graph.ensures.value ∙ ap (λ job. job.graph) c.job-2.ensures));
+      value = settled-value (board_problem g.E.Executor.out board) board.run failure.vertex (Err failure.cause) is.problem is.replay least.settled_so;
+      least = least.place;
+      settled = least-at-end (board_problem g.E.Executor.out board) board.run failure is.problem is.replay c.requires.idle c.requires.over least;
+      first = first-is (board_problem g.E.Executor.out board) board.run failure is.problem is.replay c.requires.idle c.requires.over treeless least;
     }
