@@ -21,11 +21,11 @@ use Rattle.lowering.specs.Meaning.{Trees, value_with}
 use Rattle.lowering.specs.Means.{world}
 use Rattle.lowering.proofs.ValueFacts.{vertex_is}
 use Rattle.rewrite.specs.Flat.{IsFlattened, with_first, spelled_out, flat_inputs, flat_vertex, flat_vertices, MergesAreFlat}
-use Rattle.rewrite.specs.PrivateFlat.{is_merge, AreFlatInputs, ArePutOn}
+use Rattle.rewrite.specs.PrivateFlat.{is_merge, AreOnFlat, AreFlattened}
 use Rattle.rewrite.specs.PrivateJoined.{HasName, AreJoinable, AreJoined}
 use Rattle.rewrite.specs.PrivateMarks.{AreReached}
 use Rattle.rewrite.specs.Pruned.{Names, AreNames, KeepsMeaning}
-use Rattle.rewrite.proofs.FlatFacts.{flat_graph, flat_there, flat_back, as_many, AreOnFlat, put_flat, flat_joinable, joined_flat}
+use Rattle.rewrite.proofs.FlatFacts.{flat_graph, flat_there, flat_back, as_many, flat_joinable, joined_flat}
 use Rattle.rewrite.proofs.JoinFacts.{there_is}
 use Rattle.rewrite.proofs.PrunedFacts.{names_first, reached_marked, marked_within, names_among, same_name, names_trees, failed_within}
 use Rattle.rewrite.proofs.SpellingFacts.{merge_is, flat_other, spelled_merge, spelled_itself, flat_low, spelled_first, flat_value, spelled_reached}
@@ -41,19 +41,21 @@ pub record IsMadeFlat {C : Type 0} (plan : PlanValue C) (graph flat : GraphValue
   pub are : AreJoined (flat_graph graph) marks (length graph.vertices) flat names
 
 pub made_flat : {C : Type 0} (plan : PlanValue C) (graph flat : GraphValue) (target : ℕ) (config : C) (sources : SourcesValue)
-    (vertices put lent_vertices : List Vertex) (places : List (List ℕ)) (marks lent_marks : List Bool) (names : Names)
-    → plan ≡ record { graph = graph; target = target; config = config; sources = sources } → lent_vertices ≡ graph.vertices
-    → AreReached (flat_vertices lent_vertices) target marks → lent_marks ≡ marks → graph ≡ record { vertices = vertices; places = places }
-    → AreOnFlat graph.vertices lent_marks put → AreJoined (record { vertices = put; places = places }) lent_marks (length put) flat names
-    → IsMadeFlat plan graph flat target config sources marks names
-made_flat plan graph flat target config sources vertices put lent_vertices places marks lent_marks names parts same reached is split on joined = record {
-  parts = parts;
-  reached = subst (λ vs. AreReached (flat_vertices vs) target marks) same reached;
-  are = subst (λ ms. AreJoined (flat_graph graph) ms (length graph.vertices) flat names) is
-      (joined_flat graph flat lent_marks put (length graph.vertices) names on
-      (subst (λ n. AreJoined (record { vertices = put; places = graph.places }) lent_marks n flat names) on.long
-      (subst (λ ps. AreJoined (record { vertices = put; places = ps }) lent_marks (length put) flat names) (sym (ap (λ (g : GraphValue). g.places) split)) joined)));
-}
+    (vertices put : List Vertex) (places : List (List ℕ)) (marks lent_marks : List Bool) (names : Names)
+    → plan ≡ record { graph = graph; target = target; config = config; sources = sources } → graph ≡ record { vertices = vertices; places = places }
+    → AreFlattened vertices target marks put → lent_marks ≡ marks
+    → AreJoined (record { vertices = put; places = places }) lent_marks (length put) flat names → IsMadeFlat plan graph flat target config sources marks names
+made_flat plan graph flat target config sources vertices put places marks lent_marks names parts split flattened is joined =
+    let on : AreOnFlat vertices marks put = flattened.1 in
+    let lent : AreJoined (record { vertices = put; places = places }) marks (length put) flat names =
+    subst (λ ms. AreJoined (record { vertices = put; places = places }) ms (length put) flat names) is joined in
+    let all : AreJoined (record { vertices = put; places = places }) marks (length vertices) flat names =
+    subst (λ n. AreJoined (record { vertices = put; places = places }) marks n flat names) on.long lent in
+    record {
+      parts = parts;
+      reached = rw split flattened.0;
+      are = rw split (joined_flat (record { vertices = vertices; places = places }) flat marks put (length vertices) names on all);
+    }
 
 -- the target has a new number
 pub target_named_flat : {C : Type 0} (plan : PlanValue C) (graph flat : GraphValue) (target : ℕ) (config : C) (sources : SourcesValue) (marks : List Bool)
@@ -323,38 +325,13 @@ made_merges_flat plan new is flattened = merges_flat plan new flattened is.graph
 
 -- ---- between the calls
 
--- as many lists of inputs as vertices
-pub inputs_long : (graph : GraphValue) (vertices second : List Vertex) (places : List (List ℕ)) (marks : List Bool) (inputs : List (List ℕ))
-    → second ≡ graph.vertices → graph ≡ record { vertices = vertices; places = places } → AreFlatInputs second marks (length second) inputs
-    → length inputs ≡ length vertices
-inputs_long graph vertices second places marks inputs same split are =
-    are.long ∙ ap length (same ∙ ap (λ (g : GraphValue). g.vertices) split)
-
--- the vertices that are marked were put on their flat inputs
-pub made_on : (graph : GraphValue) (vertices second put : List Vertex) (places : List (List ℕ)) (marks lent_marks others : List Bool)
-    (inputs : List (List ℕ)) → second ≡ graph.vertices → graph ≡ record { vertices = vertices; places = places } → lent_marks ≡ marks → others ≡ marks
-    → AreFlatInputs second lent_marks (length second) inputs → ArePutOn vertices inputs put → AreOnFlat graph.vertices others put
-made_on graph vertices second put places marks lent_marks others inputs same split is also are on =
-    put_flat graph.vertices others inputs put
-    (subst (λ vs. AreFlatInputs vs others (length vs) inputs) same
-    (subst (λ ms. AreFlatInputs second ms (length second) inputs) (is ∙ sym also) are))
-    (subst (λ vs. ArePutOn vs inputs put) (sym (ap (λ (g : GraphValue). g.vertices) split)) on)
-
--- so they can make a graph
-pub made_fit : (graph : GraphValue) (target : ℕ) (vertices first put : List Vertex) (places : List (List ℕ)) (marks lent_marks : List Bool) → IsGraph graph
-    → first ≡ graph.vertices → AreReached (flat_vertices first) target marks → lent_marks ≡ marks → graph ≡ record { vertices = vertices; places = places }
-    → AreOnFlat graph.vertices lent_marks put → AreJoinable (record { vertices = put; places = places }) lent_marks
-made_fit graph target vertices first put places marks lent_marks is same reached lent split on =
-    subst (λ ps. AreJoinable (record { vertices = put; places = ps }) lent_marks) (ap (λ (g : GraphValue). g.places) split)
-    (flat_joinable graph target lent_marks put is
-    (subst (λ vs. AreReached (flat_vertices vs) target lent_marks) same
-    (subst (λ ms. AreReached (flat_vertices first) target ms) (sym lent) reached)) on)
-
--- as many marks as vertices
-pub marks_long : (all : List Vertex) (first second : List Vertex) (target : ℕ) (marks lent_marks : List Bool) → first ≡ all → second ≡ all
-    → lent_marks ≡ marks → AreReached (flat_vertices first) target marks → length lent_marks ≡ length second
-marks_long all first second target marks lent_marks one two is reached =
-    ap length is ∙ (reached.long ∙ (as_many first ∙ ap length (one ∙ sym two)))
+-- what was put on flat inputs can make a graph
+pub made_fit : (graph : GraphValue) (target : ℕ) (vertices put : List Vertex) (places : List (List ℕ)) (marks lent_marks : List Bool) → IsGraph graph
+    → graph ≡ record { vertices = vertices; places = places } → AreFlattened vertices target marks put → lent_marks ≡ marks
+    → AreJoinable (record { vertices = put; places = places }) lent_marks
+made_fit graph target vertices put places marks lent_marks is split flattened lent =
+    subst (λ ms. AreJoinable (record { vertices = put; places = places }) ms) (sym lent)
+    (flat_joinable (record { vertices = vertices; places = places }) target marks put (subst IsGraph split is) flattened.0 flattened.1)
 
 -- the target's new number, in names that were lent
 pub lent_named : {C : Type 0} (plan : PlanValue C) (graph flat : GraphValue) (target : ℕ) (config : C) (sources : SourcesValue) (marks : List Bool)

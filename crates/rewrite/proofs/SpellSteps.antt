@@ -1,17 +1,13 @@
 -- From merge to merge, with what is found pushed from the last to the first.
-use Rattle.std.proofs.Common.{◌≡◌, ◌<◌, ◌≤◌, ◌++◌, ◌∷◌, ◌-◌, ◌+◌, inl, inr, ℕ, zero, suc, List, [], Bool, true, false, drop, take, length, length-append, Some, refl, sym, ap, ◌∙◌, subst, arith, append_assoc}
+use Rattle.std.proofs.Common.{◌≡◌, ◌<◌, ◌≤◌, ◌++◌, ◌∷◌, ◌-◌, ℕ, zero, suc, List, [], true, false, drop, take, length, Some, refl, sym, ap, ◌∙◌, subst, arith, append_assoc}
 use Rattle.std.specs.Prelude.{reverse, slice_get, slice_index_or}
 use Rattle.std.proofs.lemmas.List.{reverse-append, reverse-reverse}
-use Rattle.std.proofs.lemmas.Bool.{cases_eq}
 use Rattle.std.proofs.lemmas.Option.{slice_get-get_or}
 use Rattle.llb.specs.declared.op.Op.TheVariants.{Merge as MergeOp}
 use Rattle.llb.specs.declared.vertex.Vertex.{Vertex}
 use Rattle.llb.specs.Graph.{AreVertices}
-use Rattle.lowering.proofs.Fronts.{slice_get-kept}
-use Rattle.lowering.proofs.RowFacts.{slice_get-end}
-use Rattle.rewrite.specs.Flat.{with_first, spelled_out, flat_inputs}
-use Rattle.rewrite.specs.PrivateFlat.{is_merge, AreFlatInputs}
-use Rattle.plain.specs.Marks.{is_marked}
+use Rattle.rewrite.specs.Flat.{with_first, spelled_out}
+use Rattle.rewrite.specs.PrivateFlat.{is_merge}
 use Rattle.rewrite.proofs.SpellingFacts.{merge_is, merge_has_two, spelled_merge, spelled_itself}
 
 some_same : (v u : Vertex) → Some v ≡ Some u → v ≡ u
@@ -95,27 +91,3 @@ spell_end vs are at i d front flat pushed reversed result lt i_is other so_far i
     ∙ (reverse-append flat (at ∷ [])
     ∙ (ap (λ xs. xs ++ reverse flat) (sym itself)
     ∙ sym so_far))))
-
--- ---- a list of them
-
-pub listed_on : (vs : List Vertex) (marks : List Bool) (at : ℕ) (list more : List (List ℕ)) (v : Vertex) (inputs : List ℕ) → AreFlatInputs vs marks at list
-    → slice_get vs at ≡ Some v → (is_marked marks at ≡ true → inputs ≡ flat_inputs vs v.op v.inputs) → more ≡ list ++ inputs ∷ []
-    → AreFlatInputs vs marks (at + 1) more
-listed_on vs marks at list more v inputs are there flat added =
-    let end : slice_get (list ++ inputs ∷ []) at ≡ Some inputs =
-    subst (λ n. slice_get (list ++ inputs ∷ []) n ≡ Some inputs) are.long (slice_get-end list inputs) in
-    record {
-      long = ap length added ∙ (length-append list (inputs ∷ []) ∙ ap (λ n. n + 1) are.long);
-      flat = λ k u lt marked is. elim (cases_eq k at) [
-        | inl same ↦
-            let one : v ≡ u = some_same v u (sym there ∙ (ap (slice_get vs) (sym same) ∙ is)) in
-            ap (λ xs. slice_get xs k) added
-            ∙ (ap (slice_get (list ++ inputs ∷ [])) same
-            ∙ (end
-            ∙ (ap Some (flat (ap (is_marked marks) (sym same) ∙ marked))
-            ∙ ap (λ (x : Vertex). Some (flat_inputs vs x.op x.inputs)) one)))
-        | inr ne ↦
-            ap (λ xs. slice_get xs k) added
-            ∙ slice_get-kept list (inputs ∷ []) (flat_inputs vs u.op u.inputs) k (are.flat k u (omega (arith, lt, ne)) marked is)
-      ];
-    }

@@ -136,6 +136,30 @@ module _ (vs : List Vertex) (are : AreVertices vs) where
   unfolding spelled_out
   spelled_step id low = to_step (length vs) id low
 
+  -- in a list that begins as this one does, the same is spelled out for what stands there
+  front_to : (us : List Vertex) (at n id : ℕ) → ((k : ℕ) → k < at → slice_get us k ≡ slice_get vs k) → id < at → spelled_to us n id ≡ spelled_to vs n id
+  front_to us at zero id same low = refl
+  front_to us at (suc n) id same low =
+      ap (spelled_at (spelled_to us n) id) (same id low)
+      ∙ at_same (spelled_to us n) (spelled_to vs n) id (slice_get vs id) (λ i lt. front_to us at n i same (omega (arith, lt, low))) refl
+
+  spelled_front : (us : List Vertex) (at id : ℕ) → ((k : ℕ) → k < at → slice_get us k ≡ slice_get vs k) → at ≤ length us → at ≤ length vs → id < at
+      → spelled_out us id ≡ spelled_out vs id
+  unfolding spelled_out
+  spelled_front us at id same in_us in_vs low =
+      front_to us at (length us) id same low ∙ to_same (length us) (length vs) id (omega (arith, low, in_us)) (omega (arith, low, in_vs))
+
+  -- so inputs that stand there are flat likewise
+  pub flat_front : (us : List Vertex) (at : ℕ) → ((k : ℕ) → k < at → slice_get us k ≡ slice_get vs k) → at ≤ length us → at ≤ length vs → (op : Op)
+      (inputs : List ℕ) → All (λ i. i < at) inputs → flat_inputs us op inputs ≡ flat_inputs vs op inputs
+  flat_front us at same in_us in_vs (SourceOp source) inputs low = refl
+  flat_front us at same in_us in_vs (ExecOp exec) inputs low = refl
+  flat_front us at same in_us in_vs (CopyOp files) inputs low = refl
+  flat_front us at same in_us in_vs (MakeDirsOp path) inputs low = refl
+  flat_front us at same in_us in_vs MergeOp [] low = refl
+  flat_front us at same in_us in_vs MergeOp (first ∷ rest) low =
+      ap (λ below. below ++ rest) (spelled_front us at first same in_us in_vs (All-head (λ i. i < at) first rest low))
+
   pub spelled_merge : (id : ℕ) (v : Vertex) → slice_get vs id ≡ Some v → v.op ≡ MergeOp → spelled_out vs id ≡ with_first (spelled_out vs) v.inputs
   spelled_merge id v is merge =
       spelled_step id (slice_get_within vs id v is)

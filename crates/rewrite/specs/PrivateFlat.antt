@@ -1,10 +1,11 @@
 -- How vertices come on their flat inputs.
-use Rattle.std.specs.Prelude.{◌≡◌, ◌<◌, ℕ, Bool, true, false, List, Some, length, slice_get}
+use Rattle.std.specs.Prelude.{◌≡◌, ℕ, Bool, true, false, List, Some, length, slice_get}
 use Rattle.llb.specs.declared.op.Op.{Op}
 use Rattle.llb.specs.declared.op.Op.TheVariants.{Source as SourceOp, Exec as ExecOp, Copy as CopyOp, MakeDirs as MakeDirsOp, Merge as MergeOp}
 use Rattle.llb.specs.declared.vertex.Vertex.{Vertex}
 use Rattle.plain.specs.Marks.{is_marked}
-use Rattle.rewrite.specs.Flat.{flat_inputs}
+use Rattle.rewrite.specs.Flat.{flat_vertex, flat_vertices}
+use Rattle.rewrite.specs.PrivateMarks.{AreReached}
 
 -- whether an operation is a merge
 abbrev pub is_merge : Op → Bool
@@ -14,14 +15,11 @@ is_merge (CopyOp files) = false
 is_merge (MakeDirsOp path) = false
 is_merge MergeOp = true
 
--- beside each vertex before a number stand its flat inputs, where it is marked
-pub record AreFlatInputs (vertices : List Vertex) (marks : List Bool) (at : ℕ) (inputs : List (List ℕ)) : Type 0 where
-  pub long : length inputs ≡ at
-  pub flat : (k : ℕ) (v : Vertex) → k < at → is_marked marks k ≡ true → slice_get vertices k ≡ Some v
-      → slice_get inputs k ≡ Some (flat_inputs vertices v.op v.inputs)
+-- the vertices that are marked are on their flat inputs; what the others are on isn't said
+pub record AreOnFlat (old : List Vertex) (marks : List Bool) (new : List Vertex) : Type 0 where
+  pub long : length new ≡ length old
+  pub there : (k : ℕ) (v : Vertex) → is_marked marks k ≡ true → slice_get old k ≡ Some v → slice_get new k ≡ Some (flat_vertex old v)
 
--- these are the vertices, each on the inputs at its number
-pub record ArePutOn (vertices : List Vertex) (inputs : List (List ℕ)) (new : List Vertex) : Type 0 where
-  pub long : length new ≡ length vertices
-  pub on : (k : ℕ) (v : Vertex) (ids : List ℕ) → slice_get vertices k ≡ Some v → slice_get inputs k ≡ Some ids
-      → slice_get new k ≡ Some (record { op = v.op; inputs = ids })
+-- those that the target reaches once each is on its flat inputs are marked, and are on these
+abbrev pub AreFlattened : List Vertex → ℕ → List Bool → List Vertex → Type 0
+AreFlattened old target marks new = AreReached (flat_vertices old) target marks × AreOnFlat old marks new

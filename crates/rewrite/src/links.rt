@@ -6,7 +6,7 @@ ghost use Rattle.rewrite.specs.Flat.{IsFlattened, MergesAreFlat};
 ghost use Rattle.rewrite.specs.Pruned.{KeepsMeaning};
 
 use crate::joining::{Joined, find_name, join_all};
-use crate::spelling::{list_flat_inputs, mark_flat, put_on};
+use crate::spelling::{Flattened, flatten_reached};
 use plain::Memory;
 use plans::Plan;
 use std::alloc::Global;
@@ -25,10 +25,8 @@ pub fn flatten_links<C: Drop>(alloc: Global, plan: Plan<C>) -> Result<Plan<C>, M
     ensures needed { IfOk result (λ flat. (out : Out) → NeedsAll (problem_of out flat)) }
 {
     let (graph, target, config, sources) = plan.into_parts();
-    let marks = mark_flat(alloc, graph.vertices(), target)?;
-    let inputs = list_flat_inputs(alloc, graph.vertices(), marks.as_slice())?;
     let (vertices, places) = graph.into_parts();
-    let vertices = put_on(vertices, inputs);
+    let Flattened { vertices, marks } = flatten_reached(alloc, vertices, target)?;
     let Joined { graph: flat, names } = join_all(alloc, vertices, places, marks.as_slice())?;
     let _known = flat.vertices();
     let target = find_name(names.as_slice(), target);

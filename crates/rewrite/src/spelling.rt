@@ -1,10 +1,9 @@
 // Spells out the merges that stand first in merges.
-ghost use Rattle.std.specs.Prelude.{◌≡◌, ◌<◌, ◌++◌, true, length, reverse, IfOk};
+ghost use Rattle.std.specs.Prelude.{◌≡◌, ◌<◌, ◌++◌, length, reverse, IfOk};
 ghost use Rattle.std.specs.List.{All};
 ghost use Rattle.llb.specs.Graph.{AreVertices};
-ghost use Rattle.rewrite.specs.Flat.{flat_inputs, flat_vertices, spelled_out, with_first};
-ghost use Rattle.rewrite.specs.PrivateFlat.{is_merge, AreFlatInputs, ArePutOn};
-ghost use Rattle.rewrite.specs.PrivateMarks.{AreReached};
+ghost use Rattle.rewrite.specs.Flat.{flat_inputs, spelled_out, with_first};
+ghost use Rattle.rewrite.specs.PrivateFlat.{is_merge, AreFlattened};
 
 use crate::marks::mark;
 use llb::{Op, Vertex, VertexId};
@@ -82,75 +81,37 @@ fn flat_inputs(
     Ok(Items::from_vec(Vec::from_slice(alloc, inputs)?))
 }
 
-/// Marks the vertices that the target reaches once each is on its flat inputs.
-pub(crate) fn mark_flat(
+/// Vertices, and which of them are marked.
+#[derive(Drop)]
+pub(crate) struct Flattened {
+    pub vertices: Items<Vertex>,
+    pub marks: Items<bool>,
+}
+
+/// Marks the vertices that the target reaches once each is on its flat inputs, and puts these vertices on them. One pass from the last one
+/// on is enough: inputs stand before their vertices, and what is spelled out rests on vertices before them, which are as they were.
+pub(crate) fn flatten_reached(
     alloc: Global,
-    vertices: &[Vertex],
+    vertices: Items<Vertex>,
     target: VertexId,
-) -> Result<Items<bool>, Memory>
-    requires vertices { AreVertices vertices.now }
-    requires target { target < length vertices.now }
-    ensures { IfOk result (AreReached (flat_vertices vertices.now) target) }
+) -> Result<Flattened, Memory>
+    requires vertices { AreVertices vertices }
+    requires target { target < length vertices }
+    ensures { IfOk result (λ flat. AreFlattened vertices target flat.marks flat.vertices) }
 {
     let mut marks = no_marks(alloc, vertices.len())?;
     marks[target.index()] = true;
+    let mut vertices = vertices.into_vec();
     let mut at = vertices.len();
     while at > 0 {
         at -= 1;
         if marks[at] {
-            let inputs = flat_inputs(alloc, vertices, &vertices[at])?;
+            let inputs = flat_inputs(alloc, &vertices[..at], &vertices[at])?;
             mark(&mut marks, inputs.as_slice());
+            vertices[at].inputs = inputs;
         }
     }
-    Ok(Items::from_vec(marks))
-}
-
-/// The inputs of a vertex, flat, if it is marked; else none.
-fn marked_inputs(
-    alloc: Global,
-    vertices: &[Vertex],
-    vertex: &Vertex,
-    mark: bool,
-) -> Result<Items<VertexId>, Memory>
-    requires vertices { AreVertices vertices.now }
-    requires inside { All (λ input. input < length vertices.now) vertex.now.inputs }
-    ensures { IfOk result (λ flat. mark ≡ true → flat ≡ flat_inputs vertices.now vertex.now.op vertex.now.inputs) }
-{
-    if mark {
-        flat_inputs(alloc, vertices, vertex)
-    } else {
-        Ok(Items::new(alloc))
-    }
-}
-
-/// The flat inputs of the vertices that are marked, each at its number; none at the others.
-pub(crate) fn list_flat_inputs(
-    alloc: Global,
-    vertices: &[Vertex],
-    marks: &[bool],
-) -> Result<Items<Items<VertexId>>, Memory>
-    requires vertices { AreVertices vertices.now }
-    requires marks { length marks.now ≡ length vertices.now }
-    ensures { IfOk result (AreFlatInputs vertices.now marks.now (length vertices.now)) }
-{
-    let mut list = Vec::new(alloc);
-    for (at, vertex) in vertices.iter().enumerate() {
-        let inputs = marked_inputs(alloc, vertices, vertex, marks[at])?;
-        list.push(inputs)?;
-    }
-    Ok(Items::from_vec(list))
-}
-
-/// The vertices, each on the inputs that stand at its number. It takes no memory.
-pub(crate) fn put_on(vertices: Items<Vertex>, inputs: Items<Items<VertexId>>) -> Items<Vertex>
-    requires { length inputs ≡ length vertices }
-    ensures { ArePutOn vertices inputs result }
-{
-    let mut vertices = vertices.into_vec();
-    let mut at = 0;
-    for ids in inputs.into_vec() {
-        vertices[at].inputs = ids;
-        at += 1;
-    }
-    Items::from_vec(vertices)
+    let vertices = Items::from_vec(vertices);
+    let marks = Items::from_vec(marks);
+    Ok(Flattened { vertices, marks })
 }
