@@ -3,7 +3,6 @@ use Rattle.std.specs.Prelude.{◌≡◌, ◌⊎◌, ℕ, List, [], ◌∷◌, �
 use Rattle.plain.specs.Marks.{IsReached}
 use Rattle.llb.specs.Places.{AreLines}
 use Rattle.rows.specs.Rows.{Rows, listed}
-use Rattle.rows.specs.declared.row.Origin.{Origin}
 use Rattle.rows.specs.declared.row.Origin.TheVariants.{Stage as StageOf}
 use Rattle.rows.specs.declared.row.Action.{Action}
 use Rattle.rows.specs.declared.row.Action.TheVariants.{Run, Copy, MakeDirs}
