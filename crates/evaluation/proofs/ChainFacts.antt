@@ -31,8 +31,8 @@ use Rattle.evaluation.specs.declared.stage.Progress.{Progress}
 use Rattle.evaluation.specs.declared.state.State.{State}
 use Rattle.evaluation.proofs.EndFacts.{end_there, some_same, comes_stage}
 use Rattle.evaluation.proofs.FoldFacts.{went}
+use Rattle.evaluation.proofs.NeededFacts.{named_marked}
 use Rattle.evaluation.proofs.ReachedFacts.{same_ok, next_made}
-use Rattle.evaluation.proofs.WholeFacts.{named_marked}
 
 -- one instruction
 

@@ -7,6 +7,7 @@ mod ExistFacts
 mod FoldFacts
 mod JudgedFacts
 mod NeededFacts
+mod OrderFacts
 mod ImageFacts
 mod InstructionFacts
 mod LineFacts

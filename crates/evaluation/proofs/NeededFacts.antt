@@ -1,13 +1,15 @@
 -- What a stage says that isn't needed changes nothing.
-use Rattle.std.specs.Prelude.{◌≡◌, ◌+◌, ℕ, suc, Bool, true, false, List, [], ◌∷◌, ◌++◌, Some, None, Result, Ok, Err, length, slice_get, refl, if◌then◌else◌}
+use Rattle.std.specs.Prelude.{◌≡◌, ◌+◌, ℕ, suc, Bool, true, false, List, [], ◌∷◌, ◌++◌, Some, None, Result, Ok, Err, Contains, length, slice_get, refl, if◌then◌else◌}
 use Rattle.std.proofs.Common.{sym, ◌∙◌, ap, subst, arith, length-append}
 use Rattle.plain.specs.Marks.{is_marked, IsPath}
+use Rattle.plain.proofs.MarkFacts.{reached_more}
 use Rattle.plain.specs.declared.refusal.Refusal.{Refusal}
 use Rattle.plans.specs.Images.{ImagesValue}
+use Rattle.rows.specs.declared.row.Origin.TheVariants.{Stage as StageOf}
 use Rattle.scopes.specs.Evaluate.{Values}
 use Rattle.scopes.specs.Scope.{value_in}
 use Rattle.scopes.specs.declared.declaration.Declaration.{Declaration}
-use Rattle.stages.specs.Needed.{AreNeeded, Refers}
+use Rattle.stages.specs.Needed.{stage_origins, AreNeeded, Refers}
 use Rattle.stages.specs.Table.{TableValue}
 use Rattle.stages.specs.declared.stage.ResolvedStage.{ResolvedStage}
 use Rattle.imageconfig.specs.declared.config.Config.{Config}
@@ -18,7 +20,13 @@ use Rattle.evaluation.specs.declared.stage.Progress.{Progress}
 use Rattle.evaluation.specs.declared.walk.Walk.{Walk}
 use Rattle.evaluation.proofs.FoldFacts.{refused_stays}
 use Rattle.evaluation.proofs.JudgedFacts.{LeastLaws, next_is}
-use Rattle.evaluation.proofs.WholeFacts.{named_marked}
+
+-- what a needed stage names is needed
+
+pub named_marked : (stages : List ResolvedStage) (target : ℕ) (needed : List Bool) (number : ℕ) (stage : ResolvedStage) → AreNeeded stages target needed → slice_get stages number ≡ Some stage
+    → is_marked needed number ≡ true → (to : ℕ) → Contains (stage_origins stage) (StageOf to) → is_marked needed to ≡ true
+named_marked stages target needed number stage are there marked to named =
+    (are.just to).1 (reached_more (Refers stages) target number to ((are.just number).0 marked) (record { stage = stage; there = there; named = named }))
 
 -- the same stages are needed
 

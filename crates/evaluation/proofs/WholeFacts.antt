@@ -1,13 +1,11 @@
 -- What is made of a table's needed stages is such as lowering asks for.
-use Rattle.std.specs.Prelude.{◌≡◌, ◌≤◌, ◌<◌, ℕ, zero, suc, Bool, true, false, List, [], ◌∷◌, ◌++◌, map, Option, Some, None, option_map, is_some, IsTrue, Result, Ok, Err, IfOk, Contains, length, slice_get, refl, if◌then◌else◌}
+use Rattle.std.specs.Prelude.{◌≡◌, ◌≤◌, ◌<◌, ℕ, zero, suc, Bool, true, false, List, [], ◌∷◌, ◌++◌, Option, Some, None, option_map, is_some, IsTrue, Result, Ok, Err, IfOk, length, slice_get, refl, if◌then◌else◌}
 use Rattle.std.specs.List.{All}
 use Rattle.std.specs.FinMap.{get, len}
 use Rattle.std.proofs.Common.{sym, ◌∙◌, ap, subst, arith}
 use Rattle.std.proofs.lemmas.Option.{slice_get_within, get_or_from_slice_get}
 use Rattle.std.proofs.lemmas.List.Elements.{All-nil, All-cons, All-head, All-tail, All-weaker}
 use Rattle.plain.specs.Limits.{most_images, most_lines}
-use Rattle.plain.specs.Marks.{is_marked}
-use Rattle.plain.proofs.MarkFacts.{reached_more}
 use Rattle.plain.specs.declared.fault.Fault.{Fault}
 use Rattle.plain.specs.declared.refusal.Refusal.{Refusal}
 use Rattle.trees.specs.TreeMap.{TreeMap}
@@ -16,13 +14,15 @@ use Rattle.llb.specs.declared.op.Source.TheVariants.{Scratch, Context, Image}
 use Rattle.plans.specs.Images.{ImagesValue}
 use Rattle.plans.specs.Sources.{SourcesValue}
 use Rattle.plans.specs.declared.images.Image as image
+use Rattle.rows.specs.Order.{IsInOrder, NeedsAllStages}
+use Rattle.rows.specs.Rows.{Rows}
 use Rattle.rows.specs.WellFormed.{IsWellFormed, HasTree, RowNames, count_of_steps}
 use Rattle.rows.specs.declared.row.Origin.{Origin}
 use Rattle.rows.specs.declared.row.Origin.TheVariants.{Source as SourceOf, Stage as StageOf}
 use Rattle.rows.specs.declared.row.Stage.{Stage}
 use Rattle.scopes.specs.Evaluate.{Values}
 use Rattle.stages.specs.Naming.{names_in}
-use Rattle.stages.specs.Needed.{stage_origins, Refers, AreNeeded}
+use Rattle.stages.specs.Needed.{AreNeeded}
 use Rattle.stages.specs.Table.{TableValue, IsTable, IsKnown, NamesKnown, stage_lines, lines_of}
 use Rattle.stages.specs.declared.stage.ResolvedInstruction.{ResolvedInstruction}
 use Rattle.stages.specs.declared.stage.ResolvedStage.{ResolvedStage}
@@ -36,6 +36,8 @@ use Rattle.evaluation.specs.Stages.{stages_from}
 use Rattle.evaluation.specs.declared.evaluated.Evaluated.{Evaluated}
 use Rattle.evaluation.specs.declared.walk.Walk.{Walk}
 use Rattle.evaluation.proofs.LawFacts.{Laws, IsHeld}
+use Rattle.evaluation.proofs.NeededFacts.{named_marked}
+use Rattle.evaluation.proofs.OrderFacts.{inner_of, evaluated_in_order, evaluated_needs}
 use Rattle.evaluation.proofs.RowFacts.{AllFit, WalkKept, row_weaker, walk_kept}
 
 -- the lines of a table's stages
@@ -65,20 +67,10 @@ lines_at (s ∷ ss) zero stage are at =
     subst (λ t. All IsLine (stage_lines t)) same (all_front IsLine (stage_lines s) (lines_of ss) are)
 lines_at (s ∷ ss) (suc number) stage are at = lines_at ss number stage (all_back IsLine (stage_lines s) (lines_of ss) are) at
 
-abbrev inner_of : List ResolvedInstruction → List ℕ
-inner_of rs = map (λ r. r.instruction.line) rs
-
 inner_lines : (rs : List ResolvedInstruction) → All IsLine (inner_of rs) → All (λ (r : ResolvedInstruction). IsLine r.instruction.line) rs
 inner_lines [] are = All-nil (λ (r : ResolvedInstruction). IsLine r.instruction.line)
 inner_lines (r ∷ rs) are =
     All-cons (λ (r' : ResolvedInstruction). IsLine r'.instruction.line) r rs (All-head IsLine r.instruction.line (inner_of rs) are) (inner_lines rs (All-tail IsLine r.instruction.line (inner_of rs) are))
-
--- what a needed stage names is needed
-
-pub named_marked : (stages : List ResolvedStage) (target : ℕ) (needed : List Bool) (number : ℕ) (stage : ResolvedStage) → AreNeeded stages target needed → slice_get stages number ≡ Some stage
-    → is_marked needed number ≡ true → (to : ℕ) → Contains (stage_origins stage) (StageOf to) → is_marked needed to ≡ true
-named_marked stages target needed number stage are there marked to named =
-    (are.just to).1 (reached_more (Refers stages) target number to ((are.just number).0 marked) (record { stage = stage; there = there; named = named }))
 
 -- each stage of a table is such as evaluating asks for
 
@@ -163,6 +155,9 @@ is_whole laws args outer images context table needed walk made whole are proper 
           (walk_kept laws (IsKnown (names_in images)) args outer images needed table.stages walk (all_fit (IsKnown (names_in images)) images table needed whole are proper (names_known images table.stages known)) went);
       few_images = (let most = kept.few in omega (arith, few, most));
       few_steps = steps_few images context table needed walk made is whole kept;
+      in_order = subst IsInOrder (sym is.rows) (evaluated_in_order args outer images needed table walk whole went);
+      needs = subst (λ (rows : Rows). NeedsAllStages rows made.target) (sym is.rows)
+          (subst (λ (n : ℕ). NeedsAllStages walk.rows n) (sym is.target) (evaluated_needs args outer images needed table walk whole are went));
     }
 
 pub answers_whole : Laws → (args outer : Values) (images : ImagesValue Config) (context : TreeMap) (table : TableValue) (stages shown : List ResolvedStage) (target : ℕ) (needed : List Bool) (walk : Walk) (result : Result Evaluated (Fault Refusal))
@@ -204,6 +199,16 @@ pub whole_steps : (images : ImagesValue Config) (table : TableValue) (result : R
 unfolding AnswersWhole
 whole_steps images table (Ok made) h = h.few_steps
 whole_steps images table (Err fault) h = tt
+
+pub whole_order : (images : ImagesValue Config) (table : TableValue) (result : Result Evaluated (Fault Refusal)) → AnswersWhole images table result → IfOk result (λ made. IsInOrder made.rows)
+unfolding AnswersWhole
+whole_order images table (Ok made) h = h.in_order
+whole_order images table (Err fault) h = tt
+
+pub whole_needs : (images : ImagesValue Config) (table : TableValue) (result : Result Evaluated (Fault Refusal)) → AnswersWhole images table result → IfOk result (λ made. NeedsAllStages made.rows made.target)
+unfolding AnswersWhole
+whole_needs images table (Ok made) h = h.needs
+whole_needs images table (Err fault) h = tt
 
 pub whole_none : (images : ImagesValue Config) (table : TableValue) (fault : Fault Refusal) → AnswersWhole images table (Err fault)
 unfolding AnswersWhole

@@ -9,6 +9,7 @@ use Rattle.plain.specs.declared.refusal.Refusal.{Refusal}
 use Rattle.trees.specs.TreeMap.{TreeMap}
 use Rattle.plans.specs.Images.{ImagesValue}
 use Rattle.rows.specs.WellFormed.{IsWellFormed, HasTree, RowNames, count_of_steps}
+use Rattle.rows.specs.Order.{IsInOrder, NeedsAllStages}
 use Rattle.rows.specs.declared.row.Stage.{Stage}
 use Rattle.stages.specs.Naming.{names_in}
 use Rattle.stages.specs.Table.{TableValue, NamesKnown}
@@ -45,6 +46,8 @@ pub record IsWhole (images : ImagesValue Config) (table : TableValue) (made : Ev
   pub named : All (NamesKnown (names_in images)) table.stages → All (RowNames (HasTree made.sources)) made.rows
   pub few_images : len made.sources.images ≤ most_images
   pub few_steps : count_of_steps made.rows < most_lines
+  pub in_order : IsInOrder made.rows
+  pub needs : NeedsAllStages made.rows made.target
 
 -- the same of what is answered
 unfoldable pub AnswersWhole : ImagesValue Config → TableValue → Result Evaluated (Fault Refusal) → Type 0

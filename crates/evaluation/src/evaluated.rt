@@ -2,6 +2,7 @@ ghost use Rattle.std.specs.Prelude.{◌≡◌, ◌≤◌, ◌<◌, length, None 
 ghost use Rattle.std.specs.List.{All};
 ghost use Rattle.std.specs.FinMap.{get as arg_value, len};
 ghost use Rattle.plain.specs.Limits.{most_images, most_lines};
+ghost use Rattle.rows.specs.Order.{IsInOrder, NeedsAllStages};
 ghost use Rattle.rows.specs.WellFormed.{IsWellFormed, RowNames, HasTree, count_of_steps};
 ghost use Rattle.rows.specs.declared.row.Stage.{Stage as StageValue};
 ghost use Rattle.stages.specs.Naming.{names_in};
@@ -199,7 +200,7 @@ fn evaluate_needed(
 ///
 /// The rows are such as lowering asks for: each is well formed after those before it, the target is one of them, no more images and
 /// instructions come than a Dockerfile within its limits has, and each source that they name has its tree, where the table was made with
-/// just these images.
+/// just these images. Their lines ascend, and the target needs each stage that isn't left out.
 pub fn evaluate(
     alloc: Global,
     table: StageTable,
@@ -213,6 +214,8 @@ pub fn evaluate(
     ensures named { IfOk result (λ made. All (NamesKnown (names_in images)) table.stages → All (RowNames (HasTree made.sources)) made.rows) }
     ensures images { IfOk result (λ made. len made.sources.images ≤ most_images) }
     ensures steps { IfOk result (λ made. count_of_steps made.rows < most_lines) }
+    ensures order { IfOk result (λ made. IsInOrder made.rows) }
+    ensures needs { IfOk result (λ made. NeedsAllStages made.rows made.target) }
 {
     match table.needed(alloc) {
         Ok(needed) => evaluate_needed(alloc, table, images, context, args, needed.as_slice()),

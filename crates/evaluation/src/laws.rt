@@ -12,6 +12,7 @@ ghost use Rattle.llb.specs.declared.op.Source.{Source};
 ghost use Rattle.plans.specs.Images.{ImagesValue};
 ghost use Rattle.scopes.specs.Evaluate.{Values};
 ghost use Rattle.scopes.specs.Scope.{value_in, run_env, kept};
+ghost use Rattle.rows.specs.Order.{IsInOrder, NeedsAllStages};
 ghost use Rattle.stages.specs.Needed.{AreNeeded};
 ghost use Rattle.stages.specs.Table.{TableValue, IsTable};
 ghost use Rattle.stages.specs.declared.stage.ResolvedInstruction.{ResolvedInstruction};
@@ -120,4 +121,12 @@ pub fn a_configuration_is_what_the_lines_make_of_the_bases()
         → IsTable table → evaluated args images needed table ≡ Ok walk → is_marked needed number ≡ true → slice_get table.stages number ≡ Some stage
         → stage_config (base_config images walk.states stage.base) (in_scope args (value_in table.outer) (start images walk.states stage.base) stage.instructions)
         ≡ Ok (config_at walk.states number) }
+{}
+
+/// The lines of what a table is evaluated to ascend, and its target needs each stage that isn't left out: what a stage names, its row names.
+pub fn what_is_evaluated_is_in_order()
+    ensures order { (args : Values) (images : ImagesValue Config) (needed : List Bool) (table : TableValue) (walk : Walk) → IsTable table
+        → evaluated args images needed table ≡ Ok walk → IsInOrder walk.rows }
+    ensures needs { (args : Values) (images : ImagesValue Config) (needed : List Bool) (table : TableValue) (walk : Walk) → IsTable table
+        → AreNeeded table.stages table.target needed → evaluated args images needed table ≡ Ok walk → NeedsAllStages walk.rows table.target }
 {}
