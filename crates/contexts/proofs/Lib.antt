@@ -4,3 +4,4 @@ mod Placing
 mod Folders
 mod Whole
 mod OneContext
+mod SomeContext

@@ -16,7 +16,7 @@ module _ (rows : List Row) (lines : List Line) (listing : IsListing rows) where
       let at : has.0 ≡ had.0 = listing.once has.0 had.0 row other has.1 had.1 same in
       same_Some row other (sym has.1 ∙ ap (λ n. slice_get rows n) at ∙ had.1)
 
-  one-folder : (path : List (List ℕ)) (e f : Entry) → IsFolder rows path e → IsFolder rows path f → e ≡ f
+  pub one-folder : (path : List (List ℕ)) (e f : Entry) → IsFolder rows path e → IsFolder rows path f → e ≡ f
   one-folder path e f (inl (row, (has, (at, is)))) (inl (other, (had, (there, was)))) = is ∙ ap (λ (r : Row). owned r.1) (one-row row other has had (at ∙ sym there)) ∙ sym was
   one-folder path e f (inl (row, (has, (at, is)))) (inr (none, was)) = absurd (none row has at)
   one-folder path e f (inr (none, is)) (inl (other, (had, (there, was)))) = absurd (none other had there)

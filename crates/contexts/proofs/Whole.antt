@@ -21,7 +21,7 @@ some-entry None h = absurd (true≢false (sym h))
 some-entry (Some entry) h = (entry, refl)
 
 -- a path is listed or it isn't
-listed-or-not : (xs : List Row) (path : List (List ℕ)) → ((n : ℕ) × ((row : Row) × ((slice_get xs n ≡ Some row) × (row.0 ≡ path)))) ⊎ ((n : ℕ) (row : Row) → slice_get xs n ≡ Some row → row.0 ≡ path → ⊥)
+pub listed-or-not : (xs : List Row) (path : List (List ℕ)) → ((n : ℕ) × ((row : Row) × ((slice_get xs n ≡ Some row) × (row.0 ≡ path)))) ⊎ ((n : ℕ) (row : Row) → slice_get xs n ≡ Some row → row.0 ≡ path → ⊥)
 listed-or-not [] path = inr (λ n row at same. none-some row at)
 listed-or-not (x ∷ xs) path = elim (same-or-not x.0 path) [
   | inl same ↦ inl (0, (x, (refl, same)))
