@@ -5,5 +5,6 @@ mod LawFacts
 mod NameFacts
 mod PortFacts
 mod PutFacts
+mod ReadFacts
 mod RowFacts
 mod StepFacts

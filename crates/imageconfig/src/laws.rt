@@ -1,6 +1,7 @@
 // What is proved of the definitions alone. The functions do nothing: their contracts are laws.
 
 ghost use Rattle.std.specs.Prelude.{◌≡◌, ℕ, true, false, List, [], ◌∷◌, ◌++◌, Some, None};
+ghost use Rattle.serde_json.specs.Data.{Data};
 ghost use Rattle.plain.specs.declared.refusal.Code.{Code};
 ghost use Rattle.plain.specs.declared.refusal.Code.TheVariants.{R18};
 ghost use Rattle.instructions.specs.Least.{least};
@@ -13,6 +14,8 @@ ghost use Rattle.scopes.specs.Scope.{kept};
 ghost use Rattle.scopes.specs.declared.declaration.Declaration.{Declaration};
 ghost use Rattle.scopes.specs.declared.declaration.Declaration.TheVariants.{Env as Set};
 ghost use Rattle.imageconfig.specs.EnvRows.{env_shown};
+ghost use Rattle.imageconfig.specs.Environment.{IsEnvironment};
+ghost use Rattle.imageconfig.specs.Reading.{config_in};
 ghost use Rattle.imageconfig.specs.Rows.{put_row};
 ghost use Rattle.imageconfig.specs.declared.config.Config.{Config};
 ghost use Rattle.imageconfig.specs.Steps.{due, changed};
@@ -41,4 +44,9 @@ pub fn scopes_and_configurations_have_the_same_environment()
     ensures inherited { (ds : List Declaration) (name text : List ℕ) → env_shown (kept (ds ++ Set name text ∷ [])) ≡ put_row (env_shown (kept ds)) name text }
     ensures arg { (before args outer : Values) (ds : List Declaration) (arguments : List Argument)
         → env_shown (kept (ds ++ arg_line before args outer arguments)) ≡ env_shown (kept ds) }
+{}
+
+/// The variables of a configuration that is read have names, and no two have the same.
+pub fn what_is_read_has_an_environment()
+    ensures { (d : Data) (config : Config) → config_in d ≡ Some config → IsEnvironment config.env }
 {}
