@@ -1,4 +1,5 @@
 pub mod AnswerLemmas
+mod ExistFacts
 mod ListingFacts
 mod RestFacts
 mod WholeFacts

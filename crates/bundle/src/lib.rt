@@ -13,6 +13,7 @@
 #![tactic(auto)]
 
 mod answering;
+pub mod laws;
 mod parts;
 mod whole;
 
