@@ -228,7 +228,7 @@ so_far_first known args all rest draft same outer names stages last = record {
   clear = ap (λ is. first_refusal known args [] is) same;
 }
 
-due_same : (known : Known) (args : Values) (is : List Instruction) (draft : Draft) (i : Instruction) → IsDraft known args is draft
+pub due_same : (known : Known) (args : Values) (is : List Instruction) (draft : Draft) (i : Instruction) → IsDraft known args is draft
     → least (due_behind known args is i.kind) ≡ least (kind_due known args draft.outer draft.names i.kind)
 due_same known args is draft i of =
     ap (λ scope. least (kind_due known args scope (stage_names is) i.kind)) (sym of.outer)

@@ -3,5 +3,6 @@ mod DraftFacts
 mod MarkFacts
 mod NamingFacts
 mod RefusalFacts
+mod ResolvedFacts
 mod TableFacts
 mod WholeFacts

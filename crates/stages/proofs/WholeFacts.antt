@@ -230,7 +230,7 @@ outer_declares : (args : Values) (scope : List Declaration) (d : Option (List Ar
 outer_declares args scope None clear = absurd (some_none R05 clear)
 outer_declares args scope (Some arguments) clear = refl
 
-told_none : (line : ℕ) (o : Option Code) (more : Option Refusal) → told_at line o more ≡ None → (o ≡ None) × (more ≡ None)
+pub told_none : (line : ℕ) (o : Option Code) (more : Option Refusal) → told_at line o more ≡ None → (o ≡ None) × (more ≡ None)
 told_none line None more e = (refl, e)
 told_none line (Some code) more e = absurd (some_none _ e)
 

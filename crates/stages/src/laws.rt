@@ -1,7 +1,7 @@
 // What is proved of the definitions alone. The functions do nothing: their contracts are laws.
 
 ghost use Rattle.std.specs.Prelude.{◌≡◌, ℕ, List, Bool, true, Option, Ok, Err, Contains};
-ghost use Rattle.std.specs.List.{list_all};
+ghost use Rattle.std.specs.List.{All, list_all};
 ghost use Rattle.plain.specs.declared.refusal.Refusal.{Refusal};
 ghost use Rattle.options.specs.declared.copy.CopyFlags.{CopyFlags};
 ghost use Rattle.expand.specs.Value.{Parts};
@@ -11,12 +11,12 @@ ghost use Rattle.instructions.specs.declared.instruction.InstructionKind.TheVari
 ghost use Rattle.instructions.specs.declared.instruction.Source.{Source};
 ghost use Rattle.rows.specs.declared.row.Origin.TheVariants.{Stage as StageOf};
 ghost use Rattle.scopes.specs.Evaluate.{Values};
-ghost use Rattle.dockerfile.specs.Dockerfile.{AscendBelow};
+ghost use Rattle.dockerfile.specs.Dockerfile.{AscendBelow, IsDockerfile};
 ghost use Rattle.stages.specs.Naming.{Known, Names, origins_of};
 ghost use Rattle.stages.specs.Needed.{Refers, IsNeeded, IsClosed};
 ghost use Rattle.stages.specs.Refusals.{IsDue, IsLeastDue};
 ghost use Rattle.stages.specs.Resolved.{resolved};
-ghost use Rattle.stages.specs.Table.{TableValue};
+ghost use Rattle.stages.specs.Table.{TableValue, IsTable, NamesKnown};
 ghost use Rattle.stages.specs.declared.stage.ResolvedStage.{ResolvedStage};
 
 /// Of all that is due for a file whose instructions stand on ascending lines, as those of each `Dockerfile` do, the least is told: by line,
@@ -44,4 +44,12 @@ pub fn a_copy_from_a_stage_has_no_heredocs()
     ensures { (known : Known) (names : Names) (sources : List Source) (destination : Parts) (flags : CopyFlags) (number : ℕ)
         → IsInstruction (Copy sources destination flags) → Contains (origins_of known names (Copy sources destination flags)) (StageOf number)
         → list_all is_files sources ≡ true }
+{}
+
+/// What the instructions of a text are resolved to is a table, and all images that its stages name are known.
+pub fn what_is_resolved_is_a_table()
+    ensures table { (known : Known) (args : Values) (target : Option (List ℕ)) (instructions : List Instruction) (table : TableValue) → IsDockerfile instructions
+        → resolved known args target instructions ≡ Ok table → IsTable table }
+    ensures known { (known : Known) (args : Values) (target : Option (List ℕ)) (instructions : List Instruction) (table : TableValue)
+        → resolved known args target instructions ≡ Ok table → All (NamesKnown known) table.stages }
 {}
