@@ -1,3 +1,4 @@
 pub mod BindSteps
 pub mod FileSteps
 mod LookUps
+mod MatchSteps

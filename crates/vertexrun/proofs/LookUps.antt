@@ -21,7 +21,7 @@ use Rattle.globs.specs.Grammar.{is_spelled_out}
 use Rattle.globs.specs.Glob.{components_of, relates}
 use Rattle.globs.proofs.SpelledOut.{relates-alone}
 use Rattle.plans.specs.Files.{matches_in}
-use Rattle.vertexrun.proofs.FileSteps.{paths_that}
+use Rattle.vertexrun.specs.PrivateMatches.{paths_that}
 
 -- a test holds of this path alone
 abbrev IsAlone : (List (List ℕ) → Bool) → List (List ℕ) → Type 0
@@ -44,10 +44,10 @@ is-true : (b : Bool) → T b → b ≡ true
 is-true true h = refl
 is-true false h = absurd h
 
-skipped : (test : List (List ℕ) → Bool) (row : List (List ℕ) × Entry) (rows : Rows) → test row.0 ≡ false → paths_that test (row ∷ rows) ≡ paths_that test rows
+skipped : (test : List (List ℕ) → Bool) (row : List (List ℕ) × Entry) (rows : Rows) → test row.0 ≡ false → paths_that [] test (row ∷ rows) ≡ paths_that [] test rows
 skipped test row rows fails = rw fails refl
 
-taken : (test : List (List ℕ) → Bool) (row : List (List ℕ) × Entry) (rows : Rows) → test row.0 ≡ true → paths_that test (row ∷ rows) ≡ row.0 ∷ paths_that test rows
+taken : (test : List (List ℕ) → Bool) (row : List (List ℕ) × Entry) (rows : Rows) → test row.0 ≡ true → paths_that [] test (row ∷ rows) ≡ row.0 ∷ paths_that [] test rows
 taken test row rows holds = rw holds refl
 
 -- the test fails another path
@@ -57,12 +57,12 @@ other-fails test path other only apart true is =
 other-fails test path other only apart false is = is
 
 absent-at : (test : List (List ℕ) → Bool) (path : List (List ℕ)) (row : List (List ℕ) × Entry) (rows : Rows) (b : Bool) → eq_by_cmp path_cmp path row.0 ≡ b
-    → IsAlone test path → cond b (Some row.1) (find path_cmp path rows) ≡ None → (find path_cmp path rows ≡ None → paths_that test rows ≡ [])
-    → paths_that test (row ∷ rows) ≡ []
+    → IsAlone test path → cond b (Some row.1) (find path_cmp path rows) ≡ None → (find path_cmp path rows ≡ None → paths_that [] test rows ≡ [])
+    → paths_that [] test (row ∷ rows) ≡ []
 absent-at test path row rows true is only none rest = absurd (true≢false (ap is_some none))
 absent-at test path row rows false is only none rest = skipped test row rows (other-fails test path row.0 only is (test row.0) refl) ∙ rest none
 
-absent : (test : List (List ℕ) → Bool) (path : List (List ℕ)) (rows : Rows) → IsAlone test path → find path_cmp path rows ≡ None → paths_that test rows ≡ []
+absent : (test : List (List ℕ) → Bool) (path : List (List ℕ)) (rows : Rows) → IsAlone test path → find path_cmp path rows ≡ None → paths_that [] test rows ≡ []
 absent test path [] only none = refl
 absent test path (row ∷ rows) only none =
     absent-at test path row rows (eq_by_cmp path_cmp path row.0) refl only none (absent test path rows only)
@@ -75,8 +75,8 @@ below-absent path (row ∷ rows) below =
 
 present-at : (test : List (List ℕ) → Bool) (path : List (List ℕ)) (row : List (List ℕ) × Entry) (rows : Rows) (b : Bool) → eq_by_cmp path_cmp path row.0 ≡ b
     → IsAlone test path → is_sorted path_cmp (row ∷ rows) ≡ true
-    → (is_sorted path_cmp rows ≡ true → is_some (find path_cmp path rows) ≡ true → paths_that test rows ≡ path ∷ [])
-    → is_some (cond b (Some row.1) (find path_cmp path rows)) ≡ true → paths_that test (row ∷ rows) ≡ path ∷ []
+    → (is_sorted path_cmp rows ≡ true → is_some (find path_cmp path rows) ≡ true → paths_that [] test rows ≡ path ∷ [])
+    → is_some (cond b (Some row.1) (find path_cmp path rows)) ≡ true → paths_that [] test (row ∷ rows) ≡ path ∷ []
 present-at test path row rows true is only sorted rest there =
     let both = and_parts (below_all path_cmp row.0 rows) (is_sorted path_cmp rows) sorted in
     let same : path ≡ row.0 = path_cmp-IsAntisymmetric path row.0 (eq-equal (path_cmp path row.0) is) in
@@ -87,7 +87,7 @@ present-at test path row rows false is only sorted rest there =
     skipped test row rows (other-fails test path row.0 only is (test row.0) refl) ∙ rest both.1 there
 
 present : (test : List (List ℕ) → Bool) (path : List (List ℕ)) (rows : Rows) → IsAlone test path → is_sorted path_cmp rows ≡ true
-    → is_some (find path_cmp path rows) ≡ true → paths_that test rows ≡ path ∷ []
+    → is_some (find path_cmp path rows) ≡ true → paths_that [] test rows ≡ path ∷ []
 present test path [] only sorted there = absurd (true≢false (sym there))
 present test path (row ∷ rows) only sorted there =
     present-at test path row rows (eq_by_cmp path_cmp path row.0) refl only sorted (λ s. present test path rows only s) there

@@ -1,1 +1,1 @@
-pub mod PrivateSources
+pub mod PrivateMatches

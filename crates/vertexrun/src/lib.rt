@@ -13,6 +13,7 @@
 #![tactic(auto)]
 
 mod files;
+mod patterns;
 mod requests;
 mod results;
 

@@ -1,7 +1,7 @@
 use Rattle.std.proofs.Common.{◌≡◌, ◌∙◌, [], ◌∷◌, ◌++◌, Some, ap, not, subst}
 use Rattle.paths.specs.Reading.{read_from, limit_of}
 use Rattle.vertexrun.proofs.LookUps.{found-one, found-none, found-beyond, nothing-there, something-there}
-use Rattle.vertexrun.proofs.files.look_up.Goals as goal
+use Rattle.vertexrun.proofs.patterns.look_up.Goals as goal
 
 pub returns-in-Err-Because : goal.returns-in-Err-Because
 returns-in-Err-Because c =
