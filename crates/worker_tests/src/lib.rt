@@ -2,13 +2,16 @@
 //
 // They show what no clause says: that two threads share a site, and a build of theirs settles what its target
 // needs; that workers run at the same time, that a locked cache is held by one at a time, that the gate is asked around
-// commands alone, and that random plans have the same answer whatever the number of workers.
+// commands alone, that of several failures the first is named each time, whichever comes first, and that random plans have
+// the answer that the rules give, whatever the number of workers.
 #![tactic(auto)]
 
 #[cfg(test)]
 mod answers;
 #[cfg(test)]
 mod caches;
+#[cfg(test)]
+mod failures;
 #[cfg(test)]
 mod overlaps;
 #[cfg(test)]

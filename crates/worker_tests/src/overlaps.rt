@@ -26,16 +26,6 @@ const TWO_RUNS: [Row; 4] = [
     ("copy /a /a", &[2, 1], 5),
 ];
 
-/// A command and a copy that both fail, of which neither needs the other.
-const TWO_FAILURES: [Row; 6] = [
-    ("scratch", &[], 1),
-    ("dirs /w", &[0], 2),
-    ("run fail 3", &[1], 4),
-    ("context", &[], 5),
-    ("copy nope /x", &[0, 3], 5),
-    ("merge", &[2, 4], 5),
-];
-
 /// Holds the first command back until a second one has come.
 #[derive(Drop)]
 struct Pair {
@@ -108,28 +98,6 @@ fn expect_overlap<R: Abort + Threads + Wait + Sync>(
 fn workers_overlap(rt: HostRuntime) -> Result<(), Fail> {
     let plan = plan_of_rows(rt.alloc(), &TWO_RUNS, 3, &[])?;
     let done = expect_overlap(&rt, rt.alloc(), &plan);
-    drop(plan);
-    done
-}
-
-/// Solves two commands that fail a hundred times.
-fn expect_either<R: Abort + Threads + Wait + Sync>(
-    rt: &R,
-    alloc: Global,
-    plan: &Plan<u8>,
-) -> Result<(), Fail> {
-    for _ in 0..100 {
-        let text = solved_anew(alloc, rt, plan, 4, &OpenGate)?;
-        let named = text.as_str() == "failed 4: exit 3" || text.as_str() == "failed 5: F1";
-        assert!(rt; named, "{text}");
-    }
-    Ok(())
-}
-
-#[test]
-fn either_failure_is_named(rt: HostRuntime) -> Result<(), Fail> {
-    let plan = plan_of_rows(rt.alloc(), &TWO_FAILURES, 5, &[])?;
-    let done = expect_either(&rt, rt.alloc(), &plan);
     drop(plan);
     done
 }

@@ -46,6 +46,8 @@ struct Known {
     treed: Vec<bool>,
     /// The lines of those that fail, though their inputs have trees.
     failing: Vec<u32>,
+    /// Whether the last one fails so. It is the target.
+    last_fails: bool,
 }
 
 impl Known {
@@ -66,14 +68,15 @@ impl Known {
 
     /// Takes note of the next vertex, from a line: whether its inputs have trees, and whether it fails itself.
     fn add(&mut self, line: u32, has_trees: bool, fails: bool) -> Result<(), Memory> {
-        if has_trees && fails {
+        self.last_fails = has_trees && fails;
+        if self.last_fails {
             self.failing.push(line)?;
         }
         Ok(self.treed.push(has_trees && !fails)?)
     }
 
-    /// Whether an answer, as `solved` writes it, is one that the rules allow: a tree where the target has one, or a failure of a vertex that
-    /// fails, with the least of its lines.
+    /// Whether an answer, as `solved` writes it, is one that the rules allow: a tree where the target has one, or the failure of the least line.
+    /// A target that fails itself may be settled before another vertex is run that it doesn't need, so any failure may be named then.
     fn allows(&self, answer: &str) -> bool {
         match answer.strip_prefix("failed ") {
             Some(failure) => self.has_failure(failure),
@@ -84,7 +87,8 @@ impl Known {
     fn has_failure(&self, failure: &str) -> bool {
         let line = failure.strip_suffix(": exit 3").unwrap_or("");
         match line.parse::<u32>() {
-            Ok(line) => self.failing.contains(&line),
+            Ok(line) if self.last_fails => self.failing.contains(&line),
+            Ok(line) => self.failing.first() == Some(&line),
             Err(_) => false,
         }
     }
@@ -220,6 +224,7 @@ fn compare<R: Abort + Threads + Wait + Sync>(rt: &R, alloc: Global, seed: u64) -
     let mut known = Known {
         treed: Vec::new(alloc),
         failing: Vec::new(alloc),
+        last_fails: false,
     };
     let done = match make_plan(alloc, seed, &mut known) {
         Ok(plan) => compare_known(rt, alloc, &plan, &known),
