@@ -42,7 +42,7 @@ pub record AreUsers (vertices : List Vertex) (users : List (List ℕ)) : Type 0 
   pub long : length users ≡ length vertices
   pub used : (input user : ℕ) → times user (users_at users input) ≡ times input (inputs_at vertices user)
 
--- the least line behind a vertex; 0 where there is none (own)
+-- the least line behind a vertex; 0 if there is none (own)
 abbrev pub line_in : List (List ℕ) → ℕ → ℕ
 line_in places vertex = least_line (slice_index_or places vertex [])
 
@@ -52,24 +52,24 @@ pub record HasFailedOn (places : List (List ℕ)) (settled : List (Option TreeOr
   pub failed : has_cause (value_at settled vertex) ≡ true
   pub on : line_in places vertex ≡ line
 
--- the least line of all vertices that are settled with a cause; none where no vertex is (own)
+-- the least line of all vertices that are settled with a cause; none if no vertex is (own)
 abbrev pub IsFailedLine : List (List ℕ) → List (Option TreeOrCause) → Option ℕ → Type 0
 IsFailedLine places settled None = (vertex : ℕ) → has_cause (value_at settled vertex) ≡ false
 IsFailedLine places settled (Some line) =
     HasFailedOn places settled line × ((vertex : ℕ) → has_cause (value_at settled vertex) ≡ true → line ≤ line_in places vertex)
 
--- whether a line comes before that of each failure (own)
+-- whether a line comes before the least failed line, if there is one (own)
 abbrev pub comes_before : ℕ → Option ℕ → Bool
 comes_before line None = true
 comes_before line (Some failed) = nat_lt line failed
 
--- the least line of all failures with one more (own)
+-- the least failed line, once this line has failed too (own)
 abbrev pub with_failed : ℕ → Option ℕ → ℕ
 with_failed line None = line
 with_failed line (Some failed) = min line failed
 
--- what is kept goes with what is settled and claimed: each vertex in the set is available, and each available one whose line comes before that of each
--- failure is in it (own)
+-- what is kept goes with what is settled and claimed: each vertex in the set is available, and each available one whose line comes before
+-- the least failed line is in it (own)
 pub record IsFrontier (vertices : List Vertex) (places : List (List ℕ)) (settled : List (Option TreeOrCause)) (claims : List ClaimOut) (frontier : Frontier) : Type 0 where
   pub users : AreUsers vertices frontier.users.items
   pub waiting : (vertex : ℕ) → slice_index frontier.waiting.items vertex ≡ missing settled (inputs_at vertices vertex)
@@ -81,7 +81,7 @@ pub record IsFrontier (vertices : List Vertex) (places : List (List ℕ)) (settl
   pub begun : (vertex : ℕ) → is_begun settled claims vertex ≡ true → missing settled (inputs_at vertices vertex) ≡ 0
   pub failed : IsFailedLine places settled frontier.failed
 
--- some vertices were taken out of the set, none of them one whose line comes before that of each failure (own)
+-- some vertices were taken out of the set, and none of their lines comes before the least failed line (own)
 pub record IsThinned (places : List (List ℕ)) (old new : Frontier) : Type 0 where
   pub same : new ≡ record old { available = new.available }
   pub long : length new.available ≡ length old.available

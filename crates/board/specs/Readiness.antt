@@ -20,8 +20,8 @@ abbrev pub any_below : (ℕ → Bool) → ℕ → Bool
 any_below test zero = false
 any_below test (suc n) = any_below test n || test n
 
--- whether a vertex is stopped, where each vertex is settled so: the target is settled, or a vertex is settled with a cause whose least line is not greater
--- than this one's (own)
+-- whether a vertex is stopped, as vertices are settled so: the target is settled, or the least line of a vertex that is settled with a
+-- cause isn't greater than this vertex's (own)
 abbrev pub stops : Problem → (ℕ → Option TreeOrCause) → ℕ → Bool
 stops problem settled vertex =
     is_some (settled problem.target)

@@ -16,11 +16,11 @@ use plain::{Items, Memory};
 use std::alloc::Global;
 use trees::TreeOrCause;
 
-/// The available vertices: those whose inputs are settled with trees and that were not begun, which is that they are neither claimed nor settled. Beside
-/// them is what tells which vertices a settle makes available, and which ones failures stop: those whose line doesn't come before that of each failure. It
-/// has room for every vertex, so that only `new` takes memory.
+/// The available vertices: those whose inputs are settled with trees and that were not begun, so that they are neither claimed nor settled. Beside
+/// them is what says which vertices a settle makes available, and which ones failures stop: those whose line doesn't come before the least failed
+/// line. It has room for every vertex, so that only `new` takes memory.
 ///
-/// A vertex that a failure stops stays stopped. So the first claim that comes to it takes it out of the set, and no other one passes over it.
+/// A vertex that a failure stops stays stopped. So the first claim that meets it removes it from the set, and later ones don't pass over it.
 #[derive(Drop)]
 pub(crate) struct Frontier {
     /// For each vertex those that it is an input of, each as often as it is one.
@@ -50,7 +50,7 @@ impl Frontier {
         })
     }
 
-    /// The least available vertex whose caches can be taken and that no failure stops. Vertices before it that one stops are taken out.
+    /// The least available vertex whose caches can be taken and that no failure stops. Stopped vertices of smaller id are taken out.
     pub(crate) fn least(&mut self, graph: &Graph, caches: &CacheStore) -> Option<VertexId>
         requires few { length graph.now.vertices < 2 ^ 32 }
         requires long { length self.old.available ≡ length graph.now.vertices }
@@ -71,7 +71,7 @@ impl Frontier {
         None
     }
 
-    /// Whether a line comes before that of each failure.
+    /// Whether a line comes before the least failed line, if there is one.
     fn comes_before(&self, line: u32) -> bool
         ensures { result ≡ comes_before line self.now.failed }
     {
@@ -97,7 +97,7 @@ impl Frontier {
         self.available.insert(vertex.index());
     }
 
-    /// Takes in that a vertex of this line is settled: its tree makes those vertices available for which it was the last that was missing; its cause stops the
+    /// Notes that a vertex of this line is settled. A tree makes those of its users available that waited for it alone. A cause stops the
     /// vertices of its line and of later ones.
     pub(crate) fn settle(&mut self, vertex: VertexId, line: u32, value: &TreeOrCause)
         requires vertex { vertex < vec_len self.old.users }
@@ -115,7 +115,7 @@ impl Frontier {
     }
 }
 
-/// The least line of all failures with one more.
+/// The least failed line, once this line has failed too.
 fn with_failed(line: u32, failed: Option<u32>) -> u32
     ensures { result ≡ with_failed line failed }
 {

@@ -71,8 +71,9 @@ pub fn some_vertex_is_ready()
         → (vertex : ℕ) × IsReady problem run.history vertex }
 {}
 
-/// So where no worker has a claim out, no vertex is ready and the target isn't settled with a tree, some vertex is settled with a cause. Where the target needs
-/// every vertex and lines are in order, one of least line among these has the least line of all vertices that fail: an idle board has the first failure.
+/// So if no worker has a claim out, no vertex is ready and the target isn't settled with a tree, some vertex is settled with a cause. If the target
+/// needs every vertex and lines are in order, one of least line among these has the least line of all vertices that fail: an idle board has the
+/// first failure.
 pub fn an_idle_board_has_the_first_failure()
     ensures some { (problem : Problem) (run : Run) → IsProblem problem → IsReplay problem run
         → ((worker : ℕ) → vertex_out run.history worker ≡ None)

@@ -102,8 +102,8 @@ pub(crate) struct NextClaim {
     pub inputs: Vec<Tree>,
 }
 
-/// What a worker's claim is given: the least vertex that is ready, and nothing where the worker has a claim out. Vertices that failures stop may
-/// be taken out of the frontier.
+/// What a worker's claim is given: the least vertex that is ready, and nothing if the worker has a claim out. Vertices that failures stop may be
+/// taken out of the frontier.
 pub(crate) fn next_claim<E: Executor>(
     alloc: Global,
     job: &Job<E>,

@@ -123,7 +123,7 @@ pub fn a_configuration_is_what_the_lines_make_of_the_bases()
         ≡ Ok (config_at walk.states number) }
 {}
 
-/// The lines of what a table is evaluated to ascend, and its target needs each stage that isn't left out: what a stage names, its row names.
+/// The lines of an evaluated table's rows ascend, and its target needs each stage that isn't left out: what a stage names, its row names.
 pub fn what_is_evaluated_is_in_order()
     ensures order { (args : Values) (images : ImagesValue Config) (needed : List Bool) (table : TableValue) (walk : Walk) → IsTable table
         → evaluated args images needed table ≡ Ok walk → IsInOrder walk.rows }

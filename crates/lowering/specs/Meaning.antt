@@ -110,7 +110,7 @@ run_end line None = Ok None
 run_end line (Some (Ok tree)) = Ok (Some tree)
 run_end line (Some (Err cause)) = Err (line, cause)
 
--- a run goes on from what it has left, and after a failure it doesn't (own)
+-- the rest of a run, on what the part before it left; a failure ends the run (own)
 abbrev pub goes_on : {X Y : Type 0} → (X → Result Y (ℕ × Cause)) → Result X (ℕ × Cause) → Result Y (ℕ × Cause)
 goes_on rest (Ok left) = rest left
 goes_on rest (Err failure) = Err failure

@@ -58,7 +58,7 @@ pub fn lines_stay_in_order<C>()
         → HasLinesInOrder (problem_of out plan) }
 {}
 
-/// If each vertex of a graph has a line, then each line behind a vertex is in order exactly if the least ones are.
+/// If each vertex of a graph has a line, all lines are in order exactly if the least ones are.
 pub fn least_lines_tell_the_order<C>()
     ensures least { (out : Out) (plan : PlanValue C) → LinesInOrder plan.graph → AreLined plan.graph → HasLinesInOrder (problem_of out plan) }
     ensures each { (out : Out) (plan : PlanValue C) → IsGraph plan.graph → AreLined plan.graph → HasLinesInOrder (problem_of out plan)

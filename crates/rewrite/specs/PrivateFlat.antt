@@ -20,6 +20,6 @@ pub record AreOnFlat (old : List Vertex) (marks : List Bool) (new : List Vertex)
   pub long : length new ≡ length old
   pub there : (k : ℕ) (v : Vertex) → is_marked marks k ≡ true → slice_get old k ≡ Some v → slice_get new k ≡ Some (flat_vertex old v)
 
--- those that the target reaches once each is on its flat inputs are marked, and are on these
+-- what the target reaches over flat inputs is marked, and is on its flat inputs
 abbrev pub AreFlattened : List Vertex → ℕ → List Bool → List Vertex → Type 0
 AreFlattened old target marks new = AreReached (flat_vertices old) target marks × AreOnFlat old marks new

@@ -60,9 +60,8 @@ pub fn least_lines_are_kept_in_order<C>()
         → HasLinesInOrder (problem_of out plan) → HasLinesInOrder (problem_of out flat) }
 {}
 
-/// In a plan that keeps the meaning of a file's, as a pruned or a flattened one does and the file's own: a vertex that fails, on the least
-/// line of all that fail, does so as the first instruction of the file that fails. The file's lines ascend, and the target of its plan needs
-/// every vertex.
+/// Let a plan keep the meaning of a file's plan, as a pruned or a flattened one does, and that plan itself. Then its failure of least line is
+/// the file's first. The file's lines ascend, and the target of its plan needs every vertex.
 pub fn the_least_failure_is_the_first<C>()
     ensures { (out : Out) (plan new : PlanValue C) (rows : Rows) (target id line : ℕ) (cause : Cause) → Means plan rows target
         → IsInOrder rows → NeedsAll (problem_of out plan) → AreLined new.graph → IsPlan new → KeepsMeaning plan new → NeedsAll (problem_of out new)

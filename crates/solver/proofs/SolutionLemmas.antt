@@ -81,14 +81,22 @@ least_below problem run failure is replay least vertex settled cause =
     let own = least.place in
     omega (arith, low, own)
 
--- where no claim is out and no vertex is ready, a failure of least line among those that are settled
+-- if the target isn't settled with a tree on a board, then neither in its history
+still-unbuilt : (problem : Problem) (run : Run) → IsProblem problem → IsReplay problem run → has_tree (value_at run.state.settled problem.target) ≡ false
+    → ¬ (IsSettled run.history problem.target × HasTree problem problem.target)
+still-unbuilt problem run is replay tree built =
+    both_ways _ tree (ap has_tree (settled-is problem run problem.target (right-is problem run is replay) built.0 ∙ built.1.1))
+
+-- where no claim is out and no vertex is ready, and the target has no tree, a failure of least line among those that are settled
 pub least-at-end : (problem : Problem) (run : Run) (failure : Failure) → IsProblem problem → IsReplay problem run → run.state.claims ≡ [] → ((vertex : ℕ) → ¬ IsReady problem run.history vertex)
-    → IsLeastSettled problem run.state.settled (length problem.vertices) failure → IsLeastAtEnd problem failure.vertex
-least-at-end problem run failure is replay idle ready least = record {
+    → has_tree (value_at run.state.settled problem.target) ≡ false → IsLeastSettled problem run.state.settled (length problem.vertices) failure
+    → IsLeastAtEnd problem failure.vertex
+least-at-end problem run failure is replay idle ready tree least = record {
   history = run.history;
   legal = right.legal;
   idle = idle_all problem run right idle;
   none_ready = ready;
+  unbuilt = still-unbuilt problem run is replay tree;
   settled = is_settled (list_any (settles failure.vertex) run.history) refl (sym (right.agrees.settled failure.vertex) ∙ least.settled_so);
   least = least_below problem run failure is replay least;
 }
@@ -105,15 +113,12 @@ pub first-is : (problem : Problem) (run : Run) (failure : Failure) → IsProblem
     → has_tree (value_at run.state.settled problem.target) ≡ false → IsLeastSettled problem run.state.settled (length problem.vertices) failure
     → NeedsAll problem → HasLinesInOrder problem → IsFirst problem failure.place
 first-is problem run failure is replay idle ready tree least needs in_order other why fails =
-    let first = least-of-all problem run (sound problem is) is right needs in_order (idle_all problem run right idle) ready treeless failure.vertex (least_below problem run failure is replay least) other (why, fails) in
+    let first = least-of-all problem run (sound problem is) is right needs in_order (idle_all problem run right idle) ready (still-unbuilt problem run is replay tree) failure.vertex (least_below problem run failure is replay least) other (why, fails) in
     let own = least.place in
     omega (arith, first, own)
   where
     right : IsRight problem run
     right = right-is problem run is replay
-
-    treeless : ¬ (IsSettled run.history problem.target × HasTree problem problem.target)
-    treeless built = both_ways _ tree (ap has_tree (settled-is problem run problem.target right built.0 ∙ built.1.1))
 
 -- where a vertex may be claimed, the target isn't settled with a tree
 pub next-unbuilt : (problem : Problem) (run : Run) (worker vertex : ℕ) → IsProblem problem → IsReplay problem run → IsNextClaim problem run.history worker (Some vertex) → has_tree (value_at run.state.settled problem.target) ≡ false

@@ -7,8 +7,8 @@ use Rattle.solver.specs.declared.answer.Answer.{Answer}
 use Rattle.solver.specs.declared.answer.Answer.TheVariants.{Built, Failed}
 use Rattle.solver.specs.declared.solution.Solution.TheVariants as solution
 
--- an answer to a plan under an executor's answers: the tree that is the target's value, with the plan's configuration; or the failure of least line, by that
--- line and its cause (own)
+-- an answer to a plan under an executor's answers: the tree that is the target's value, with the plan's configuration; or the failure of
+-- least line that was settled, by that line and its cause (own)
 abbrev pub IsAnswer : {C : Type 0} → Out → PlanValue C → Answer C → Type 0
 IsAnswer out plan (Built tree config) = IsSolution (problem_of out plan) (solution.Built tree) × (config ≡ plan.config)
 IsAnswer out plan (Failed place cause) = (vertex : ℕ) × IsFailure (problem_of out plan) vertex place cause

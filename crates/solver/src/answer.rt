@@ -5,6 +5,6 @@ use trees::{Cause, Tree};
 pub enum Answer<C> {
     /// The tree that is the value of the plan's target, and the plan's configuration.
     Built(Tree, C),
-    /// The failure of least line: the least of the lines behind the vertex that fails, 0 where it has none, and the cause.
+    /// The failure of least line that was settled: the least of the lines behind the vertex that fails, 0 if it has none, and the cause.
     Failed { place: u32, cause: Cause },
 }

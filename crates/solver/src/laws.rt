@@ -25,7 +25,7 @@ pub fn answers_agree<C>()
         → IsAnswer out plan this → IsAnswer out plan that → AreAlike this that }
 {}
 
-/// Where lines are in order too, all failures that solutions name have one line: that of the first vertex that fails.
+/// If lines are in order too, all failures that solutions name have one line: that of the first vertex that fails.
 pub fn failures_name_the_first_line()
     ensures { (problem : Problem) (vertex place other line : ℕ) (cause why : Cause) → NeedsAll problem → HasLinesInOrder problem
         → IsFailure problem vertex place cause → IsFailure problem other line why → place ≡ line }

@@ -4,9 +4,9 @@
 // settle, until no vertex is ready. It starts no thread, takes no lock and always returns. It also runs vertices that the target
 // doesn't need, so who makes a plan leaves those out.
 //
-// The central definitions are `IsSolution` (`specs/Solution.antt`), over a problem: the tree that is the target's value, or the failure of least line; and
+// The central definitions are `IsSolution` (`specs/Solution.antt`), over a problem: the tree that is the target's value, or the failure of least line that was settled; and
 // `IsAnswer` (`specs/Answer.antt`), a solution with the plan's configuration. A plan with a vertex that fails and that the target doesn't need may have
-// answers of both kinds; one whose target needs every vertex has not (`laws::answers_agree`). Where the lines of such a plan are in order, its answers name
+// answers of both kinds; one whose target needs every vertex has not (`laws::answers_agree`). If the lines of such a plan are in order, its answers name
 // one line, the first of all that fail (`laws::failures_name_the_first_line`).
 //
 // ```

@@ -19,7 +19,8 @@ use trees::{Cause, Tree};
 pub enum Solution {
     /// The tree that is the value of the target.
     Built(Tree),
-    /// The failure of least line: a vertex, the least of the lines behind it, 0 where it has none, and the cause with which it fails.
+    /// The failure of least line that was settled: a vertex, the least of the lines behind it, 0 if it has none, and the cause with which it
+    /// fails.
     Failed {
         vertex: VertexId,
         place: u32,
@@ -27,7 +28,7 @@ pub enum Solution {
     },
 }
 
-/// The solution of a board on which no claim is out and no vertex is ready: a copy of the target's tree where it is settled with one, else the
+/// The solution of a board on which no claim is out and no vertex is ready: a copy of the target's tree if it is settled with one, else the
 /// vertex of least line that is settled with a cause.
 pub(crate) fn solution_of<E: Executor>(alloc: Global, board: &Board<E>) -> Result<Solution, Memory>
     requires idle { board.now.run.state.claims ≡ [] }
@@ -74,7 +75,7 @@ fn least_failure<E: Executor>(board: &Board<E>) -> Option<Failure>
     least
 }
 
-/// The failure of lesser line, of this one and that of a vertex, if it is settled with a cause.
+/// The lesser of this failure and the vertex's, if the vertex is settled with a cause.
 fn lesser_failure<E: Executor>(
     board: &Board<E>,
     least: Option<Failure>,

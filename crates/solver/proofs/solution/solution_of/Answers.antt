@@ -32,6 +32,6 @@ returns-clause-solution g c =
     record {
       value = settled-value (board_problem g.E.Executor.out board) board.run failure.vertex (Err failure.cause) is.problem is.replay least.settled_so;
       least = least.place;
-      settled = least-at-end (board_problem g.E.Executor.out board) board.run failure is.problem is.replay c.requires.idle c.requires.over least;
+      settled = least-at-end (board_problem g.E.Executor.out board) board.run failure is.problem is.replay c.requires.idle c.requires.over treeless least;
       first = first-is (board_problem g.E.Executor.out board) board.run failure is.problem is.replay c.requires.idle c.requires.over treeless least;
     }
