@@ -5,7 +5,7 @@ use Rattle.std.specs.Ordering.{eq_by_cmp}
 use Rattle.std.specs.Option.{option_and_then, option_map}
 use Rattle.std.specs.Str.{is_utf8}
 use Rattle.std.specs.Cmp.Lexicographic.{nat_list_cmp_total}
-use Rattle.std.specs.FinMap.{FinMap, empty, get, find, from_entries, get-empty, get-from_entries}
+use Rattle.std.specs.FinMap.{empty, get, find, get-empty, get-from_entries}
 use Rattle.std.proofs.Common.{Ordering, sym, ap, ◌∙◌, subst, cond, inl, inr}
 use Rattle.std.proofs.lemmas.List.Elements.{All-nil, All-cons, All-head, All-tail}
 use Rattle.std.proofs.lemmas.Option.{option_and_then_some}
@@ -34,8 +34,8 @@ use Rattle.bundle.specs.declared.parts.ListedImage.{ListedImage}
 use Rattle.bundle.specs.declared.parts.Named.{Named}
 use Rattle.bundle.specs.declared.parts.Parts.{Parts}
 use Rattle.bundle.specs.declared.whole.Bundle.{Bundle}
-use Rattle.bundle.specs.Parts.{dockerfile_in, or_none, files_with, files_at, files_in, image_with, image_in, is_image_name, image_row, images_of, images_in, args_in, caches_in, named_with, named_at, named_in, parts_with, parts_in, parts_within, parts_of}
-use Rattle.bundle.specs.Reading.{ignore_bytes, told_line, IsBundle, Completes, ReadsBundle}
+use Rattle.bundle.specs.Parts.{dockerfile_in, or_none, files_with, files_in, image_with, image_in, is_image_name, image_row, images_of, images_in, args_in, caches_in, named_with, named_in, parts_with, parts_in, parts_within, parts_of}
+use Rattle.bundle.specs.Reading.{ignore_bytes, told_line, Completes, ReadsBundle}
 use Rattle.bundle.proofs.ListingFacts.{listing}
 use Rattle.bundle.proofs.WholeFacts.{reads}
 
@@ -113,7 +113,7 @@ files_listed d files e =
     (or_none [] listing_in (json.get (codes "context") d)) files by_dockerfile
     (λ context at_context by_context. mapped (λ target. files_with dockerfile context target) (at_most_one as_str (json.get (codes "target") d)) files by_context
     (λ target at_target made.
-        ap (λ (f : Files). is_listing f.context) (sym made) ∙ context_listed (json.get (codes "context") d) context at_context)))
+    ap (λ (f : Files). is_listing f.context) (sym made) ∙ context_listed (json.get (codes "context") d) context at_context)))
 
 -- ---- a bundle or a refusal
 
@@ -214,9 +214,9 @@ images_read config d images e name found at =
     option_and_then_some (λ rows. cond (list_all (λ row. is_image_name row.0) rows) (Some (images_of rows)) None) (rows_in (image_in config) d) images e
     (λ rows from kept. option_and_then_some (members_in (image_in config)) (as_object d) rows from
     (λ members there all.
-        let made : images_of rows ≡ images = some_is (images_of rows) images (passed (list_all (λ row. is_image_name row.0) rows) (Some (images_of rows)) images kept) in
-        found_is config rows name_cmp name found (rows_are config members rows all)
-        (sym (get-from_entries nat_list_cmp_total (map image_row rows) name) ∙ (ap (λ (i : ImagesValue _). get i name) made ∙ at))))
+    let made : images_of rows ≡ images = some_is (images_of rows) images (passed (list_all (λ row. is_image_name row.0) rows) (Some (images_of rows)) images kept) in
+    found_is config rows name_cmp name found (rows_are config members rows all)
+    (sym (get-from_entries nat_list_cmp_total (map image_row rows) name) ∙ (ap (λ (i : ImagesValue _). get i name) made ∙ at))))
 
 images_at : {C : Type 0} (config : Data → Option C) (o : Option Data) (images : ImagesValue C) → or_none empty (images_in config) o ≡ Some images
     → (name : List ℕ) (found : image.Image C) → get images name ≡ Some found → IsReadSo config found.config

@@ -1,9 +1,8 @@
 -- What a file's instructions are resolved to is a table.
 use Rattle.std.proofs.Common.{◌≡◌, ℕ, Bool, true, false, List, [], ◌∷◌, ◌++◌, Option, Some, None, refl, sym, ap, ◌∙◌, subst, if◌then◌else◌}
-use Rattle.std.specs.Prelude.{Ok, Err, Result}
+use Rattle.std.specs.Prelude.{Ok}
 use Rattle.std.specs.List.{All}
 use Rattle.std.proofs.lemmas.List.{append-nil, append_assoc}
-use Rattle.plain.specs.declared.refusal.Code.{Code}
 use Rattle.plain.specs.declared.refusal.Code.TheVariants.{R05}
 use Rattle.plain.specs.declared.refusal.Refusal.{Refusal}
 use Rattle.instructions.specs.Least.{least}
@@ -15,8 +14,8 @@ use Rattle.stages.specs.Naming.{Known}
 use Rattle.stages.specs.Before.{stage_names, outer_scope}
 use Rattle.stages.specs.Due.{due_behind}
 use Rattle.stages.specs.Table.{TableValue, stages_of, IsTable, NamesKnown}
-use Rattle.stages.specs.Resolved.{target_of, told_at, first_refusal, are_arguments, refusal_of, unless_refused, with_target, resolved}
-use Rattle.stages.specs.PrivateResolving.{with_last, draft_after, IsDraft}
+use Rattle.stages.specs.Resolved.{target_of, first_refusal, are_arguments, refusal_of, unless_refused, with_target, resolved}
+use Rattle.stages.specs.PrivateResolving.{draft_after, IsDraft}
 use Rattle.stages.specs.PrivateTable.{table_by}
 use Rattle.stages.proofs.DraftFacts.{draft_first, draft_step, due_same}
 use Rattle.stages.proofs.WholeFacts.{told_none, table_whole, names_known}
