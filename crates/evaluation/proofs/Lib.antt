@@ -18,5 +18,6 @@ mod WalkFacts
 mod EvaluatedFacts
 mod KeptFacts
 mod LawFacts
+mod MadeFacts
 mod RowFacts
 mod WholeFacts

@@ -77,7 +77,7 @@ inner_lines (r ∷ rs) are =
 abbrev AllKnown : (Origin → Type 0) → List ResolvedStage → Type 0
 AllKnown K stages = All (λ (stage : ResolvedStage). K stage.base × All (λ (r : ResolvedInstruction). All K r.origins) stage.instructions) stages
 
-all_fit : (K : Origin → Type 0) (images : ImagesValue Config) (table : TableValue) (needed : List Bool) → IsTable table → AreNeeded table.stages table.target needed
+pub all_fit : (K : Origin → Type 0) (images : ImagesValue Config) (table : TableValue) (needed : List Bool) → IsTable table → AreNeeded table.stages table.target needed
     → All (λ (stage : ResolvedStage). IsProperBase images stage.base) table.stages → AllKnown K table.stages → AllFit K images needed table.stages
 all_fit K images table needed whole are proper known number stage at =
     let lines = lines_at table.stages number stage (ascend_all 0 (lines_of table.stages) whole.lines) at in
@@ -92,10 +92,10 @@ all_fit K images table needed whole are proper known number stage at =
       leads = named_marked table.stages table.target needed number stage are at;
     }
 
-nothing_known : (stages : List ResolvedStage) → AllKnown (λ o. Unit {0}) stages
+pub nothing_known : (stages : List ResolvedStage) → AllKnown (λ o. Unit {0}) stages
 nothing_known stages k d within = (tt, λ j e inside i f deep. tt)
 
-names_known : (images : ImagesValue Config) (stages : List ResolvedStage) → All (NamesKnown (names_in images)) stages → AllKnown (IsKnown (names_in images)) stages
+pub names_known : (images : ImagesValue Config) (stages : List ResolvedStage) → All (NamesKnown (names_in images)) stages → AllKnown (IsKnown (names_in images)) stages
 names_known images stages are k d within = (let is = are k d within in (is.base, is.instructions))
 
 -- what is named has its tree
@@ -118,14 +118,14 @@ has_tree images context names sources are (StageOf number) is = tt
 
 -- what is made is whole
 
-rows_named : (images : ImagesValue Config) (context : TreeMap) (number : ℕ) (needed : List Bool) (stages : List ResolvedStage) (walk : Walk) (made : Evaluated) → IsMade images context number walk made
+pub rows_named : (images : ImagesValue Config) (context : TreeMap) (number : ℕ) (needed : List Bool) (stages : List ResolvedStage) (walk : Walk) (made : Evaluated) → IsMade images context number walk made
     → WalkKept (IsKnown (names_in images)) needed stages walk → All (RowNames (HasTree made.sources)) made.rows
 rows_named images context number needed stages walk made is kept =
     subst (λ (rows : List (Option Stage)). All (RowNames (HasTree made.sources)) rows) (sym is.rows)
     (All-weaker (RowNames (λ o. IsKnown (names_in images) o × IsHeld walk.names o)) (RowNames (HasTree made.sources))
     (row_weaker (λ o. IsKnown (names_in images) o × IsHeld walk.names o) (HasTree made.sources) (has_tree images context walk.names made.sources is.sources)) walk.rows kept.held)
 
-target_there : (images : ImagesValue Config) (context : TreeMap) (table : TableValue) (needed : List Bool) (walk : Walk) (made : Evaluated) → IsMade images context table.target walk made → IsTable table
+pub target_there : (images : ImagesValue Config) (context : TreeMap) (table : TableValue) (needed : List Bool) (walk : Walk) (made : Evaluated) → IsMade images context table.target walk made → IsTable table
     → AreNeeded table.stages table.target needed → WalkKept (λ o. Unit {0}) needed table.stages walk → (stage : Stage) × (slice_get made.rows made.target ≡ Some (Some stage))
 target_there images context table needed walk made is whole are kept =
     let found = kept.marked table.target whole.has_target ((are.just table.target).1 ([], refl)) in (

@@ -13,8 +13,11 @@ ghost use Rattle.plans.specs.Images.{ImagesValue};
 ghost use Rattle.scopes.specs.Evaluate.{Values};
 ghost use Rattle.scopes.specs.Scope.{value_in, run_env, kept};
 ghost use Rattle.rows.specs.Order.{IsInOrder, NeedsAllStages};
+ghost use Rattle.rows.specs.WellFormed.{IsWellFormed, RowNames, HasTree};
+ghost use Rattle.rows.specs.declared.row.Stage.{Stage};
+ghost use Rattle.stages.specs.Naming.{names_in};
 ghost use Rattle.stages.specs.Needed.{AreNeeded};
-ghost use Rattle.stages.specs.Table.{TableValue, IsTable};
+ghost use Rattle.stages.specs.Table.{TableValue, IsTable, NamesKnown};
 ghost use Rattle.stages.specs.declared.stage.ResolvedInstruction.{ResolvedInstruction};
 ghost use Rattle.stages.specs.declared.stage.ResolvedStage.{ResolvedStage};
 ghost use Rattle.imageconfig.specs.Environment.{variables_of};
@@ -22,7 +25,7 @@ ghost use Rattle.imageconfig.specs.Stage.{stage_config};
 ghost use Rattle.imageconfig.specs.declared.config.Config.{Config};
 ghost use Rattle.evaluation.specs.Chain.{IsChain, chain_history};
 ghost use Rattle.evaluation.specs.Configuration.{in_scope, base_config};
-ghost use Rattle.evaluation.specs.Evaluated.{evaluated, config_at, Answers};
+ghost use Rattle.evaluation.specs.Evaluated.{evaluated, config_at, IsMade, Answers};
 ghost use Rattle.evaluation.specs.NeededLines.{JudgedLine, needed_lines, IsLeastRefusal, SameWhereMarked};
 ghost use Rattle.evaluation.specs.Reached.{ComesTo, HaveEnvironments, HasScopesEnvironment};
 ghost use Rattle.evaluation.specs.Stages.{instructions_from};
@@ -130,3 +133,23 @@ pub fn what_is_evaluated_is_in_order()
     ensures needs { (args : Values) (images : ImagesValue Config) (needed : List Bool) (table : TableValue) (walk : Walk) → IsTable table
         → AreNeeded table.stages table.target needed → evaluated args images needed table ≡ Ok walk → NeedsAllStages walk.rows table.target }
 {}
+
+/// What is made of an evaluated table is such as lowering asks for, where the environments of images are such and all images that are named are known:
+/// the rows are well formed, the target is one of them, and each source that they name has its tree.
+pub fn what_is_evaluated_is_whole()
+    ensures rows { (args : Values) (images : ImagesValue Config) (context : TreeMap) (needed : List Bool) (table : TableValue) (walk : Walk) (made : Evaluated)
+        → IsTable table → AreNeeded table.stages table.target needed → HaveEnvironments images → evaluated args images needed table ≡ Ok walk
+        → IsMade images context table.target walk made → IsWellFormed made.rows }
+    ensures target { (args : Values) (images : ImagesValue Config) (context : TreeMap) (needed : List Bool) (table : TableValue) (walk : Walk) (made : Evaluated)
+        → IsTable table → AreNeeded table.stages table.target needed → HaveEnvironments images → evaluated args images needed table ≡ Ok walk
+        → IsMade images context table.target walk made → (stage : Stage) × (slice_get made.rows made.target ≡ Some (Some stage)) }
+    ensures named { (args : Values) (images : ImagesValue Config) (context : TreeMap) (needed : List Bool) (table : TableValue) (walk : Walk) (made : Evaluated)
+        → IsTable table → AreNeeded table.stages table.target needed → HaveEnvironments images → All (NamesKnown (names_in images)) table.stages
+        → evaluated args images needed table ≡ Ok walk → IsMade images context table.target walk made → All (RowNames (HasTree made.sources)) made.rows }
+{
+    actions::laws::runs_are_well_formed();
+    actions::laws::copies_are_well_formed();
+    scopes::laws::environments_have_the_names_of_declarations();
+    scopes::laws::lines_declare_their_names();
+    scopes::laws::names_fit_environments();
+}
