@@ -1,5 +1,5 @@
 -- A bundle asks for one thing, and what its answers have in common.
-use Rattle.std.proofs.Common.{◌≡◌, inl, inr, ◌≢◌, ℕ, Bool, true, false, List, Option, Some, None, Result, Ok, Err, refl, sym, ap, ◌∙◌, subst}
+use Rattle.std.proofs.Common.{◌≡◌, inl, inr, ℕ, Bool, true, false, List, Option, Some, None, Result, Ok, Err, refl, sym, ap, ◌∙◌, subst}
 use Rattle.std.proofs.lemmas.List.{ext_get_or}
 use Rattle.std.specs.Cmp.Lexicographic.{nat_list_cmp_total}
 use Rattle.std.specs.FinMap.{entries, get, same_map, slice_cmp-IsAntisymmetric, nat_cmp-IsAntisymmetric}
@@ -24,8 +24,11 @@ use Rattle.evaluation.specs.declared.walk.Walk.{Walk}
 use Rattle.imageconfig.specs.Reading.{config_in}
 use Rattle.imageconfig.specs.Writing.{config_data}
 use Rattle.imageconfig.specs.declared.config.Config.{Config}
+use Rattle.trees.specs.declared.cause.Cause.{Cause}
+use Rattle.lowering.specs.Meaning.{serial}
+use Rattle.lowering.specs.Means.{world}
 use Rattle.bundle.specs.declared.whole.Bundle.{Bundle}
-use Rattle.bundle.specs.Answer.{built_text}
+use Rattle.bundle.specs.Answer.{built_text, failed_text}
 use Rattle.bundle.specs.Parts.{parts_of}
 use Rattle.bundle.specs.Reading.{ignore_bytes, told_line, IsBundle, Completes, ReadsBundle}
 use Rattle.bundle.specs.declared.parts.Parts.{Parts}
@@ -38,7 +41,9 @@ use Rattle.scopes.specs.Args.{BuildArguments}
 use Rattle.plain.specs.declared.refusal.Code.TheVariants.{R19}
 use Rattle.build.specs.declared.status.Status.{Status}
 use Rattle.build.specs.declared.status.Status.TheVariants as status
+use Rattle.build.specs.Graph.{Shows, GraphAnswers}
 use Rattle.build.specs.Meaning.{StagesAsk, TableAsks, FileAsks, Asks, Tells, Answers}
+use Rattle.build.proofs.OneDrawingFacts.{one_drawing}
 
 -- what is known of the texts of Dockerfiles: one has no two lists of instructions, no two refusals, and never one of each
 pub record AreUnique : Type 0 where
@@ -188,29 +193,55 @@ one_thing texts one bytes a b (inr these) (inr those) =
     let same : those.0 ≡ these.0 = bundles one bytes those.0 these.0 those.1 these.1 in
     one_of_file texts these.0 a b these.2 (subst (λ (bundle : Bundle Config). FileAsks bundle b) same those.2)
 
--- two answers to one thing have one status, and built and refused ones one text
+one_failure : (first : Option (ℕ × Cause)) (this that : ℕ × Cause) → first ≡ Some this → first ≡ Some that → this ≡ that
+one_failure first this that p q = (let f : Some this ≡ Some that = sym p ∙ q in cc)
+
+-- two answers to one thing have one status and one text
 alike : (out : Out) (asked : Result Evaluated Refusal) (one other : Status) (text beside : List ℕ) → Tells out asked one text → Tells out asked other beside
-    → (one ≡ other) × (one ≢ status.Failed → text ≡ beside)
+    → (one ≡ other) × (text ≡ beside)
 alike out (Ok made) status.Built status.Built text beside this that =
     let trees : Some this.0 ≡ Some that.0 = sym this.1 ∙ that.1 in
     let tree : this.0 ≡ that.0 = cc in
-    (refl, λ built. this.2 ∙ (ap (λ t. built_text (config_data made.config) (entries t)) tree ∙ sym that.2))
+    (refl, this.2 ∙ (ap (λ t. built_text (config_data made.config) (entries t)) tree ∙ sym that.2))
 alike out (Ok made) status.Built status.Failed text beside this that =
     let none : Some this.0 ≡ None = sym this.1 ∙ that.2.0 in cc
 alike out (Ok made) status.Failed status.Built text beside this that =
     let none : Some that.0 ≡ None = sym that.1 ∙ this.2.0 in cc
-alike out (Ok made) status.Failed status.Failed text beside this that = (refl, λ other. absurd (other refl))
+alike out (Ok made) status.Failed status.Failed text beside this that =
+    let same = one_failure (serial (world out made.sources) made.rows) (this.0, this.1) (that.0, that.1) this.2.1 that.2.1 in
+    (refl, this.3 ∙ (ap (λ (f : ℕ × Cause). failed_text f.0 f.1) same ∙ sym that.3))
 alike out (Ok made) status.Refused other text beside this that = absurd this
 alike out (Ok made) status.Built status.Refused text beside this that = absurd that
 alike out (Ok made) status.Failed status.Refused text beside this that = absurd that
-alike out (Err refusal) status.Refused status.Refused text beside this that = (refl, λ refused. this ∙ sym that)
+alike out (Err refusal) status.Refused status.Refused text beside this that = (refl, this ∙ sym that)
 alike out (Err refusal) status.Built other text beside this that = absurd this
 alike out (Err refusal) status.Failed other text beside this that = absurd this
 alike out (Err refusal) status.Refused status.Built text beside this that = absurd that
 alike out (Err refusal) status.Refused status.Failed text beside this that = absurd that
 
-pub one_status : AreUnique → OneContext → (bytes : List ℕ) (out : Out) (one other : Status) (text beside : List ℕ)
-    → Answers bytes out one text → Answers bytes out other beside → (one ≡ other) × (one ≢ status.Failed → text ≡ beside)
-one_status texts single bytes out one other text beside this that =
+pub one_answer : AreUnique → OneContext → (bytes : List ℕ) (out : Out) (one other : Status) (text beside : List ℕ)
+    → Answers bytes out one text → Answers bytes out other beside → (one ≡ other) × (text ≡ beside)
+one_answer texts single bytes out one other text beside this that =
     let asked : that.asked ≡ this.asked = one_thing texts single bytes that.asked this.asked that.asks this.asks in
     alike out this.asked one other text beside this.tells (subst (λ a. Tells out a other beside) asked that.tells)
+
+-- two graphs of one bundle, or two refusals of it, have one status and one text
+shown_alike : (asked : Result Evaluated Refusal) (one other : Status) (text beside : List ℕ) → Shows asked one text → Shows asked other beside
+    → (one ≡ other) × (text ≡ beside)
+shown_alike (Ok made) status.Built status.Built text beside this that =
+    (refl, one_drawing this.plan that.plan made.rows made.target text beside this.is that.is this.stands that.stands this.draws that.draws)
+shown_alike (Ok made) status.Failed other text beside this that = absurd this
+shown_alike (Ok made) status.Refused other text beside this that = absurd this
+shown_alike (Ok made) status.Built status.Failed text beside this that = absurd that
+shown_alike (Ok made) status.Built status.Refused text beside this that = absurd that
+shown_alike (Err refusal) status.Refused status.Refused text beside this that = (refl, this ∙ sym that)
+shown_alike (Err refusal) status.Built other text beside this that = absurd this
+shown_alike (Err refusal) status.Failed other text beside this that = absurd this
+shown_alike (Err refusal) status.Refused status.Built text beside this that = absurd that
+shown_alike (Err refusal) status.Refused status.Failed text beside this that = absurd that
+
+pub one_graph_text : AreUnique → OneContext → (bytes : List ℕ) (one other : Status) (text beside : List ℕ)
+    → GraphAnswers bytes one text → GraphAnswers bytes other beside → (one ≡ other) × (text ≡ beside)
+one_graph_text texts single bytes one other text beside this that =
+    let asked : that.asked ≡ this.asked = one_thing texts single bytes that.asked this.asked that.asks this.asks in
+    shown_alike this.asked one other text beside this.shows (subst (λ a. Shows a other beside) asked that.shows)

@@ -166,7 +166,7 @@ graph_faulted old new bytes FailedDevice read told written reads writes = absurd
 graph_faulted old new bytes Clash read told written reads writes = record {
   bundle = read.bundle;
   is = read.is;
-  clash = record { made = told.made; asks = asks bytes read.bundle (Ok told.made) read.same told.asks; plan = told.plan; means = told.means; stands = told.stands; clashes = told.clashes };
+  clash = record { made = told.made; asks = asks bytes read.bundle (Ok told.made) read.same told.asks; plan = told.plan; is = told.is; means = told.means; stands = told.stands; clashes = told.clashes };
   unwritten = record { written = written; failed_writes = writes };
   failed_reads = reads;
 }

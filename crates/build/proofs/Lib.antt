@@ -1,6 +1,10 @@
 mod AnswerFacts
 mod AskFacts
+mod BoardFacts
 mod BuildingFacts
+mod ExistFacts
+mod OneDrawingFacts
+mod OnePlanFacts
 mod PlanFacts
 mod ShowFacts
 mod TellFacts

@@ -3,7 +3,7 @@ use Rattle.std.proofs.Common.{◌≡◌, ℕ, List, Result, Ok, Err, sym, ap, �
 use Rattle.plain.specs.declared.fault.Fault.{Fault}
 use Rattle.plain.specs.declared.fault.Fault.TheVariants.{Because}
 use Rattle.plain.specs.declared.refusal.Refusal.{Refusal}
-use Rattle.plans.specs.Plan.{PlanValue, vertex_value}
+use Rattle.plans.specs.Plan.{PlanValue, IsPlan, vertex_value}
 use Rattle.plans.specs.Value.{Out, value_of, tree_of}
 use Rattle.imageconfig.specs.declared.config.Config.{Config}
 use Rattle.evaluation.specs.declared.evaluated.Evaluated.{Evaluated}
@@ -32,10 +32,11 @@ tree_is made plan text means sources draws out =
     ∙ ap (λ s. tree_of_stage (world out s) made.rows made.target) sources
 
 -- what is drawn of a plan that means what a file's stages give is their graph
-pub graph_of_file : (made : Evaluated) (plan : PlanValue Config) (text : List ℕ) → Means plan made.rows made.target → StandsFor plan made.rows made.target
+pub graph_of_file : (made : Evaluated) (plan : PlanValue Config) (text : List ℕ) → IsPlan plan → Means plan made.rows made.target → StandsFor plan made.rows made.target
     → plan.sources ≡ made.sources → Draws plan text → IsGraphOf made text
-graph_of_file made plan text means stands sources draws = record {
+graph_of_file made plan text is means stands sources draws = record {
   plan = plan;
+  is = is;
   stands = stands;
   draws = draws;
   tree = tree_is made plan text means sources draws;
@@ -46,23 +47,23 @@ line_shows : (asked : Result Evaluated Refusal) (status : Status) (text : List �
 line_shows asked status text told shows is line = (text, subst (λ s. Shows asked s text) (sym is) shows, line)
 
 -- the line of a graph
-pub file_shown : (made : Evaluated) (plan : PlanValue Config) (text : List ℕ) (told : Told) → Means plan made.rows made.target
+pub file_shown : (made : Evaluated) (plan : PlanValue Config) (text : List ℕ) (told : Told) → IsPlan plan → Means plan made.rows made.target
     → StandsFor plan made.rows made.target → plan.sources ≡ made.sources → Draws plan text
     → told.status ≡ Built → told.line ≡ line_of text → ShowsAsked (Ok made) told
-file_shown made plan text told means stands sources draws is line =
-    line_shows (Ok made) Built text told (graph_of_file made plan text means stands sources draws) is line
+file_shown made plan text told is means stands sources draws status line =
+    line_shows (Ok made) Built text told (graph_of_file made plan text is means stands sources draws) status line
 
 -- no graph, since its operations clash
-pub clash_shown : (made : Evaluated) (plan : PlanValue Config) (fault : Fault Clashing) (clash : Clashing) → fault ≡ Because clash → Means plan made.rows made.target
-    → StandsFor plan made.rows made.target → IsDrawn plan (Err fault) → PlanClashes made
-clash_shown made plan fault clash is means stands drawn = (plan, means, stands, subst (λ f. IsDrawn plan (Err f)) is drawn)
+pub clash_shown : (made : Evaluated) (plan : PlanValue Config) (fault : Fault Clashing) (clash : Clashing) → fault ≡ Because clash → IsPlan plan
+    → Means plan made.rows made.target → StandsFor plan made.rows made.target → IsDrawn plan (Err fault) → PlanClashes made
+clash_shown made plan fault clash because is means stands drawn = (plan, is, means, stands, subst (λ f. IsDrawn plan (Err f)) because drawn)
 
 -- what is shown of a file's stages is shown of the bundle that asks for them
 pub bundle_shown : (bytes : List ℕ) (made : Evaluated) (result : Result Told BuildFault) → Asks bytes (Ok made) → IsFileShown made result → IsShown bytes result
 bundle_shown bytes made (Ok told) asks shown = (shown.0, record { asked = Ok made; asks = asks; shows = shown.1 }, shown.2)
 bundle_shown bytes made (Err Memory) asks shown = tt
 bundle_shown bytes made (Err Device) asks shown = absurd shown
-bundle_shown bytes made (Err Clash) asks clash = record { made = made; asks = asks; plan = clash.0; means = clash.1; stands = clash.2; clashes = clash.3 }
+bundle_shown bytes made (Err Clash) asks clash = record { made = made; asks = asks; plan = clash.0; is = clash.1; means = clash.2; stands = clash.3; clashes = clash.4 }
 
 -- a refusal that is told
 pub refusal_shown : (bytes : List ℕ) (fault : Fault Refusal) (refusal : Refusal) (text : List ℕ) (told : Told) → fault ≡ Because refusal → IsAsked bytes (Err fault)

@@ -1,7 +1,7 @@
 -- What is drawn of the bytes of a bundle: the graph of what they ask for, as a definition (own, after BuildKit's LLB definition).
 use Rattle.std.specs.Prelude.{◌≡◌, ℕ, List, Result, Ok, Err}
 use Rattle.plain.specs.declared.refusal.Refusal.{Refusal}
-use Rattle.plans.specs.Plan.{PlanValue}
+use Rattle.plans.specs.Plan.{PlanValue, IsPlan}
 use Rattle.plans.specs.Value.{Out, value_of, tree_of}
 use Rattle.imageconfig.specs.declared.config.Config.{Config}
 use Rattle.evaluation.specs.declared.evaluated.Evaluated.{Evaluated}
@@ -13,11 +13,12 @@ use Rattle.build.specs.declared.status.Status.{Status}
 use Rattle.build.specs.declared.status.Status.TheVariants.{Built, Failed, Refused}
 use Rattle.build.specs.Meaning.{Asks}
 
--- A text is the graph of what a file's stages give: it draws the plan that stands for the file, so it is the definition of some vertices, all of
--- which its result is or reaches; and under every executor the result has the target's tree, over the trees that are there before the build, and
--- none where the target has none.
+-- A text is the graph of what a file's stages give: it draws the plan that stands for the file, in which no vertex stands twice, so it is the
+-- definition of some vertices, all of which its result is or reaches; and under every executor the result has the target's tree, over the trees
+-- that are there before the build, and none where the target has none. There is at most one such text, as the law `a_bundle_has_one_graph` says.
 pub record IsGraphOf (made : Evaluated) (text : List ℕ) : Type 0 where
   pub plan : PlanValue Config
+  pub is : IsPlan plan
   pub stands : StandsFor plan made.rows made.target
   pub draws : Draws plan text
   pub tree : (out : Out)
@@ -43,6 +44,7 @@ pub record GraphClashes (bytes : List ℕ) : Type 0 where
   pub made : Evaluated
   pub asks : Asks bytes (Ok made)
   pub plan : PlanValue Config
+  pub is : IsPlan plan
   pub means : Means plan made.rows made.target
   pub stands : StandsFor plan made.rows made.target
   pub clashes : Clashes plan

@@ -1,6 +1,7 @@
 pub mod Ends
 pub mod Faults
 pub mod Graph
+pub mod Interleaving
 pub mod Lowerable
 pub mod Meaning
 pub mod Messages

@@ -1,4 +1,4 @@
--- What the bytes of a bundle ask for, and which answers say what it gives under an executor. What a file's stages give is run instruction
+-- What the bytes of a bundle ask for, and which answer says what it gives under an executor. What a file's stages give is run instruction
 -- by instruction (`lowering`); nothing here knows a graph, a vertex or a worker.
 use Rattle.std.specs.Prelude.{◌≡◌, ◌⊎◌, ℕ, List, [], ◌∷◌, ◌++◌, Bool, Result, Ok, Err}
 use Rattle.std.specs.FinMap.{entries, get}
@@ -56,7 +56,7 @@ Asks bytes asked =
     ⊎ ((bundle : Bundle Config) × ReadsBundle config_in bytes (Ok bundle) × FileAsks bundle asked)
 
 -- An answer of this status and text tells what is asked for: refused, with the refusal; built, with the target's tree and configuration,
--- only where there is that tree; failed, with the line and the cause of an instruction that fails, only where there is none.
+-- only where there is that tree; failed, with the line and the cause of the first instruction that fails, only where there is none.
 abbrev pub Tells : Out → Result Evaluated Refusal → Status → List ℕ → Type 0
 Tells out (Ok made) Built text =
     (tree : TreeMap) × IsOutcome (world out made.sources) made.rows made.target (Ok tree) × (text ≡ built_text (config_data made.config) (entries tree))
@@ -67,7 +67,8 @@ Tells out (Err refusal) Built text = ⊥
 Tells out (Err refusal) Failed text = ⊥
 Tells out (Err refusal) Refused text = text ≡ refused_text refusal
 
--- an answer of this status and text is one to a bundle of these bytes, under an executor that answers so
+-- An answer of this status and text is one to a bundle of these bytes, under an executor that answers so. There is just one, as the laws
+-- `every_bundle_has_an_answer` and `a_bundle_has_one_answer` say.
 pub record Answers (bytes : List ℕ) (out : Out) (status : Status) (text : List ℕ) : Type 0 where
   pub asked : Result Evaluated Refusal
   pub asks : Asks bytes asked

@@ -1,7 +1,7 @@
 -- What the calls answer by which a bundle's graph is told, step by step; want of memory says nothing.
 use Rattle.std.specs.Prelude.{◌≡◌, ℕ, List, Result, Ok, Err}
 use Rattle.plain.specs.declared.refusal.Refusal.{Refusal}
-use Rattle.plans.specs.Plan.{PlanValue}
+use Rattle.plans.specs.Plan.{PlanValue, IsPlan}
 use Rattle.imageconfig.specs.declared.config.Config.{Config}
 use Rattle.evaluation.specs.declared.evaluated.Evaluated.{Evaluated}
 use Rattle.lowering.specs.Means.{Means, StandsFor}
@@ -18,7 +18,7 @@ ShowsAsked asked told = (text : List ℕ) × Shows asked told.status text × (to
 
 -- the plan of a file's stages clashes
 abbrev pub PlanClashes : Evaluated → Type 0
-PlanClashes made = (plan : PlanValue Config) × Means plan made.rows made.target × StandsFor plan made.rows made.target × Clashes plan
+PlanClashes made = (plan : PlanValue Config) × IsPlan plan × Means plan made.rows made.target × StandsFor plan made.rows made.target × Clashes plan
 
 -- what is told of a file's stages
 abbrev pub IsFileShown : Evaluated → Result Told BuildFault → Type 0

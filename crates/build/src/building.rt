@@ -19,7 +19,8 @@ use std::thread::Threads;
 /// written. A call that failed isn't tried again. No more than one byte past the limit of bundles is read. The context is filtered in several
 /// threads, the graph is solved by this many workers, 1 to 64, each in a thread of its own, and all else is done in the caller's. The gate is asked
 /// around the run of each command. Nothing of what is said below knows a worker: whatever number there is, and in whatever order they come, the answer
-/// is one that running the target's stages instruction by instruction gives. Nothing says that it returns, since it may wait.
+/// is the one that running the target's stages instruction by instruction gives, up to the first that fails. Nothing says that it returns, since
+/// it may wait.
 ///
 /// All this is said where the reader and the writer tell their bytes, as those in memory do (`Cursor`, `Vec<u8>`). Of standard
 /// input and output the standard library says how many bytes a call takes at most, and not which bytes those are; there the

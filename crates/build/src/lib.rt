@@ -3,10 +3,10 @@
 // `run_build` reads a bundle, makes its plan, solves it and writes one answer. It knows no command line and prints nothing else.
 // The crate is no solver and runs no command: the solver decides whose turn a vertex is, and the executor is the caller's.
 //
-// `run_graph` writes the plan's graph in place of solving it: `specs/Graph.antt` says which texts are one.
+// `run_graph` writes the plan's graph in place of solving it: `specs/Graph.antt` says which text is that.
 //
-// The central definitions are in `specs/Meaning.antt`: `Asks`, what a bundle's bytes ask for or why they are refused, and `Answers`, which texts
-// tell what that gives under an executor. It runs the stages' instructions one after another and knows no graph.
+// The central definitions are in `specs/Meaning.antt`: `Asks`, what a bundle's bytes ask for or why they are refused, and `Answers`, which text
+// tells what that gives under an executor. It runs the stages' instructions one after another and knows no graph.
 //
 // ```
 // let mut input = Counted::new(rt.stdin());

@@ -17,8 +17,8 @@ use std::alloc::Global;
 
 /// The plan of a file's needed stages, without what the target doesn't need.
 ///
-/// Under every executor, whatever solves the plan tells what the stages give, with the plan's configuration; and the target needs every
-/// vertex, so that two solutions of the plan differ at most in which failure they name. It asks for what evaluation gives.
+/// Under every executor, whatever solves the plan tells what the stages give, with the plan's configuration: the target's tree, or the first
+/// instruction of the file that fails. The target needs every vertex. It asks for what evaluation gives.
 pub fn plan_of(alloc: Global, evaluated: Evaluated) -> Result<Plan<Config>, Memory>
     requires { IsLowerable evaluated }
     ensures tells { IfOk result (λ plan. (out : Out) (solution : Solution)

@@ -49,6 +49,7 @@ fn show_file(alloc: Global, evaluated: Evaluated) -> Result<Told, BuildFault>
         sources,
     } = evaluated;
     let plan = lower_program(alloc, rows, target, config, sources)?;
+    let _known = plan.graph();
     match draw(alloc, plan) {
         Ok(text) => Ok(line_of(alloc, Status::Built, text)?),
         Err(Fault::Because(Clash)) => Err(BuildFault::Clash),
