@@ -1,4 +1,4 @@
-use crate::solutions::SCRATCH;
+use crate::solutions::{SCRATCH, TWO_FAILURES};
 use board::{Event, Happened};
 use executor::Fixture;
 use plans::Plan;
@@ -92,12 +92,26 @@ fn two_workers_one_target(rt: HostRuntime) -> Result<(), Fail> {
 }
 
 /// A run that fails, and one on it.
-const FAILURE: [Row; 3] = [SCRATCH, ("run fail 1", &[0], 2), ("run put /a 2", &[1], 3)];
+const FAILURE: [Row; 3] = [SCRATCH, ("run fail 1", &[0], 3), ("run true", &[1], 4)];
 
 #[test]
 fn failure_stops_the_board(rt: HostRuntime) -> Result<(), Fail> {
     let want = "c0:0 s0:0 c0:1 s0:1 ";
     expect(&rt, rt.alloc(), &FAILURE, 2, "c0 s0 c0 s0 c1", want)
+}
+
+#[test]
+fn later_failure_does_not_stop_earlier_line(rt: HostRuntime) -> Result<(), Fail> {
+    // The copy of line 5 has failed when vertex 2, of line 4, is claimed. Once that has failed too, nothing is ready.
+    let want = "c0:0 s0:0 c0:1 c1:3 s1:3 c1:4 s1:4 s0:1 c0:2 s0:2 ";
+    expect(
+        &rt,
+        rt.alloc(),
+        &TWO_FAILURES,
+        5,
+        "c0 s0 c0 c1 s1 c1 s1 s0 c0 s0 c1",
+        want,
+    )
 }
 
 /// Two runs with one locked cache, and one on the second of them.

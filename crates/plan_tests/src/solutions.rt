@@ -64,6 +64,24 @@ const THREE_LINES: [Row; 4] = [
 /// Vertex 1 comes first and fails, though vertex 2 doesn't need it.
 const NOT_NEEDED: [Row; 3] = [SCRATCH, ("run fail 1", &[0], 2), ("run put /a x", &[0], 3)];
 
+/// A command on line 4, and a linked copy on line 5, that both fail; neither needs the other.
+pub const TWO_FAILURES: [Row; 6] = [
+    SCRATCH,
+    ("dirs /w", &[0], 2),
+    ("run fail 3", &[1], 4),
+    ("context", &[], 5),
+    ("copy nope /x", &[0, 3], 5),
+    ("merge", &[2, 4], 5),
+];
+
+/// The command with the greater line comes first.
+const LATER_LINE_FIRST: [Row; 4] = [
+    SCRATCH,
+    ("run fail 1", &[0], 5),
+    ("run fail 2", &[0], 3),
+    ("copy /a /a", &[2, 1], 6),
+];
+
 /// Commands that fail, and their answers.
 const COMMANDS: [([Row; 2], &str); 3] = [
     ([SCRATCH, ("run nope", &[0], 2)], "failed 2: exit 127"),
@@ -72,7 +90,7 @@ const COMMANDS: [([Row; 2], &str); 3] = [
 ];
 
 /// Plans, their targets, and their answers.
-const ANSWERS: [(&[Row], u32, &str); 6] = [
+const ANSWERS: [(&[Row], u32, &str); 8] = [
     (&THREE_LINES, 1, "failed 4: exit 1"),
     // No instruction is behind this one.
     (&[SCRATCH, ("run fail 1", &[0], 0)], 1, "failed 0: exit 1"),
@@ -80,6 +98,8 @@ const ANSWERS: [(&[Row], u32, &str); 6] = [
     (&CHAIN, 2, "built 7: /a=1 /b=2"),
     (&CHAIN, 3, "failed 4: exit 1"),
     (&NOT_NEEDED, 2, "failed 2: exit 1"),
+    (&TWO_FAILURES, 5, "failed 4: exit 3"),
+    (&LATER_LINE_FIRST, 3, "failed 3: exit 2"),
 ];
 
 #[test]

@@ -3,7 +3,8 @@
 // in them is written `¶`.
 //
 // Names that begin with `example_` are the bundles and the packed folder of `examples/`, those that begin with `bundle_` are about the bundle
-// itself, and those with `pack_` pack the folders of `data/`.
+// itself, and those with `pack_` pack the folders of `data/`. Those that begin with `several_failures_` are random bundles in which several
+// instructions fail; their answers are those of another program, which goes line by line.
 
 use counted::Counted;
 use executor::Fixture;
