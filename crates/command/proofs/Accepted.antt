@@ -1,23 +1,26 @@
 -- Words in which clap's parse finds no fault ask for a task.
-use Rattle.std.proofs.Common.{◌≡◌, ◌≤◌, ℕ, Bool, true, false, cond, List, [], ◌∷◌, Option, Some, None, refl, sym, ap, subst, codes, is_some, pos, true≢false, ◌∙◌, arith}
+use Rattle.std.proofs.Common.{◌≡◌, ◌≤◌, ℕ, Bool, true, false, cond, List, [], ◌∷◌, Option, Some, None, refl, sym, ap, subst, codes, is_some, pos, true≢false, ◌∙◌, arith, inl, inr}
 use Rattle.std.proofs.lemmas.Slice.Eq.{bytes_eq-Decides}
 use Rattle.std.proofs.lemmas.Int.{ints}
 use Rattle.std.specs.Str.Parse.{IsNumeral, digits_value, starts_with_minus, without_leading_plus}
-use Rattle.clap.specs.Words.{App, Row, Shape, Text, fault_of, is_simple, is_simple_and_free, subcommand_of}
+use Rattle.clap.specs.Words.{App, Row, Shape, Text, fault_of, first_of, is_simple, is_simple_and_free, subcommand_of}
 use Rattle.clap.proofs.OnLiterals.{clap_on_literals}
 use Rattle.clap.specs.Simple.{argument_words, entered, label_of, new_shape, rows_at}
-use Rattle.clap.specs.Kinds.{or_else}
+use Rattle.clap.specs.Kinds.{HasKind, Kinds, or_else}
+use Rattle.clap.specs.declared.error.Error.{Error}
 use Rattle.clap.specs.Faults.{check_fault, defaults_fault, entered_fault, level_fault, settle_fault, walk_fault}
 use Rattle.std.specs.Option.{option_map_or}
-use Rattle.std.specs.Prelude.{option_map, unwrap_or, slice_index_or, ◌||◌, ◌==◌}
+use Rattle.std.specs.Prelude.{option_and_then, option_map, unwrap_or, slice_index_or, bytes_eq, not, ◌&&◌, ◌||◌, ◌==◌}
 use Rattle.clap.specs.Lexer.{without_minus}
 use Rattle.clap.specs.Values.{IsSignedIn}
 use Rattle.clap.specs.Walk.{answers_to, finished, nothing_held, settled, walk, walk_from}
 use Rattle.clap.specs.declared.builder.value_parser.ValueParser.TheVariants as vp
+use Rattle.clap.specs.declared.error.kind.ErrorKind.TheVariants.{ValueValidation}
 use Rattle.clap.proofs.ValueTestLemmas.{accepts-Accepts}
 use Rattle.plain.specs.Limits.{most_workers}
 use Rattle.command.specs.CommandLine.{least_workers, whole_command}
-use Rattle.command.specs.Tasks.{IsTaskOf, IsWorkers}
+use Rattle.command.specs.Tasks.{IsTaskOf, IsWorkers, argument_faults, arguments_of, faults_of, pack_of, pack_with}
+use Rattle.command.specs.declared.task.Pack.{Pack as PackWords}
 use Rattle.command.specs.declared.task.Task.{Task}
 use Rattle.command.specs.declared.task.Task.TheVariants.{Build, Graph, Pack}
 use Rattle.command.proofs.BuildWalk.{leaf, leaf_ok}
@@ -64,6 +67,33 @@ workers_of rows has =
       },
     )
 
+-- a fault of build arguments is the one, or there is none
+one_fault : (found : Option (Text × List Row)) → (argument_faults found ≡ [] → ⊥) → argument_faults found ≡ ValueValidation ∷ []
+one_fault None some = absurd (some refl)
+one_fault (Some found) some = go (bytes_eq found.0 (codes "pack") && not (is_some (arguments_of found.1))) some
+  where
+    go : (b : Bool) → (cond b (ValueValidation ∷ []) [] ≡ [] → ⊥) → cond b (ValueValidation ∷ []) [] ≡ ValueValidation ∷ []
+    go true some = refl
+    go false some = absurd (some refl)
+
+and_false : (b : Bool) → cond (b && false) (ValueValidation ∷ []) [] ≡ []
+and_false true = refl
+and_false false = refl
+
+-- there is none where there is a task
+task_args : (found : Option (Text × List Row)) (task : Task) → IsTaskOf found task → argument_faults found ≡ []
+task_args None task asked = absurd asked
+task_args (Some found) (Build n) asked = rw asked.0 refl
+task_args (Some found) Graph asked = rw asked refl
+task_args (Some found) (Pack words) asked = go (first_of (codes "DIR") found.1) (arguments_of found.1) asked.1
+  where
+    go : (folder : Option Text) (args : Option (List (Text × Text)))
+        → option_and_then (λ f. option_map (pack_with found.1 f) args) folder ≡ Some words
+        → cond (bytes_eq found.0 (codes "pack") && not (is_some args)) (ValueValidation ∷ []) [] ≡ []
+    go None args is = cc
+    go (Some folder) None is = cc
+    go (Some folder) (Some args) is = and_false (bytes_eq found.0 (codes "pack"))
+
 -- `graph` and `help` as clap builds them
 abbrev graph_leaf : Shape
 graph_leaf = slice_index_or app.subs 1 (new_shape [])
@@ -79,35 +109,47 @@ or_false false e = e
 abbrev leads : Bool → Bool → Bool → Bool → Option Shape
 leads x y p z = cond x (Some leaf) (cond y (Some graph_leaf) (cond p (Some pack_leaf) (cond z (Some help_leaf) None)))
 
+-- `pack` has a folder, and each build argument a `=`
+pack_at : (rows : List Row) (folder : Text) → first_of (codes "DIR") rows ≡ Some folder → argument_faults (Some (codes "pack", rows)) ≡ []
+    → (words : PackWords) × (pack_of rows ≡ Some words)
+pack_at rows folder given e = go (arguments_of rows) refl
+  where
+    go : (found : Option (List (Text × Text))) → arguments_of rows ≡ found → (words : PackWords) × (pack_of rows ≡ Some words)
+    go None is = absurd (some_kind _ _ (rw is at e))
+    go (Some args) is = (pack_with rows folder args, rw (given, is) refl)
+
 met_at : (p : Text × List Text) (x y k z : Bool) → answers_to p.0 (label_of help_leaf) ≡ z → NotHelp (Some p)
     → is_some (option_map (λ s. rows_at s p.1) (leads x y k z)) ≡ true
     → option_map_or (λ s. level_fault s [] nothing_held p.1 false []) (leads x y k z) [] ≡ []
+    → argument_faults (option_map (λ s. rows_at s p.1) (leads x y k z)) ≡ []
     → (task : Task) × IsTaskOf (option_map (λ s. rows_at s p.1) (leads x y k z)) task
-met_at p true y k z help not_help some e =
+met_at p true y k z help not_help some e args =
     let found = workers_of _ (leaf_ok p.1 e) in
     (Build found.0, (refl, found.1))
-met_at p false true k z help not_help some e = (Graph, refl)
-met_at p false false true z help not_help some e =
-    let found = folder_ok p.1 e in
+met_at p false true k z help not_help some e args = (Graph, refl)
+met_at p false false true z help not_help some e args =
+    let folder = folder_ok p.1 e in
+    let found = pack_at (finished pack_leaf.rules (walk pack_leaf.rules [] nothing_held p.1).held) folder.0 folder.1 args in
     (Pack found.0, (refl, found.1))
-met_at p false false false true help not_help some e =
+met_at p false false false true help not_help some e args =
     let same = (bytes_eq-Decides (codes "help") p.0).0 (or_false _ help) in
     absurd (true≢false (sym ((bytes_eq-Decides p.0 (codes "help")).1 (sym same)) ∙ not_help))
-met_at p false false false false help not_help some e = absurd (true≢false (sym some))
+met_at p false false false false help not_help some e args = absurd (true≢false (sym some))
 
 stopped_at : (stop : Option (Text × List Text)) → NotHelp stop → is_some (entered app stop) ≡ true → entered_fault app stop ≡ []
-    → (task : Task) × IsTaskOf (entered app stop) task
-stopped_at None not_help some e = absurd (true≢false (sym some))
-stopped_at (Some p) not_help some e =
-    met_at p (answers_to p.0 (label_of leaf)) (answers_to p.0 (label_of graph_leaf)) (answers_to p.0 (label_of pack_leaf)) (answers_to p.0 (label_of help_leaf)) refl not_help some e
+    → argument_faults (entered app stop) ≡ [] → (task : Task) × IsTaskOf (entered app stop) task
+stopped_at None not_help some e args = absurd (true≢false (sym some))
+stopped_at (Some p) not_help some e args =
+    met_at p (answers_to p.0 (label_of leaf)) (answers_to p.0 (label_of graph_leaf)) (answers_to p.0 (label_of pack_leaf)) (answers_to p.0 (label_of help_leaf)) refl not_help some e args
 
 -- a subcommand is wanted
 has_command : (has : Bool) (rows : List Row) → check_fault app.top rows has ≡ [] → has ≡ true
 has_command true rows e = refl
 has_command false rows e = absurd (some_kind _ _ e)
 
-pub accepted : (words : List Text) → fault_of whole_command words ≡ [] → (task : Task) × IsTaskOf (subcommand_of whole_command words) task
-accepted words e =
+pub accepted : (words : List Text) → fault_of whole_command words ≡ [] → argument_faults (subcommand_of whole_command words) ≡ []
+    → (task : Task) × IsTaskOf (subcommand_of whole_command words) task
+accepted words e args =
     let given = argument_words whole_command words in
     let end = walk app.top.rules names nothing_held given in
     let walking = walk_fault app.top names (walk_from nothing_held) given in
@@ -123,7 +165,7 @@ accepted words e =
     let no_settling = or_else-right below from_settling no_below in
     let no_checking = or_else-right filling checking (or_else-right settling from_filling no_settling) in
     stopped_at end.stopped (top_ok given (walk_from nothing_held) no_walking tt)
-    (has_command _ (finished app.top.rules end.held) no_checking) (or_else-left below from_settling no_below)
+    (has_command _ (finished app.top.rules end.held) no_checking) (or_else-left below from_settling no_below) args
 
 simple_and_free : is_simple_and_free whole_command ≡ true
 unfolding clap_on_literals
@@ -138,11 +180,33 @@ pub no_fault : (a : App) (words : List Text) → a ≡ whole_command → (is_sim
     → fault_of whole_command words ≡ []
 no_fault a words is parsed = ap (λ x. fault_of x words) (sym is) ∙ parsed (ap is_simple_and_free is ∙ simple_and_free)
 
--- and its matches hold a task
-pub some_task : (a : App) (words : List Text) (found : Option (Text × List Row)) (rows : Type 0) → a ≡ whole_command
+-- a kind of fault that clap finds is one of all
+still_kind : (kinds more : Kinds) (error : Error) → HasKind kinds error → HasKind (or_else kinds more) error
+still_kind [] more error (inl memory) = inl memory
+still_kind [] more error (inr among) = absurd among
+still_kind (kind ∷ kinds) more error has = has
+
+pub clap_fault : (a : App) (words : List Text) (error : Error) → a ≡ whole_command
+    → (is_simple_and_free a ≡ true → HasKind (fault_of a words) error) → HasKind (faults_of words) error
+clap_fault a words error is parsed =
+    still_kind (fault_of whole_command words) (argument_faults (subcommand_of whole_command words)) error
+    (subst (λ x. HasKind (fault_of x words) error) is (parsed (ap is_simple_and_free is ∙ simple_and_free)))
+
+-- no fault at all, where it found a task
+pub no_faults : (a : App) (words : List Text) (found : Option (Text × List Row)) (rows : Type 0) (task : Task) → a ≡ whole_command
     → (is_simple_and_free a ≡ true → fault_of a words ≡ []) → (is_simple a ≡ true → rows × (found ≡ subcommand_of a words))
-    → ((task : Task) → IsTaskOf found task → ⊥) → ⊥
-some_task a words found rows is parsed matched none =
-    let task = accepted words (no_fault a words is parsed) in
+    → IsTaskOf found task → faults_of words ≡ []
+no_faults a words found rows task is parsed matched asked =
+    let none = no_fault a words is parsed in
     let same : found ≡ subcommand_of whole_command words = (matched (ap is_simple is ∙ simple)).1 ∙ ap (λ x. subcommand_of x words) is in
-    none task.0 (subst (λ f. IsTaskOf f task.0) (sym same) task.1)
+    ap (λ first. or_else first (argument_faults (subcommand_of whole_command words))) none ∙ task_args (subcommand_of whole_command words) task (subst (λ f. IsTaskOf f task) same asked)
+
+-- and that of a build argument, where it found none
+pub bare_argument : (a : App) (words : List Text) (found : Option (Text × List Row)) (rows : Type 0) → a ≡ whole_command
+    → (is_simple_and_free a ≡ true → fault_of a words ≡ []) → (is_simple a ≡ true → rows × (found ≡ subcommand_of a words))
+    → ((task : Task) → IsTaskOf found task → ⊥) → faults_of words ≡ ValueValidation ∷ []
+bare_argument a words found rows is parsed matched none =
+    let clear = no_fault a words is parsed in
+    let same : found ≡ subcommand_of whole_command words = (matched (ap is_simple is ∙ simple)).1 ∙ ap (λ x. subcommand_of x words) is in
+    ap (λ first. or_else first (argument_faults (subcommand_of whole_command words))) clear
+    ∙ one_fault (subcommand_of whole_command words) (λ args. let task = accepted words clear args in none task.0 (subst (λ f. IsTaskOf f task.0) (sym same) task.1))

@@ -52,4 +52,4 @@ pub leaf_ok : (words : List Text) → level_fault leaf [] nothing_held words fal
     → HasFine (finished leaf.rules (walk leaf.rules [] nothing_held words).held)
 leaf_ok words e =
     let end = (walk leaf.rules [] nothing_held words).held in
-    HasFine-help _ (with_default_ok (settled leaf.rules end).rows (leaf_holds leaf workers Fine use_workers words tt e).0)
+    HasFine-help _ (with_default_ok (settled leaf.rules end).rows (leaf_holds leaf ((true, workers) ∷ []) Fine (use_workers, tt) words tt e).0)

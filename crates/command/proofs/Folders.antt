@@ -1,10 +1,11 @@
 -- The rows of DIR: each holds a value, whatever is added to them.
-use Rattle.std.proofs.Common.{◌≡◌, Bool, true, false, cond, List, [], ◌∷◌, ◌++◌, Option, Some, None, refl, sym, codes, bytes_eq, slice_get, is_some, true≢false}
-use Rattle.clap.specs.Words.{Row, Text, first_of}
+use Rattle.std.proofs.Common.{◌≡◌, Bool, true, false, cond, List, [], ◌∷◌, ◌++◌, Option, Some, None, refl, sym, codes, fold, bytes_eq, slice_get, is_some, true≢false}
+use Rattle.clap.specs.Words.{Row, Rule, Text, first_of}
 use Rattle.clap.specs.Takes.{is_given}
-use Rattle.clap.specs.Walk.{more_values, with_values, without}
+use Rattle.clap.specs.Walk.{default_rows, has_row, more_values, reading_by, with_default, with_values, without}
 use Rattle.clap.specs.declared.builder.value_parser.Reading.{Reading}
 use Rattle.clap.specs.declared.parser.matches.ValueSource.{ValueSource}
+use Rattle.clap.specs.declared.parser.matches.ValueSource.TheVariants.{DefaultValue}
 
 abbrev pub is_folder_row : Row → Bool
 is_folder_row row = bytes_eq row.id (codes "DIR")
@@ -18,11 +19,11 @@ abbrev pub Filled : List Row → Type 0
 Filled [] = Unit {0}
 Filled (row ∷ rows) = (is_folder_row row ≡ true → IsFilled row) × Filled rows
 
-pub Filled-without : (rows : List Row) → Filled rows → Filled (without (codes "DIR") rows)
-Filled-without [] filled = tt
-Filled-without (row ∷ rows) filled = go (is_folder_row row) (Filled-without rows filled.1)
+pub Filled-without : (id : Text) (rows : List Row) → Filled rows → Filled (without id rows)
+Filled-without id [] filled = tt
+Filled-without id (row ∷ rows) filled = go (bytes_eq row.id id) (Filled-without id rows filled.1)
   where
-    go : (b : Bool) → Filled (without (codes "DIR") rows) → Filled (cond b ([] ++ rows) (row ∷ without (codes "DIR") rows))
+    go : (b : Bool) → Filled (without id rows) → Filled (cond b ([] ++ rows) (row ∷ without id rows))
     go true later = filled.1
     go false later = (filled.0, later)
 
@@ -30,16 +31,30 @@ still_filled : (values more : List Text) → is_some (slice_get values 0) ≡ tr
 still_filled [] more some = absurd (true≢false (sym some))
 still_filled (value ∷ values) more some = refl
 
-pub Filled-with_values : (how : Reading) (source : ValueSource) (text : Text) (more : List Text) (rows : List Row) → Filled rows
-    → Filled (with_values (codes "DIR") how source (text ∷ more) rows)
-Filled-with_values how source text more [] filled = ((λ _. refl), tt)
-Filled-with_values how source text more (row ∷ rows) filled =
-    go (is_folder_row row) (Filled-with_values how source text more rows filled.1)
+-- a row of DIR that is new has a value
+pub Filled-with_values : (id : Text) (how : Reading) (source : ValueSource) (values : List Text) (rows : List Row)
+    → (bytes_eq id (codes "DIR") ≡ true → is_some (slice_get values 0) ≡ true) → Filled rows → Filled (with_values id how source values rows)
+Filled-with_values id how source values [] some filled = (some, tt)
+Filled-with_values id how source values (row ∷ rows) some filled =
+    go (bytes_eq row.id id) (Filled-with_values id how source values rows some filled.1)
   where
-    go : (b : Bool) → Filled (with_values (codes "DIR") how source (text ∷ more) rows)
-        → Filled (cond b (more_values source (text ∷ more) row ++ rows) (row ∷ with_values (codes "DIR") how source (text ∷ more) rows))
-    go true later = ((λ is. still_filled row.values (text ∷ more) (filled.0 is)), filled.1)
+    go : (b : Bool) → Filled (with_values id how source values rows)
+        → Filled (cond b (more_values source values row ++ rows) (row ∷ with_values id how source values rows))
+    go true later = ((λ is. still_filled row.values values (filled.0 is)), filled.1)
     go false later = (filled.0, later)
+
+default_filled : (id : Text) (how : Reading) (values : List Text) (rows : List Row) → Filled rows → Filled (default_rows id how values rows)
+default_filled id how [] rows filled = filled
+default_filled id how (value ∷ values) rows filled = Filled-with_values id how DefaultValue (value ∷ values) rows (λ _. refl) filled
+
+-- no default value takes one away
+pub Filled-defaults : (rules : List Rule) (rows : List Row) → Filled rows → Filled (fold with_default rows rules)
+Filled-defaults [] rows filled = filled
+Filled-defaults (rule ∷ rules) rows filled = Filled-defaults rules (with_default rows rule) (go (has_row rule.id rows))
+  where
+    go : (b : Bool) → Filled (cond b rows (default_rows rule.id (reading_by rule) rule.defaults rows))
+    go true = filled
+    go false = default_filled rule.id (reading_by rule) rule.defaults rows filled
 
 some_text : (found : Option Text) → is_some found ≡ true → (text : Text) × (found ≡ Some text)
 some_text None some = absurd (true≢false (sym some))

@@ -1,4 +1,5 @@
 pub mod Accepted
+pub mod Arguments
 pub mod BuildWalk
 pub mod Folders
 pub mod Kept

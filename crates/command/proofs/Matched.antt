@@ -3,12 +3,12 @@ use Rattle.std.proofs.Common.{◌≡◌, ◌≤◌, ℕ, List, Option, Some, Non
 use Rattle.std.specs.Prelude.{IfNone, Box, option_map}
 use Rattle.std.specs.Box.{box_value}
 use Rattle.std.specs.Str.Parse.{ParsesUnsigned}
-use Rattle.clap.specs.Words.{ReadsOne, Row, Text, first_of, one_of, subcommand_rows}
+use Rattle.clap.specs.Words.{ReadsOne, Row, Text, one_of, subcommand_rows}
 use Rattle.clap.specs.declared.parser.matches.ArgMatches.TheViews.{out-SubCommand}
 use Rattle.clap.specs.declared.parser.matches.SubCommand.{SubCommand}
 use Rattle.plain.specs.Limits.{most_workers}
 use Rattle.command.specs.CommandLine.{least_workers}
-use Rattle.command.specs.Tasks.{IsTaskOf, IsWorkers}
+use Rattle.command.specs.Tasks.{IsTaskOf, IsWorkers, pack_of}
 use Rattle.command.specs.declared.task.Task.{Task}
 use Rattle.command.specs.declared.task.Task.TheVariants.{Build, Graph, Pack}
 
@@ -55,11 +55,11 @@ pub no_task : (o : Option (Text × List Row)) (name : Text) (rows : List Row) �
     → ((n : ℕ) → IsWorkers rows n → ⊥) → (task : Task) → IsTaskOf o task → ⊥
 no_task o name rows is build none (Build n) h = none n (subst (λ found. IsTaskOf found (Build n)) is h).1
 no_task o name rows is build none Graph h = let graph : name ≡ codes "graph" = subst (λ found. IsTaskOf found Graph) is h in absurd (true≢false (ap (λ t. bytes_eq t (codes "build")) (sym build ∙ graph)))
-no_task o name rows is build none (Pack folder) h = let pack : name ≡ codes "pack" = (subst (λ found. IsTaskOf found (Pack folder)) is h).0 in absurd (true≢false (ap (λ t. bytes_eq t (codes "build")) (sym build ∙ pack)))
+no_task o name rows is build none (Pack words) h = let pack : name ≡ codes "pack" = (subst (λ found. IsTaskOf found (Pack words)) is h).0 in absurd (true≢false (ap (λ t. bytes_eq t (codes "build")) (sym build ∙ pack)))
 
--- nor without a folder
-pub no_folder : (o : Option (Text × List Row)) (name : Text) (rows : List Row) → o ≡ Some (name, rows) → name ≡ codes "pack"
-    → first_of (codes "DIR") rows ≡ None → (task : Task) → IsTaskOf o task → ⊥
-no_folder o name rows is pack none (Build n) h = let build : name ≡ codes "build" = (subst (λ found. IsTaskOf found (Build n)) is h).0 in absurd (true≢false (ap (λ t. bytes_eq t (codes "pack")) (sym pack ∙ build)))
-no_folder o name rows is pack none Graph h = let graph : name ≡ codes "graph" = subst (λ found. IsTaskOf found Graph) is h in absurd (true≢false (ap (λ t. bytes_eq t (codes "pack")) (sym pack ∙ graph)))
-no_folder o name rows is pack none (Pack folder) h = let some : first_of (codes "DIR") rows ≡ Some folder = (subst (λ found. IsTaskOf found (Pack folder)) is h).1 in let bad : None ≡ Some folder = sym none ∙ some in cc
+-- nor without what `pack` is asked for
+pub no_pack : (o : Option (Text × List Row)) (name : Text) (rows : List Row) → o ≡ Some (name, rows) → name ≡ codes "pack"
+    → pack_of rows ≡ None → (task : Task) → IsTaskOf o task → ⊥
+no_pack o name rows is pack none (Build n) h = let build : name ≡ codes "build" = (subst (λ found. IsTaskOf found (Build n)) is h).0 in absurd (true≢false (ap (λ t. bytes_eq t (codes "pack")) (sym pack ∙ build)))
+no_pack o name rows is pack none Graph h = let graph : name ≡ codes "graph" = subst (λ found. IsTaskOf found Graph) is h in absurd (true≢false (ap (λ t. bytes_eq t (codes "pack")) (sym pack ∙ graph)))
+no_pack o name rows is pack none (Pack words) h = let some : pack_of rows ≡ Some words = (subst (λ found. IsTaskOf found (Pack words)) is h).1 in let bad : None ≡ Some words = sym none ∙ some in cc

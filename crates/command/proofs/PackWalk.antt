@@ -1,40 +1,69 @@
 -- What clap's parse makes of the words after `pack`, where it finds no fault in them.
-use Rattle.std.proofs.Common.{◌≡◌, ◌∙◌, ◌||◌, Bool, true, false, not, cond, List, [], ◌∷◌, Some, refl, sym, subst, codes, slice_index_or}
+use Rattle.std.proofs.Common.{◌≡◌, ◌||◌, Bool, true, false, not, cond, List, [], ◌∷◌, Some, codes, slice_index_or, bytes_eq, slice_get, is_some, refl, true≢false}
 use Rattle.clap.specs.Words.{Row, Rule, Shape, Text, first_of, new_rule}
 use Rattle.clap.specs.Simple.{built, new_shape}
 use Rattle.clap.specs.Kinds.{check_kinds, range_kinds}
 use Rattle.clap.specs.Faults.{level_fault, set_fault, use_fault}
 use Rattle.clap.specs.Takes.{is_given}
-use Rattle.clap.specs.Walk.{finished, has_row, nothing_held, settled, used, walk, with_default, without}
+use Rattle.clap.specs.Walk.{finished, nothing_held, reading_by, settled, used, values_or_missing, walk, without}
 use Rattle.clap.specs.declared.parser.matches.ValueSource.TheVariants.{CommandLine}
 use Rattle.command.specs.CommandLine.{whole_command}
 use Rattle.command.proofs.Kept.{or_else-left, some_kind}
-use Rattle.command.proofs.Folders.{Filled, Filled-with_values, Filled-without, given_folder}
-use Rattle.command.proofs.LeafWalk.{leaf_holds}
+use Rattle.command.proofs.Folders.{Filled, Filled-defaults, Filled-with_values, Filled-without, given_folder}
+use Rattle.command.proofs.LeafWalk.{Arguments, Keeps, leaf_holds}
 
--- `pack` as clap builds it: it takes DIR and `--help`
+-- `pack` as clap builds it: it takes DIR, its options and `--help`
 abbrev pub leaf : Shape
 leaf = slice_index_or (built whole_command).subs 2 (new_shape [])
 
 abbrev folder : Rule
 folder = slice_index_or leaf.rules 0 (new_rule [])
 
-abbrev help : Rule
-help = slice_index_or leaf.rules 1 (new_rule [])
+abbrev file : Rule
+file = slice_index_or leaf.rules 1 (new_rule [])
 
-use_folder : (again : Bool) (values : List Text) (rows : List Row) → use_fault again folder values rows ≡ [] → Filled rows
-    → Filled (used folder values rows)
+abbrev target : Rule
+target = slice_index_or leaf.rules 2 (new_rule [])
+
+abbrev argument : Rule
+argument = slice_index_or leaf.rules 3 (new_rule [])
+
+abbrev output : Rule
+output = slice_index_or leaf.rules 4 (new_rule [])
+
+abbrev arguments : Arguments
+arguments = (true, folder) ∷ (true, file) ∷ (true, target) ∷ (true, argument) ∷ (true, output) ∷ []
+
+use_folder : Keeps Filled folder
 use_folder again [] rows e filled = absurd (some_kind _ _ (or_else-left (range_kinds 1 1 0) (set_fault again folder [] rows) e))
-use_folder again (v ∷ vs) rows e filled = Filled-with_values _ CommandLine v vs (without (codes "DIR") rows) (Filled-without rows filled)
+use_folder again (v ∷ vs) rows e filled =
+    Filled-with_values (codes "DIR") (reading_by folder) CommandLine (v ∷ vs) (without (codes "DIR") rows) (λ _. refl)
+    (Filled-without (codes "DIR") rows filled)
 
-either_same : (b : Bool) (rows : List Row) → cond b rows rows ≡ rows
-either_same true rows = refl
-either_same false rows = refl
+-- a use of another option, which has no row of DIR
+not_folder : (id : Text) (values : List Text) → bytes_eq id (codes "DIR") ≡ false → bytes_eq id (codes "DIR") ≡ true
+    → is_some (slice_get values 0) ≡ true
+not_folder id values other same = cc
 
--- neither DIR nor help has a default value
-no_defaults : (rows : List Row) → with_default (with_default rows folder) help ≡ rows
-no_defaults rows =
-    either_same (has_row (codes "help") (with_default rows folder)) (with_default rows folder) ∙ either_same (has_row (codes "DIR") rows) rows
+use_file : Keeps Filled file
+use_file again values rows e filled =
+    Filled-with_values (codes "file") (reading_by file) CommandLine (values_or_missing file values) (without (codes "file") rows)
+    (not_folder (codes "file") _ refl) (Filled-without (codes "file") rows filled)
+
+use_target : Keeps Filled target
+use_target again values rows e filled =
+    Filled-with_values (codes "target") (reading_by target) CommandLine (values_or_missing target values) (without (codes "target") rows)
+    (not_folder (codes "target") _ refl) (Filled-without (codes "target") rows filled)
+
+use_argument : Keeps Filled argument
+use_argument again values rows e filled =
+    Filled-with_values (codes "build-arg") (reading_by argument) CommandLine (values_or_missing argument values) rows
+    (not_folder (codes "build-arg") _ refl) filled
+
+use_output : Keeps Filled output
+use_output again values rows e filled =
+    Filled-with_values (codes "output") (reading_by output) CommandLine (values_or_missing output values) (without (codes "output") rows)
+    (not_folder (codes "output") _ refl) (Filled-without (codes "output") rows filled)
 
 was_given : (b : Bool) → check_kinds false false (not b || false) ≡ [] → b ≡ true
 was_given true e = refl
@@ -44,6 +73,6 @@ pub folder_ok : (words : List Text) → level_fault leaf [] nothing_held words f
     → (text : Text) × (first_of (codes "DIR") (finished leaf.rules (walk leaf.rules [] nothing_held words).held) ≡ Some text)
 folder_ok words e =
     let end = (walk leaf.rules [] nothing_held words).held in
-    let held = leaf_holds leaf folder Filled use_folder words tt e in
-    given_folder (finished leaf.rules end) (subst Filled (sym (no_defaults (settled leaf.rules end).rows)) held.0)
+    let held = leaf_holds leaf arguments Filled (use_folder, (use_file, (use_target, (use_argument, (use_output, tt))))) words tt e in
+    given_folder (finished leaf.rules end) (Filled-defaults leaf.rules (settled leaf.rules end).rows held.0)
     (was_given (is_given (codes "DIR") (finished leaf.rules end)) held.1)

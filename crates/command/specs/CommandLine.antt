@@ -3,6 +3,7 @@ use Rattle.std.specs.Prelude.{ℕ, [], ◌∷◌, Some, true, codes, pos}
 use Rattle.plain.specs.Limits.{most_workers}
 use Rattle.clap.specs.Words.{App, Rule, Text, new_app, new_rule, with_rule, with_subcommand}
 use Rattle.clap.specs.Simple.{on_top}
+use Rattle.clap.specs.declared.builder.action.ArgAction.TheVariants.{Append}
 use Rattle.clap.specs.declared.builder.value_parser.ValueParser.TheVariants as vp
 
 -- the least number of workers of a build (own)
@@ -34,9 +35,21 @@ graph_command = new_app (codes "graph")
 abbrev pub folder_argument : Rule
 folder_argument = record (new_rule (codes "DIR")) { required = true }
 
--- `pack DIR` (own)
+-- an option that takes a text, as `--target T` (own)
+abbrev pub text_option : Text → Rule
+text_option name = record (new_rule name) { long = Some name; value_names = 1 }
+
+-- `--build-arg N=V`, any number of times (own)
+abbrev pub argument_option : Rule
+argument_option = record (text_option (codes "build-arg")) { action = Some Append }
+
+-- `pack DIR [--file F] [--target T]` (own)
+abbrev pub pack_from : App
+pack_from = with_rule (with_rule (with_rule (new_app (codes "pack")) folder_argument) (text_option (codes "file"))) (text_option (codes "target"))
+
+-- `pack DIR [--file F] [--target T] [--build-arg N=V].. [--output FILE]` (own)
 abbrev pub pack_command : App
-pack_command = with_rule (new_app (codes "pack")) folder_argument
+pack_command = with_rule (with_rule pack_from argument_option) (text_option (codes "output"))
 
 -- `dfsolve COMMAND` of the commands that read a bundle; a command has to be given, and the program has a version to tell (own)
 abbrev pub bundle_command : App

@@ -1,9 +1,14 @@
 -- What the words that were found ask for (own).
-use Rattle.std.specs.Prelude.{◌≡◌, ◌≤◌, ℕ, List, Option, Some, None, codes}
+use Rattle.std.specs.Prelude.{◌≡◌, ◌≤◌, ◌==◌, ◌&&◌, ℕ, Bool, not, List, [], ◌∷◌, Option, Some, None, map, length, codes, bytes_eq, is_some, unwrap_or, option_map, option_and_then, if◌then◌else◌}
+use Rattle.std.specs.List.{list_all, position_or_len, before_first, after_first}
 use Rattle.std.specs.Str.Parse.{IsNumeral, digits_value, without_leading_plus}
-use Rattle.clap.specs.Words.{Row, Text, first_of, one_of}
+use Rattle.clap.specs.Kinds.{Kinds, or_else}
+use Rattle.clap.specs.Walk.{all_of}
+use Rattle.clap.specs.Words.{Row, Text, fault_of, first_of, one_of, subcommand_of}
+use Rattle.clap.specs.declared.error.kind.ErrorKind.TheVariants.{ValueValidation}
 use Rattle.plain.specs.Limits.{most_workers}
-use Rattle.command.specs.CommandLine.{least_workers}
+use Rattle.command.specs.CommandLine.{least_workers, whole_command}
+use Rattle.command.specs.declared.task.Pack.{Pack as PackWords}
 use Rattle.command.specs.declared.task.Task.{Task}
 use Rattle.command.specs.declared.task.Task.TheVariants.{Build, Graph, Pack}
 
@@ -17,9 +22,48 @@ pub record IsWorkers (rows : List Row) (workers : ℕ) : Type 0 where
   pub least : least_workers ≤ workers
   pub most : workers ≤ most_workers
 
+-- a text has a `=` (own)
+abbrev pub has_equals : Text → Bool
+has_equals text = not (position_or_len (λ c. c == 61) text == length text)
+
+-- the name and the value of a build argument `N=V`: what stands before its first `=`, and what stands after it (own)
+abbrev pub argument_of : Text → Text × Text
+argument_of text = (before_first (λ c. c == 61) text, after_first (λ c. c == 61) text)
+
+-- the texts of all `--build-arg`, in the order of the words (own)
+abbrev pub argument_texts : List Row → List Text
+argument_texts rows = unwrap_or (all_of (codes "build-arg") rows) []
+
+-- the build arguments, if each has a `=` (own)
+abbrev pub arguments_of : List Row → Option (List (Text × Text))
+arguments_of rows = if list_all has_equals (argument_texts rows) then Some (map argument_of (argument_texts rows)) else None
+
+-- what `pack` is asked for by its matches, with this folder and these build arguments (own)
+abbrev pub pack_with : List Row → Text → List (Text × Text) → PackWords
+pack_with rows folder args = record {
+  folder = folder;
+  file = first_of (codes "file") rows;
+  target = first_of (codes "target") rows;
+  args = args;
+  output = first_of (codes "output") rows;
+}
+
+-- the same, where there is a folder and each build argument has a `=` (own)
+abbrev pub pack_of : List Row → Option PackWords
+pack_of rows = option_and_then (λ folder. option_map (pack_with rows folder) (arguments_of rows)) (first_of (codes "DIR") rows)
+
 -- the task that a subcommand, by its name and its matches, asks for (own)
 abbrev pub IsTaskOf : Option (Text × List Row) → Task → Type 0
 IsTaskOf None task = ⊥
 IsTaskOf (Some found) (Build workers) = (found.0 ≡ codes "build") × IsWorkers found.1 workers
 IsTaskOf (Some found) Graph = found.0 ≡ codes "graph"
-IsTaskOf (Some found) (Pack folder) = (found.0 ≡ codes "pack") × (first_of (codes "DIR") found.1 ≡ Some folder)
+IsTaskOf (Some found) (Pack words) = (found.0 ≡ codes "pack") × (pack_of found.1 ≡ Some words)
+
+-- what is wrong with words in which clap finds no fault: a build argument without a `=` (own)
+abbrev pub argument_faults : Option (Text × List Row) → Kinds
+argument_faults None = []
+argument_faults (Some found) = if bytes_eq found.0 (codes "pack") && not (is_some (arguments_of found.1)) then ValueValidation ∷ [] else []
+
+-- what is wrong with the words: what clap finds in them, or else that (own)
+abbrev pub faults_of : List Text → Kinds
+faults_of words = or_else (fault_of whole_command words) (argument_faults (subcommand_of whole_command words))

@@ -1,9 +1,9 @@
 ghost use Rattle.std.specs.Prelude.{◌≡◌, IfOk, false};
 ghost use Rattle.clap.specs.Words.{app_of, rule_of};
 ghost use Rattle.clap.specs.declared.builder.command.Command.TheViews.{out-Command};
-ghost use Rattle.command.specs.CommandLine.{build_command, bundle_command, folder_argument, graph_command, pack_command, whole_command, workers_option};
+ghost use Rattle.command.specs.CommandLine.{argument_option, build_command, bundle_command, folder_argument, graph_command, pack_command, pack_from, text_option, whole_command, workers_option};
 
-use clap::{Arg, Command, value_parser};
+use clap::{Arg, ArgAction, Command, value_parser};
 use plain::limits::MOST_WORKERS;
 use std::alloc::{AllocError, Global};
 
@@ -15,6 +15,15 @@ const DEFAULT_WORKERS: &str = "4";
 
 /// The folder of `pack`, as it is called in help.
 pub const FOLDER: &str = "DIR";
+
+/// The options of `pack`, which have the names of their options as ids.
+pub const FILE: &str = "file";
+
+pub const TARGET: &str = "target";
+
+pub const BUILD_ARGUMENT: &str = "build-arg";
+
+pub const OUTPUT: &str = "output";
 
 /// The version of the program, which `--version` prints behind its name.
 const VERSION: &str = "0.1.0";
@@ -62,14 +71,35 @@ fn graph_command<'a>(alloc: Global) -> Result<Command<'a>, AllocError>
     ))
 }
 
-/// `pack DIR`.
+/// `pack DIR [--file F] [--target T] [--build-arg N=V].. [--output FILE]`.
 fn pack_command<'a>(alloc: Global) -> Result<Command<'a>, AllocError>
     ensures app { IfOk result (λ command. app_of command ≡ pack_command) }
     ensures local { IfOk result (λ command. (out-Command command).has_globals ≡ false) }
 {
+    let command = pack_from(alloc)?;
+    command.arg(argument_option(alloc))?.arg(text_option(
+        alloc,
+        OUTPUT,
+        "FILE",
+        "Write the bundle to this file",
+    ))
+}
+
+/// `pack DIR [--file F] [--target T]`.
+fn pack_from<'a>(alloc: Global) -> Result<Command<'a>, AllocError>
+    ensures app { IfOk result (λ command. app_of command ≡ pack_from) }
+    ensures local { IfOk result (λ command. (out-Command command).has_globals ≡ false) }
+{
     Command::new(alloc, "pack")
         .about("Prints the bundle of a folder")
-        .arg(folder_argument(alloc))
+        .arg(folder_argument(alloc))?
+        .arg(text_option(
+            alloc,
+            FILE,
+            "FILE",
+            "The Dockerfile, in place of DIR/Dockerfile",
+        ))?
+        .arg(text_option(alloc, TARGET, "STAGE", "The stage to build"))
 }
 
 /// `DIR`.
@@ -78,8 +108,33 @@ fn folder_argument<'a>(alloc: Global) -> Arg<'a>
     ensures local { result.global ≡ false }
 {
     Arg::new(alloc, FOLDER)
-        .help("The folder, with a file Dockerfile in it")
+        .help("The folder, with a file Dockerfile in it unless --file names one")
         .required(true)
+}
+
+/// An option that takes a text.
+fn text_option<'a>(alloc: Global, name: &'a str, value: &'a str, help: &'a str) -> Arg<'a>
+    ensures rule { rule_of result ≡ text_option name.now }
+    ensures local { result.global ≡ false }
+{
+    Arg::new(alloc, name)
+        .long(name)
+        .value_name(value)
+        .help(help)
+}
+
+/// `--build-arg N=V`, any number of times.
+fn argument_option<'a>(alloc: Global) -> Arg<'a>
+    ensures rule { rule_of result ≡ argument_option }
+    ensures local { result.global ≡ false }
+{
+    text_option(
+        alloc,
+        BUILD_ARGUMENT,
+        "NAME=VALUE",
+        "A build argument; may be given again",
+    )
+    .action(ArgAction::Append)
 }
 
 /// `--workers N`.

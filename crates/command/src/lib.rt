@@ -5,7 +5,7 @@
 // words are clap's `Error`, which the program prints.
 //
 // It knows nothing of what a task does. The central definitions are `whole_command`, the words that are
-// taken, and `IsTaskOf`, what they ask for.
+// taken, `IsTaskOf`, what they ask for, and `faults_of`, what is wrong with them.
 //
 // ```
 // match read_command(alloc, ["dfsolve", "build"].as_slice()) {
@@ -20,4 +20,4 @@ mod reading;
 mod task;
 
 pub use reading::read_command;
-pub use task::Task;
+pub use task::{Pack, Task};

@@ -1,39 +1,57 @@
-ghost use Rattle.std.specs.Prelude.{◌≡◌, ℕ, IfOk, IfSome, IfNone, map, option_map, codes};
-ghost use Rattle.clap.specs.Words.{FailsBy, fault_of, first_of, found_of, rows_of, subcommand_of, subcommand_rows_of};
+ghost use Rattle.std.specs.Prelude.{◌≡◌, [], ◌∷◌, ℕ, IfOk, IfSome, IfNone, codes, map, option_map};
+ghost use Rattle.std.specs.List.{list_all};
+ghost use Rattle.clap.specs.Walk.{all_of};
+ghost use Rattle.clap.specs.Words.{FailsBy, first_of, found_of, rows_of, subcommand_of, subcommand_rows_of};
+ghost use Rattle.clap.specs.declared.error.kind.ErrorKind.TheVariants.{ValueValidation};
 ghost use Rattle.command.specs.CommandLine.{whole_command};
-ghost use Rattle.command.specs.Tasks.{IsTaskOf, IsWorkers};
+ghost use Rattle.command.specs.Tasks.{IsTaskOf, IsWorkers, argument_of, arguments_of, faults_of, has_equals, pack_of};
 ghost use Rattle.command.specs.declared.task.Task.{Task};
 
-use crate::Task;
-use crate::commands::{FOLDER, LEAST_WORKERS, whole_command};
+use crate::commands::{BUILD_ARGUMENT, FILE, FOLDER, LEAST_WORKERS, OUTPUT, TARGET, whole_command};
+use crate::{Pack, Task};
+use clap::error::ErrorKind;
 use clap::{ArgMatches, Error};
-use plain::Text;
 use plain::limits::MOST_WORKERS;
+use plain::{Items, Text};
 use std::alloc::{AllocError, Global};
+
+/// What is told of a build argument without a `=`.
+const NO_EQUALS: &str = "a value of --build-arg is NAME=VALUE, and one has no '='";
 
 /// The task that the words ask for. The first word is the program's name, as in what `env::args` gives,
 /// and is passed over.
 ///
-/// `graph` is a command without options, `pack` one with a word DIR, and `build` one with `--workers N` or `--workers=N` once at most; N is
-/// decimal digits, of which a `+` may stand in front, and its value is 1 to 64; the default is 4. `help`, `help build`, `help graph`,
-/// `help pack`, `--help` and `-h`, in front of a command or behind it, ask for help, and `--version` or `-V` in front of it for the program's
-/// name and version.
+/// `graph` is a command without options, and `build` one with `--workers N` or `--workers=N` once at most; N is
+/// decimal digits, of which a `+` may stand in front, and its value is 1 to 64; the default is 4. `pack` is one with a word DIR, with
+/// `--file F`, `--target T` and `--output FILE` once at most, and with `--build-arg N=V` any number of times, each of which has a `=`.
+/// `help`, `help build`, `help graph`, `help pack`, `--help` and `-h`, in front of a command or behind it, ask for help, and `--version` or `-V`
+/// in front of it for the program's name and version.
 ///
 /// An error is clap's, and its kind tells what it is: help or the version that was asked for, which are no faults; a fault of the words;
-/// or want of memory. The text that it prints is clap's.
+/// or want of memory. The text that it prints is clap's, but for a build argument without a `=`.
 pub fn read_command<'a>(alloc: Global, words: &'a [&'a str]) -> Result<Task, Error>
     ensures task { IfOk result
         (IsTaskOf (subcommand_of whole_command (map (λ word. word.now) words.entry.now))) }
-    // An answer comes only where clap finds no fault in the words, and an error is such a fault or memory.
-    ensures faults { FailsBy
-        (fault_of whole_command (map (λ word. word.now) words.entry.now)) result }
+    // An answer comes only where there is no fault in the words, and an error is such a fault or memory.
+    ensures faults { FailsBy (faults_of (map (λ word. word.now) words.entry.now)) result }
 {
     let command = whole_command(alloc)?;
-    let matches = command.try_get_matches_from(words)?;
-    match task_of(alloc, &matches)? {
-        Some(task) => Ok(task),
-        None => unreachable!(),
+    match command.try_get_matches_from(words) {
+        Ok(matches) => match task_of(alloc, &matches)? {
+            Some(task) => Ok(task),
+            None => refuse_arguments(alloc),
+        },
+        Err(error) => Err(error),
     }
+}
+
+/// Refuses a build argument without a `=`.
+fn refuse_arguments(alloc: Global) -> Result<Task, Error>
+    ensures { FailsBy (ValueValidation ∷ []) result }
+{
+    let mut command = whole_command(alloc)?;
+    let error = command.error(ErrorKind::ValueValidation, NO_EQUALS)?;
+    Err(error)
 }
 
 /// The task that a parse found.
@@ -54,20 +72,97 @@ fn task_of(alloc: Global, matches: &ArgMatches) -> Result<Option<Task>, AllocErr
         return Ok(Some(Task::Graph));
     }
     if name == "pack" {
-        let Some(folder) = folder_of(found) else {
+        let Some(pack) = pack_of(alloc, found)? else {
             return Ok(None);
         };
-        let folder = String::from_str(alloc, folder)?;
-        return Ok(Some(Task::Pack(Text::from_string(folder))));
+        return Ok(Some(Task::Pack(pack)));
     }
     Ok(None)
 }
 
-/// The folder that the matches of `pack` hold.
-fn folder_of<'a>(matches: &ArgMatches<'a>) -> Option<&'a str>
-    ensures { option_map (λ folder. folder.now) result ≡ first_of (codes "DIR") (rows_of (found_of matches.now)) }
+/// What the matches of `pack` ask for; `None` where they hold no folder, or a build argument without a `=`.
+fn pack_of(alloc: Global, matches: &ArgMatches) -> Result<Option<Pack>, AllocError>
+    ensures { IfOk result (λ pack. pack ≡ pack_of (rows_of (found_of matches.now))) }
 {
-    matches.get_str(FOLDER)
+    let Some(folder) = text_of(alloc, matches, FOLDER)? else {
+        return Ok(None);
+    };
+    let Some(args) = arguments_of(alloc, matches)? else {
+        return Ok(None);
+    };
+    Ok(Some(Pack {
+        folder,
+        file: text_of(alloc, matches, FILE)?,
+        target: text_of(alloc, matches, TARGET)?,
+        args,
+        output: text_of(alloc, matches, OUTPUT)?,
+    }))
+}
+
+/// The text that the matches hold for an id.
+fn text_of(alloc: Global, matches: &ArgMatches, id: &str) -> Result<Option<Text>, AllocError>
+    ensures { IfOk result (λ text. text ≡ first_of id.now (rows_of (found_of matches.now))) }
+{
+    match matches.get_str(id) {
+        Some(text) => Ok(Some(Text::from_string(String::from_str(alloc, text)?))),
+        None => Ok(None),
+    }
+}
+
+/// The texts that the matches of `pack` hold for `--build-arg`.
+fn argument_texts<'m, 'a>(matches: &'m ArgMatches<'a>) -> Option<&'m [&'a str]>
+    ensures { option_map (λ texts. map (λ text. text.now) texts.now) result ≡ all_of (codes "build-arg") (rows_of (found_of matches.now)) }
+{
+    matches.get_raw(BUILD_ARGUMENT)
+}
+
+/// The build arguments that the matches of `pack` hold; `None` where one of them has no `=`.
+fn arguments_of(
+    alloc: Global,
+    matches: &ArgMatches,
+) -> Result<Option<Items<(Text, Text)>>, AllocError>
+    ensures { IfOk result (λ args. args ≡ arguments_of (rows_of (found_of matches.now))) }
+{
+    let Some(texts) = argument_texts(matches) else {
+        return Ok(Some(Items::new(alloc)));
+    };
+    if !have_equals(texts) {
+        return Ok(None);
+    }
+    Ok(Some(cut_arguments(alloc, texts)?))
+}
+
+/// Whether each text has a `=`.
+fn have_equals(texts: &[&str]) -> bool
+    ensures { result ≡ list_all (λ text. has_equals text.now) texts.now }
+{
+    for text in texts {
+        if text.split_once('=').is_none() {
+            return false;
+        }
+    }
+    true
+}
+
+/// Build arguments, each cut at its first `=`.
+fn cut_arguments(alloc: Global, texts: &[&str]) -> Result<Items<(Text, Text)>, AllocError>
+    ensures { IfOk result (λ args. args ≡ map (λ text. argument_of text.now) texts.now) }
+{
+    let mut args = Vec::new(alloc);
+    for text in texts {
+        args.push(cut_argument(alloc, text)?)?;
+    }
+    Ok(Items::from_vec(args))
+}
+
+/// A build argument, cut at its first `=`.
+fn cut_argument(alloc: Global, text: &str) -> Result<(Text, Text), AllocError>
+    ensures { IfOk result (λ arg. arg ≡ argument_of text.now) }
+{
+    let (name, value) = text.split_once('=').unwrap_or((text, ""));
+    let name = String::from_str(alloc, name)?;
+    let value = String::from_str(alloc, value)?;
+    Ok((Text::from_string(name), Text::from_string(value)))
 }
 
 /// The number of workers that the matches of `build` hold.

@@ -1,13 +1,8 @@
 use Rattle.std.proofs.Common.{◌≡◌, codes, rules, sym}
-use Rattle.command.proofs.Matched.{found_whole, no_folder, no_task}
+use Rattle.command.proofs.Matched.{found_whole, no_pack, no_task}
 use Rattle.command.proofs.reading.task_of.Goals as goal
 
 pub returns-in_default-workers_of-clause-none : goal.returns-in_default-workers_of-clause-none
 returns-in_default-workers_of-clause-none c =
     let build : c.in-Some.name.now ≡ codes "build" = search rules in
     no_task _ _ _ (found_whole _ _ _ c.in-Some.ensures.name c.in-Some.ensures.rows) build c.in_default-workers_of.ensures.none
-
-pub returns-in_default-folder_of-clause-none : goal.returns-in_default-folder_of-clause-none
-returns-in_default-folder_of-clause-none c =
-    let pack : c.in-Some.name.now ≡ codes "pack" = search rules in
-    no_folder _ _ _ (found_whole _ _ _ c.in-Some.ensures.name c.in-Some.ensures.rows) pack (sym c.in_default-folder_of.ensures)
