@@ -1,5 +1,5 @@
 -- How packing ends.
-use Rattle.std.proofs.Common.{◌≡◌, ℕ, List, [], ◌∷◌, ◌++◌, Option, Some, Result, Ok, Err, refl, sym, subst, inl, inr}
+use Rattle.std.proofs.Common.{◌≡◌, ℕ, List, [], ◌∷◌, ◌++◌, Bool, true, false, is_some, Option, Some, None, Result, Ok, Err, refl, sym, subst, inl, inr}
 use Rattle.std.specs.Prelude.{IfSome}
 use Rattle.std.specs.Io.KnownBytes.{Appends}
 use Rattle.plain.specs.declared.fault.Fault.{Fault}
@@ -7,32 +7,39 @@ use Rattle.plain.specs.declared.fault.Fault.TheVariants.{Because, Memory as Want
 use Rattle.counted.specs.Edges.{AppendsBeginning, CountsFault, IsDevice}
 use Rattle.counted.specs.declared.fault.Device.{Device as DeviceReason}
 use Rattle.trees.specs.TreeMap.{TreeMap}
-use Rattle.packing.specs.Packed.{IsPlain, packed_of}
+use Rattle.packing.specs.Packed.{Given, IsPlain, packed_of}
 use Rattle.packing.specs.declared.fault.PackFault.{PackFault}
 use Rattle.packing.specs.declared.packing.Status.{Status}
-use Rattle.packing.specs.declared.packing.Status.TheVariants.{Built}
+use Rattle.packing.specs.declared.packing.Status.TheVariants.{Built, Refused}
 use Rattle.packing.specs.Ends.{IsBefore, Packs, PacksFolder, of_edge}
 
 -- a fault before anything is written
-pub unwritten : (written : Option (List ℕ)) (failed : ℕ) (fault : PackFault) → IsBefore fault → PacksFolder written failed written failed (Err fault)
-unwritten written failed fault before = inl (before, (refl, refl))
+pub unwritten : (written : Option (List ℕ)) (failed : ℕ) (fault : PackFault) → IsBefore fault → (named : Bool) (given : Given) → PacksFolder named given written failed written failed (Err fault)
+unwritten written failed fault before named given = inl (before, (refl, refl))
 
 -- what was found was packed
-pub packed_found : (found : Option TreeMap) (old : Option (List ℕ)) (failed : ℕ) (new : Option (List ℕ)) (failed_then : ℕ) (result : Result Status PackFault)
-    → IfSome found IsPlain → Packs found old failed new failed_then result → PacksFolder old failed new failed_then result
-packed_found found old failed new failed_then result plain packs = inr (record { found = found; plain = plain; packs = packs })
+pub packed_found : (named : Bool) (given : Given) (found : Option TreeMap) (file : Option (List ℕ)) (old : Option (List ℕ)) (failed : ℕ) (new : Option (List ℕ)) (failed_then : ℕ) (result : Result Status PackFault)
+    → IfSome found IsPlain → is_some file ≡ named → Packs found file given old failed new failed_then result
+    → PacksFolder named given old failed new failed_then result
+packed_found named given found file old failed new failed_then result plain has packs =
+    inr (record { found = found; file = file; plain = plain; has_file = has; packs = packs })
+
+-- there was no Dockerfile
+pub none_found : (named : Bool) (given : Given) (written : Option (List ℕ)) (failed : ℕ) → PacksFolder named given written failed written failed (Ok Refused)
+none_found true given written failed = packed_found true given None (Some []) written failed written failed (Ok Refused) tt refl (refl, (refl, refl))
+none_found false given written failed = packed_found false given None None written failed written failed (Ok Refused) tt refl (refl, (refl, refl))
 
 -- the whole bundle was written
-pub written_whole : (tree : TreeMap) (text line : List ℕ) (old : Option (List ℕ)) (failed : ℕ) (new : Option (List ℕ)) (failed_then : ℕ)
-    → Some text ≡ packed_of tree → line ≡ text ++ 10 ∷ [] → Appends old new line → failed_then ≡ failed
-    → Packs (Some tree) old failed new failed_then (Ok Built)
-written_whole tree text line old failed new failed_then is ends written count =
+pub written_whole : (tree : TreeMap) (file : Option (List ℕ)) (given : Given) (text line : List ℕ) (old : Option (List ℕ)) (failed : ℕ) (new : Option (List ℕ)) (failed_then : ℕ)
+    → Some text ≡ packed_of tree file given → line ≡ text ++ 10 ∷ [] → Appends old new line → failed_then ≡ failed
+    → Packs (Some tree) file given old failed new failed_then (Ok Built)
+written_whole tree file given text line old failed new failed_then is ends written count =
     (record { text = text; is = sym is; written = subst (Appends old new) ends written }, count)
 
 -- a beginning of it was
-pub written_in_part : (tree : TreeMap) (text line : List ℕ) (old : Option (List ℕ)) (failed : ℕ) (new : Option (List ℕ)) (failed_then : ℕ) (edge : Fault DeviceReason)
-    → Some text ≡ packed_of tree → line ≡ text ++ 10 ∷ [] → AppendsBeginning old new line → IsDevice edge
-    → CountsFault {T = Unit {0}} failed failed_then (Err edge) → Packs (Some tree) old failed new failed_then (Err (of_edge edge))
-written_in_part tree text line old failed new failed_then (Because device) is ends written fails count =
+pub written_in_part : (tree : TreeMap) (file : Option (List ℕ)) (given : Given) (text line : List ℕ) (old : Option (List ℕ)) (failed : ℕ) (new : Option (List ℕ)) (failed_then : ℕ) (edge : Fault DeviceReason)
+    → Some text ≡ packed_of tree file given → line ≡ text ++ 10 ∷ [] → AppendsBeginning old new line → IsDevice edge
+    → CountsFault {T = Unit {0}} failed failed_then (Err edge) → Packs (Some tree) file given old failed new failed_then (Err (of_edge edge))
+written_in_part tree file given text line old failed new failed_then (Because device) is ends written fails count =
     (record { text = text; is = sym is; written = subst (AppendsBeginning old new) ends written }, count)
-written_in_part tree text line old failed new failed_then Want is ends written fails count = absurd fails
+written_in_part tree file given text line old failed new failed_then Want is ends written fails count = absurd fails

@@ -1,12 +1,12 @@
 -- How packing a folder ends: what it leaves of its writer, for each of its results (own).
-use Rattle.std.specs.Prelude.{◌≡◌, ◌⊎◌, ℕ, ◌+◌, List, [], ◌∷◌, ◌++◌, Option, Some, None, Result, Ok, Err, ⊤, IfSome, IsErrAnd, codes}
+use Rattle.std.specs.Prelude.{◌≡◌, ◌⊎◌, ℕ, ◌+◌, Bool, is_some, List, [], ◌∷◌, ◌++◌, Option, Some, None, Result, Ok, Err, ⊤, IfSome, IsErrAnd, codes}
 use Rattle.std.specs.Io.KnownBytes.{Appends}
 use Rattle.plain.specs.declared.fault.Fault.{Fault}
 use Rattle.plain.specs.declared.fault.Fault.TheVariants.{Because, Memory as Want}
 use Rattle.counted.specs.Edges.{AppendsBeginning}
 use Rattle.counted.specs.declared.fault.Device.{Device as DeviceReason}
 use Rattle.trees.specs.TreeMap.{TreeMap}
-use Rattle.packing.specs.Packed.{IsPlain, packed_of}
+use Rattle.packing.specs.Packed.{Given, IsPlain, packed_of}
 use Rattle.packing.specs.declared.fault.PackFault.{PackFault}
 use Rattle.packing.specs.declared.fault.PackFault.TheVariants.{Memory, Device, Ended}
 use Rattle.packing.specs.declared.packing.Status.{Status}
@@ -34,36 +34,38 @@ abbrev pub IsUnwritten : Option (List ℕ) → ℕ → Option (List ℕ) → ℕ
 IsUnwritten old failed new failed_then = (new ≡ old) × (failed_then ≡ failed)
 
 -- the whole bundle of a folder was written, with the LF that ends it
-pub record HasPacked (tree : TreeMap) (old new : Option (List ℕ)) : Type 0 where
+pub record HasPacked (tree : TreeMap) (file : Option (List ℕ)) (given : Given) (old new : Option (List ℕ)) : Type 0 where
   pub text : List ℕ
-  pub is : packed_of tree ≡ Some text
+  pub is : packed_of tree file given ≡ Some text
   pub written : Appends old new (text ++ 10 ∷ [])
 
 -- a beginning of it was
-pub record HasBegun (tree : TreeMap) (old new : Option (List ℕ)) : Type 0 where
+pub record HasBegun (tree : TreeMap) (file : Option (List ℕ)) (given : Given) (old new : Option (List ℕ)) : Type 0 where
   pub text : List ℕ
-  pub is : packed_of tree ≡ Some text
+  pub is : packed_of tree file given ≡ Some text
   pub written : AppendsBeginning old new (text ++ 10 ∷ [])
 
--- How packing ends, by what was found in the folder, and what its writer has written and how many of its calls failed. Where no Dockerfile
--- was found, it is refused, and nothing was written. Of a folder that was read its bundle was written; or nothing was, for want of memory,
--- or since the Dockerfile that was found at first wasn't there when it was read; or a write failed.
-abbrev pub Packs : Option TreeMap → Option (List ℕ) → ℕ → Option (List ℕ) → ℕ → Result Status PackFault → Type 0
-Packs None old failed new failed_then result = (result ≡ Ok Refused) × IsUnwritten old failed new failed_then
-Packs (Some tree) old failed new failed_then (Ok Built) = HasPacked tree old new × (failed_then ≡ failed)
-Packs (Some tree) old failed new failed_then (Ok Refused) = ⊥
-Packs (Some tree) old failed new failed_then (Err Memory) = IsUnwritten old failed new failed_then
-Packs (Some tree) old failed new failed_then (Err Ended) = (packed_of tree ≡ None) × IsUnwritten old failed new failed_then
-Packs (Some tree) old failed new failed_then (Err Device) = HasBegun tree old new × (failed_then ≡ failed + 1)
+-- How packing ends, by what was found in the folder, the Dockerfile that was named, and what is given, and what its writer has written and how
+-- many of its calls failed. Where no Dockerfile was found, it is refused, and nothing was written. Of a folder that was read its bundle was
+-- written; or nothing was, for want of memory, or since the Dockerfile that was found at first wasn't there when it was read; or a write failed.
+abbrev pub Packs : Option TreeMap → Option (List ℕ) → Given → Option (List ℕ) → ℕ → Option (List ℕ) → ℕ → Result Status PackFault → Type 0
+Packs None file given old failed new failed_then result = (result ≡ Ok Refused) × IsUnwritten old failed new failed_then
+Packs (Some tree) file given old failed new failed_then (Ok Built) = HasPacked tree file given old new × (failed_then ≡ failed)
+Packs (Some tree) file given old failed new failed_then (Ok Refused) = ⊥
+Packs (Some tree) file given old failed new failed_then (Err Memory) = IsUnwritten old failed new failed_then
+Packs (Some tree) file given old failed new failed_then (Err Ended) = (packed_of tree file given ≡ None) × IsUnwritten old failed new failed_then
+Packs (Some tree) file given old failed new failed_then (Err Device) = HasBegun tree file given old new × (failed_then ≡ failed + 1)
 
--- what was found in a folder was packed: no Dockerfile, or plain files and directories
-pub record PacksFound (old : Option (List ℕ)) (failed : ℕ) (new : Option (List ℕ)) (failed_then : ℕ) (result : Result Status PackFault) : Type 0 where
+-- what was found in a folder was packed: no Dockerfile, or plain files and directories; and the Dockerfile that is named, if one is
+pub record PacksFound (named : Bool) (given : Given) (old : Option (List ℕ)) (failed : ℕ) (new : Option (List ℕ)) (failed_then : ℕ) (result : Result Status PackFault) : Type 0 where
   pub found : Option TreeMap
+  pub file : Option (List ℕ)
   pub plain : IfSome found IsPlain
-  pub packs : Packs found old failed new failed_then result
+  pub has_file : is_some file ≡ named
+  pub packs : Packs found file given old failed new failed_then result
 
--- How packing a folder of the machine ends, of which nothing is known: what was found in it was packed; or the folder couldn't be read whole,
--- or not for want of memory, and nothing was written.
-abbrev pub PacksFolder : Option (List ℕ) → ℕ → Option (List ℕ) → ℕ → Result Status PackFault → Type 0
-PacksFolder old failed new failed_then result =
-    (IsErrAnd result IsBefore × IsUnwritten old failed new failed_then) ⊎ PacksFound old failed new failed_then result
+-- How packing a folder of the machine ends, of which nothing is known: what was found in it was packed; or the folder, or the Dockerfile that is
+-- named, couldn't be read whole, or not for want of memory, and nothing was written.
+abbrev pub PacksFolder : Bool → Given → Option (List ℕ) → ℕ → Option (List ℕ) → ℕ → Result Status PackFault → Type 0
+PacksFolder named given old failed new failed_then result =
+    (IsErrAnd result IsBefore × IsUnwritten old failed new failed_then) ⊎ PacksFound named given old failed new failed_then result

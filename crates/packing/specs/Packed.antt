@@ -4,7 +4,7 @@ use Rattle.std.specs.Coded.{Coded}
 use Rattle.std.specs.Option.{option_map}
 use Rattle.std.specs.FinMap.{get, entries}
 use Rattle.hex.specs.Hex.{encode_lower}
-use Rattle.serde_json.specs.Data.{Data, string, object, no_members, member}
+use Rattle.serde_json.specs.Data.{Data, Members, string, object, no_members, member, put}
 use Rattle.serde_json.specs.Written.{compact_text}
 use Rattle.trees.specs.TreeMap.{TreeMap, directory_meta, file_meta}
 use Rattle.trees.specs.declared.entry.Entry.{Entry}
@@ -40,16 +40,48 @@ bytes_in (Some (File meta content)) = Some content
 abbrev pub dockerfile_of : TreeMap → Option (List ℕ)
 dockerfile_of tree = bytes_in (get tree dockerfile_path)
 
--- the bundle of these entries and this Dockerfile, its bytes in hexadecimal
-unfoldable pub packed_data : List Row → List ℕ → Data
-packed_data rows dockerfile =
-    object (member (codes "context") (tree_data rows)
-    (member (codes "dockerfile") (object (member (codes "hex") (string (encode_lower dockerfile)) no_members)) no_members))
+-- the Dockerfile of a bundle: the file that is named, or else the folder's
+abbrev pub dockerfile_among : TreeMap → Option (List ℕ) → Option (List ℕ)
+dockerfile_among tree None = dockerfile_of tree
+dockerfile_among tree (Some file) = Some file
+
+-- what is given beside a folder: the bundle's target, and its build arguments
+pub record Given : Type 0 where
+  pub target : Option (List ℕ)
+  pub args : List (List ℕ × List ℕ)
+
+abbrev pub nothing_given : Given
+nothing_given = record { target = None; args = [] }
+
+-- texts as members of an object; of a name twice the last counts
+abbrev pub put_texts : List (List ℕ × List ℕ) → Members → Members
+put_texts [] members = members
+put_texts (row ∷ rows) members = put_texts rows (put row.0 (string row.1) members)
+
+-- the target and the build arguments, as members of a bundle where they are given
+abbrev pub put_target : Option (List ℕ) → Members → Members
+put_target None members = members
+put_target (Some target) members = put (codes "target") (string target) members
+
+abbrev pub put_args : List (List ℕ × List ℕ) → Members → Members
+put_args [] members = members
+put_args (arg ∷ args) members = put (codes "args") (object (put_texts (arg ∷ args) no_members)) members
+
+-- the context and the Dockerfile, whose bytes are in hexadecimal
+abbrev pub files_members : List Row → List ℕ → Members
+files_members rows dockerfile =
+    member (codes "context") (tree_data rows)
+    (member (codes "dockerfile") (object (member (codes "hex") (string (encode_lower dockerfile)) no_members)) no_members)
+
+-- the bundle of these entries and this Dockerfile, with what is given
+unfoldable pub packed_data : List Row → List ℕ → Given → Data
+packed_data rows dockerfile given = object (put_target given.target (put_args given.args (files_members rows dockerfile)))
 
 -- its text, one line of compact JSON
-abbrev pub packed_text : List Row → List ℕ → List ℕ
-packed_text rows dockerfile = compact_text (packed_data rows dockerfile)
+abbrev pub packed_text : List Row → List ℕ → Given → List ℕ
+packed_text rows dockerfile given = compact_text (packed_data rows dockerfile given)
 
--- the text of the bundle of a folder: all its entries, in path order, and its Dockerfile; none where it has no Dockerfile
-abbrev pub packed_of : TreeMap → Option (List ℕ)
-packed_of tree = option_map (λ dockerfile. packed_text (entries tree) dockerfile) (dockerfile_of tree)
+-- the text of the bundle of a folder: all its entries, in path order, its Dockerfile, or the one that is named, and what is given; none where
+-- there is no Dockerfile
+abbrev pub packed_of : TreeMap → Option (List ℕ) → Given → Option (List ℕ)
+packed_of tree file given = option_map (λ dockerfile. packed_text (entries tree) dockerfile given) (dockerfile_among tree file)

@@ -4,16 +4,16 @@ ghost use Rattle.trees.specs.TreeMap.{empty_tree, file_meta, directory_meta};
 ghost use Rattle.trees.specs.Put.{put_into};
 ghost use Rattle.trees.specs.Cause.{ChangesTree};
 ghost use Rattle.trees.specs.declared.entry.Entry.TheVariants.{Directory, File};
-ghost use Rattle.hex.specs.Hex.{encode_lower};
-ghost use Rattle.serde_json.specs.Data.{string, object, no_members, member};
 ghost use Rattle.serde_json.specs.View.{view};
-ghost use Rattle.packing.specs.Packed.{dockerfile_path, dockerfile_of, packed_of, packed_data};
+ghost use Rattle.packing.specs.Packed.{dockerfile_path, dockerfile_among, dockerfile_of, packed_of, packed_data};
+ghost use Rattle.packing.specs.Wanted.{given_of};
 
-use entries::tree_to_json;
+use crate::Wanted;
+use crate::members::bundle_value;
 use paths::Path;
 use plain::{Bytes, Memory, Text};
-use serde_json::{Value, json};
-use std::alloc::{AllocError, Global};
+use serde_json::Value;
+use std::alloc::Global;
 use std::marker::Model;
 use trees::{Content, Entry, Meta, Tree, TreeFault};
 
@@ -70,13 +70,19 @@ impl Folder {
             .put(alloc, path, Entry::Directory(Meta::directory()))
     }
 
-    /// The text of the bundle of the folder, without the LF that ends it; `None` where it has no file `/Dockerfile`. The folder is let go
-    /// before the text is made, since all its bytes stand in the JSON too.
-    pub(crate) fn bundle(self, alloc: Global) -> Result<Option<Text>, Memory>
-        ensures { IfOk result (λ text. text ≡ packed_of self) }
+    /// The text of the bundle of the folder, without the LF that ends it; `None` where no file is named and it has no file `/Dockerfile`. The
+    /// folder is let go before the text is made, since all its bytes stand in the JSON too.
+    pub(crate) fn bundle(
+        self,
+        alloc: Global,
+        file: Option<Bytes>,
+        wanted: Wanted<'_>,
+    ) -> Result<Option<Text>, Memory>
+        ensures { IfOk result (λ text. text ≡ packed_of self file (given_of wanted.entry)) }
     {
-        let made = self.to_value(alloc);
+        let made = self.to_value(alloc, &file, wanted);
         drop(self);
+        drop(file);
         match made? {
             Some(value) => Ok(Some(Text::from_string(value.to_string(alloc)?))),
             None => Ok(None),
@@ -84,12 +90,30 @@ impl Folder {
     }
 
     /// The bundle of the folder as JSON; `None` where it has no Dockerfile.
-    fn to_value(&self, alloc: Global) -> Result<Option<Value>, Memory>
-        ensures { IfOk result (λ value. option_map view value ≡ option_map (λ dockerfile. packed_data (entries self.now) dockerfile) (dockerfile_of self.now)) }
+    fn to_value(
+        &self,
+        alloc: Global,
+        file: &Option<Bytes>,
+        wanted: Wanted<'_>,
+    ) -> Result<Option<Value>, Memory>
+        ensures { IfOk result (λ value. option_map view value ≡ option_map (λ dockerfile. packed_data (entries self.now) dockerfile (given_of wanted.entry)) (dockerfile_among self.now file.now)) }
+    {
+        match file {
+            Some(bytes) => Ok(Some(tree_value(alloc, &self.tree, bytes.as_slice(), wanted)?)),
+            None => self.own_value(alloc, wanted),
+        }
+    }
+
+    /// The same with the folder's own Dockerfile.
+    fn own_value(&self, alloc: Global, wanted: Wanted<'_>) -> Result<Option<Value>, Memory>
+        ensures { IfOk result (λ value. option_map view value ≡ option_map (λ dockerfile. packed_data (entries self.now) dockerfile (given_of wanted.entry)) (dockerfile_of self.now)) }
     {
         let path = dockerfile_path(alloc)?;
         match self.tree.get(&path) {
-            Some(Entry::File(_, content)) => Ok(Some(tree_value(alloc, &self.tree, content)?)),
+            Some(Entry::File(_, content)) => {
+                let value = tree_value(alloc, &self.tree, content.as_slice(), wanted)?;
+                Ok(Some(value))
+            }
             Some(Entry::Directory(_)) => Ok(None),
             None => Ok(None),
         }
@@ -105,40 +129,15 @@ fn dockerfile_path(alloc: Global) -> Result<Path, Memory>
 }
 
 /// The bundle of a tree with this Dockerfile, as JSON.
-fn tree_value(alloc: Global, tree: &Tree, content: &Content) -> Result<Value, Memory>
-    ensures { IfOk result (λ value. view value ≡ packed_data (entries tree.now) content.now) }
+fn tree_value(
+    alloc: Global,
+    tree: &Tree,
+    dockerfile: &[u8],
+    wanted: Wanted<'_>,
+) -> Result<Value, Memory>
+    ensures { IfOk result (λ value. view value ≡ packed_data (entries tree.now) dockerfile.now (given_of wanted.entry)) }
 {
     let rows = tree.entries(alloc)?;
-    let value = bundle_value(alloc, rows.as_slice(), content.as_slice())?;
+    let value = bundle_value(alloc, rows.as_slice(), dockerfile, wanted)?;
     Ok(value)
-}
-
-/// The bundle of these entries with this Dockerfile, as JSON.
-#[tactic(auto, unfolding(crate::specs::Packed::packed_data))]
-fn bundle_value(alloc: Global, rows: &[(Path, &Entry)], dockerfile: &[u8]) -> Result<Value, Memory>
-    ensures { IfOk result (λ value. view value ≡ packed_data (map (λ row. (row.0, row.1.now)) rows.now) dockerfile.now) }
-{
-    let dockerfile = dockerfile_value(alloc, dockerfile)?;
-    match tree_to_json(alloc, rows) {
-        Ok(context) => Ok(bundle_object(alloc, context, dockerfile)?),
-        Err(memory) => {
-            drop(dockerfile);
-            Err(memory)
-        }
-    }
-}
-
-/// The object of a Dockerfile, its bytes in hexadecimal.
-fn dockerfile_value(alloc: Global, dockerfile: &[u8]) -> Result<Value, Memory>
-    ensures { IfOk result (λ value. view value ≡ object (member (codes "hex") (string (encode_lower dockerfile.now)) no_members)) }
-{
-    let hex = hex::encode(alloc, dockerfile)?;
-    Ok(json!(in alloc; {"hex": hex})?)
-}
-
-/// The object of a bundle.
-fn bundle_object(alloc: Global, context: Value, dockerfile: Value) -> Result<Value, AllocError>
-    ensures { IfOk result (λ value. view value ≡ object (member (codes "context") (view context) (member (codes "dockerfile") (view dockerfile) no_members))) }
-{
-    json!(in alloc; {"context": context, "dockerfile": dockerfile})
 }

@@ -13,8 +13,11 @@
 
 mod fault;
 mod folder;
+mod members;
 mod packing;
 mod walking;
+mod wanted;
 
 pub use fault::PackFault;
-pub use packing::{Status, run_pack};
+pub use packing::{Status, run_pack, run_pack_to_file, run_pack_with};
+pub use wanted::Wanted;

@@ -1,13 +1,18 @@
-ghost use Rattle.std.specs.Prelude.{◌≡◌, ◌<◌, [], ◌∷◌, ◌++◌, IfOk};
+ghost use Rattle.std.specs.Prelude.{◌≡◌, ◌<◌, [], ◌∷◌, ◌++◌, false, Some, is_some, IfOk};
 ghost use Rattle.packing.specs.Ends.{Packs, PacksFolder};
+ghost use Rattle.packing.specs.Packed.{nothing_given};
+ghost use Rattle.packing.specs.Wanted.{given_of};
 
-use crate::PackFault;
 use crate::folder::Folder;
-use crate::walking::find_folder;
-use counted::{CountedWrite, write_all};
-use plain::{Memory, Text};
+use crate::walking::{Found, find_bundle};
+use crate::{PackFault, Wanted};
+use counted::{Counted, CountedWrite, write_all};
+use plain::{Bytes, Items, Memory, Text};
 use std::alloc::Global;
+use std::fs::File;
+use std::io::ErrorKind;
 use std::rt::Files;
+use std::{fs, io};
 
 /// What became of a folder.
 #[derive(Clone, Copy, Debug, PartialEq, Eq)]
@@ -34,33 +39,126 @@ pub fn run_pack<R: Files + AllocGlobal + Clone + Drop, W: CountedWrite>(
     output: &mut W,
 ) -> Result<Status, PackFault>
     requires writes { W.failures output.old < u64.MAX }
-    ensures { PacksFolder (W.contents output.old) (W.failures output.old) (W.contents output.new) (W.failures output.new) result }
+    ensures { PacksFolder false nothing_given (W.contents output.old) (W.failures output.old) (W.contents output.new) (W.failures output.new) result }
 {
-    match find_folder(rt, alloc, folder) {
-        Ok(found) => write_found(alloc, found, output),
+    let args = Items::new(alloc);
+    let wanted = Wanted {
+        file: None,
+        target: None,
+        args: args.as_slice(),
+    };
+    run_pack_with(rt, alloc, folder, wanted, output)
+}
+
+/// Writes the bundle of a folder as `run_pack` does, with what is wanted beside it: a target and build arguments stand in the bundle, and the
+/// Dockerfile may be a file that is named, in the folder or elsewhere.
+///
+/// A file that is named may be given by a link. Where there is none, it is `Refused`, and the folder isn't looked at. If it has an ignore file
+/// of its own, with `.dockerignore` behind its name, that stands in the context as `/.dockerignore`, in place of the folder's.
+pub fn run_pack_with<R: Files + AllocGlobal + Clone + Drop, W: CountedWrite>(
+    rt: &R,
+    alloc: Global,
+    folder: &str,
+    wanted: Wanted<'_>,
+    output: &mut W,
+) -> Result<Status, PackFault>
+    requires writes { W.failures output.old < u64.MAX }
+    ensures { PacksFolder (is_some wanted.entry.file) (given_of wanted.entry) (W.contents output.old) (W.failures output.old) (W.contents output.new) (W.failures output.new) result }
+{
+    match find_bundle(rt, alloc, folder, wanted.file) {
+        Ok(Some(found)) => {
+            let Found { folder, file } = found;
+            write_found(alloc, folder, file, wanted, output)
+        }
+        Ok(None) => Ok(Status::Refused),
         Err(fault) => Err(fault),
     }
 }
 
-/// Writes the bundle of what was found in a folder: nothing where it has no Dockerfile.
+/// Writes the bundle of what was found.
 fn write_found<W: CountedWrite>(
     alloc: Global,
-    found: Option<Folder>,
+    folder: Folder,
+    file: Option<Bytes>,
+    wanted: Wanted<'_>,
     output: &mut W,
 ) -> Result<Status, PackFault>
     requires writes { W.failures output.old < u64.MAX }
-    ensures { Packs found (W.contents output.old) (W.failures output.old) (W.contents output.new) (W.failures output.new) result }
+    ensures { Packs (Some folder) file (given_of wanted.entry) (W.contents output.old) (W.failures output.old) (W.contents output.new) (W.failures output.new) result }
 {
-    let Some(folder) = found else {
-        return Ok(Status::Refused);
-    };
     // The Dockerfile may be gone since it was asked for.
-    let Some(text) = folder.bundle(alloc)? else {
+    let Some(text) = folder.bundle(alloc, file, wanted)? else {
         return Err(PackFault::Ended);
     };
     let line = line_of(alloc, text)?;
     write_all(output, line.as_str().as_bytes())?;
     Ok(Status::Built)
+}
+
+/// Writes the bundle of a folder, as `run_pack_with` does, to the file of this name: whole, in place of the file that is there, or not at all.
+/// It is written under the name with `.part` behind it and then renamed; what fails there is `Device`.
+///
+/// What the machine does with a file is in no contract.
+pub fn run_pack_to_file<R: Files + AllocGlobal + Clone + Drop>(
+    rt: &R,
+    alloc: Global,
+    folder: &str,
+    wanted: Wanted<'_>,
+    name: &str,
+) -> Result<Status, PackFault> {
+    let Some(found) = find_bundle(rt, alloc, folder, wanted.file)? else {
+        return Ok(Status::Refused);
+    };
+    write_file(rt, alloc, found, wanted, name)
+}
+
+/// Writes the bundle of what was found to a file.
+fn write_file<R: Files + AllocGlobal>(
+    rt: &R,
+    alloc: Global,
+    found: Found,
+    wanted: Wanted<'_>,
+    name: &str,
+) -> Result<Status, PackFault> {
+    let mut part = String::from_str(alloc, name)?;
+    part.push_str(".part")?;
+    match File::create(rt, part.as_str()) {
+        Ok(file) => {
+            let mut output = Counted::new(file);
+            let Found { folder, file } = found;
+            let ended = write_found(alloc, folder, file, wanted, &mut output);
+            drop(output);
+            put_in_place(rt, part.as_str(), name, ended)
+        }
+        Err(error) => Err(device_fault(&error)),
+    }
+}
+
+/// Gives the file of a bundle that was written its name, or removes it.
+fn put_in_place<R: Files>(
+    rt: &R,
+    part: &str,
+    name: &str,
+    ended: Result<Status, PackFault>,
+) -> Result<Status, PackFault> {
+    let ended = match ended {
+        Ok(status) => match fs::rename(rt, part, name) {
+            Ok(()) => return Ok(status),
+            Err(error) => device_fault(&error),
+        },
+        Err(fault) => fault,
+    };
+    let _ = fs::remove_file(rt, part);
+    Err(ended)
+}
+
+/// What a call of the machine that failed means, for a file that is written.
+fn device_fault(error: &io::Error) -> PackFault {
+    if error.kind() == ErrorKind::OutOfMemory {
+        PackFault::Memory
+    } else {
+        PackFault::Device
+    }
 }
 
 /// A text with an LF behind it.
