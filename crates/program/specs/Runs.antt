@@ -1,13 +1,14 @@
 -- What the program does with a command line: what it writes where, and the status that it ends with (own).
-use Rattle.std.specs.Prelude.{◌≡◌, ◌≢◌, ◌⊎◌, ℕ, List, [], ◌∷◌, ◌++◌, map, Result, Ok, Err, codes}
+use Rattle.std.specs.Prelude.{◌≡◌, ◌≢◌, ◌⊎◌, ℕ, List, [], ◌∷◌, ◌++◌, map, Option, Some, None, is_some, Result, Ok, Err, codes}
 use Rattle.std.specs.Borrow.{Bor}
 use Rattle.plain.specs.declared.fault.Fault.{Fault}
 use Rattle.plain.specs.declared.fault.Fault.TheVariants.{Because, Memory}
-use Rattle.clap.specs.Words.{fault_of, subcommand_of, IsAmong}
+use Rattle.clap.specs.Words.{subcommand_of, IsAmong}
 use Rattle.clap.specs.declared.error.kind.ErrorKind.{ErrorKind}
 use Rattle.clap.specs.declared.error.kind.ErrorKind.TheVariants.{DisplayHelp, DisplayVersion}
 use Rattle.command.specs.CommandLine.{whole_command}
-use Rattle.command.specs.Tasks.{IsTaskOf}
+use Rattle.command.specs.Tasks.{IsTaskOf, faults_of}
+use Rattle.command.specs.declared.task.Pack.{Pack as PackWords}
 use Rattle.command.specs.declared.task.Task.{Task}
 use Rattle.command.specs.declared.task.Task.TheVariants.{Build, Graph, Pack}
 use Rattle.plans.specs.Value.{Out}
@@ -17,6 +18,7 @@ use Rattle.build.specs.Ends.{Devices, Ends, GraphEnds}
 use Rattle.build.specs.Faults.{exit_status}
 use Rattle.build.specs.Messages.{fault_text}
 use Rattle.packing.specs.Ends.{PacksFolder, fault_text as pack_fault_text}
+use Rattle.packing.specs.Packed.{Given}
 use Rattle.packing.specs.declared.fault.PackFault.{PackFault}
 use Rattle.packing.specs.declared.packing.Status.{Status as PackStatus}
 use Rattle.packing.specs.declared.packing.Status.TheVariants.{Built as Packed, Refused as Unpacked}
@@ -68,19 +70,22 @@ pack_status (Ok Packed) = 0
 pack_status (Ok Unpacked) = 2
 pack_status (Err fault) = 3
 
--- a folder was packed, of which nothing is known, and the program ends with its status
-pub record Packs (old new : Streams) (status : ℕ) : Type 0 where
-  pub ended : Result PackStatus PackFault
-  pub unread : IsUnread old new
-  pub packs : PacksFolder old.devices.written old.devices.failed_writes new.devices.written new.devices.failed_writes ended
-  pub says : SaysPack ended old.errors new.errors
-  pub is : status ≡ pack_status ended
+-- what stands in a bundle beside a folder's files and its Dockerfile, by the words of `pack`
+abbrev pub given_by : PackWords → Given
+given_by words = record { target = words.target; args = words.args }
 
--- a task was done: a build was run, a graph was drawn, or a folder was packed
-abbrev pub Does : Out → Task → Streams → Streams → ℕ → Type 0
-Does out (Build workers) old new status = Calls (Ends out) old new status
-Does out Graph old new status = Calls GraphEnds old new status
-Does out (Pack folder) old new status = Packs old new status
+-- where a bundle goes to: where answers are written, or to a file of the machine, of which nothing is known; then nothing is written there
+abbrev pub PacksInto : Option (List ℕ) → PackWords → Stream → Stream → Result PackStatus PackFault → Type 0
+PacksInto None words output new_output ended =
+    PacksFolder (is_some words.file) (given_by words) output.written output.failed new_output.written new_output.failed ended
+PacksInto (Some file) words output new_output ended = new_output ≡ output
+
+-- a folder was packed, of which nothing is known, and the program ends with its status
+pub record Packs (words : PackWords) (output new_output errors new_errors : Stream) (status : ℕ) : Type 0 where
+  pub ended : Result PackStatus PackFault
+  pub packs : PacksInto words.output words output new_output ended
+  pub says : SaysPack ended errors new_errors
+  pub is : status ≡ pack_status ended
 
 -- what clap says where answers are written, and not as a fault
 abbrev pub IsHelp : ErrorKind → Type 0
@@ -105,18 +110,24 @@ abbrev pub SaysKind : ErrorKind → Stream → Stream → Stream → Stream → 
 SaysKind kind output new_output errors new_errors =
     (IsHelp kind × SaysOn output new_output errors new_errors) ⊎ ((¬ IsHelp kind) × SaysOn errors new_errors output new_output)
 
--- what was said on the two writers, nothing being read
+-- what happened on the two writers, nothing being read
 abbrev pub OnWriters : (Stream → Stream → Stream → Stream → ℕ → Type 0) → Streams → Streams → ℕ → Type 0
 OnWriters Said old new status = IsUnread old new × Said (output_of old) (output_of new) old.errors new.errors status
+
+-- a task was done: a build was run, a graph was drawn, or a folder was packed
+abbrev pub Does : Out → Task → Streams → Streams → ℕ → Type 0
+Does out (Build workers) old new status = Calls (Ends out) old new status
+Does out Graph old new status = Calls GraphEnds old new status
+Does out (Pack words) old new status = OnWriters (Packs words) old new status
 
 -- a mistake in the words
 abbrev pub Mistakes : Stream → Stream → Stream → Stream → ℕ → Type 0
 Mistakes output new_output errors new_errors status = SaysOn errors new_errors output new_output × (status ≡ 2)
 
--- clap finds something of this kind in the words: a mistake, or that help is asked for
+-- something of this kind is found in the words: a mistake, or that help is asked for
 pub record Refuses (words : List (List ℕ)) (old new : Streams) (status : ℕ) : Type 0 where
   pub kind : ErrorKind
-  pub is : IsAmong kind (fault_of whole_command words)
+  pub is : IsAmong kind (faults_of words)
   pub unread : IsUnread old new
   pub says : SaysKind kind (output_of old) (output_of new) old.errors new.errors
   pub ends : status ≡ 2
@@ -125,7 +136,7 @@ pub record Refuses (words : List (List ℕ)) (old new : Streams) (status : ℕ) 
 pub record Performs (out : Out) (words : List (List ℕ)) (old new : Streams) (status : ℕ) : Type 0 where
   pub task : Task
   pub spelled : IsTaskOf (subcommand_of whole_command words) task
-  pub faultless : fault_of whole_command words ≡ []
+  pub faultless : faults_of words ≡ []
   pub does : Does out task old new status
 
 -- What the program does with the words of a command line, the program's name first, or where there are none: it does the task that

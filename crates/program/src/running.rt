@@ -1,11 +1,12 @@
-ghost use Rattle.std.specs.Prelude.{◌≡◌, ◌≢◌, ◌<◌, ◌⊎◌, map, []};
+ghost use Rattle.std.specs.Prelude.{◌≡◌, ◌≢◌, ◌<◌, ◌+◌, ◌⊎◌, map, option_map, []};
 ghost use Rattle.clap.specs.Values.{kind_of};
-ghost use Rattle.clap.specs.Words.{fault_of};
 ghost use Rattle.clap.specs.Kinds.{HasKind};
-ghost use Rattle.command.specs.CommandLine.{whole_command};
+ghost use Rattle.command.specs.Tasks.{faults_of};
+ghost use Rattle.counted.specs.Edges.{LosesBeginning};
+ghost use Rattle.plain.specs.Limits.{most_bundle_bytes};
 ghost use Rattle.build.specs.Ends.{devices};
 ghost use Rattle.build.specs.Faults.{exit_status};
-ghost use Rattle.program.specs.Runs.{Runs, streams, texts_in, line_of, pack_status, SaysEnd, SaysPack};
+ghost use Rattle.program.specs.Runs.{Runs, streams, texts_in, line_of, pack_status, Packs, SaysEnd, SaysPack};
 ghost use Rattle.program.specs.PrivateRuns.{IsRefused};
 ghost use Rattle.build.specs.Messages.{fault_text};
 ghost use Rattle.packing.specs.Ends.{fault_text as pack_fault_text};
@@ -16,11 +17,11 @@ use crate::{NotText, WordsFault};
 use build::{BuildFault, Status, run_build, run_graph, status_code};
 use clap::Error;
 use clap::error::ErrorKind;
-use command::{Task, read_command};
+use command::{Pack, Task, read_command};
 use counted::{CountedRead, CountedWrite};
 use executor::Executor;
-use packing::{PackFault, run_pack};
-use plain::Fault;
+use packing::{PackFault, Wanted, run_pack_to_file, run_pack_with};
+use plain::{Fault, Text};
 use solver::OpenGate;
 use std::alloc::Global;
 use std::rt::Files;
@@ -46,7 +47,8 @@ const NO_MEMORY_LINE: &str = "out of memory\n";
 ///
 /// The first word is the program's name. Where the system gave no words, it is handed why. The context of a build is filtered in several
 /// threads, its graph is solved by as many workers as the words say, and all else is done in the caller's. `files` is what a folder is read
-/// from that is to be packed.
+/// from that is to be packed, and where its bundle is written to, if the words name a file for it. No more than one byte past the limit of
+/// bundles is read.
 pub fn run_program<
     'a,
     F: Files + AllocGlobal + Clone + Drop,
@@ -67,10 +69,11 @@ pub fn run_program<
     requires reads { R.failures input.old < u64.MAX }
     requires writes { W.failures output.old < u64.MAX }
     requires says { S.failures errors.old < u64.MAX }
-    ensures { Runs (E.out executor.now) (texts_in words.entry)
+    ensures runs { Runs (E.out executor.now) (texts_in words.entry)
         (streams (devices (R.remaining input.old) (R.failures input.old) (W.contents output.old) (W.failures output.old)) (stream (S.contents errors.old) (S.failures errors.old)))
         (streams (devices (R.remaining input.new) (R.failures input.new) (W.contents output.new) (W.failures output.new)) (stream (S.contents errors.new) (S.failures errors.new)))
         result }
+    ensures taken { LosesBeginning (most_bundle_bytes + 1) (R.remaining input.old) (R.remaining input.new) }
 {
     let words = match words {
         Ok(words) => words,
@@ -96,9 +99,10 @@ pub fn run_program<
             let ended = run_graph(alloc, rt, input, output);
             finish(errors, ended)
         }
-        Ok(Task::Pack(folder)) => {
-            let ended = run_pack(files, alloc, folder.as_str(), output);
-            finish_pack(errors, ended)
+        Ok(Task::Pack(words)) => {
+            let status = pack(alloc, files, &words, output, errors);
+            drop(words);
+            status
         }
         Err(error) => refuse_words(alloc, output, errors, &error),
     }
@@ -114,6 +118,43 @@ fn finish<S: CountedWrite>(errors: &mut S, ended: Result<Status, BuildFault>) ->
         say(errors, fault_line(*fault));
     }
     status_code(ended)
+}
+
+/// Packs a folder as the words ask, and gives the status to end with.
+fn pack<F: Files + AllocGlobal + Clone + Drop, W: CountedWrite, S: CountedWrite>(
+    alloc: Global,
+    files: &F,
+    words: &Pack,
+    output: &mut W,
+    errors: &mut S,
+) -> u8
+    requires writes { W.failures output.old < u64.MAX }
+    requires says { S.failures errors.old < u64.MAX }
+    ensures { Packs words.now
+        (stream (W.contents output.old) (W.failures output.old)) (stream (W.contents output.new) (W.failures output.new))
+        (stream (S.contents errors.old) (S.failures errors.old)) (stream (S.contents errors.new) (S.failures errors.new)) result }
+{
+    let folder = words.folder.as_str();
+    let wanted = Wanted {
+        file: text_in(&words.file),
+        target: text_in(&words.target),
+        args: words.args.as_slice(),
+    };
+    let ended = match &words.output {
+        Some(name) => run_pack_to_file(files, alloc, folder, wanted, name.as_str()),
+        None => run_pack_with(files, alloc, folder, wanted, output),
+    };
+    finish_pack(errors, ended)
+}
+
+/// A text that may be there, lent.
+fn text_in(text: &Option<Text>) -> Option<&str>
+    ensures { option_map (λ lent. lent.now) result ≡ text.now }
+{
+    match text {
+        Some(text) => Some(text.as_str()),
+        None => None,
+    }
 }
 
 /// Says why there is no whole bundle, where there is none, and gives the status to end with.
