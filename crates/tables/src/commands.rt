@@ -2,8 +2,8 @@
 // stands a part of what is told of the fault.
 
 use clap::Error;
-use command::{Task, read_command};
-use plain::Memory;
+use command::{Pack, Task, read_command};
+use plain::{Memory, Text};
 use std::alloc::Global;
 
 pub fn answer(alloc: Global, case: &str) -> Result<String, Memory> {
@@ -24,8 +24,37 @@ fn task_text(alloc: Global, task: Task) -> Result<String, Memory> {
     match task {
         Task::Build(workers) => Ok(format!(in alloc; "build with {workers}")?),
         Task::Graph => Ok(String::from_str(alloc, "graph")?),
-        Task::Pack(folder) => Ok(format!(in alloc; "pack of [{}]", folder.as_str())?),
+        Task::Pack(words) => {
+            let told = pack_text(alloc, &words);
+            drop(words);
+            told
+        }
     }
+}
+
+/// What `pack` is asked for: its folder, and behind it each option that is given, a build argument as its name and its value.
+fn pack_text(alloc: Global, words: &Pack) -> Result<String, Memory> {
+    let mut told = format!(in alloc; "pack of [{}]", words.folder.as_str())?;
+    add_text(alloc, &mut told, "file", &words.file)?;
+    add_text(alloc, &mut told, "target", &words.target)?;
+    for (name, value) in words.args.as_slice() {
+        let (name, value) = (name.as_str(), value.as_str());
+        told.push_str(format!(in alloc; " arg [{name}] [{value}]")?.as_str())?;
+    }
+    add_text(alloc, &mut told, "output", &words.output)?;
+    Ok(told)
+}
+
+fn add_text(
+    alloc: Global,
+    told: &mut String,
+    name: &str,
+    text: &Option<Text>,
+) -> Result<(), Memory> {
+    if let Some(text) = text {
+        told.push_str(format!(in alloc; " {name} [{}]", text.as_str())?.as_str())?;
+    }
+    Ok(())
 }
 
 /// The kind of a fault, and whether this part isn't told of it.
