@@ -1,6 +1,6 @@
 -- What clap's parse makes of the words after a command with arguments that take a value or are flags, and `--help`, where it finds no fault
 -- in them: what holds of the rows and is kept by each use of an argument holds after all words.
-use Rattle.std.proofs.Common.{◌≡◌, ◌&&◌, ◌==◌, ◌++◌, ℕ, Bool, zero, suc, true, false, not, cond, List, [], ◌∷◌, Option, Some, None, find, fold, map, bytes_eq, slice_get, is_some, length, drop, encode_utf8, chars}
+use Rattle.std.proofs.Common.{◌≡◌, ◌&&◌, ◌==◌, ℕ, Bool, zero, suc, true, false, not, cond, List, [], ◌∷◌, Option, Some, None, find, fold, bytes_eq, slice_get, is_some, length, drop, encode_utf8, chars}
 use Rattle.std.specs.Option.{option_map_or}
 use Rattle.clap.specs.Words.{Row, Rule, Shape, Text}
 use Rattle.clap.specs.Simple.{filled, help_rule, with_index}

@@ -1,11 +1,11 @@
 -- What clap's parse makes of the words after `pack`, where it finds no fault in them.
-use Rattle.std.proofs.Common.{◌≡◌, ◌||◌, Bool, true, false, not, cond, List, [], ◌∷◌, Some, codes, slice_index_or, bytes_eq, slice_get, is_some, refl, true≢false}
-use Rattle.clap.specs.Words.{Row, Rule, Shape, Text, first_of, new_rule}
+use Rattle.std.proofs.Common.{◌≡◌, ◌||◌, Bool, true, false, not, List, [], ◌∷◌, Some, codes, slice_index_or, bytes_eq, slice_get, is_some, refl}
+use Rattle.clap.specs.Words.{Rule, Shape, Text, first_of, new_rule}
 use Rattle.clap.specs.Simple.{built, new_shape}
 use Rattle.clap.specs.Kinds.{check_kinds, range_kinds}
-use Rattle.clap.specs.Faults.{level_fault, set_fault, use_fault}
+use Rattle.clap.specs.Faults.{level_fault, set_fault}
 use Rattle.clap.specs.Takes.{is_given}
-use Rattle.clap.specs.Walk.{finished, nothing_held, reading_by, settled, used, values_or_missing, walk, without}
+use Rattle.clap.specs.Walk.{finished, nothing_held, reading_by, settled, values_or_missing, walk, without}
 use Rattle.clap.specs.declared.parser.matches.ValueSource.TheVariants.{CommandLine}
 use Rattle.command.specs.CommandLine.{whole_command}
 use Rattle.command.proofs.Kept.{or_else-left, some_kind}

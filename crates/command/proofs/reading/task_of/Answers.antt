@@ -1,5 +1,5 @@
-use Rattle.std.proofs.Common.{◌≡◌, codes, rules, sym}
-use Rattle.command.proofs.Matched.{found_whole, no_pack, no_task}
+use Rattle.std.proofs.Common.{◌≡◌, codes, rules}
+use Rattle.command.proofs.Matched.{found_whole, no_task}
 use Rattle.command.proofs.reading.task_of.Goals as goal
 
 pub returns-in_default-workers_of-clause-none : goal.returns-in_default-workers_of-clause-none
