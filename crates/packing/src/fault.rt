@@ -3,8 +3,7 @@ use paths::PathFault;
 use plain::{Fault, Memory};
 use std::alloc::{AllocError, AllocFailed};
 use std::error::Error;
-use std::io::ErrorKind;
-use std::{fmt, io};
+use std::fmt;
 use trees::TreeFault;
 
 /// Why a folder's bundle wasn't written.
@@ -79,21 +78,6 @@ impl From<EdgeFault> for PackFault {
         match edge {
             Fault::Memory => PackFault::Memory,
             Fault::Because(Device) => PackFault::Device,
-        }
-    }
-}
-
-/// Of a call of the machine that failed: want of memory, or that the folder can't be packed.
-impl From<io::Error> for PackFault {
-    ghost use Rattle.packing.specs.Ends.{IsBefore};
-
-    ghost from_gives = { λ _ fault. IsBefore fault };
-
-    fn from(error: io::Error) -> PackFault {
-        if error.kind() == ErrorKind::OutOfMemory {
-            PackFault::Memory
-        } else {
-            PackFault::Ended
         }
     }
 }

@@ -15,6 +15,7 @@ mod fault;
 mod folder;
 mod members;
 mod packing;
+mod refusing;
 mod walking;
 mod wanted;
 

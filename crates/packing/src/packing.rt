@@ -47,25 +47,30 @@ pub fn run_pack<R: Files + AllocGlobal + Clone + Drop, W: CountedWrite>(
         target: None,
         args: args.as_slice(),
     };
-    run_pack_with(rt, alloc, folder, wanted, output)
+    let mut why = Text::from_string(String::new(alloc));
+    run_pack_with(rt, alloc, folder, wanted, output, &mut why)
 }
 
 /// Writes the bundle of a folder as `run_pack` does, with what is wanted beside it: a target and build arguments stand in the bundle, and the
 /// Dockerfile may be a file that is named, in the folder or elsewhere.
 ///
 /// A file that is named may be given by a link. Where there is none, it is `Refused`, and the folder isn't looked at. If it has an ignore file
-/// of its own, with `.dockerignore` behind its name, that stands in the context as `/.dockerignore`, in place of the folder's.
+/// of its own, with `.dockerignore` after its name, that stands in the context as `/.dockerignore`, in place of the folder's.
+///
+/// After `Ended` it is noted in `why` what can't be packed: its place on the machine, what it is, and the remedy. Nothing is noted if the
+/// Dockerfile is gone since it was asked for.
 pub fn run_pack_with<R: Files + AllocGlobal + Clone + Drop, W: CountedWrite>(
     rt: &R,
     alloc: Global,
     folder: &str,
     wanted: Wanted<'_>,
     output: &mut W,
+    why: &mut Text,
 ) -> Result<Status, PackFault>
     requires writes { W.failures output.old < u64.MAX }
     ensures { PacksFolder (is_some wanted.entry.file) (given_of wanted.entry) (W.contents output.old) (W.failures output.old) (W.contents output.new) (W.failures output.new) result }
 {
-    match find_bundle(rt, alloc, folder, wanted.file) {
+    match find_bundle(rt, alloc, folder, wanted.file, why) {
         Ok(Some(found)) => {
             let Found { folder, file } = found;
             write_found(alloc, folder, file, wanted, output)
@@ -105,8 +110,9 @@ pub fn run_pack_to_file<R: Files + AllocGlobal + Clone + Drop>(
     folder: &str,
     wanted: Wanted<'_>,
     name: &str,
+    why: &mut Text,
 ) -> Result<Status, PackFault> {
-    let Some(found) = find_bundle(rt, alloc, folder, wanted.file)? else {
+    let Some(found) = find_bundle(rt, alloc, folder, wanted.file, why)? else {
         return Ok(Status::Refused);
     };
     write_file(rt, alloc, found, wanted, name)

@@ -6,8 +6,9 @@ ghost use Rattle.packing.specs.Ends.{IsBefore};
 
 use crate::PackFault;
 use crate::folder::{DOCKERFILE, Folder};
+use crate::refusing::{IN_THE_WAY, LINK, NO_FILE, NO_FOLDER, TOO_DEEP, refuse, refuse_error};
 use paths::Path;
-use plain::Bytes;
+use plain::{Bytes, Fault, Text};
 use std::alloc::Global;
 use std::fs;
 use std::fs::DirEntry;
@@ -34,20 +35,21 @@ pub(crate) struct Found {
 }
 
 /// All files and directories of a folder, with the Dockerfile that is named; `None` where there is no such file, or no file `Dockerfile` in the
-/// folder, if none is named. That is asked first.
+/// folder, if none is named. That is asked first. After `Ended` it is noted in `why` what can't be packed.
 pub(crate) fn find_bundle<R: Files + AllocGlobal + Clone + Drop>(
     rt: &R,
     alloc: Global,
     folder: &str,
     file: Option<&str>,
+    why: &mut Text,
 ) -> Result<Option<Found>, PackFault>
     ensures before { IfErr result IsBefore }
     ensures plain { IfOk result (λ found. IfSome found (λ one. IsPlain one.folder)) }
     ensures file { IfOk result (λ found. IfSome found (λ one. is_some one.file ≡ is_some file.entry)) }
 {
     match file {
-        Some(file) => find_with_file(rt, alloc, folder, file),
-        None => find_folder(rt, alloc, folder),
+        Some(file) => find_with_file(rt, alloc, folder, file, why),
+        None => find_folder(rt, alloc, folder, why),
     }
 }
 
@@ -56,6 +58,7 @@ fn find_folder<R: Files + AllocGlobal + Clone + Drop>(
     rt: &R,
     alloc: Global,
     folder: &str,
+    why: &mut Text,
 ) -> Result<Option<Found>, PackFault>
     ensures before { IfErr result IsBefore }
     ensures plain { IfOk result (λ found. IfSome found (λ one. IsPlain one.folder)) }
@@ -64,7 +67,7 @@ fn find_folder<R: Files + AllocGlobal + Clone + Drop>(
     if !has_dockerfile(rt, alloc, folder)? {
         return Ok(None);
     }
-    let folder = read_folder(rt, alloc, folder)?;
+    let folder = read_folder(rt, alloc, folder, why)?;
     Ok(Some(Found { folder, file: None }))
 }
 
@@ -75,15 +78,16 @@ fn find_with_file<R: Files + AllocGlobal + Clone + Drop>(
     alloc: Global,
     folder: &str,
     file: &str,
+    why: &mut Text,
 ) -> Result<Option<Found>, PackFault>
     ensures before { IfErr result IsBefore }
     ensures plain { IfOk result (λ found. IfSome found (λ one. IsPlain one.folder)) }
     ensures file { IfOk result (λ found. IfSome found (λ one. is_some one.file ≡ true)) }
 {
-    let Some(dockerfile) = read_file(rt, file)? else {
+    let Some(dockerfile) = read_file(rt, alloc, file, why)? else {
         return Ok(None);
     };
-    match read_ignoring(rt, alloc, folder, file) {
+    match read_ignoring(rt, alloc, folder, file, why) {
         Ok(folder) => Ok(Some(Found {
             folder,
             file: Some(dockerfile),
@@ -101,15 +105,16 @@ fn read_ignoring<R: Files + AllocGlobal + Clone + Drop>(
     alloc: Global,
     folder: &str,
     file: &str,
+    why: &mut Text,
 ) -> Result<Folder, PackFault>
     ensures { IfErr result IsBefore }
 {
     // The empty text names no folder, and `/` is another one.
     if folder.is_empty() {
-        return Err(PackFault::Ended);
+        return Err(refuse(alloc, why, "the empty text", NO_FOLDER));
     }
-    let mut found = read_folder(rt, alloc, folder)?;
-    match put_ignore_file(rt, alloc, file, &mut found) {
+    let mut found = read_folder(rt, alloc, folder, why)?;
+    match put_ignore_file(rt, alloc, file, &mut found, why) {
         Ok(()) => Ok(found),
         Err(fault) => {
             drop(found);
@@ -124,28 +129,52 @@ fn put_ignore_file<R: Files + AllocGlobal + Clone + Drop>(
     alloc: Global,
     file: &str,
     found: &mut Folder,
+    why: &mut Text,
 ) -> Result<(), PackFault>
     ensures { IfErr result IsBefore }
 {
     let mut name = String::from_str(alloc, file)?;
     name.push_str(IGNORE_FILE)?;
-    let Some(bytes) = read_file(rt, name.as_str())? else {
+    let Some(bytes) = read_file(rt, alloc, name.as_str(), why)? else {
         return Ok(());
     };
     let path = Path::root(alloc).join(alloc, IGNORE_FILE)?;
-    found.add_file(alloc, &path, bytes)?;
-    Ok(())
+    match found.add_file(alloc, &path, bytes) {
+        Ok(()) => Ok(()),
+        Err(Fault::Memory) => Err(PackFault::Memory),
+        Err(Fault::Because(_)) => Err(refuse(alloc, why, name.as_str(), IN_THE_WAY)),
+    }
 }
 
 /// The bytes of a file, which may be given by a link; `None` where there is no such file.
-fn read_file<R: Files + AllocGlobal>(rt: &R, name: &str) -> Result<Option<Bytes>, PackFault>
+fn read_file<R: Files + AllocGlobal>(
+    rt: &R,
+    alloc: Global,
+    name: &str,
+    why: &mut Text,
+) -> Result<Option<Bytes>, PackFault>
     ensures { IfErr result IsBefore }
 {
     match fs::metadata(rt, name) {
-        Ok(found) if found.is_file() => Ok(Some(Bytes::from_vec(fs::read(rt, name)?))),
+        Ok(found) if found.is_file() => Ok(Some(bytes_of(rt, alloc, name, why)?)),
         Ok(_) => Ok(None),
         Err(error) if error.kind() == ErrorKind::OutOfMemory => Err(PackFault::Memory),
         Err(_) => Ok(None),
+    }
+}
+
+/// The bytes that the machine has in a file.
+fn bytes_of<R: Files + AllocGlobal>(
+    rt: &R,
+    alloc: Global,
+    name: &str,
+    why: &mut Text,
+) -> Result<Bytes, PackFault>
+    ensures { IfErr result IsBefore }
+{
+    match fs::read(rt, name) {
+        Ok(bytes) => Ok(Bytes::from_vec(bytes)),
+        Err(error) => Err(refuse_error(alloc, why, name, &error)),
     }
 }
 
@@ -172,11 +201,12 @@ fn read_folder<R: Files + AllocGlobal + Clone + Drop>(
     rt: &R,
     alloc: Global,
     folder: &str,
+    why: &mut Text,
 ) -> Result<Folder, PackFault>
     ensures { IfErr result IsBefore }
 {
     let mut found = Folder::new(alloc);
-    match read_all(rt, alloc, folder, &mut found) {
+    match read_all(rt, alloc, folder, &mut found, why) {
         Ok(()) => Ok(found),
         Err(fault) => {
             drop(found);
@@ -191,6 +221,7 @@ fn read_all<R: Files + AllocGlobal + Clone + Drop>(
     alloc: Global,
     folder: &str,
     found: &mut Folder,
+    why: &mut Text,
 ) -> Result<(), PackFault>
     ensures { IfErr result IsBefore }
 {
@@ -201,27 +232,36 @@ fn read_all<R: Files + AllocGlobal + Clone + Drop>(
         let Some(path) = left.pop() else {
             return Ok(());
         };
-        read_names(rt, alloc, folder, &path, found, &mut left)?;
+        let place = place_of(alloc, folder, &path)?;
+        read_names(rt, alloc, place.as_str(), &path, found, &mut left, why)?;
     }
     Err(PackFault::Ended)
 }
 
-/// Adds what lies in one directory of a folder, and lists the directories among it.
+/// Adds what lies in one directory of a folder, which the machine has at this place, and lists the directories among it.
 fn read_names<R: Files + AllocGlobal + Clone + Drop>(
     rt: &R,
     alloc: Global,
-    folder: &str,
+    place: &str,
     path: &Path,
     found: &mut Folder,
     left: &mut Vec<Path>,
+    why: &mut Text,
 ) -> Result<(), PackFault>
     ensures { IfErr result IsBefore }
 {
-    let place = place_of(alloc, folder, path)?;
-    for row in fs::read_dir(rt, place.as_str())? {
-        read_row(rt, alloc, &row?, path, found, left)?;
+    match fs::read_dir(rt, place) {
+        Ok(rows) => {
+            for row in rows {
+                match row {
+                    Ok(row) => read_row(rt, alloc, &row, path, found, left, why)?,
+                    Err(error) => return Err(refuse_error(alloc, why, place, &error)),
+                }
+            }
+            Ok(())
+        }
+        Err(error) => Err(refuse_error(alloc, why, place, &error)),
     }
-    Ok(())
 }
 
 /// Adds one file or directory that lies in the directory of this path.
@@ -232,18 +272,32 @@ fn read_row<R: Files + AllocGlobal>(
     path: &Path,
     found: &mut Folder,
     left: &mut Vec<Path>,
+    why: &mut Text,
 ) -> Result<(), PackFault>
     ensures { IfErr result IsBefore }
 {
-    let kind = row.file_type()?;
-    let path = path.join(alloc, row.file_name())?;
-    if kind.is_dir() {
-        return add_directory(alloc, path, found, left);
+    let at = row.path();
+    let place = at.as_str();
+    let kind = match row.file_type() {
+        Ok(kind) => kind,
+        Err(error) => return Err(refuse_error(alloc, why, place, &error)),
+    };
+    if !kind.is_dir() && !kind.is_file() {
+        let what = if kind.is_symlink() { LINK } else { NO_FILE };
+        return Err(refuse(alloc, why, place, what));
     }
-    if !kind.is_file() {
-        return Err(PackFault::Ended);
+    match path.join(alloc, row.file_name()) {
+        Ok(path) => {
+            if kind.is_dir() {
+                return add_directory(alloc, path, found, left);
+            }
+            let bytes = bytes_of(rt, alloc, place, why)?;
+            found.add_file(alloc, &path, bytes)?;
+            Ok(())
+        }
+        Err(Fault::Memory) => Err(PackFault::Memory),
+        Err(Fault::Because(_)) => Err(refuse(alloc, why, place, TOO_DEEP)),
     }
-    add_file(rt, alloc, row, &path, found)
 }
 
 /// Adds a directory, and lists it among those that are still to be read.
@@ -257,20 +311,5 @@ fn add_directory(
 {
     found.add_directory(alloc, &path)?;
     left.push(path)?;
-    Ok(())
-}
-
-/// Adds a file with the bytes that the machine has in it.
-fn add_file<R: Files + AllocGlobal>(
-    rt: &R,
-    alloc: Global,
-    row: &DirEntry<R>,
-    path: &Path,
-    found: &mut Folder,
-) -> Result<(), PackFault>
-    ensures { IfErr result IsBefore }
-{
-    let bytes = fs::read(rt, row.path())?;
-    found.add_file(alloc, path, Bytes::from_vec(bytes))?;
     Ok(())
 }
