@@ -1,5 +1,5 @@
 -- What the program does with a command line: what it writes where, and the status that it ends with (own).
-use Rattle.std.specs.Prelude.{◌≡◌, ◌≢◌, ◌⊎◌, ℕ, List, [], ◌∷◌, ◌++◌, map, Option, Some, None, is_some, Result, Ok, Err, codes}
+use Rattle.std.specs.Prelude.{◌≡◌, ◌≢◌, ◌⊎◌, ℕ, List, [], ◌∷◌, ◌++◌, map, Bool, false, not, ◌&&◌, ◌==◌, length, Option, Some, None, is_some, Result, Ok, Err, codes}
 use Rattle.std.specs.Borrow.{Bor}
 use Rattle.plain.specs.declared.fault.Fault.{Fault}
 use Rattle.plain.specs.declared.fault.Fault.TheVariants.{Because, Memory}
@@ -20,6 +20,7 @@ use Rattle.build.specs.Messages.{fault_text}
 use Rattle.packing.specs.Ends.{PacksFolder, fault_text as pack_fault_text}
 use Rattle.packing.specs.Packed.{Given}
 use Rattle.packing.specs.declared.fault.PackFault.{PackFault}
+use Rattle.packing.specs.declared.fault.PackFault.TheVariants.{Ended}
 use Rattle.packing.specs.declared.packing.Status.{Status as PackStatus}
 use Rattle.packing.specs.declared.packing.Status.TheVariants.{Built as Packed, Refused as Unpacked}
 use Rattle.program.specs.declared.arguments.NotText.{NotText}
@@ -58,11 +59,25 @@ pub record IsUnread (old new : Streams) : Type 0 where
   pub left : new.devices.left ≡ old.devices.left
   pub failed_reads : new.devices.failed_reads ≡ old.devices.failed_reads
 
+-- nothing is given beside the folder
+abbrev pub is_bare : PackWords → Bool
+is_bare words = not (is_some words.file) && (not (is_some words.target) && ((length words.args == 0) && not (is_some words.output)))
+
+-- that a folder can't be packed is said, and why, or as much of that as there was memory for
+pub record SaysWhy (old new : Stream) : Type 0 where
+  pub why : List ℕ
+  pub says : Says (line_of (pack_fault_text Ended ++ why)) old new
+
+-- what is said of a fault of packing; what can't be packed is named only where something is given beside the folder
+abbrev pub SaysFault : Bool → PackFault → Stream → Stream → Type 0
+SaysFault false Ended old new = SaysWhy old new
+SaysFault bare fault old new = Says (line_of (pack_fault_text fault)) old new
+
 -- what is said on the stream for errors of how packing ended: nothing where a bundle was written, else why there is none
-abbrev pub SaysPack : Result PackStatus PackFault → Stream → Stream → Type 0
-SaysPack (Ok Packed) old new = new ≡ old
-SaysPack (Ok Unpacked) old new = Says (line_of (codes "no Dockerfile")) old new
-SaysPack (Err fault) old new = Says (line_of (pack_fault_text fault)) old new
+abbrev pub SaysPack : Bool → Result PackStatus PackFault → Stream → Stream → Type 0
+SaysPack bare (Ok Packed) old new = new ≡ old
+SaysPack bare (Ok Unpacked) old new = Says (line_of (codes "no Dockerfile")) old new
+SaysPack bare (Err fault) old new = SaysFault bare fault old new
 
 -- the exit status after packing
 abbrev pub pack_status : Result PackStatus PackFault → ℕ
@@ -84,7 +99,7 @@ PacksInto (Some file) words output new_output ended = new_output ≡ output
 pub record Packs (words : PackWords) (output new_output errors new_errors : Stream) (status : ℕ) : Type 0 where
   pub ended : Result PackStatus PackFault
   pub packs : PacksInto words.output words output new_output ended
-  pub says : SaysPack ended errors new_errors
+  pub says : SaysPack (is_bare words) ended errors new_errors
   pub is : status ≡ pack_status ended
 
 -- what clap says where answers are written, and not as a fault

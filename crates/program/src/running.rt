@@ -1,4 +1,4 @@
-ghost use Rattle.std.specs.Prelude.{◌≡◌, ◌≢◌, ◌<◌, ◌+◌, ◌⊎◌, map, option_map, []};
+ghost use Rattle.std.specs.Prelude.{◌≡◌, ◌≢◌, ◌<◌, ◌+◌, ◌⊎◌, ◌++◌, ℕ, List, IfOk, false, true, map, option_map, []};
 ghost use Rattle.clap.specs.Values.{kind_of};
 ghost use Rattle.clap.specs.Kinds.{HasKind};
 ghost use Rattle.command.specs.Tasks.{faults_of};
@@ -6,10 +6,11 @@ ghost use Rattle.counted.specs.Edges.{LosesBeginning};
 ghost use Rattle.plain.specs.Limits.{most_bundle_bytes};
 ghost use Rattle.build.specs.Ends.{devices};
 ghost use Rattle.build.specs.Faults.{exit_status};
-ghost use Rattle.program.specs.Runs.{Runs, streams, texts_in, line_of, pack_status, Packs, SaysEnd, SaysPack};
+ghost use Rattle.program.specs.Runs.{Runs, streams, texts_in, line_of, pack_status, Packs, SaysEnd, SaysPack, SaysWhy, is_bare};
 ghost use Rattle.program.specs.PrivateRuns.{IsRefused};
 ghost use Rattle.build.specs.Messages.{fault_text};
 ghost use Rattle.packing.specs.Ends.{fault_text as pack_fault_text};
+ghost use Rattle.packing.specs.declared.fault.PackFault.TheVariants.{Ended};
 ghost use Rattle.program.specs.Saying.{stream};
 
 use crate::saying::say;
@@ -23,7 +24,7 @@ use executor::Executor;
 use packing::{PackFault, Wanted, run_pack_to_file, run_pack_with};
 use plain::{Fault, Text};
 use solver::OpenGate;
-use std::alloc::Global;
+use std::alloc::{AllocError, Global};
 use std::rt::Files;
 use std::sync::Wait;
 use std::thread::Threads;
@@ -140,11 +141,26 @@ fn pack<F: Files + AllocGlobal + Clone + Drop, W: CountedWrite, S: CountedWrite>
         target: text_in(&words.target),
         args: words.args.as_slice(),
     };
+    let mut why = Text::from_string(String::new(alloc));
     let ended = match &words.output {
-        Some(name) => run_pack_to_file(files, alloc, folder, wanted, name.as_str()),
-        None => run_pack_with(files, alloc, folder, wanted, output),
+        Some(name) => run_pack_to_file(files, alloc, folder, wanted, name.as_str(), &mut why),
+        None => run_pack_with(files, alloc, folder, wanted, output, &mut why),
     };
-    finish_pack(errors, ended)
+    if is_bare(words) {
+        finish_pack(errors, ended)
+    } else {
+        finish_named(alloc, errors, ended, why.as_str())
+    }
+}
+
+/// Whether the words of `pack` give nothing beside the folder.
+fn is_bare(words: &Pack) -> bool
+    ensures { result ≡ is_bare words.now }
+{
+    !words.file.is_some()
+        && !words.target.is_some()
+        && words.args.is_empty()
+        && !words.output.is_some()
 }
 
 /// A text that may be there, lent.
@@ -160,7 +176,7 @@ fn text_in(text: &Option<Text>) -> Option<&str>
 /// Says why there is no whole bundle, where there is none, and gives the status to end with.
 fn finish_pack<S: CountedWrite>(errors: &mut S, ended: Result<packing::Status, PackFault>) -> u8
     requires says { S.failures errors.old < u64.MAX }
-    ensures says { SaysPack ended (stream (S.contents errors.old) (S.failures errors.old)) (stream (S.contents errors.new) (S.failures errors.new)) }
+    ensures says { SaysPack true ended (stream (S.contents errors.old) (S.failures errors.old)) (stream (S.contents errors.new) (S.failures errors.new)) }
     ensures is { result ≡ pack_status ended }
 {
     match ended {
@@ -174,6 +190,50 @@ fn finish_pack<S: CountedWrite>(errors: &mut S, ended: Result<packing::Status, P
             NO_BUNDLE
         }
     }
+}
+
+/// The same, naming what can't be packed.
+fn finish_named<S: CountedWrite>(
+    alloc: Global,
+    errors: &mut S,
+    ended: Result<packing::Status, PackFault>,
+    why: &str,
+) -> u8
+    requires says { S.failures errors.old < u64.MAX }
+    ensures says { SaysPack false ended (stream (S.contents errors.old) (S.failures errors.old)) (stream (S.contents errors.new) (S.failures errors.new)) }
+    ensures is { result ≡ pack_status ended }
+{
+    match ended {
+        Err(PackFault::Ended) => {
+            say_why(alloc, errors, why);
+            NO_BUNDLE
+        }
+        _ => finish_pack(errors, ended),
+    }
+}
+
+/// Says that a folder can't be packed, and why, if there is memory to say it.
+fn say_why<S: CountedWrite>(alloc: Global, errors: &mut S, why: &str)
+    requires says { S.failures errors.old < u64.MAX }
+    ensures { SaysWhy (stream (S.contents errors.old) (S.failures errors.old)) (stream (S.contents errors.new) (S.failures errors.new)) }
+{
+    match why_line(alloc, why) {
+        Ok(line) => say(errors, line.as_str()),
+        Err(_) => say(errors, pack_fault_line(PackFault::Ended)),
+    }
+}
+
+/// Why a folder can't be packed, as a line.
+fn why_line(alloc: Global, why: &str) -> Result<Text, AllocError>
+    ensures { IfOk result (λ line. (text : List ℕ) × (line ≡ line_of (pack_fault_text Ended ++ text))) }
+{
+    let mut line = String::from_str(alloc, "cannot pack")?;
+    if !why.is_empty() {
+        line.push_str(": ")?;
+        line.push_str(why)?;
+    }
+    line.push('\n')?;
+    Ok(Text::from_string(line))
 }
 
 /// Says what clap found in the words, or help that was asked for, and gives the status to end with.
