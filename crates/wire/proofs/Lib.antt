@@ -1,0 +1,6 @@
+pub mod FieldLemmas
+pub mod KindLemmas
+mod MapLemmas
+pub mod MessageLemmas
+pub mod ReadLemmas
+mod VarintLemmas
