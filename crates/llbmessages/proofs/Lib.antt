@@ -1,0 +1,6 @@
+mod DefinitionBack
+mod ExecBack
+mod FileBack
+mod FitLemmas
+mod OpBack
+mod SourceBack
