@@ -1,0 +1,25 @@
+// Writes operations of BuildKit's LLB and a definition, each as a line: a name, and the bytes as hexadecimal digits.
+//
+// What it has to print stands in `stdout`, which another program made: `protoc --deterministic_output --encode=pb.Op ops.proto` of Debian's
+// protobuf-compiler 3.21.12 in the folder `protoc`, from the texts there, in their order (the last is a `pb.Definition`); `xxd -p` made the
+// digits. So a field's number or type that isn't that of `ops.proto`, a default that is written, or an empty message that isn't, shows here.
+// Whether `ops.proto` is BuildKit's own schema doesn't.
+#![tactic(auto)]
+
+mod commands;
+mod files;
+mod rows;
+
+use plain::Memory;
+use rows::ROWS;
+use std::io;
+
+fn main(rt: HostRuntime) -> io::Result<()> {
+    for row in ROWS {
+        match rows::line(rt.alloc(), row) {
+            Ok(line) => println!(rt; "{line}")?,
+            Err(Memory) => println!(rt; "out of memory")?,
+        }
+    }
+    Ok(())
+}
