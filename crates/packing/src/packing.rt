@@ -9,7 +9,7 @@ use crate::{PackFault, Wanted};
 use counted::{Counted, CountedWrite, write_all};
 use plain::{Bytes, Items, Memory, Text};
 use std::alloc::Global;
-use std::fs::File;
+use std::fs::{File, OpenOptions};
 use std::io::ErrorKind;
 use std::rt::Files;
 use std::{fs, io};
@@ -100,8 +100,10 @@ fn write_found<W: CountedWrite>(
     Ok(Status::Built)
 }
 
-/// Writes the bundle of a folder, as `run_pack_with` does, to the file of this name: whole, in place of the file that is there, or not at all.
-/// It is written under the name with `.part` behind it and then renamed; what fails there is `Device`.
+/// Writes the bundle of a folder, as `run_pack_with` does, to the file of this name: whole, in place of a plain file that is there, or not at
+/// all. It is written under the name with `.part` after it and then renamed; what fails there is `Device`, also if there is such a file
+/// already, which is left as it is. If the name is that of a link, a device or a pipe, it is written to straight away, and after `Device`
+/// there may be a beginning of the bundle.
 ///
 /// What the machine does with a file is in no contract.
 pub fn run_pack_to_file<R: Files + AllocGlobal + Clone + Drop>(
@@ -115,10 +117,40 @@ pub fn run_pack_to_file<R: Files + AllocGlobal + Clone + Drop>(
     let Some(found) = find_bundle(rt, alloc, folder, wanted.file, why)? else {
         return Ok(Status::Refused);
     };
-    write_file(rt, alloc, found, wanted, name)
+    if may_be_replaced(rt, name) {
+        write_file(rt, alloc, found, wanted, name)
+    } else {
+        write_into(rt, alloc, found, wanted, name)
+    }
 }
 
-/// Writes the bundle of what was found to a file.
+/// Whether a file may be put in place of what has this name: that is a plain file, or nothing is there.
+fn may_be_replaced<R: Files>(rt: &R, name: &str) -> bool {
+    match fs::symlink_metadata(rt, name) {
+        Ok(found) => found.is_file(),
+        Err(_) => true,
+    }
+}
+
+/// Writes the bundle of what was found into what has this name.
+fn write_into<R: Files + AllocGlobal>(
+    rt: &R,
+    alloc: Global,
+    found: Found,
+    wanted: Wanted<'_>,
+    name: &str,
+) -> Result<Status, PackFault> {
+    match File::create(rt, name) {
+        Ok(file) => {
+            let mut output = Counted::new(file);
+            let Found { folder, file } = found;
+            write_found(alloc, folder, file, wanted, &mut output)
+        }
+        Err(error) => Err(device_fault(&error)),
+    }
+}
+
+/// Writes the bundle of what was found to a file that is put in place whole.
 fn write_file<R: Files + AllocGlobal>(
     rt: &R,
     alloc: Global,
@@ -128,7 +160,9 @@ fn write_file<R: Files + AllocGlobal>(
 ) -> Result<Status, PackFault> {
     let mut part = String::from_str(alloc, name)?;
     part.push_str(".part")?;
-    match File::create(rt, part.as_str()) {
+    let mut options = OpenOptions::new();
+    options.write(true).create_new(true);
+    match options.open(rt, part.as_str()) {
         Ok(file) => {
             let mut output = Counted::new(file);
             let Found { folder, file } = found;

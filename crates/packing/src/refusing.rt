@@ -11,19 +11,21 @@ pub(crate) const LINK: &str = " is a link: remove it, or put what it leads to in
 
 pub(crate) const NO_FILE: &str = " is neither a file nor a folder: remove it";
 
+pub(crate) const NO_PLAIN_FILE: &str = " is no file: put a file in its place, or rename it";
+
 pub(crate) const NO_FOLDER: &str = " names no folder: name one";
 
 pub(crate) const TOO_DEEP: &str =
     " lies deeper than 64 components, or has too long a name: move or rename it";
 
 pub(crate) const IN_THE_WAY: &str =
-    " has to stand in the context as .dockerignore, where a folder is: rename that";
+    " has to stand in the context as .dockerignore, where a folder is: rename that folder";
 
-const NO_UTF8: &str = " has a name in it that is not UTF-8: rename that";
+const NO_UTF8: &str = " has a name that is not UTF-8 or is too long: rename it";
 
-const MISSING: &str = " is not there: name what is";
+const MISSING: &str = " does not exist, or is a link that leads to nothing: name what exists";
 
-const UNREADABLE: &str = " cannot be read: see that it can, or remove it";
+const UNREADABLE: &str = " cannot be read: make it readable, or leave it out";
 
 /// Notes that what is at this place can't be packed, and what it is.
 pub(crate) fn refuse(alloc: Global, why: &mut Text, place: &str, what: &str) -> PackFault

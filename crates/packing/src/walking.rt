@@ -6,7 +6,9 @@ ghost use Rattle.packing.specs.Ends.{IsBefore};
 
 use crate::PackFault;
 use crate::folder::{DOCKERFILE, Folder};
-use crate::refusing::{IN_THE_WAY, LINK, NO_FILE, NO_FOLDER, TOO_DEEP, refuse, refuse_error};
+use crate::refusing::{
+    IN_THE_WAY, LINK, NO_FILE, NO_FOLDER, NO_PLAIN_FILE, TOO_DEEP, refuse, refuse_error,
+};
 use paths::Path;
 use plain::{Bytes, Fault, Text};
 use std::alloc::Global;
@@ -136,6 +138,10 @@ fn put_ignore_file<R: Files + AllocGlobal + Clone + Drop>(
     let mut name = String::from_str(alloc, file)?;
     name.push_str(IGNORE_FILE)?;
     let Some(bytes) = read_file(rt, alloc, name.as_str(), why)? else {
+        // If what has the name were passed over, files that it is meant to leave out would be packed.
+        if has_name(rt, name.as_str()) {
+            return Err(refuse(alloc, why, name.as_str(), NO_PLAIN_FILE));
+        }
         return Ok(());
     };
     let path = Path::root(alloc).join(alloc, IGNORE_FILE)?;
@@ -146,7 +152,7 @@ fn put_ignore_file<R: Files + AllocGlobal + Clone + Drop>(
     }
 }
 
-/// The bytes of a file, which may be given by a link; `None` where there is no such file.
+/// The bytes of a file, which may be given by a link; `None` if no file has that name. A file that can't be read ends packing.
 fn read_file<R: Files + AllocGlobal>(
     rt: &R,
     alloc: Global,
@@ -158,9 +164,14 @@ fn read_file<R: Files + AllocGlobal>(
     match fs::metadata(rt, name) {
         Ok(found) if found.is_file() => Ok(Some(bytes_of(rt, alloc, name, why)?)),
         Ok(_) => Ok(None),
-        Err(error) if error.kind() == ErrorKind::OutOfMemory => Err(PackFault::Memory),
-        Err(_) => Ok(None),
+        Err(error) if error.kind() == ErrorKind::NotFound => Ok(None),
+        Err(error) => Err(refuse_error(alloc, why, name, &error)),
     }
+}
+
+/// Whether something has a name, as a link that leads to nothing has.
+fn has_name<R: Files>(rt: &R, name: &str) -> bool {
+    fs::symlink_metadata(rt, name).is_ok()
 }
 
 /// The bytes that the machine has in a file.
