@@ -17,7 +17,7 @@ use Rattle.paths.specs.Fronts.{is_front}
 use Rattle.paths.proofs.PathLaws.{path_cmp-append}
 use Rattle.paths.proofs.FrontLaws.{name_same, name_itself, path_same, path_itself, both_first, both_second, both_hold, front-parts}
 use Rattle.trees.specs.TreeMap.{is_file}
-use Rattle.entries.specs.Row.{Row}
+use Rattle.trees.specs.Row.{Row}
 use Rattle.entries.specs.Listing.{is_in_way, clash, are_apart}
 use Rattle.entries.specs.PrivateOrder.{fits_after, follows, in_order_after}
 

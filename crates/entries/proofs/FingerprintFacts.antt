@@ -17,7 +17,7 @@ use Rattle.paths.specs.Order.{name_cmp}
 use Rattle.paths.specs.Fronts.{is_front}
 use Rattle.paths.proofs.FrontLaws.{name_same, both_first, both_second, both_hold}
 use Rattle.trees.specs.TreeMap.{is_file}
-use Rattle.entries.specs.Row.{Row}
+use Rattle.trees.specs.Row.{Row}
 use Rattle.entries.specs.Listing.{is_in_way, clash, are_apart}
 use Rattle.entries.specs.PrivateFingerprint.{after_name, after_names, fingerprint, root_fingerprint, file_fingerprints, is_clear_from, is_clear}
 use Rattle.entries.proofs.ApartFacts.{clash-how}

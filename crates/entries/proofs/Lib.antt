@@ -1,4 +1,5 @@
 mod FrontFacts
+mod DigitFacts
 pub mod RowFacts
 pub mod ApartFacts
 mod FingerprintFacts

@@ -19,9 +19,9 @@ use Rattle.trees.specs.TreeMap.{TreeMap, directory_meta, is_file, is_blocked, em
 use Rattle.trees.specs.Put.{planted, cause_at, clash_of, placed}
 use Rattle.trees.proofs.TreeLaws.{get-empty_tree, get-placed}
 use Rattle.trees.proofs.WayLaws.{open-from_fronts}
-use Rattle.entries.specs.Row.{Row}
+use Rattle.trees.specs.Row.{Row, Has}
 use Rattle.entries.specs.Listing.{clash, are_apart, is_root, is_root_file, is_listing}
-use Rattle.entries.specs.Whole.{tree_of, Has, StandsFor}
+use Rattle.entries.specs.Whole.{tree_of, StandsAt}
 use Rattle.entries.proofs.ApartFacts.{clash-same, clash-way, clash-back}
 
 -- what stands at a path once an entry was placed: the entry, or what stood there, or a directory on the way
@@ -39,10 +39,10 @@ has-later : (row : Row) (rows : List Row) (other : Row) → Has rows other → H
 has-later row rows other h = (suc h.0, h.1)
 
 -- what stands in the tree of a list stands for its path
-pub tree-only : (rows : List Row) (path : List (List ℕ)) (entry : Entry) → get (tree_of rows) path ≡ Some entry → StandsFor rows path entry
+pub tree-only : (rows : List Row) (path : List (List ℕ)) (entry : Entry) → get (tree_of rows) path ≡ Some entry → StandsAt rows path entry
 tree-only [] path entry h = by (eq_by_cmp path_cmp path []) refl
   where
-    by : (b : Bool) → eq_by_cmp path_cmp path [] ≡ b → StandsFor [] path entry
+    by : (b : Bool) → eq_by_cmp path_cmp path [] ≡ b → StandsAt [] path entry
     by true e = inr (sym (same_Some (Directory directory_meta) entry (sym (ap (λ b. cond b (Some (Directory directory_meta)) None) e) ∙ sym (get-empty_tree path) ∙ h)), inl (path_same path [] e))
     by false e = absurd (none-some entry (sym (ap (λ b. cond b (Some (Directory directory_meta)) None) e) ∙ sym (get-empty_tree path) ∙ h))
 tree-only (row ∷ rows) path entry h =

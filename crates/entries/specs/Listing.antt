@@ -7,7 +7,7 @@ use Rattle.serde_json.specs.Data.{Data}
 use Rattle.paths.specs.Fronts.{is_front}
 use Rattle.paths.specs.Order.{path_eq}
 use Rattle.trees.specs.TreeMap.{is_file}
-use Rattle.entries.specs.Row.{Row}
+use Rattle.trees.specs.Row.{Row}
 use Rattle.entries.specs.Reading.{rows_of}
 
 -- a file stands on the way to what another row is of

@@ -3,7 +3,7 @@ use Rattle.std.specs.Prelude.{ℕ, ◌*◌, ◌%◌, ◌^◌, Bool, true, not, �
 use Rattle.std.specs.Int.Bits.{bit_xor}
 use Rattle.std.specs.List.{list_any}
 use Rattle.trees.specs.TreeMap.{is_file}
-use Rattle.entries.specs.Row.{Row}
+use Rattle.trees.specs.Row.{Row}
 
 -- a fingerprint with a byte more
 unfoldable pub after_byte : ℕ → ℕ → ℕ

@@ -2,7 +2,7 @@
 use Rattle.std.specs.Prelude.{Bool, true, not, ◌&&◌, Option, Some, None, List, [], ◌∷◌}
 use Rattle.std.specs.Ordering.{is_lt}
 use Rattle.paths.specs.Order.{path_cmp}
-use Rattle.entries.specs.Row.{Row}
+use Rattle.trees.specs.Row.{Row}
 use Rattle.entries.specs.Listing.{is_in_way, clash}
 
 -- no row clashes with the next, and the first one not with the row before it, if there is one

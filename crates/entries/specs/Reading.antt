@@ -11,7 +11,7 @@ use Rattle.strict.specs.Strict.{strict, at_most_one, list_in, path_in, short_num
 use Rattle.trees.specs.TreeMap.{directory_meta, file_meta}
 use Rattle.trees.specs.declared.meta.Meta.{Meta}
 use Rattle.trees.specs.declared.entry.Entry.TheVariants.{Directory, File}
-use Rattle.entries.specs.Row.{Row}
+use Rattle.trees.specs.Row.{Row}
 
 -- a digit from 0 to 7, as its character: 48 is `0`
 abbrev pub is_octal : ℕ → Bool

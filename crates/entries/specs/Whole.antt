@@ -1,24 +1,20 @@
 -- The tree of a list of entries (own): each entry stands at its path, and what a list lacks on the way to them is made.
-use Rattle.std.specs.Prelude.{◌≡◌, ℕ, true, List, [], ◌∷◌, Some, ◌⊎◌, slice_get}
+use Rattle.std.specs.Prelude.{◌≡◌, ℕ, true, List, [], ◌∷◌, ◌⊎◌}
 use Rattle.paths.specs.Fronts.{is_front}
 use Rattle.trees.specs.declared.entry.Entry.{Entry}
 use Rattle.trees.specs.declared.entry.Entry.TheVariants.{Directory}
 use Rattle.trees.specs.TreeMap.{TreeMap, directory_meta, empty_tree}
 use Rattle.trees.specs.Put.{placed}
-use Rattle.entries.specs.Row.{Row}
+use Rattle.trees.specs.Row.{Row, Has}
 
 -- the tree of a list: each entry is placed, with missing directories, 0755 and 0:0
 abbrev pub tree_of : List Row → TreeMap
 tree_of [] = empty_tree
 tree_of (row ∷ rows) = placed directory_meta (tree_of rows) row.0 row.1
 
--- the list has this row
-abbrev pub Has : List Row → Row → Type 0
-Has rows row = (n : ℕ) × (slice_get rows n ≡ Some row)
-
 -- an entry stands for a path in a list: it is the list's own, or, where the path is the root or on the way to a row, a directory of 0755 and
 -- 0:0
-abbrev pub StandsFor : List Row → List (List ℕ) → Entry → Type 0
-StandsFor rows path entry =
+abbrev pub StandsAt : List Row → List (List ℕ) → Entry → Type 0
+StandsAt rows path entry =
     ((row : Row) × (Has rows row × ((row.0 ≡ path) × (row.1 ≡ entry))))
     ⊎ ((entry ≡ Directory directory_meta) × ((path ≡ []) ⊎ ((row : Row) × (Has rows row × (is_front path row.0 ≡ true)))))

@@ -7,7 +7,7 @@ use Rattle.paths.specs.Path.{text_of}
 use Rattle.trees.specs.declared.meta.Meta.{Meta}
 use Rattle.trees.specs.declared.entry.Entry.{Entry}
 use Rattle.trees.specs.declared.entry.Entry.TheVariants.{Directory, File}
-use Rattle.entries.specs.Row.{Row}
+use Rattle.trees.specs.Row.{Row}
 
 -- a mode as four octal digits
 abbrev pub mode_text : ℕ → List ℕ

@@ -3,9 +3,9 @@ ghost use Rattle.std.specs.Prelude.{◌≡◌, ◌<◌, ℕ, true, Some, List, i
 ghost use Rattle.paths.specs.Fronts.{is_front};
 ghost use Rattle.std.specs.FinMap.{get};
 ghost use Rattle.trees.specs.declared.entry.Entry.{Entry};
-ghost use Rattle.entries.specs.Row.{Row};
+ghost use Rattle.trees.specs.Row.{Row, Has};
 ghost use Rattle.entries.specs.Listing.{is_listing};
-ghost use Rattle.entries.specs.Whole.{tree_of, Has, StandsFor};
+ghost use Rattle.entries.specs.Whole.{tree_of, StandsAt};
 ghost use Rattle.entries.specs.Reading.{mode_of};
 ghost use Rattle.entries.specs.Written.{mode_text};
 
@@ -14,7 +14,7 @@ ghost use Rattle.entries.specs.Written.{mode_text};
 pub fn the_tree_has_the_rows()
     ensures rows { (rows : List Row) (row : Row) → is_listing rows ≡ true → Has rows row → get (tree_of rows) row.0 ≡ Some row.1 }
     ensures ways { (rows : List Row) (row : Row) (path : List (List ℕ)) → is_front path row.0 ≡ true → Has rows row → is_some (get (tree_of rows) path) ≡ true }
-    ensures only { (rows : List Row) (path : List (List ℕ)) (entry : Entry) → get (tree_of rows) path ≡ Some entry → StandsFor rows path entry }
+    ensures only { (rows : List Row) (path : List (List ℕ)) (entry : Entry) → get (tree_of rows) path ≡ Some entry → StandsAt rows path entry }
 {}
 
 /// The text of a mode reads back to the mode.

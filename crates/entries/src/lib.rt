@@ -11,6 +11,7 @@
 #![tactic(auto)]
 
 mod apart;
+mod digits;
 mod fingerprint;
 pub mod laws;
 mod listing;

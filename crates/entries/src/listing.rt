@@ -22,7 +22,8 @@ pub struct Listing {
 
 impl Model for Listing {
     ghost use Rattle.std.specs.Prelude.{◌≡◌, List, true};
-    ghost use Rattle.entries.specs.Row.{Row, rows_code};
+    ghost use Rattle.trees.specs.Row.{Row};
+    ghost use Rattle.entries.specs.Row.{rows_code};
     ghost use Rattle.entries.specs.Listing.{is_listing};
 
     ghost Value = { List Row };

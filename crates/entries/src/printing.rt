@@ -17,11 +17,12 @@ use itoa::Buffer;
 use plain::{Mode, Text};
 use trees::{Entry, Meta, Walk};
 
-/// How many bytes are turned into hexadecimal at once: few, since the room for their digits is made anew for each file, and most are small.
-const PIECE: usize = 256;
+/// How many bytes are turned into hexadecimal at once: few, since the room for their digits is made anew for each piece, and most files are
+/// small.
+const PIECE: usize = 32;
 
 /// How many digits these have.
-const DIGITS: usize = 512;
+const DIGITS: usize = 64;
 
 /// Says the entries of a tree that a walk has left, in the order that it gives them in: what `tree_to_json` gives, as compact JSON, and no
 /// value and no list in between. It takes no memory, and after a failed write it does nothing.
@@ -177,7 +178,7 @@ fn put_mode_and_path_key<W: CountedWrite>(output: &mut W, gathered: &mut Gathere
     gather(output, gathered, &piece);
 }
 
-/// Says a number in decimal.
+/// Says a number in decimal. Most are owners and groups of one digit.
 fn put_number<W: CountedWrite>(output: &mut W, gathered: &mut Gathered, number: u32)
     requires room { HasRoom (W.failures output.old) gathered.old }
     ensures says { Says
@@ -186,6 +187,10 @@ fn put_number<W: CountedWrite>(output: &mut W, gathered: &mut Gathered, number: 
         (decimal number) }
     ensures room { HasRoom (W.failures output.new) gathered.new }
 {
+    if number < 10 {
+        gather(output, gathered, &[b'0' + number as u8]);
+        return;
+    }
     let mut buffer = Buffer::new();
     gather(output, gathered, buffer.format(number).as_bytes());
 }

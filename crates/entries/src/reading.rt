@@ -8,8 +8,8 @@ ghost use Rattle.borrowed.specs.Seen.{data_of};
 ghost use Rattle.borrowed.specs.Lent.{items_data};
 ghost use Rattle.entries.specs.Reading.{is_octal, digit_at, mode_of, mode_in, meta_in, bytes_of, content_of, content_in, directory_in, file_in, row_in, rows_of};
 
+use crate::digits::read_digits;
 use borrowed::{at, is_strict, list_of, one_at, optional_at, text_of};
-use hex::FromHexError;
 use json::Value;
 use paths::Path;
 use plain::{Bytes, Fault, Items, Mode};
@@ -100,11 +100,7 @@ fn read_hex(alloc: Global, value: &Value<'_>) -> Result<Bytes, ReadFault>
     let Some(text) = text_of(value) else {
         return Err(Fault::Because(NotRead));
     };
-    match hex::decode(alloc, text) {
-        Ok(bytes) => Ok(Bytes::from_vec(bytes)),
-        Err(FromHexError::OutOfMemory) => Err(Fault::Memory),
-        Err(_) => Err(Fault::Because(NotRead)),
-    }
+    read_digits(alloc, text)
 }
 
 /// The bytes of a text that a value is.

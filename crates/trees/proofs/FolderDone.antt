@@ -162,7 +162,7 @@ few-here from folder path is lies r some =
 
 -- ---- the COPY of one folder
 
-pub folder-changes : (tree : TreeMap) (o : CopyOptions) (from : TreeMap) (dest : Path) (sources : List CopySource) (folder : TreeMap) (into : Bool) → IsWholeFolder tree o from dest sources folder → changes_of o into from dest sources ≡ Make dest ∷ placements o dest (drop 1 (entries folder))
+pub folder-changes : (tree : TreeMap) (o : CopyOptions) (from : TreeMap) (dest : Path) (sources : List CopySource) (folder : TreeMap) (into : Bool) → IsWholeFolder tree from dest sources folder → changes_of o into from dest sources ≡ Make dest ∷ placements o dest (drop 1 (entries folder))
 folder-changes tree o from dest sources folder into w =
     ap (changes_of o into from dest) w.only
     ∙ whole (path_changes-is)
@@ -179,7 +179,7 @@ folder-changes tree o from dest sources folder into w =
     whole : {x : List Change} → path_changes o into from dest w.match ≡ x → (path_changes o into from dest w.match ++ []) ++ [] ≡ x
     whole e = no-more _ ∙ no-more _ ∙ e
 
-pub folder-applies : (tree : TreeMap) (o : CopyOptions) (from : TreeMap) (dest : Path) (sources : List CopySource) (folder new : TreeMap) (into : Bool) (meta : Meta) (r : Result (Unit {0}) (Fault Cause)) → IsTree tree → IsClean dest → meta ≡ parent_meta o → IsWholeFolder tree o from dest sources folder
+pub folder-applies : (tree : TreeMap) (o : CopyOptions) (from : TreeMap) (dest : Path) (sources : List CopySource) (folder new : TreeMap) (into : Bool) (meta : Meta) (r : Result (Unit {0}) (Fault Cause)) → IsTree tree → IsClean dest → meta ≡ parent_meta o → IsWholeFolder tree from dest sources folder
     → PlacesAll meta (Make dest ∷ placements o dest (drop 1 (entries folder))) tree new r → AppliesChanges (parent_meta o) (changes_of o into from dest sources) tree new r
 folder-applies tree o from dest sources folder new into meta (Ok done) tree_is clean same w h =
     let fine : first_cause (parent_meta o) tree [] (changes_of o into from dest sources) ≡ None = (λ i. first_cause (sym same i) tree [] (folder-changes tree o from dest sources folder into w i)) ∙ h.0 in

@@ -21,5 +21,6 @@ mod CutSteps
 mod CopySteps
 mod CopyRows
 mod FillSteps
+mod PlacedSteps
 mod FolderSteps
 mod FolderDone

@@ -167,7 +167,7 @@ module _ {V : Type 0} where
   sorted-names [] = refl
   sorted-names (p ∷ ps) = λ i. below-names p.0 ps i && sorted-names ps i
 
-  names-append : (xs ys : List (List ℕ × V)) → keys_of (xs ++ ys) ≡ keys_of xs ++ keys_of ys
+  pub names-append : (xs ys : List (List ℕ × V)) → keys_of (xs ++ ys) ≡ keys_of xs ++ keys_of ys
   names-append [] ys = refl
   names-append (x ∷ xs) ys = ap (λ l. x.0 ∷ l) (names-append xs ys)
 

@@ -1,5 +1,6 @@
 pub mod TreeMap
 pub mod Cause
+pub mod Row
 pub mod Rows
 pub mod Walk
 pub mod Branch
@@ -9,6 +10,7 @@ pub mod Remove
 pub mod Subtree
 pub mod Over
 pub mod Copy
+pub mod PrivateContent
 pub mod PrivateNode
 pub mod PrivateWalk
 pub mod PrivateFall

@@ -1,7 +1,8 @@
 -- By what the functions inside this crate that carry out a COPY are stated: one change after another.
-use Rattle.std.specs.Prelude.{◌≡◌, ℕ, ◌≤◌, Bool, true, ◌∷◌, ◌++◌, length, is_some, Option, Some, None, Result, Ok, Err, List, []}
+use Rattle.std.specs.Prelude.{◌≡◌, ℕ, ◌≤◌, Bool, true, false, ◌∷◌, ◌++◌, map, length, is_some, Option, Some, None, Result, Ok, Err, List, []}
 use Rattle.std.specs.Option.{option_or}
-use Rattle.std.specs.FinMap.{get}
+use Rattle.std.specs.Map.{keys_of}
+use Rattle.std.specs.FinMap.{get, entries}
 use Rattle.paths.specs.Path.{IsClean}
 use Rattle.plain.specs.declared.fault.Fault.{Fault}
 use Rattle.plain.specs.declared.fault.Fault.TheVariants.{Because, Memory}
@@ -13,7 +14,8 @@ use Rattle.trees.specs.declared.entry.Entry.{Entry}
 use Rattle.trees.specs.declared.copy.CopyOptions.{CopyOptions}
 use Rattle.trees.specs.declared.copy.CopySource.{CopySource}
 use Rattle.trees.specs.declared.copy.CopySource.TheVariants.{Found}
-use Rattle.trees.specs.PrivateNode.{IsBelow}
+use Rattle.trees.specs.PrivateNode.{NodeValue, map_of, flat, are_parts, IsBelow}
+use Rattle.trees.specs.PrivateWalk.{rows_of}
 use Rattle.trees.specs.TreeMap.{TreeMap, IsTree, is_directory}
 use Rattle.trees.specs.Put.{placed}
 use Rattle.trees.specs.Make.{with_directory}
@@ -56,9 +58,31 @@ abbrev pub PlacesAll : Meta → List Change → TreeMap → TreeMap → Result (
 PlacesAll meta changes old new (Ok done) = (first_cause meta old [] changes ≡ None) × (new ≡ changed_tree meta old changes)
 PlacesAll meta changes old new (Err fault) = TellsCause fault (first_cause meta old [] changes)
 
--- a COPY of one folder as a whole: folder is what lies below its one match, entries keep mode and owner, and nothing lies below the
--- destination, from which no path of the folder gets too deep
-pub record IsWholeFolder (tree : TreeMap) (options : CopyOptions) (from : TreeMap) (dest : List (List ℕ)) (sources : List CopySource) (folder : TreeMap) : Type 0 where
+-- entries as they are placed, at the same paths
+abbrev pub placed_rows : CopyOptions → List (List (List ℕ) × Entry) → List (List (List ℕ) × Entry)
+placed_rows options rows = map (λ row. (row.0, placed_entry options row.1)) rows
+
+-- a node whose entries are as those of another one are placed
+pub record IsPlacedNode (options : CopyOptions) (old new : NodeValue) : Type 0 where
+  pub rows : entries (map_of new) ≡ placed_rows options (entries (map_of old))
+
+-- children of the same names whose entries are as those of the others are placed
+pub record ArePlacedKids (options : CopyOptions) (old new : List (List ℕ × NodeValue)) : Type 0 where
+  pub names : keys_of new ≡ keys_of old
+  pub rows : rows_of new ≡ placed_rows options (rows_of old)
+
+-- parts whose children are as those of the others are placed
+pub record ArePlacedParts (options : CopyOptions) (old new : List (List (List ℕ × NodeValue))) : Type 0 where
+  pub parts : are_parts new ≡ true
+  pub kids : ArePlacedKids options (flat old) (flat new)
+
+-- what a COPY asks that puts on no other owner and mode
+abbrev pub keeping : CopyOptions
+keeping = record { into = false; owner = None; mode = None }
+
+-- a COPY of one folder as a whole: folder is what lies below its one match, and nothing lies below the destination, from which no path of
+-- the folder gets too deep
+pub record IsWholeFolder (tree : TreeMap) (from : TreeMap) (dest : List (List ℕ)) (sources : List CopySource) (folder : TreeMap) : Type 0 where
   pub match : List (List ℕ)
   pub only : sources ≡ Found (match ∷ []) ∷ []
   pub clean : IsClean dest
@@ -66,6 +90,5 @@ pub record IsWholeFolder (tree : TreeMap) (options : CopyOptions) (from : TreeMa
   pub lies : IsBelow from match folder
   pub directory : is_directory (get folder []) ≡ true
   pub tree_is : IsTree folder
-  pub plain : (entry : Entry) → placed_entry options entry ≡ entry
   pub free : (name : List ℕ) (rest : List (List ℕ)) → get tree (dest ++ name ∷ rest) ≡ None
   pub few : (path : List (List ℕ)) → is_some (get folder path) ≡ true → length (dest ++ path) ≤ 64

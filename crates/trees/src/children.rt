@@ -12,12 +12,14 @@ ghost use Rattle.trees.specs.Rows.{lent_rows};
 ghost use Rattle.trees.specs.Copy.{placements};
 ghost use Rattle.trees.specs.PrivateNode.{joined, rows_under, AreKids, ArePlanted, AreCut, AreFilled, AreLaid};
 ghost use Rattle.trees.specs.PrivateLent.{LendsKid};
+ghost use Rattle.trees.specs.PrivateCopy.{ArePlacedKids};
 
 use crate::copy::Change;
 use crate::kids::Kids;
 use crate::node::Node;
 use crate::part::{
-    Part, has_room, make_room, own, part_of_one, place, put, put_into, share, take_away,
+    Part, has_room, make_room, own, part_of_one, place, placed_parts, put, put_into, share,
+    take_away,
 };
 use crate::{CopyOptions, Entry, Meta};
 use paths::{LongPath, Path};
@@ -238,6 +240,16 @@ impl Children {
             Err(Fault::Because(_)) => Ok(()),
             Err(Fault::Memory) => Err(Memory),
         }
+    }
+
+    /// The same names, each with its node as a COPY places it.
+    #[cycle(placing)]
+    pub(crate) fn placed(&self, alloc: Global, options: &CopyOptions) -> Result<Children, Memory>
+        ensures placed { IfOk result (λ kids. ArePlacedKids options.now self.now kids) }
+        ensures ordered { IsStrictlySortedBy name_cmp (keys_of self.now) }
+    {
+        let parts = placed_parts(alloc, options, self.parts.as_slice())?;
+        Ok(Children { parts })
     }
 
     /// Lays other children over these. Where there is no memory, these are left half done.

@@ -1,54 +1,82 @@
 ghost use Rattle.std.specs.Prelude.{◌≡◌, IfOk};
 
+use arrayvec::ArrayVec;
 use plain::{Bytes, Exact, Memory};
 use std::alloc::Global;
 use std::marker::Model;
 use std::sync::Arc;
 
+/// The most bytes of a file that lie in the value itself: as many as a pointer takes, since every entry has room for them.
+const SHORT: usize = 8;
+
+/// Where the bytes lie: few of them in the value itself, which takes no memory of its own, and who goes through a tree takes no step
+/// through a pointer to them; more of them in memory that copies share.
+#[derive(Debug, Drop)]
+enum Stored {
+    Short(ArrayVec<u8, SHORT>),
+    Shared(Arc<Bytes, Global>),
+}
+
 /// The bytes of a file, which need not be text. Contracts see the list of them.
 ///
-/// Copies share them: no change to a tree copies the bytes of a file.
-#[derive(Debug, Drop)]
+/// Copies share them, but for few: no change to a tree copies the bytes of a large file.
+#[derive(Debug)]
 pub struct Content {
-    bytes: Arc<Bytes, Global>,
+    stored: Stored,
+}
+
+/// A content ends by a call, so that no proof above goes by where its bytes lie at each place where one is let go.
+impl Drop for Content {
+    fn drop(self) {
+        let Content { stored: _ } = self;
+    }
 }
 
 impl Model for Content {
     ghost use Rattle.std.specs.Prelude.{List, ℕ};
     ghost use Rattle.std.specs.Coded.{coded_list, coded_ℕ};
-    ghost use Rattle.std.specs.Arc.{arc_value};
+    ghost use Rattle.trees.specs.PrivateContent.{stored_bytes};
 
     ghost Value = { List ℕ };
 
     ghost coded = { coded_list coded_ℕ };
 
-    ghost view = { λ content. arc_value content.bytes };
+    ghost view = { λ content. stored_bytes content.stored };
 }
 
 impl Content {
-    /// The content of these bytes, which aren't copied.
+    /// The content of these bytes, which are copied only where they are few.
     pub fn new(alloc: Global, bytes: Bytes) -> Result<Content, Memory>
         ensures { IfOk result (λ content. content ≡ bytes) }
     {
-        let bytes = Arc::new(alloc, bytes)?;
-        Ok(Content { bytes })
+        let stored = match ArrayVec::try_from(bytes.as_slice()) {
+            Ok(short) => Stored::Short(short),
+            Err(_) => Stored::Shared(Arc::new(alloc, bytes)?),
+        };
+        Ok(Content { stored })
     }
 
     /// The bytes, lent.
     pub fn as_slice(&self) -> &[u8]
         ensures { result.now ≡ self.now }
     {
-        self.bytes.as_slice()
+        match &self.stored {
+            Stored::Short(bytes) => bytes.as_slice(),
+            Stored::Shared(bytes) => bytes.as_slice(),
+        }
     }
 }
 
 impl Exact for Content {
     fn same(&self, other: &Content) -> bool {
-        self.bytes.same(&other.bytes)
+        self.as_slice() == other.as_slice()
     }
 
     fn copy(&self, _alloc: Global) -> Result<Content, Memory> {
-        let bytes = Arc::try_clone(&self.bytes)?;
-        Ok(Content { bytes })
+        let stored = match &self.stored {
+            Stored::Short(bytes) => Stored::Short(ArrayVec::try_from(bytes.as_slice()).unwrap()),
+            Stored::Shared(bytes) => Stored::Shared(Arc::try_clone(bytes)?),
+        };
+        Ok(Content { stored })
     }
 }

@@ -1,4 +1,5 @@
-// A COPY of one folder to where nothing lies: what is below the folder is shared, and not placed entry by entry.
+// A COPY of one folder to where nothing lies: what is below the folder is hung in as a whole, and not placed entry by entry. Where entries
+// keep modes and owners, it is shared.
 
 ghost use Rattle.std.specs.Prelude.{◌≡◌, ◌≤◌, ℕ, true, None, List, [], ◌∷◌, ◌++◌, drop, length, is_some, IsTrue, IfSome};
 ghost use Rattle.std.specs.FinMap.{get, entries};
@@ -8,7 +9,7 @@ ghost use Rattle.trees.specs.declared.copy.Change.TheVariants.{Make};
 ghost use Rattle.trees.specs.declared.copy.CopySource.TheVariants.{Found};
 ghost use Rattle.trees.specs.TreeMap.{IsTree};
 ghost use Rattle.trees.specs.Copy.{placed_entry, placements, parent_meta, changes_of, goes_into};
-ghost use Rattle.trees.specs.PrivateCopy.{AppliesChanges, PlacesAll, IsWholeFolder};
+ghost use Rattle.trees.specs.PrivateCopy.{AppliesChanges, PlacesAll, IsWholeFolder, keeping};
 ghost use Rattle.trees.specs.PrivateNode.{map_of};
 
 use crate::apply::{apply_all, make};
@@ -19,27 +20,21 @@ use paths::Path;
 use plain::limits::MOST_COMPONENTS;
 use std::alloc::Global;
 
-/// The folder that a COPY shares whole: its one match is a directory, it keeps modes and owners, nothing lies below its destination,
-/// and none of its paths gets too deep there. That is asked last, since the folder may have to be gone through for it.
+/// The folder that a COPY hangs in as a whole: its one match is a directory, nothing lies below its destination, and none of its paths
+/// gets too deep there. That is asked last, since the folder may have to be gone through for it.
 pub(crate) fn whole_folder<'a>(
     alloc: Global,
     root: &Node,
-    options: &CopyOptions,
     from: &'a Tree,
     dest: &Path,
     sources: &[CopySource],
 ) -> Option<&'a Node>
     requires { IsTree (map_of root.now) }
-    ensures { IfSome result (λ folder. IsWholeFolder (map_of root.now) options.now from.now dest.now sources.now (map_of folder.now)) }
+    ensures { IfSome result (λ folder. IsWholeFolder (map_of root.now) from.now dest.now sources.now (map_of folder.now)) }
 {
     let path = only_match(sources)?;
     let folder = from.node_at(path)?;
-    let keeps = is_keeping(options);
-    if keeps
-        && folder.is_directory()
-        && is_free_below(root, dest)
-        && fits(alloc, folder, path, dest)
-    {
+    if folder.is_directory() && is_free_below(root, dest) && fits(alloc, folder, path, dest) {
         Some(folder)
     } else {
         None
@@ -122,8 +117,8 @@ pub(crate) fn place_sources(
     ensures { AppliesChanges (parent_meta options.now) (changes_of options.now (goes_into (map_of root.old) dest.now options.now) from.now dest.now sources.now) (map_of root.old) (map_of root.new) result }
 {
     let parent = options.parent_meta();
-    match whole_folder(alloc, root, options, from, dest, sources) {
-        Some(folder) => place_folder(alloc, root, options, &parent, dest, folder),
+    match whole_folder(alloc, root, from, dest, sources) {
+        Some(folder) => place_whole(alloc, root, options, &parent, dest, folder),
         None => {
             let into = goes_into(root, dest, options);
             let changes = changes_of(alloc, options, into, from, dest, sources)?;
@@ -132,8 +127,8 @@ pub(crate) fn place_sources(
     }
 }
 
-/// Makes the destination, and shares what is below a folder below it. After a fault the root is left half done.
-pub(crate) fn place_folder(
+/// Places a folder with the modes and owners of a COPY. After a fault the root is left half done.
+fn place_whole(
     alloc: Global,
     root: &mut Node,
     options: &CopyOptions,
@@ -143,10 +138,30 @@ pub(crate) fn place_folder(
 ) -> Result<(), TreeFault>
     requires tree { IsTree (map_of root.old) }
     requires below { IsTree (map_of folder.now) }
-    requires plain { (entry : Entry) → placed_entry options.now entry ≡ entry }
     requires free { (name : List ℕ) (rest : List (List ℕ)) → get (map_of root.old) (dest.now ++ name ∷ rest) ≡ None }
     requires few { (path : List (List ℕ)) → is_some (get (map_of folder.now) path) ≡ true → length (dest.now ++ path) ≤ 64 }
     ensures { PlacesAll parent.now (Make dest.now ∷ placements options.now dest.now (drop 1 (entries (map_of folder.now)))) (map_of root.old) (map_of root.new) result }
+{
+    if is_keeping(options) {
+        return hang_in(alloc, root, parent, dest, folder);
+    }
+    let placed = folder.placed(alloc, options)?;
+    hang_in(alloc, root, parent, dest, &placed)
+}
+
+/// Makes the destination, and shares what is below a folder below it. After a fault the root is left half done.
+fn hang_in(
+    alloc: Global,
+    root: &mut Node,
+    parent: &Meta,
+    dest: &Path,
+    folder: &Node,
+) -> Result<(), TreeFault>
+    requires tree { IsTree (map_of root.old) }
+    requires below { IsTree (map_of folder.now) }
+    requires free { (name : List ℕ) (rest : List (List ℕ)) → get (map_of root.old) (dest.now ++ name ∷ rest) ≡ None }
+    requires few { (path : List (List ℕ)) → is_some (get (map_of folder.now) path) ≡ true → length (dest.now ++ path) ≤ 64 }
+    ensures { PlacesAll parent.now (Make dest.now ∷ placements keeping dest.now (drop 1 (entries (map_of folder.now)))) (map_of root.old) (map_of root.new) result }
 {
     make(alloc, root, parent, dest)?;
     root.fill(alloc, dest.components(), folder)?;

@@ -7,6 +7,7 @@ ghost use Rattle.trees.specs.Over.{over};
 ghost use Rattle.trees.specs.Copy.{placements, kind_of};
 ghost use Rattle.trees.specs.PrivateNode.{map_of, IsPlanted, IsBelow, IsCut, IsFilled, rows_under};
 ghost use Rattle.trees.specs.PrivateWalk.{rows_of};
+ghost use Rattle.trees.specs.PrivateCopy.{IsPlacedNode};
 
 use crate::children::Children;
 use crate::copy::Change;
@@ -229,6 +230,16 @@ impl Node {
         ensures { OnOk result (changes.new.items ≡ changes.old.items ++ placements options.now at.now (drop 1 (entries (map_of self.now)))) }
     {
         self.kids.push_changes(alloc, options, at, changes)
+    }
+
+    /// A node with the same paths, each entry of which has the mode and owner with which it is placed.
+    #[cycle(placing)]
+    pub(crate) fn placed(&self, alloc: Global, options: &CopyOptions) -> Result<Node, Memory>
+        ensures { IfOk result (λ node. IsPlacedNode options.now self.now node) }
+    {
+        let entry = options.placed_entry(alloc, &self.entry)?;
+        let kids = self.kids.placed(alloc, options)?;
+        Ok(Node { entry, kids })
     }
 
     /// Lays another node over this one. Where there is no memory, this one is left half done.

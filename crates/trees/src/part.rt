@@ -2,7 +2,9 @@
 ghost use Rattle.std.specs.Prelude.{◌≡◌, ◌+◌, ◌<◌, ◌≤◌, ◌↔◌, IfSome, true, false, length, IsTrue, IfOk, OnOk, OnErr, [], ◌∷◌, ◌++◌, vec_len};
 ghost use Rattle.std.specs.Arc.{arc_value};
 ghost use Rattle.trees.specs.PrivateNode.{lists_of, flat, are_parts, begins_past, IsPlace, IsPut, IsTaken, IsHalved, IsWithin};
+ghost use Rattle.trees.specs.PrivateCopy.{ArePlacedKids, ArePlacedParts};
 
+use crate::CopyOptions;
 use crate::node::Node;
 use plain::{Exact, Memory, Text};
 use std::alloc::Global;
@@ -94,6 +96,40 @@ fn copy_of(alloc: Global, map: &BTreeMap<Text, Node>) -> Result<BTreeMap<Text, N
         copy.insert(name.copy(alloc)?, kid.copy(alloc)?)?;
     }
     Ok(copy)
+}
+
+/// Parts of the same names, each of whose nodes is as a COPY places it, with all below it.
+#[cycle(placing)]
+pub(crate) fn placed_parts(
+    alloc: Global,
+    options: &CopyOptions,
+    parts: &[Part],
+) -> Result<Vec<Part>, Memory>
+    requires { are_parts (lists_of parts.now) ≡ true }
+    ensures { IfOk result (λ placed. ArePlacedParts options.now (lists_of parts.now) (lists_of placed.items)) }
+{
+    let mut placed = Vec::with_capacity(alloc, parts.len())?;
+    for part in parts {
+        placed.push(placed_part(alloc, options, part)?)?;
+    }
+    Ok(placed)
+}
+
+/// A part of the same names, each of whose nodes is as a COPY places it, with all below it.
+#[cycle(placing)]
+fn placed_part(
+    alloc: Global,
+    options: &CopyOptions,
+    map: &BTreeMap<Text, Node>,
+) -> Result<Part, Memory>
+    ensures { IfOk result (λ part. ArePlacedKids options.now map.now.entries (arc_value part).entries) }
+{
+    let mut placed = BTreeMap::new(alloc);
+    for (name, kid) in map.iter() {
+        placed.insert(name.copy(alloc)?, kid.placed(alloc, options)?)?;
+    }
+    let part = Arc::new(alloc, placed)?;
+    Ok(part)
 }
 
 /// Puts a child into a part.

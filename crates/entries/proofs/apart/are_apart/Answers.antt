@@ -2,7 +2,7 @@ use Rattle.std.proofs.Common.{ap, sym, ◌∙◌, map, Bor, subst, rules}
 use Rattle.std.specs.Prelude.{◌≡◌, List, None, IsPermutation, IsSortedBy}
 use Rattle.std.proofs.lemmas.List.Sorted.{IsPermutation-map, answers_always, ranks_by}
 use Rattle.paths.specs.OrderLaws.{path_cmp_total}
-use Rattle.entries.specs.Row.{Row}
+use Rattle.trees.specs.Row.{Row}
 use Rattle.entries.specs.PrivateOrder.{fits_after}
 use Rattle.entries.proofs.ApartFacts.{neighbours-tell, order-apart, row_lt, sorted-map}
 use Rattle.entries.proofs.apart.are_apart.Goals as goal

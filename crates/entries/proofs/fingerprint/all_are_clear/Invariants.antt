@@ -1,6 +1,6 @@
 use Rattle.std.proofs.Common.{◌≡◌, ℕ, List, drop}
 use Rattle.std.specs.List.{list_all}
-use Rattle.entries.specs.Row.{Row}
+use Rattle.trees.specs.Row.{Row}
 use Rattle.entries.specs.PrivateFingerprint.{is_clear}
 use Rattle.entries.proofs.fingerprint.all_are_clear.Given as goal
 

@@ -1,7 +1,7 @@
 use Rattle.std.specs.Prelude.{ℕ, List, nat_eq}
 use Rattle.std.proofs.Common.{subst, ap, sym, ◌∙◌}
 use Rattle.std.specs.List.{list_all, IsDistinct}
-use Rattle.entries.specs.Row.{Row}
+use Rattle.trees.specs.Row.{Row}
 use Rattle.entries.specs.PrivateFingerprint.{is_clear}
 use Rattle.entries.proofs.FingerprintFacts.{told-apart}
 use Rattle.entries.proofs.fingerprint.are_told_apart.Goals as goal

@@ -1,5 +1,5 @@
 use Rattle.std.proofs.Common.{◌≡◌, ◌++◌, map, take, drop}
-use Rattle.entries.specs.Row.{Row}
+use Rattle.trees.specs.Row.{Row}
 use Rattle.entries.specs.PrivateFingerprint.{fingerprint, file_fingerprints}
 use Rattle.entries.proofs.fingerprint.read_fingerprints.Given as goal
 

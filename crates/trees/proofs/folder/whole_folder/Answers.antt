@@ -36,7 +36,6 @@ returns-then-fits c =
       lies = stands.at;
       directory = ap is_directory (get-map_of_root folder) ∙ directory;
       tree_is = folder-IsTree from path folder stands.tree stands.at directory;
-      plain = c.is_keeping-keeps.ensures c.if-keeps.true;
       clean = c.is_free_below.ensures.clean;
       free = c.is_free_below.ensures.free c.if-is_free_below.true;
       few = c.fits.ensures c.if-fits.true;

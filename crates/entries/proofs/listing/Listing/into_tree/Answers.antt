@@ -1,7 +1,7 @@
 use Rattle.std.proofs.Common.{◌≡◌, [], subst, arith}
 use Rattle.std.proofs.lemmas.Grind.{common_steps}
 use Rattle.paths.specs.Path.{IsClean}
-use Rattle.entries.specs.Row.{Row}
+use Rattle.trees.specs.Row.{Row}
 use Rattle.entries.proofs.RowFacts.{rest-start, rest-cause, rest-more, rest-end}
 use Rattle.entries.proofs.listing.Listing.into_tree.Goals as goal
 

@@ -1,0 +1,250 @@
+-- From the steps by which a folder is made as a COPY places it to what they come to.
+use Rattle.std.specs.Prelude.{◌≡◌, ℕ, ◌+◌, ◌<◌, ◌≤◌, Bool, true, false, cond, Option, Some, None, Result, List, [], ◌∷◌, ◌++◌, length, drop, get_or, is_some, option_map}
+use Rattle.std.proofs.Common.{sym, ap, refl, ◌∙◌, subst, append-nil, append_assoc, zero, suc, arith}
+use Rattle.std.proofs.lemmas.List.{drop_more}
+use Rattle.std.specs.Ordering.{eq_by_cmp}
+use Rattle.std.specs.Arc.{arc_value}
+use Rattle.std.specs.declared.sync.Arc.{Arc}
+use Rattle.std.specs.BTreeMap.{BTreeMap, insert_entry}
+use Rattle.std.specs.List.Sorted.{IsStrictlySortedBy}
+use Rattle.std.specs.Map.{keys_of}
+use Rattle.std.specs.FinMap.{get, find, entries, get-entries}
+use Rattle.std.specs.FinMap.Entries.{is_sorted}
+use Rattle.paths.specs.Order.{name_cmp, path_cmp}
+use Rattle.paths.proofs.FrontLaws.{both_hold, both_first, both_second}
+use Rattle.plain.specs.declared.fault.Fault.{Fault}
+use Rattle.trees.specs.declared.meta.Meta.{Meta}
+use Rattle.trees.specs.declared.entry.Entry.{Entry}
+use Rattle.trees.specs.declared.entry.Entry.TheVariants.{Directory, File}
+use Rattle.trees.specs.declared.cause.Cause.{Cause}
+use Rattle.trees.specs.declared.copy.CopyOptions.{CopyOptions}
+use Rattle.trees.specs.declared.copy.Change.{Change}
+use Rattle.trees.specs.declared.copy.Change.TheVariants.{Place, Make}
+use Rattle.trees.specs.TreeMap.{TreeMap, IsTree, is_directory}
+use Rattle.trees.specs.Copy.{placed_entry, placements}
+use Rattle.trees.specs.PrivateNode.{NodeValue, map_of, below_name, lists_of, flat, is_full, are_full, are_parts, height_of, height_of-append}
+use Rattle.trees.specs.PrivateWalk.{rows_of}
+use Rattle.trees.specs.PrivateCopy.{placed_rows, IsPlacedNode, ArePlacedKids, ArePlacedParts, keeping, PlacesAll}
+use Rattle.trees.proofs.NodeSteps.{node_of}
+use Rattle.trees.proofs.KidLists.{sorted-from_keys, insert-last, passed-more}
+use Rattle.trees.proofs.PartLists.{names-append, same-sorted, same-full, full-append, full-second, flat-one}
+use Rattle.trees.proofs.PartSteps.{lists-append}
+use Rattle.trees.proofs.RowLists.{entries-kids, entries-node}
+
+abbrev Path : Type 0
+Path = List (List ℕ)
+
+abbrev Rows : Type 0
+Rows = List (Path × Entry)
+
+abbrev pub Kids : Type 0
+Kids = List (List ℕ × NodeValue)
+
+-- ---- rows and children, one after another
+
+placed_rows-append : (o : CopyOptions) (xs ys : Rows) → placed_rows o (xs ++ ys) ≡ placed_rows o xs ++ placed_rows o ys
+placed_rows-append o [] ys = refl
+placed_rows-append o (x ∷ xs) ys = ap (λ (r : Rows). (x.0, placed_entry o x.1) ∷ r) (placed_rows-append o xs ys)
+
+placed_rows-child : (o : CopyOptions) (name : List ℕ) (rows : Rows) → below_name name (placed_rows o rows) ≡ placed_rows o (below_name name rows)
+placed_rows-child o name [] = refl
+placed_rows-child o name (row ∷ rows) = ap (λ (r : Rows). (name ∷ row.0, placed_entry o row.1) ∷ r) (placed_rows-child o name rows)
+
+rows_of-append : (xs ys : Kids) → rows_of (xs ++ ys) ≡ rows_of xs ++ rows_of ys
+rows_of-append [] ys = refl
+rows_of-append (x ∷ xs) ys = ap (λ (r : Rows). below_name x.0 (entries (map_of x.1)) ++ r) (rows_of-append xs ys) ∙ sym (append_assoc (below_name x.0 (entries (map_of x.1))) (rows_of xs) (rows_of ys))
+
+one-placed : (o : CopyOptions) (name : List ℕ) (kid new : NodeValue) → IsPlacedNode o kid new → ArePlacedKids o ((name, kid) ∷ []) ((name, new) ∷ [])
+one-placed o name kid new h = record {
+  names = refl;
+  rows = append-nil (below_name name (entries (map_of new))) ∙ ap (below_name name) h.rows ∙ placed_rows-child o name (entries (map_of kid)) ∙ ap (placed_rows o) (sym (append-nil (below_name name (entries (map_of kid)))));
+}
+
+kids-more : (o : CopyOptions) (xs ys us vs : Kids) → ArePlacedKids o xs us → ArePlacedKids o ys vs → ArePlacedKids o (xs ++ ys) (us ++ vs)
+kids-more o xs ys us vs h g = record {
+  names = names-append us vs ∙ (λ i. h.names i ++ g.names i) ∙ sym (names-append xs ys);
+  rows = rows_of-append us vs ∙ (λ i. h.rows i ++ g.rows i) ∙ sym (placed_rows-append o (rows_of xs) (rows_of ys)) ∙ ap (placed_rows o) (sym (rows_of-append xs ys));
+}
+
+moved : (o : CopyOptions) (xs xs' ys ys' : Kids) → xs ≡ xs' → ys ≡ ys' → ArePlacedKids o xs ys → ArePlacedKids o xs' ys'
+moved o xs xs' ys ys' p q h = subst (λ (s : Kids). ArePlacedKids o s ys') p (subst (λ (s : Kids). ArePlacedKids o xs s) q h)
+
+-- ---- the children of a part
+
+-- of all children, those before the ones that are left are placed
+pub record ArePlacedSoFar (o : CopyOptions) (its all done : Kids) : Type 0 where
+  pub before : Kids
+  pub whole : before ++ its ≡ all
+  pub placed : ArePlacedKids o before done
+
+pub part-start : (o : CopyOptions) (its all done : Kids) → its ≡ all → done ≡ [] → ArePlacedSoFar o its all done
+part-start o its all done same none = record {
+  before = [];
+  whole = same;
+  placed = moved o [] [] [] done refl (sym none) (record { names = refl; rows = refl });
+}
+
+pub part-step : (o : CopyOptions) (done its rest all done' : Kids) (key name : List ℕ) (v kid : NodeValue) → ArePlacedSoFar o its all done → IsStrictlySortedBy name_cmp (keys_of all) → its ≡ (name, kid) ∷ rest → done' ≡ insert_entry name_cmp done key v → key ≡ name
+    → IsPlacedNode o kid v → ArePlacedSoFar o rest all done'
+part-step o done its rest all done' key name v kid so ordered next put same_key placed =
+    let more : ArePlacedKids o (so.before ++ (name, kid) ∷ []) (done ++ (name, v) ∷ []) = kids-more o so.before ((name, kid) ∷ []) done ((name, v) ∷ []) so.placed (one-placed o name kid v placed) in
+    let whole : (so.before ++ (name, kid) ∷ []) ++ rest ≡ all = passed-more all so.before rest its name kid so.whole next in
+    let sorted : is_sorted name_cmp ((so.before ++ (name, kid) ∷ []) ++ rest) ≡ true = ap (is_sorted name_cmp) whole ∙ sorted-from_keys all ordered in
+    let then : is_sorted name_cmp ((done ++ (name, v) ∷ []) ++ rest) ≡ true = same-sorted [] (so.before ++ (name, kid) ∷ []) (done ++ (name, v) ∷ []) rest more.names sorted in
+    let last : insert_entry name_cmp done name v ≡ done ++ (name, v) ∷ [] = insert-last done name v rest (ap (is_sorted name_cmp) (sym (append_assoc done ((name, v) ∷ []) rest)) ∙ then) in
+    record {
+      before = so.before ++ (name, kid) ∷ [];
+      whole = whole;
+      placed = moved o (so.before ++ (name, kid) ∷ []) (so.before ++ (name, kid) ∷ []) (done ++ (name, v) ∷ []) done' refl (sym (put ∙ ap (λ (k : List ℕ). insert_entry name_cmp done k v) same_key ∙ last)) more;
+    }
+
+pub part-end : (o : CopyOptions) (its all done : Kids) → ArePlacedSoFar o its all done → its ≡ [] → ArePlacedKids o all done
+part-end o its all done so none = moved o so.before all done done (sym (append-nil so.before) ∙ ap (λ (l : Kids). so.before ++ l) (sym none) ∙ so.whole) refl so.placed
+
+-- ---- the parts of a folder
+
+-- of all parts, those before the ones that are left are placed
+pub record ArePartsSoFar (o : CopyOptions) (left all done : List Kids) : Type 0 where
+  pub before : List Kids
+  pub whole : before ++ left ≡ all
+  pub full : are_full done ≡ true
+  pub placed : ArePlacedKids o (flat before) (flat done)
+
+pub parts-start : (o : CopyOptions) (left all done : List Kids) → left ≡ all → done ≡ [] → ArePartsSoFar o left all done
+parts-start o left all done same none = record {
+  before = [];
+  whole = same;
+  full = ap are_full none;
+  placed = moved o [] [] [] (flat done) refl (ap flat (sym none)) (record { names = refl; rows = refl });
+}
+
+part-more : (o : CopyOptions) (left rest all done : List Kids) (old new : Kids) → ArePartsSoFar o left all done → left ≡ old ∷ rest → are_full all ≡ true → ArePlacedKids o old new → ArePartsSoFar o rest all (done ++ new ∷ [])
+part-more o left rest all done old new so next full h =
+    let here : are_full (old ∷ rest) ≡ true = ap are_full (sym next) ∙ full-second so.before left (ap are_full so.whole ∙ full) in
+    record {
+      before = so.before ++ old ∷ [];
+      whole = append_assoc so.before (old ∷ []) rest ∙ ap (λ (l : List Kids). so.before ++ l) (sym next) ∙ so.whole;
+      full = full-append done (new ∷ []) so.full (both_hold (is_full new) true (same-full old new h.names (both_first (is_full old) (are_full rest) here)) refl);
+      placed = moved o (flat so.before ++ old) (flat (so.before ++ old ∷ [])) (flat done ++ new) (flat (done ++ new ∷ [])) (ends so.before old) (ends done new) (kids-more o (flat so.before) old (flat done) new so.placed h);
+    }
+  where
+    ends : (ls : List Kids) (l : Kids) → flat ls ++ l ≡ flat (ls ++ l ∷ [])
+    ends ls l = ap (λ (r : Kids). flat ls ++ r) (sym (append-nil l)) ∙ sym (flat-one ls l [])
+
+abbrev Part : Type 0 → Type 0
+Part Z = Arc (BTreeMap (List ℕ) NodeValue) Z
+
+module _ {Z : Type 0} where
+  pub parts-step : (o : CopyOptions) (done done' parts : List (Part Z)) (at : ℕ) (x part : Part Z) (lent : BTreeMap (List ℕ) NodeValue) → ArePartsSoFar o (lists_of (drop at parts)) (lists_of parts) (lists_of done) → at < length parts → part ≡ get_or parts at part → are_full (lists_of parts) ≡ true
+      → lent ≡ arc_value part → ArePlacedKids o lent.entries (arc_value x).entries → done' ≡ done ++ x ∷ [] → ArePartsSoFar o (lists_of (drop (at + 1) parts)) (lists_of parts) (lists_of done')
+  parts-step o done done' parts at x part lent so less is full same h more =
+      subst (λ (d : List Kids). ArePartsSoFar o (lists_of (drop (at + 1) parts)) (lists_of parts) d) (sym (ap lists_of more ∙ lists-append done (x ∷ [])))
+      (part-more o (lists_of (drop at parts)) (lists_of (drop (at + 1) parts)) (lists_of parts) (lists_of done) (arc_value part).entries (arc_value x).entries so (ap lists_of (drop_more parts at part less ∙ ap (λ (q : Part Z). q ∷ drop (at + 1) parts) (sym is))) full (moved o lent.entries (arc_value part).entries (arc_value x).entries (arc_value x).entries (ap (λ (m : BTreeMap (List ℕ) NodeValue). m.entries) same) refl h))
+
+  -- a part is no higher than its folder
+  pub part-low : (parts : List (Part Z)) (at : ℕ) (part : Part Z) → at < length parts → part ≡ get_or parts at part → height_of (arc_value part).entries ≤ height_of (flat (lists_of parts))
+  part-low [] at part less is = absurd (omega arith)
+  part-low (p ∷ parts) zero part less is =
+      let e = height_of-append (arc_value p).entries (flat (lists_of parts)) in
+      let same : height_of (arc_value part).entries ≡ height_of (arc_value p).entries = ap (λ (x : Part Z). height_of (arc_value x).entries) is in
+      omega arith
+  part-low (p ∷ parts) (suc at) part less is =
+      let e = height_of-append (arc_value p).entries (flat (lists_of parts)) in
+      let rest = part-low parts at part (omega arith) is in
+      omega arith
+
+  -- at the end none is left
+  pub none-left : (at : ℕ) (parts : List (Part Z)) → length parts ≤ at → lists_of (drop at parts) ≡ []
+  none-left zero [] less = refl
+  none-left zero (p ∷ parts) less = absurd (omega arith)
+  none-left (suc at) [] less = refl
+  none-left (suc at) (p ∷ parts) less = none-left at parts (omega arith)
+
+parts-end : (o : CopyOptions) (left all done : List Kids) → ArePartsSoFar o left all done → left ≡ [] → ArePlacedKids o (flat all) (flat done)
+parts-end o left all done so none = moved o (flat so.before) (flat all) (flat done) (flat done) (ap flat (sym (append-nil so.before) ∙ ap (λ (l : List Kids). so.before ++ l) (sym none) ∙ so.whole)) refl so.placed
+
+-- all parts were made
+pub parts-done : (o : CopyOptions) (left all done : List Kids) → ArePartsSoFar o left all done → left ≡ [] → are_parts all ≡ true → ArePlacedParts o all done
+parts-done o left all done so none parts =
+    let h = parts-end o left all done so none in
+    record {
+      parts =
+          both_hold (are_full done) (is_sorted name_cmp (flat done)) so.full
+          (ap (is_sorted name_cmp) (sym (append-nil (flat done)))
+          ∙ same-sorted [] (flat all) (flat done) [] h.names (ap (is_sorted name_cmp) (append-nil (flat all)) ∙ both_second (are_full all) (is_sorted name_cmp (flat all)) parts));
+      kids = h;
+    }
+
+-- ---- a node
+
+pub node-placed : (o : CopyOptions) (old : NodeValue) (top entry : Entry) (kids new_kids : Kids) → node_of top kids ≡ old → entry ≡ placed_entry o top → IsStrictlySortedBy name_cmp (keys_of kids) → ArePlacedKids o kids new_kids → IsPlacedNode o old (node_of entry new_kids)
+node-placed o old top entry kids new_kids is dress ordered h =
+    let then : IsStrictlySortedBy name_cmp (keys_of new_kids) = subst (λ (names : List (List ℕ)). IsStrictlySortedBy name_cmp names) (sym h.names) ordered in
+    record {
+      rows =
+          entries-node (node_of entry new_kids) entry new_kids refl
+          ∙ (λ i. ([], dress i) ∷ (entries-kids new_kids then ∙ h.rows ∙ ap (placed_rows o) (sym (entries-kids kids ordered))) i)
+          ∙ ap (placed_rows o) (sym (entries-node old top kids is));
+    }
+
+-- ---- a folder that was made so is hung in
+
+find-placed : (o : CopyOptions) (q : Path) (rows : Rows) → find path_cmp q (placed_rows o rows) ≡ option_map (placed_entry o) (find path_cmp q rows)
+find-placed o q [] = refl
+find-placed o q (row ∷ rows) = ap (cond (eq_by_cmp path_cmp q row.0) (Some (placed_entry o row.1))) (find-placed o q rows) ∙ pushed (eq_by_cmp path_cmp q row.0) row.1 (find path_cmp q rows)
+  where
+    pushed : (b : Bool) (e : Entry) (x : Option Entry) → cond b (Some (placed_entry o e)) (option_map (placed_entry o) x) ≡ option_map (placed_entry o) (cond b (Some e) x)
+    pushed true e x = refl
+    pushed false e x = refl
+
+get-placed : (o : CopyOptions) (old new : NodeValue) → IsPlacedNode o old new → (q : Path) → get (map_of new) q ≡ option_map (placed_entry o) (get (map_of old) q)
+get-placed o old new h q = get-entries (map_of new) q ∙ ap (find path_cmp q) h.rows ∙ find-placed o q (entries (map_of old)) ∙ ap (option_map (placed_entry o)) (sym (get-entries (map_of old) q))
+
+kept-some : (o : CopyOptions) (x : Option Entry) → is_some (option_map (placed_entry o) x) ≡ is_some x
+kept-some o None = refl
+kept-some o (Some e) = refl
+
+kept-kind : (o : CopyOptions) (x : Option Entry) → is_directory (option_map (placed_entry o) x) ≡ is_directory x
+kept-kind o None = refl
+kept-kind o (Some (Directory m)) = refl
+kept-kind o (Some (File m b)) = refl
+
+pub placed-some : (o : CopyOptions) (old new : NodeValue) → IsPlacedNode o old new → (q : Path) → is_some (get (map_of new) q) ≡ true → is_some (get (map_of old) q) ≡ true
+placed-some o old new h q s = sym (ap is_some (get-placed o old new h q) ∙ kept-some o (get (map_of old) q)) ∙ s
+
+pub placed-tree : (o : CopyOptions) (old new : NodeValue) → IsPlacedNode o old new → IsTree (map_of old) → IsTree (map_of new)
+placed-tree o old new h tree = record {
+  clean = λ q s. tree.clean q (placed-some o old new h q s);
+  root = kind [] ∙ tree.root;
+  parents = λ front q f s. kind front ∙ tree.parents front q f (placed-some o old new h q s);
+}
+  where
+    kind : (q : Path) → is_directory (get (map_of new) q) ≡ is_directory (get (map_of old) q)
+    kind q = ap is_directory (get-placed o old new h q) ∙ kept-kind o (get (map_of old) q)
+
+-- where neither owner nor mode is asked for, an entry is placed as it is
+pub kept : (e : Entry) → placed_entry keeping e ≡ e
+kept (Directory m) = refl
+kept (File m b) = refl
+
+rest-placed : (o : CopyOptions) (rows : Rows) → drop 1 (placed_rows o rows) ≡ placed_rows o (drop 1 rows)
+rest-placed o [] = refl
+rest-placed o (row ∷ rows) = refl
+
+placed-once : (o : CopyOptions) (dest : Path) (rows : Rows) → placements keeping dest (placed_rows o rows) ≡ placements o dest rows
+placed-once o dest [] = refl
+placed-once o dest (row ∷ rows) = λ i. Place (dest ++ row.0) (kept (placed_entry o row.1) i) ∷ placed-once o dest rows i
+
+plain-once : (o : CopyOptions) → ((e : Entry) → placed_entry o e ≡ e) → (dest : Path) (rows : Rows) → placements keeping dest rows ≡ placements o dest rows
+plain-once o plain dest [] = refl
+plain-once o plain dest (row ∷ rows) = λ i. Place (dest ++ row.0) ((kept row.1 ∙ sym (plain row.1)) i) ∷ plain-once o plain dest rows i
+
+pub hung-placed : (o : CopyOptions) (meta : Meta) (dest : Path) (old new : NodeValue) (tree then : TreeMap) (r : Result (Unit {0}) (Fault Cause)) → IsPlacedNode o old new
+    → PlacesAll meta (Make dest ∷ placements keeping dest (drop 1 (entries (map_of new)))) tree then r → PlacesAll meta (Make dest ∷ placements o dest (drop 1 (entries (map_of old)))) tree then r
+hung-placed o meta dest old new tree then r h done =
+    subst (λ (cs : List Change). PlacesAll meta (Make dest ∷ cs) tree then r)
+    (ap (λ (rows : Rows). placements keeping dest (drop 1 rows)) h.rows ∙ ap (placements keeping dest) (rest-placed o (entries (map_of old))) ∙ placed-once o dest (drop 1 (entries (map_of old)))) done
+
+pub hung-plain : (o : CopyOptions) (meta : Meta) (dest : Path) (folder tree then : TreeMap) (r : Result (Unit {0}) (Fault Cause)) → ((e : Entry) → placed_entry o e ≡ e)
+    → PlacesAll meta (Make dest ∷ placements keeping dest (drop 1 (entries folder))) tree then r → PlacesAll meta (Make dest ∷ placements o dest (drop 1 (entries folder))) tree then r
+hung-plain o meta dest folder tree then r plain done = subst (λ (cs : List Change). PlacesAll meta (Make dest ∷ cs) tree then r) (plain-once o plain dest (drop 1 (entries folder))) done

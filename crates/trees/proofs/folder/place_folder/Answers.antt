@@ -1,6 +1,0 @@
-use Rattle.trees.proofs.FolderDone.{folder-done}
-use Rattle.trees.proofs.folder.place_folder.Goals as goal
-
-pub returns : goal.returns
-returns c =
-    folder-done c.args.parent.now c.args.options.now _ c.args.dest.now c.args.folder.now c.requires.plain c.requires.below c.requires.free c.requires.few _ _ c.components.result.now c.in_ok-make.ensures.result c.components.ensures.value c.in_ok-fill.ensures
