@@ -10,7 +10,7 @@ use Rattle.globs.specs.declared.part.Part.{Part}
 use Rattle.globs.specs.declared.part.Part.TheVariants.{Exactly}
 use Rattle.globs.specs.declared.reading.State.TheVariants.{Outside}
 use Rattle.globs.specs.declared.reading.Reading.{Reading}
-use Rattle.globs.specs.Component.{takes_any, holds, plain_parts, RelatesToName, relates_to_name, StandsFor, BeginsWith}
+use Rattle.globs.specs.Component.{takes_any, holds, plain_parts, RelatesToName, relates_to_name, RelatesOnlyTo, BeginsWith}
 use Rattle.globs.specs.Cut.{CanBeCut}
 use Rattle.globs.specs.Grammar.{is_none_of, is_spelled_out}
 use Rattle.globs.specs.Reading.{sign_at, run, finished, parts_of}
@@ -63,7 +63,7 @@ plain-first text None utf8 begins = tt
 plain-first text (Some byte) utf8 begins = λ name r. (begins.0, sym ((relates-plain text name utf8).1 r) ∙ begins.1)
 
 -- it stands for that name, by the test
-pub stands-plain : (parts : List Part) (text : List ℕ) → IsUtf8 text → plain_parts text ≡ parts → StandsFor parts text
+pub stands-plain : (parts : List Part) (text : List ℕ) → IsUtf8 text → plain_parts text ≡ parts → RelatesOnlyTo parts text
 stands-plain parts text utf8 is other =
     subst (λ (own : List Part). (relates_to_name own other ≡ true) ↔ (other ≡ text)) is
     ((λ h. sym ((relates-plain text other utf8).1 (name-to (plain_parts text) other h))), (λ e. name-from (plain_parts text) other ((relates-plain text other utf8).0 (sym e))))

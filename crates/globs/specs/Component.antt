@@ -38,8 +38,8 @@ abbrev pub plain_parts : List ℕ → List Part
 plain_parts name = map (λ c. Exactly c) (chars name)
 
 -- a pattern stands for a name: it relates to it, and to no other one
-abbrev pub StandsFor : List Part → List ℕ → Type 0
-StandsFor parts name = (other : List ℕ) → (relates_to_name parts other ≡ true) ↔ (other ≡ name)
+abbrev pub RelatesOnlyTo : List Part → List ℕ → Type 0
+RelatesOnlyTo parts name = (other : List ℕ) → (relates_to_name parts other ≡ true) ↔ (other ≡ name)
 
 -- a name is the only one that a pattern relates to
 abbrev pub IsOnlyName : List Part → List ℕ → Type 0

@@ -1,6 +1,6 @@
 ghost use Rattle.std.specs.Prelude.{◌≡◌, ◌↔◌, ℕ, IsTrue, List, ◌∷◌, Some, IfOk, IfSome};
 ghost use Rattle.std.specs.Str.{chars};
-ghost use Rattle.globs.specs.Component.{RelatesToName, relates_to_name, plain_parts, StandsFor, IsOnlyName, BeginsWith};
+ghost use Rattle.globs.specs.Component.{RelatesToName, relates_to_name, plain_parts, RelatesOnlyTo, IsOnlyName, BeginsWith};
 ghost use Rattle.globs.specs.Grammar.{is_spelled_out};
 ghost use Rattle.globs.specs.PrivateShape.{ending_parts, beginning_parts};
 ghost use Rattle.globs.specs.Reading.{parts_of};
@@ -164,7 +164,7 @@ impl Component {
     /// The name that the pattern stands for, where it has no sign of patterns; none for others, also where they relate to one name alone.
     /// Whoever has a folder's names in order looks for it, and need not go through them.
     pub fn spelled_name(&self) -> Option<&Text>
-        ensures { IfSome result (λ name. StandsFor self.now name.now) }
+        ensures { IfSome result (λ name. RelatesOnlyTo self.now name.now) }
     {
         match &self.shape {
             Shape::Plain(own) => {

@@ -1,5 +1,5 @@
 -- From the ranks of single paths to what decides.
-use Rattle.std.specs.Prelude.{◌≡◌, ℕ, ◌+◌, ◌-◌, ◌<◌, ◌≤◌, Bool, true, false, List, [], ◌∷◌, ◌++◌, ◌⊎◌, Some, take, length, get_or, slice_get, ◌↔◌, nat_lt, IsUtf8}
+use Rattle.std.specs.Prelude.{◌≡◌, ℕ, ◌+◌, ◌-◌, ◌<◌, ◌≤◌, Bool, true, false, List, [], ◌∷◌, ◌++◌, ◌⊎◌, Some, None, take, length, get_or, slice_get, ◌↔◌, nat_lt, IsUtf8}
 use Rattle.std.proofs.Common.{sym, ap, refl, ◌∙◌, subst, inl, inr, append_assoc, arith, zero, suc}
 use Rattle.std.proofs.lemmas.Bool.{ltb-true, ltb-false}
 use Rattle.std.proofs.lemmas.Option.{same_Some, none-some}
@@ -7,7 +7,7 @@ use Rattle.std.proofs.lemmas.List.{append-nil, take_more, take_all}
 use Rattle.globs.proofs.Cuts.{last-parts, same-ends, nil-parts}
 use Rattle.ignorefile.specs.declared.line.Line.{Line}
 use Rattle.ignorefile.specs.Line.{Relates, is_deep}
-use Rattle.ignorefile.specs.Kept.{Touches, TouchesAt, Kept}
+use Rattle.ignorefile.specs.Kept.{Touches, TouchesAt, Kept, IsDeciding, LetsKeep}
 use Rattle.ignorefile.specs.declared.positions.Positions.{Positions}
 use Rattle.ignorefile.specs.PrivateRanks.{RelatesAt, Member, AreInOrder, IsBest, IsVerdict, IsDecided, Lets}
 use Rattle.ignorefile.specs.PrivatePositions.{under}
@@ -163,6 +163,21 @@ decided-kept lines path rank d = (λ l. there (nat_lt 0 rank) refl l, λ k. back
             let same : n ≡ rank - 1 = omega arith in
             inr (line, (subst (λ (x : ℕ). slice_get lines x ≡ Some line) same at, ex))
 
+-- which line that is
+pub deciding-none : (lines : List Line) (path : List (List ℕ)) (rank : ℕ) → rank ≡ 0 → IsDecided lines path rank → IsDeciding lines path None
+deciding-none lines path rank none d n t = d.miss n (omega arith) t
+
+pub deciding-some : (lines : List Line) (path : List (List ℕ)) (rank : ℕ) → 0 < rank → IsDecided lines path rank → IsDeciding lines path (Some (rank - 1))
+deciding-some lines path rank some d = (d.hit some, λ m l t. d.miss m (omega arith) t)
+
+pub keeps-none : (lines : List Line) (path : List (List ℕ)) (rank : ℕ) → rank ≡ 0 → IsDecided lines path rank → Kept lines path ↔ LetsKeep lines None
+keeps-none lines path rank none d = (λ k. tt, λ t. (decided-kept lines path rank d).0 (inl none))
+
+pub keeps-some : (lines : List Line) (path : List (List ℕ)) (rank : ℕ) → 0 < rank → IsDecided lines path rank → Kept lines path ↔ LetsKeep lines (Some (rank - 1))
+keeps-some lines path rank some d =
+    let both = decided-kept lines path rank d in
+    (λ k. elim (both.1 k) [ inl z ↦ absurd (omega arith) | inr w ↦ w ], λ w. both.0 (inr w))
+
 -- ---- the same values under other names
 
 pub moved-order : (ls lines : List Line) (ms ns : List ℕ) → ls ≡ lines → ms ≡ ns → AreInOrder (length lines) ns → AreInOrder (length ls) ms
@@ -179,5 +194,8 @@ decided-more lines names front d before rank l is dec v =
     let e = take_more names d [] l in
     subst (λ (x : List (List ℕ)). IsDecided lines x rank) (sym e) (decided-step lines (take d names) (get_or names d []) before rank dec (subst (λ (x : List (List ℕ)). IsVerdict lines x before rank) (is ∙ e) v))
 
+pub decided-path : (lines : List Line) (names path : List (List ℕ)) (d rank : ℕ) → length names ≤ d → names ≡ path → IsDecided lines (take d names) rank → IsDecided lines path rank
+decided-path lines names path d rank l is dec = subst (λ (x : List (List ℕ)). IsDecided lines x rank) (take_all d names l ∙ is) dec
+
 pub decided-all : (lines : List Line) (names path : List (List ℕ)) (d rank : ℕ) → length names ≤ d → names ≡ path → IsDecided lines (take d names) rank → Lets lines rank ↔ Kept lines path
-decided-all lines names path d rank l is dec = decided-kept lines path rank (subst (λ (x : List (List ℕ)). IsDecided lines x rank) (take_all d names l ∙ is) dec)
+decided-all lines names path d rank l is dec = decided-kept lines path rank (decided-path lines names path d rank l is dec)

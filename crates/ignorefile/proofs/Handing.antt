@@ -96,16 +96,16 @@ pub add-none : (old old' new : List (List ℕ × List ℕ)) (name key : List ℕ
 add-none old old' new name key number empty numbers same_old found same none is at =
     added old new name key number numbers same (is ∙ ap (λ e. e ++ number ∷ []) (none ∙ ap positions_of found)) (λ q. at q ∙ ap (λ o. cond (is_at (slice_cmp nat_cmp key) q) (Some numbers) (lookup (is_at (slice_cmp nat_cmp q)) o)) same_old)
 
-member-more : (ns : List ℕ) (n m : ℕ) → Member m ns → Member m (ns ++ n ∷ [])
+pub member-more : (ns : List ℕ) (n m : ℕ) → Member m ns → Member m (ns ++ n ∷ [])
 member-more [] n m (i, (l, e)) = absurd (omega arith)
 member-more (x ∷ xs) n m (zero, (l, e)) = (zero, (omega arith, e))
 member-more (x ∷ xs) n m (suc i, (l, e)) = let w = member-more xs n m (i, (omega arith, e)) in (suc w.0, (let q = w.1.0 in omega arith, w.1.1))
 
-member-new : (ns : List ℕ) (n : ℕ) → Member n (ns ++ n ∷ [])
+pub member-new : (ns : List ℕ) (n : ℕ) → Member n (ns ++ n ∷ [])
 member-new [] n = (zero, (omega arith, refl))
 member-new (x ∷ xs) n = let w = member-new xs n in (suc w.0, (let q = w.1.0 in omega arith, w.1.1))
 
-member-either : (ns : List ℕ) (n m : ℕ) → Member m (ns ++ n ∷ []) → Member m ns ⊎ (m ≡ n)
+pub member-either : (ns : List ℕ) (n m : ℕ) → Member m (ns ++ n ∷ []) → Member m ns ⊎ (m ≡ n)
 member-either [] n m (zero, (l, e)) = inr (sym e)
 member-either [] n m (suc i, (l, e)) = absurd (omega arith)
 member-either (x ∷ xs) n m (zero, (l, e)) = inl (zero, (omega arith, e))
@@ -117,16 +117,16 @@ get-snoc [] x y (suc m) e = absurd (none-some y e)
 get-snoc (z ∷ zs) x y zero e = inl e
 get-snoc (z ∷ zs) x y (suc m) e = elim (get-snoc zs x y m e) [ inl w ↦ inl w | inr w ↦ inr (let q = w.0 in omega arith, w.1) ]
 
-length-snoc : {A : Type 0} (xs : List A) (x : A) → length (xs ++ x ∷ []) ≡ length xs + 1
+pub length-snoc : {A : Type 0} (xs : List A) (x : A) → length (xs ++ x ∷ []) ≡ length xs + 1
 length-snoc [] x = refl
 length-snoc (y ∷ ys) x = let e = length-snoc ys x in omega arith
 
-get-front : (ns : List ℕ) (n k : ℕ) → k < length ns → get_or (ns ++ n ∷ []) k 0 ≡ get_or ns k 0
+pub get-front : (ns : List ℕ) (n k : ℕ) → k < length ns → get_or (ns ++ n ∷ []) k 0 ≡ get_or ns k 0
 get-front [] n k l = absurd (omega arith)
 get-front (x ∷ xs) n zero l = refl
 get-front (x ∷ xs) n (suc k) l = get-front xs n k (omega arith)
 
-get-end : (ns : List ℕ) (n k : ℕ) → k ≡ length ns → get_or (ns ++ n ∷ []) k 0 ≡ n
+pub get-end : (ns : List ℕ) (n k : ℕ) → k ≡ length ns → get_or (ns ++ n ∷ []) k 0 ≡ n
 get-end [] n zero e = refl
 get-end [] n (suc k) e = absurd (omega arith)
 get-end (x ∷ xs) n zero e = absurd (omega arith)

@@ -86,7 +86,7 @@ line-at [] n line l e = absurd (omega arith)
 line-at (x ∷ xs) zero line l e = ap Some (sym e)
 line-at (x ∷ xs) (suc n) line l e = line-at xs n line (omega arith) e
 
-relates-at : (lines : List Line) (path : List (List ℕ)) (n : ℕ) (line : Line) → slice_get lines n ≡ Some line → RelatesAt lines path n → Relates line path
+pub relates-at : (lines : List Line) (path : List (List ℕ)) (n : ℕ) (line : Line) → slice_get lines n ≡ Some line → RelatesAt lines path n → Relates line path
 relates-at lines path n line at (l, (is, r)) = subst (λ (x : Line). Relates x path) (same_Some l line (sym is ∙ at)) r
 
 pub raised-yes : (lines : List Line) (n : ℕ) (path : List (List ℕ)) (before : ℕ) (line : Line) → n < length lines → line ≡ get_or lines n line → before ≤ n → Relates line path → IsRaised lines n path before (n + 1)

@@ -1,8 +1,8 @@
 -- What a file's lines say, one line after another.
-use Rattle.std.proofs.Common.{◌≡◌, ◌∙◌, ◌+◌, ◌++◌, ℕ, List, [], ◌∷◌, Some, None, Result, Ok, Err, sym, ap, refl, append_assoc}
+use Rattle.std.proofs.Common.{◌≡◌, ◌∙◌, ◌+◌, ◌++◌, ℕ, Bool, if◌then◌else◌, List, [], ◌∷◌, Some, None, Result, Ok, Err, sym, ap, refl, append_assoc}
 use Rattle.std.specs.Str.Lines.{lines}
 use Rattle.ignorefile.specs.declared.line.Line.{Line}
-use Rattle.ignorefile.specs.File.{line_of, lines_from, all_say}
+use Rattle.ignorefile.specs.File.{line_of, lines_from, all_say, is_line, numbers_from}
 
 -- lines that were said, before what others say
 abbrev pub behind : List Line → Result (List Line) ℕ → Result (List Line) ℕ
@@ -30,3 +30,10 @@ said-nothing front number text rest bytes cut is =
 
 pub said-bad : (front : List Line) (number : ℕ) (text rest bytes : List ℕ) → lines bytes ≡ text ∷ lines rest → line_of text ≡ None → says front number (lines bytes) ≡ Err number
 said-bad front number text rest bytes cut is = ap (λ texts. says front number texts) cut ∙ ap (λ found. behind front (all_say number found (lines_from (number + 1) (lines rest)))) is
+
+-- one line's number, before those of the others
+pub numbered : (front front' : List ℕ) (number : ℕ) (text rest bytes : List ℕ) (has : Bool) → lines bytes ≡ text ∷ lines rest → has ≡ is_line (line_of text) → front' ≡ front ++ (if has then number ∷ [] else [])
+    → front' ++ numbers_from (number + 1) (lines rest) ≡ front ++ numbers_from number (lines bytes)
+numbered front front' number text rest bytes has cut is more =
+    ap (λ (f : List ℕ). f ++ numbers_from (number + 1) (lines rest)) more ∙ append_assoc front (if has then number ∷ [] else []) (numbers_from (number + 1) (lines rest))
+    ∙ ap (λ (b : Bool). front ++ ((if b then number ∷ [] else []) ++ numbers_from (number + 1) (lines rest))) is ∙ ap (λ texts. front ++ numbers_from number texts) (sym cut)

@@ -1,5 +1,5 @@
 -- What the bytes of an ignore file say (.dockerignore rules; own where a bad line is refused). Of the bytes below, 33 is `!` and 35 is `#`.
-use Rattle.std.specs.Prelude.{◌≡◌, ◌==◌, ◌+◌, ℕ, Bool, true, false, Option, Some, None, Result, Ok, Err, List, [], ◌∷◌, if◌then◌else◌, take, drop, bytes_eq, codes, option_and_then, option_map}
+use Rattle.std.specs.Prelude.{◌≡◌, ◌==◌, ◌+◌, ℕ, Bool, true, false, Option, Some, None, Result, Ok, Err, List, [], ◌∷◌, ◌++◌, if◌then◌else◌, take, drop, bytes_eq, codes, option_and_then, option_map}
 use Rattle.std.specs.Str.{chars, is_utf8}
 use Rattle.std.specs.Str.Lines.{lines}
 use Rattle.plain.specs.declared.fault.Fault.{Fault}
@@ -76,6 +76,21 @@ lines_from number (bytes ∷ more) = all_say number (line_of bytes) (lines_from 
 -- dropped, and an empty part after the last LF is none.
 abbrev pub ignore_of : List ℕ → Result (List Line) ℕ
 ignore_of bytes = lines_from 1 (lines (without_byte_order_mark bytes))
+
+-- a line has a pattern, be it an exception or not
+abbrev pub is_line : Option (Option Line) → Bool
+is_line None = false
+is_line (Some None) = false
+is_line (Some (Some line)) = true
+
+-- the numbers of those of texts' lines that have a pattern, where the first line has this number
+abbrev pub numbers_from : ℕ → List (List ℕ) → List ℕ
+numbers_from number [] = []
+numbers_from number (bytes ∷ more) = (if is_line (line_of bytes) then number ∷ [] else []) ++ numbers_from (number + 1) more
+
+-- where the lines of an ignore file stand in it: their numbers, counted from 1
+abbrev pub numbers_of : List ℕ → List ℕ
+numbers_of bytes = numbers_from 1 (lines (without_byte_order_mark bytes))
 
 -- what a reading answers: the lines, or the first bad one, or that there was no memory, which says nothing of the file
 abbrev pub IsIgnoreRead : Result (List Line) ℕ → Result (List Line) (Fault BadLine) → Type 0

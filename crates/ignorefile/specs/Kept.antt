@@ -1,5 +1,5 @@
 -- What an ignore file keeps: the last line that relates to a path, or to one that it lies under, decides (.dockerignore rules).
-use Rattle.std.specs.Prelude.{◌≡◌, ◌<◌, ℕ, true, List, Some, ◌++◌, ◌⊎◌, slice_get}
+use Rattle.std.specs.Prelude.{◌≡◌, ◌<◌, ℕ, true, List, Some, ◌++◌, ◌⊎◌, Option, None, slice_get}
 use Rattle.ignorefile.specs.declared.line.Line.{Line}
 use Rattle.ignorefile.specs.Line.{Relates}
 
@@ -16,3 +16,13 @@ abbrev pub Kept : List Line → List (List ℕ) → Type 0
 Kept lines path =
     ((n : ℕ) → TouchesAt lines path n → ⊥)
     ⊎ ((n : ℕ) × ((line : Line) × ((slice_get lines n ≡ Some line) × (Touches line path × ((line.exception ≡ true) × ((m : ℕ) → n < m → TouchesAt lines path m → ⊥))))))
+
+-- which line decides of a path: the last one that touches it, or none where no line does
+abbrev pub IsDeciding : List Line → List (List ℕ) → Option ℕ → Type 0
+IsDeciding lines path None = (n : ℕ) → TouchesAt lines path n → ⊥
+IsDeciding lines path (Some n) = TouchesAt lines path n × ((m : ℕ) → n < m → TouchesAt lines path m → ⊥)
+
+-- the line that decides lets a path be kept: there is none, or it is an exception
+abbrev pub LetsKeep : List Line → Option ℕ → Type 0
+LetsKeep lines None = Unit {0}
+LetsKeep lines (Some n) = (line : Line) × ((slice_get lines n ≡ Some line) × (line.exception ≡ true))

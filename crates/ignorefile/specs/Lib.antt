@@ -4,4 +4,5 @@ pub mod File
 pub mod PrivateRanks
 pub mod PrivatePositions
 pub mod PrivateIndex
+pub mod PrivateLeft
 pub mod PrivateFile

@@ -1,7 +1,7 @@
 ghost use Rattle.std.specs.Prelude.{◌≡◌, ◌≢◌, ◌<◌, ℕ, List, [], ◌∷◌, IfOk, MatchOption, length, map};
 ghost use Rattle.std.specs.Str.Lines.{lines, strip_carriage_return};
 ghost use Rattle.ignorefile.specs.PrivateFile.{AreRead};
-ghost use Rattle.ignorefile.specs.File.{without_byte_order_mark, segment_of, segments_of, pattern_of, body_of, is_comment, line_of, ignore_of};
+ghost use Rattle.ignorefile.specs.File.{without_byte_order_mark, segment_of, segments_of, pattern_of, body_of, is_comment, line_of, ignore_of, is_line, numbers_of};
 
 use crate::line::{Line, Segment};
 use crate::{BadLine, IgnoreFault};
@@ -157,4 +157,33 @@ pub(crate) fn read_lines(alloc: Global, bytes: &[u8]) -> Result<Vec<Line>, Ignor
         left = rest;
     }
     Ok(found)
+}
+
+/// Whether a line has a pattern.
+fn has_pattern(alloc: Global, bytes: &[u8]) -> Result<bool, Memory>
+    ensures { IfOk result (λ has. has ≡ is_line (line_of bytes.now)) }
+{
+    match read_line(alloc, bytes)? {
+        None => Ok(false),
+        Some(None) => Ok(false),
+        Some(Some(_)) => Ok(true),
+    }
+}
+
+/// Where the lines of an ignore file stand in its bytes: the numbers, counted from 1, of those that have a pattern, in their order. The
+/// line at a position among an `Ignore`'s has the number at that position.
+pub fn line_numbers(alloc: Global, bytes: &[u8]) -> Result<Vec<usize>, Memory>
+    ensures { IfOk result (λ numbers. numbers.items ≡ numbers_of bytes.now) }
+{
+    let mut numbers = Vec::new(alloc);
+    let mut number = 0;
+    let mut left = without_byte_order_mark(bytes);
+    while let Some((line, rest)) = first_line(left) {
+        number += 1;
+        if has_pattern(alloc, line)? {
+            numbers.push(number)?;
+        }
+        left = rest;
+    }
+    Ok(numbers)
 }

@@ -1,12 +1,12 @@
-ghost use Rattle.std.specs.Prelude.{◌≡◌, ◌↔◌, ◌≤◌, ℕ, IsTrue, IfOk, length, get_or, take};
+ghost use Rattle.std.specs.Prelude.{◌≡◌, ◌↔◌, ◌≤◌, ◌-◌, IsTrue, IfOk, length, take};
 ghost use Rattle.std.specs.List.{AllZip};
-ghost use Rattle.ignorefile.specs.Kept.{Kept};
+ghost use Rattle.ignorefile.specs.Kept.{Kept, IsDeciding, LetsKeep};
 ghost use Rattle.ignorefile.specs.File.{IsIgnoreRead, ignore_of};
-ghost use Rattle.ignorefile.specs.PrivateRanks.{IsVerdict, IsDecided, Lets, IsShared};
+ghost use Rattle.ignorefile.specs.PrivateRanks.{IsDecided, Lets, IsShared};
 
 use crate::IgnoreFault;
 use crate::file::read_lines;
-use crate::index::{add, best, positions_beginning, positions_under};
+use crate::index::{Index, add};
 use crate::line::Line;
 use crate::positions::Positions;
 use paths::Path;
@@ -19,10 +19,7 @@ use std::marker::Model;
 #[derive(Drop)]
 pub struct Ignore {
     lines: Items<Line>,
-    by_name: BTreeMap<Text, Items<usize>>,
-    by_begin: Positions,
-    by_count: Positions,
-    others: Items<usize>,
+    index: Index,
 }
 
 impl Model for Ignore {
@@ -34,7 +31,7 @@ impl Model for Ignore {
 
     ghost view = { λ i. i.lines };
 
-    ghost invariant = { λ i. IsIndex i.lines i.by_name.entries i.by_begin i.by_count i.others };
+    ghost invariant = { λ i. IsIndex i.lines i.index.by_name.entries i.index.by_begin i.index.by_count i.index.others };
 }
 
 /// How many first names two paths share.
@@ -48,6 +45,16 @@ fn count_shared(these: &[Text], those: &[Text]) -> usize
         }
     }
     most
+}
+
+/// The folder that a path lies right in; the root's own is the root.
+fn folder_of(names: &[Text]) -> &[Text]
+    ensures { result.now ≡ take (length names.now - 1) names.now }
+{
+    match names {
+        [] => names,
+        [folder @ .., _] => folder,
+    }
 }
 
 impl Ignore {
@@ -75,10 +82,12 @@ impl Ignore {
         }
         Ok(Ignore {
             lines: Items::from_vec(lines),
-            by_name,
-            by_begin,
-            by_count,
-            others,
+            index: Index {
+                by_name,
+                by_begin,
+                by_count,
+                others,
+            },
         })
     }
 
@@ -97,23 +106,6 @@ impl Ignore {
         Ok(ignore)
     }
 
-    /// The greatest of a rank and of those of the lines that relate to just this path.
-    fn verdict(&self, names: &[Text], above: usize) -> usize
-        ensures { IsVerdict self.now names.now above result }
-    {
-        let lines = self.lines.as_slice();
-        let low = best(lines, self.others.as_slice(), names, above);
-        let middle = best(lines, self.by_count.under(names.len()), names, low);
-        match names {
-            [] => middle,
-            [.., last] => {
-                let begun = positions_beginning(&self.by_begin, last);
-                let high = best(lines, begun, names, middle);
-                best(lines, positions_under(&self.by_name, last), names, high)
-            }
-        }
-    }
-
     /// Whether a line of this rank lets a path be kept.
     fn lets(&self, rank: usize) -> bool
         requires { rank ≤ length self.now }
@@ -126,42 +118,59 @@ impl Ignore {
         line.exception
     }
 
+    /// The rank of the line that decides of a path.
+    fn rank(&self, path: &Path) -> usize
+        ensures { IsDecided self.now path.now result }
+    {
+        let names = path.components();
+        let lines = self.lines.as_slice();
+        let mut decided = self.index.verdict(lines, &[], 0);
+        for depth in 0..names.len() {
+            decided = self.index.verdict(lines, &names[..depth + 1], decided);
+        }
+        decided
+    }
+
     /// Whether a path is kept: no line relates to it or to a folder that it lies in, or the last one that does is an exception. It
     /// takes no memory.
     pub fn keeps(&self, path: &Path) -> bool
         ensures { IsTrue result ↔ Kept self.now path.now }
     {
-        let names = path.components();
-        let mut decided = self.verdict(&[], 0);
-        for depth in 0..names.len() {
-            decided = self.verdict(&names[..depth + 1], decided);
-        }
-        self.lets(decided)
+        self.lets(self.rank(path))
     }
 
-    /// Decides the fronts of a path that are longer than its first `same` names, from what is decided of those.
-    fn hand_down(&self, names: &[Text], same: usize, decided: &mut [usize; 65])
-        requires few { length names.now ≤ 64 }
-        requires some { same ≤ length names.now }
-        requires before { (i : ℕ) → i ≤ same → IsDecided self.now (take i names.now) (get_or decided.old i 0) }
-        ensures { (i : ℕ) → i ≤ length names.now → IsDecided self.now (take i names.now) (get_or decided.new i 0) }
+    /// Which line decides of a path: the position of the last one that relates to it or to a folder that it lies in; none where no line
+    /// does. Positions count the lines that have a pattern. It takes no memory.
+    pub fn deciding(&self, path: &Path) -> Option<usize>
+        ensures line { IsDeciding self.now path.now result }
+        ensures kept { Kept self.now path.now ↔ LetsKeep self.now result }
     {
-        for depth in same..names.len() {
-            decided[depth + 1] = self.verdict(&names[..depth + 1], decided[depth]);
+        let rank = self.rank(path);
+        if rank == 0 {
+            return None;
         }
+        Some(rank - 1)
     }
 
     /// Which of these rows have a path that is kept, in their order: `keeps` of each. Rows in path order are fastest, since what is
-    /// decided of a folder is handed down to those after it that lie in it.
+    /// decided of a folder, and what its names leave of the lines, is handed down to those after it that lie in it.
     pub fn kept<T>(&self, alloc: Global, rows: &[(Path, T)]) -> Result<Vec<bool>, Memory>
         ensures { IfOk result (λ flags. AllZip (λ row flag. IsTrue flag ↔ Kept self.now row.0) rows.now flags.items) }
     {
+        let lines = self.lines.as_slice();
+        let index = &self.index;
         let mut flags = Vec::with_capacity(alloc, rows.len())?;
-        let mut decided = [self.verdict(&[], 0); 65];
+        let mut decided = [index.verdict(lines, &[], 0); 65];
+        let mut left = index.left_in(alloc, lines, &[])?;
         let mut last: &[Text] = &[];
         for row in rows {
             let names = row.0.components();
-            self.hand_down(names, count_shared(last, names), &mut decided);
+            let shared = count_shared(last, names);
+            let folder = folder_of(names);
+            if shared < folder.len() || folder.len() != folder_of(last).len() {
+                left = index.left_in(alloc, lines, folder)?;
+            }
+            index.hand_down(lines, &left, names, shared, &mut decided);
             flags.push(self.lets(decided[names.len()]))?;
             last = names;
         }

@@ -1,6 +1,8 @@
-ghost use Rattle.std.specs.Prelude.{◌≡◌, ◌<◌, ◌≤◌, IsUtf8, OnOk, length};
-ghost use Rattle.ignorefile.specs.PrivateRanks.{IsRaised, IsBest, AreInOrder};
-ghost use Rattle.ignorefile.specs.PrivateIndex.{IsAdded, named, under_begin};
+ghost use Rattle.std.specs.Prelude.{◌≡◌, ◌<◌, ◌≤◌, ◌+◌, ◌-◌, ℕ, List, IsTrue, IsUtf8, IfOk, OnOk, length, take, get_or};
+ghost use Rattle.ignorefile.specs.PrivateRanks.{IsRaised, IsBest, IsVerdict, IsDecided, AreInOrder};
+ghost use Rattle.ignorefile.specs.PrivateIndex.{IsAdded, IsIndex, named, under_begin};
+ghost use Rattle.ignorefile.specs.PrivateLeft.{IsDeadAt, StandFor, StandIn, IsLeft};
+ghost use Rattle.ignorefile.specs.PrivatePositions.{under};
 
 use crate::line::Line;
 use crate::positions::Positions;
@@ -65,6 +67,33 @@ pub(crate) fn positions_beginning<'a>(by_begin: &'a Positions, name: &Text) -> &
     }
 }
 
+/// Whether a folder's names show that the line at a position relates to no path right in it.
+fn is_dead_at(lines: &[Line], position: usize, folder: &[Text]) -> bool
+    requires { position < length lines.now }
+    ensures { IsTrue result → IsDeadAt lines.now position folder.now }
+{
+    lines[position].is_dead_in(folder)
+}
+
+/// Those of these positions whose lines aren't dead in a folder.
+fn living(
+    alloc: Global,
+    lines: &[Line],
+    positions: &[usize],
+    folder: &[Text],
+) -> Result<Items<usize>, Memory>
+    requires { AreInOrder (length lines.now) positions.now }
+    ensures { IfOk result (λ left. StandIn lines.now positions.now folder.now left) }
+{
+    let mut left = Items::new(alloc);
+    for position in positions {
+        if !is_dead_at(lines, *position, folder) {
+            left.push(*position)?;
+        }
+    }
+    Ok(left)
+}
+
 /// Adds a position to those of a name.
 pub(crate) fn add(
     alloc: Global,
@@ -82,6 +111,111 @@ pub(crate) fn add(
             positions.push(position)?;
             by_name.insert(name, positions)?;
             Ok(())
+        }
+    }
+}
+
+/// Positions of an ignore file's lines, by what is known of the paths that they relate to.
+#[derive(Drop)]
+pub(crate) struct Index {
+    /// Those whose paths all end in one name, by it.
+    pub by_name: BTreeMap<Text, Items<usize>>,
+    /// Those whose paths all end in names with one first byte, by it.
+    pub by_begin: Positions,
+    /// Those whose paths all have one number of names, by it.
+    pub by_count: Positions,
+    pub others: Items<usize>,
+}
+
+/// What a folder leaves of an index: of the positions that aren't found by a name or a byte, those that are tried for the paths right in it.
+#[derive(Drop)]
+pub(crate) struct Left {
+    others: Items<usize>,
+    counted: Items<usize>,
+}
+
+impl Index {
+    /// The greatest of a rank and of those of the lines that relate to just this path, where these others and these that have its number
+    /// of names are tried.
+    fn verdict_among(
+        &self,
+        lines: &[Line],
+        others: &[usize],
+        counted: &[usize],
+        names: &[Text],
+        above: usize,
+    ) -> usize
+        requires index { IsIndex lines.now self.now.by_name.entries self.now.by_begin self.now.by_count self.now.others }
+        requires others { StandFor lines.now self.now.others names.now others.now }
+        requires counted { StandFor lines.now (under self.now.by_count (length names.now)) names.now counted.now }
+        ensures { IsVerdict lines.now names.now above result }
+    {
+        let low = best(lines, others, names, above);
+        let middle = best(lines, counted, names, low);
+        match names {
+            [] => middle,
+            [.., last] => {
+                let begun = positions_beginning(&self.by_begin, last);
+                let high = best(lines, begun, names, middle);
+                best(lines, positions_under(&self.by_name, last), names, high)
+            }
+        }
+    }
+
+    /// The greatest of a rank and of those of the lines that relate to just this path.
+    pub(crate) fn verdict(&self, lines: &[Line], names: &[Text], above: usize) -> usize
+        requires { IsIndex lines.now self.now.by_name.entries self.now.by_begin self.now.by_count self.now.others }
+        ensures { IsVerdict lines.now names.now above result }
+    {
+        let counted = self.by_count.under(names.len());
+        self.verdict_among(lines, self.others.as_slice(), counted, names, above)
+    }
+
+    /// What a folder leaves.
+    pub(crate) fn left_in(
+        &self,
+        alloc: Global,
+        lines: &[Line],
+        folder: &[Text],
+    ) -> Result<Left, Memory>
+        requires { IsIndex lines.now self.now.by_name.entries self.now.by_begin self.now.by_count self.now.others }
+        ensures { IfOk result (λ left. IsLeft lines.now self.now folder.now left) }
+    {
+        let others = living(alloc, lines, self.others.as_slice(), folder)?;
+        let counted = living(alloc, lines, self.by_count.under(folder.len() + 1), folder)?;
+        Ok(Left { others, counted })
+    }
+
+    /// Decides the fronts of a path that are longer than its first `same` names, from what is decided of those and what its folder leaves.
+    pub(crate) fn hand_down(
+        &self,
+        lines: &[Line],
+        left: &Left,
+        names: &[Text],
+        same: usize,
+        decided: &mut [usize; 65],
+    )
+        requires index { IsIndex lines.now self.now.by_name.entries self.now.by_begin self.now.by_count self.now.others }
+        requires left { IsLeft lines.now self.now (take (length names.now - 1) names.now) left.now }
+        requires few { length names.now ≤ 64 }
+        requires some { same ≤ length names.now }
+        requires before { (i : ℕ) → i ≤ same → IsDecided lines.now (take i names.now) (get_or decided.old i 0) }
+        ensures { (i : ℕ) → i ≤ length names.now → IsDecided lines.now (take i names.now) (get_or decided.new i 0) }
+    {
+        for depth in same..names.len() {
+            let above = decided[depth];
+            let rank = if depth + 1 < names.len() {
+                self.verdict(lines, &names[..depth + 1], above)
+            } else {
+                self.verdict_among(
+                    lines,
+                    left.others.as_slice(),
+                    left.counted.as_slice(),
+                    names,
+                    above,
+                )
+            };
+            decided[depth + 1] = rank;
         }
     }
 }

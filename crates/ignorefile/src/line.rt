@@ -1,6 +1,7 @@
 ghost use Rattle.std.specs.Prelude.{◌≡◌, ◌↔◌, IsTrue, IfSome};
 ghost use Rattle.std.specs.List.{list_any};
 ghost use Rattle.ignorefile.specs.Line.{Relates, is_deep};
+ghost use Rattle.ignorefile.specs.PrivateLeft.{IsDeadIn};
 ghost use Rattle.ignorefile.specs.PrivateRanks.{EndsIn, LastBegins, HasCount, TakesOnly, TakesBeginning};
 
 use globs::{Component, Fits, can_be_cut};
@@ -79,6 +80,17 @@ impl Line {
         ensures { IsTrue result ↔ Relates self.now names.now }
     {
         can_be_cut(self.segments.as_slice(), names)
+    }
+
+    /// Whether a folder's names show that the line relates to no path right in it: its last segment takes one name, and those before it
+    /// don't relate to the folder.
+    pub(crate) fn is_dead_in(&self, folder: &[Text]) -> bool
+        ensures { IsTrue result → IsDeadIn self.now folder.now }
+    {
+        match self.segments.as_slice() {
+            [] => false,
+            [front @ .., last] => !last.takes_any() && !can_be_cut(front, folder),
+        }
     }
 
     /// The name that each path which the line relates to ends in, where its pattern ends in a plain name.

@@ -1,0 +1,13 @@
+use Rattle.std.proofs.Common.{refl, ◌∙◌}
+use Rattle.ignorefile.proofs.Deciding.{decided-start, decided-more, decided-path, moved-verdict}
+use Rattle.ignorefile.proofs.ignore.Ignore.rank.Goals as goal
+
+pub loop-depth-init : goal.loop-depth-init
+loop-depth-init c = decided-start _ _ (moved-verdict _ _ _ _ _ (c.as_slice-lines.ensures ∙ c.self.view_is) c.verdict-decided.ensures)
+
+pub loop-depth-preserved : goal.loop-depth-preserved
+loop-depth-preserved c =
+    decided-more _ _ _ _ _ _ c.loop-depth-test.true refl c.loop-depth.invariant (moved-verdict _ _ _ _ _ (c.as_slice-lines.ensures ∙ c.self.view_is) c.verdict-decided-in-loop-depth.ensures)
+
+pub returns : goal.returns
+returns c = decided-path _ _ _ _ _ c.loop-depth-test.false c.components-names.ensures.value c.loop-depth.invariant
