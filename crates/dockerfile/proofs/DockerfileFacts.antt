@@ -33,7 +33,7 @@ pub record LinesSoFar (all rest : List Line) (found : List Instruction) : Type 0
 pub lines_first : (all : List Line) (found : List Instruction) → found ≡ [] → LinesSoFar all all found
 lines_first all found none = record { done = []; split = refl; spelled = subst (λ (is : List Instruction). AreSpelled [] is) (sym none) tt }
 
-spelled_push : (lines : List Line) (found : List Instruction) (line : Line) (i : Instruction) → AreSpelled lines found → Spells line i → AreSpelled (lines ++ line ∷ []) (found ++ i ∷ [])
+pub spelled_push : (lines : List Line) (found : List Instruction) (line : Line) (i : Instruction) → AreSpelled lines found → Spells line i → AreSpelled (lines ++ line ∷ []) (found ++ i ∷ [])
 spelled_push [] [] line i s h = (h, tt)
 spelled_push [] (j ∷ js) line i s h = absurd s
 spelled_push (l ∷ ls) [] line i s h = absurd s

@@ -1,1 +1,2 @@
 mod DockerfileFacts
+mod FaultsFacts

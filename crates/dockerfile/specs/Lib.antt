@@ -1,2 +1,3 @@
 pub mod Dockerfile
+pub mod Faults
 pub mod PrivateDockerfile

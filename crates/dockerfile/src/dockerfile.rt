@@ -1,10 +1,12 @@
 ghost use Rattle.std.specs.Prelude.{◌≡◌};
 ghost use Rattle.dockerfile.specs.Dockerfile.{IsDockerfile, IsRead};
+ghost use Rattle.dockerfile.specs.Faults.{IsChecked};
 
+use crate::checking::{all_spelled, lines_or_faults};
 use crate::reading::{logical_lines, spelled};
 use instructions::Instruction;
 use lines::LineFault;
-use plain::Items;
+use plain::{Fault, Items, Refusal};
 use std::alloc::Global;
 use std::marker::Model;
 
@@ -44,6 +46,19 @@ impl Dockerfile {
     {
         let lines = logical_lines(alloc, text)?;
         let instructions = spelled(alloc, lines)?;
+        Ok(Dockerfile { instructions })
+    }
+
+    /// The instructions of a text, or all that it is refused for, in the order of the lines (own).
+    ///
+    /// Where something is wrong with the whole text or its lines, that alone is reported; else each line that spells no instruction, with
+    /// the least code that is due for it. The first of these is what `read` refuses the text with, as the law
+    /// `the_first_fault_is_the_refusal` says.
+    pub fn check(alloc: Global, text: &[u8]) -> Result<Dockerfile, Fault<Items<Refusal>>>
+        ensures { IsChecked text.now result }
+    {
+        let lines = lines_or_faults(alloc, text)?;
+        let instructions = all_spelled(alloc, lines)?;
         Ok(Dockerfile { instructions })
     }
 

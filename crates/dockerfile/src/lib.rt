@@ -12,6 +12,7 @@
 // ```
 #![tactic(auto)]
 
+mod checking;
 mod dockerfile;
 pub mod laws;
 mod reading;

@@ -1,4 +1,4 @@
-ghost use Rattle.lines.specs.Text.{Answers};
+ghost use Rattle.lines.specs.Text.{ReadsText};
 ghost use Rattle.dockerfile.specs.PrivateDockerfile.{AreParsed};
 
 use instructions::{Instruction, parse};
@@ -8,7 +8,7 @@ use std::alloc::Global;
 
 /// The logical lines of a text, or why there are none.
 pub(crate) fn logical_lines(alloc: Global, text: &[u8]) -> Result<Vec<Line>, LineFault>
-    ensures { Answers text.now result }
+    ensures { ReadsText text.now result }
 {
     let mut reader = Reader::new(alloc);
     reader.feed(alloc, text)?;

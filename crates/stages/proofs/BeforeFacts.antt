@@ -66,7 +66,7 @@ pub scope_closed : (args : Values) (is : List Instruction) (i : Instruction) (na
     → outer_scope args (is ++ i ∷ []) ≡ outer_scope args is
 scope_closed args is i name names there = ap (λ ls. scope_after args (λ n. None) [] ls) (lines_closed is (i ∷ []) name names there)
 
-scope_open : (args : Values) (is : List Instruction) (i : Instruction) → stage_names is ≡ []
+pub scope_open : (args : Values) (is : List Instruction) (i : Instruction) → stage_names is ≡ []
     → outer_scope args (is ++ i ∷ []) ≡ scope_after args (λ n. None) (outer_scope args is) (up_to (begun i.kind) (with_declared (declared_by i.kind) []))
 scope_open args is i none =
     ap (λ ls. scope_after args (λ n. None) [] ls) (lines_open is (i ∷ []) none)

@@ -18,14 +18,14 @@ use Rattle.instructions.specs.declared.instruction.Argument.{Argument}
 use Rattle.instructions.specs.declared.instruction.Instruction.{Instruction}
 use Rattle.instructions.specs.declared.instruction.InstructionKind.{InstructionKind}
 use Rattle.scopes.specs.Scope.{value_in, kept}
-use Rattle.scopes.specs.Evaluate.{Values, Declares, arg_line, arg_texts, is_one_long}
+use Rattle.scopes.specs.Evaluate.{Values, Declares, arg_line, arg_texts, is_one_long, is_long}
 use Rattle.scopes.specs.declared.declaration.Declaration.{Declaration}
 use Rattle.stages.specs.declared.resolving.Draft.{Draft}
 use Rattle.stages.specs.declared.stage.ResolvedInstruction.{ResolvedInstruction}
 use Rattle.stages.specs.declared.stage.ResolvedStage.{ResolvedStage}
 use Rattle.stages.specs.Naming.{Names, Known, origins_of, leads_nowhere}
 use Rattle.stages.specs.Before.{begun, declared_by, stage_names, all_but_last, outer_scope}
-use Rattle.stages.specs.Due.{base_text, is_long, is_taken, base_due, argument_due, outer_due, inner_due, other_due, begun_due, kind_due, due_behind}
+use Rattle.stages.specs.Due.{base_text, is_taken, base_due, argument_due, outer_due, inner_due, other_due, begun_due, kind_due, due_behind}
 use Rattle.stages.specs.Table.{stages_behind, stages_of}
 use Rattle.stages.specs.Resolved.{told_at, first_refusal}
 use Rattle.stages.specs.PrivateResolving.{with_last, last_with, draft_begun, draft_declared, draft_outer, draft_extended, draft_other, draft_by, draft_after, IsCounted, AreCounted, IsDraft}
@@ -304,10 +304,10 @@ other_inner known args draft i result some meets = other_inner_by known args dra
 
 -- what declaring the arguments of a line answers
 
-argument_clear : (is_long : Bool) → is_long ≡ false → (if is_long then Some R18 else None) ≡ None
+pub argument_clear : (is_long : Bool) → is_long ≡ false → (if is_long then Some R18 else None) ≡ None
 argument_clear is_long e = ap (λ b. if b then Some R18 else None) e
 
-argument_told : (is_long : Bool) (code : Code) → code ≡ R18 → is_long ≡ true → (if is_long then Some R18 else None) ≡ Some code
+pub argument_told : (is_long : Bool) (code : Code) → code ≡ R18 → is_long ≡ true → (if is_long then Some R18 else None) ≡ Some code
 argument_told is_long code is e = ap (λ b. if b then Some R18 else None) e ∙ ap Some (sym is)
 
 pub declared_ok : (args : Values) (outer empty new : List Declaration) (arguments : List Argument) (told : Result (Unit {0}) (Fault Code)) → empty ≡ [] → told ≡ Ok tt

@@ -1,5 +1,6 @@
 mod BeforeFacts
 mod DraftFacts
+mod FaultsFacts
 mod MarkFacts
 mod NamingFacts
 mod RefusalFacts

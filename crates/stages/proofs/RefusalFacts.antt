@@ -59,15 +59,15 @@ unless_ok None table found e = refl
 unless_ok (Some refusal) table found e = absurd (err_ok refusal found e)
 
 -- some instructions behind others, of which one has a code that is due
-record IsDueBehind (known : Known) (args : Values) (first is : List Instruction) (refusal : Refusal) : Type 0 where
-  before : List Instruction
-  instruction : Instruction
-  after : List Instruction
-  cut : is ≡ before ++ instruction ∷ after
-  line : refusal.line ≡ instruction.line
-  due : due_behind known args (first ++ before) instruction.kind refusal.code ≡ true
+pub record IsDueBehind (known : Known) (args : Values) (first is : List Instruction) (refusal : Refusal) : Type 0 where
+  pub before : List Instruction
+  pub instruction : Instruction
+  pub after : List Instruction
+  pub cut : is ≡ before ++ instruction ∷ after
+  pub line : refusal.line ≡ instruction.line
+  pub due : due_behind known args (first ++ before) instruction.kind refusal.code ≡ true
 
-due_at_line : (known : Known) (args : Values) (is : List Instruction) (refusal : Refusal) → IsDueBehind known args [] is refusal → IsDueAtLine known args is refusal
+pub due_at_line : (known : Known) (args : Values) (is : List Instruction) (refusal : Refusal) → IsDueBehind known args [] is refusal → IsDueAtLine known args is refusal
 due_at_line known args is refusal h = record {
   before = h.before;
   instruction = h.instruction;
@@ -88,10 +88,10 @@ due_behind_none known args is refusal h = record {
 }
 
 -- a code is due for an instruction behind others; the refusal has its line
-abbrev IsDueHere : Known → Values → List Instruction → Instruction → Refusal → Type 0
+abbrev pub IsDueHere : Known → Values → List Instruction → Instruction → Refusal → Type 0
 IsDueHere known args first i refusal = (refusal.line ≡ i.line) × (due_behind known args first i.kind refusal.code ≡ true)
 
-due_here : (known : Known) (args : Values) (first : List Instruction) (i : Instruction) (is : List Instruction) (refusal : Refusal)
+pub due_here : (known : Known) (args : Values) (first : List Instruction) (i : Instruction) (is : List Instruction) (refusal : Refusal)
     → IsDueHere known args first i refusal → IsDueBehind known args first (i ∷ is) refusal
 due_here known args first i is refusal h = record {
   before = [];
@@ -102,7 +102,7 @@ due_here known args first i is refusal h = record {
   due = subst (λ (js : List Instruction). due_behind known args js i.kind refusal.code ≡ true) (sym (append-nil first)) h.1;
 }
 
-due_later : (known : Known) (args : Values) (first : List Instruction) (i : Instruction) (is : List Instruction) (refusal : Refusal)
+pub due_later : (known : Known) (args : Values) (first : List Instruction) (i : Instruction) (is : List Instruction) (refusal : Refusal)
     → IsDueBehind known args (first ++ i ∷ []) is refusal → IsDueBehind known args first (i ∷ is) refusal
 due_later known args first i is refusal h = record {
   before = i ∷ h.before;

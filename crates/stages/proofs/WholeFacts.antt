@@ -34,7 +34,7 @@ use Rattle.stages.specs.Naming.{Names, Known, copy_reference, led_to, origins_of
 use Rattle.stages.specs.Before.{begun, declared_by, name_begun, stage_names, outer_scope}
 use Rattle.stages.specs.Due.{outer_due, other_due, due_behind, begun_due}
 use Rattle.stages.specs.Table.{TableValue, unless_begun, stage_instructions, stages_behind, stages_of, lines_of, IsResolved, IsStage, IsTable, IsKnown, NamesKnown}
-use Rattle.stages.specs.Resolved.{target_of, told_at, first_refusal, are_arguments, unless_refused, with_target, resolved, Answers}
+use Rattle.stages.specs.Resolved.{target_of, told_at, first_refusal, are_arguments, unless_refused, with_target, resolved, Returns}
 use Rattle.stages.specs.PrivateResolving.{with_last, IsCounted, AreCounted, IsDraft, Drafts}
 use Rattle.stages.specs.PrivateTable.{table_by}
 use Rattle.stages.proofs.NamingFacts.{found_within, base_before, base_known, origins_before, origins_known}
@@ -341,27 +341,27 @@ flag_along is slice flag wanted same asked is_so = ap are_arguments (sym same) �
 
 pub answers_target : (known : Known) (args : Values) (target : Option (List ℕ)) (is slice : List Instruction) (result : Option ℕ) (fault : Fault Refusal) → slice ≡ is
     → result ≡ target_of (stage_names slice) target → result ≡ None → fault ≡ Because (record { code = R13; line = 0 })
-    → Answers (resolved known args target is) (Err fault)
+    → Returns (resolved known args target is) (Err fault)
 answers_target known args target is slice result fault same asked none told =
-    subst (λ f. Answers (resolved known args target is) (Err f)) (sym told)
+    subst (λ f. Returns (resolved known args target is) (Err f)) (sym told)
     (unknown_target known args target is (target_along target is slice result None same asked none))
 
 pub answers_arguments : (known : Known) (args : Values) (target : Option (List ℕ)) (is slice other : List Instruction) (result : Option ℕ) (number : ℕ) (flag : Bool) (fault : Fault Refusal)
     → slice ≡ is → other ≡ is → result ≡ target_of (stage_names slice) target → result ≡ Some number → flag ≡ are_arguments other → flag ≡ true
-    → fault ≡ Because (record { code = R05; line = 1 }) → Answers (resolved known args target is) (Err fault)
+    → fault ≡ Because (record { code = R05; line = 1 }) → Returns (resolved known args target is) (Err fault)
 answers_arguments known args target is slice other result number flag fault same same_other asked some tested holds told =
-    subst (λ f. Answers (resolved known args target is) (Err f)) (sym told)
+    subst (λ f. Returns (resolved known args target is) (Err f)) (sym told)
     (no_stage known args target is number (target_along target is slice result (Some number) same asked some) (flag_along is other flag true same_other tested holds))
 
 refused_by : (known : Known) (args : Values) (target : Option (List ℕ)) (is : List Instruction) (number : ℕ) (fault : Fault Refusal)
     → target_of (stage_names is) target ≡ Some number → are_arguments is ≡ false → Drafts known args is (Err fault)
-    → Answers (resolved known args target is) (Err fault)
+    → Returns (resolved known args target is) (Err fault)
 refused_by known args target is number (Because refusal) found other due = refused known args target is number refusal found other due
 refused_by known args target is number Memory found other due = tt
 
 pub answers_refused : (known : Known) (args : Values) (target : Option (List ℕ)) (is slice other items : List Instruction) (result : Option ℕ) (number : ℕ) (flag : Bool) (fault : Fault Refusal)
     → slice ≡ is → other ≡ is → items ≡ is → result ≡ target_of (stage_names slice) target → result ≡ Some number → flag ≡ are_arguments other → flag ≡ false
-    → Drafts known args items (Err fault) → Answers (resolved known args target is) (Err fault)
+    → Drafts known args items (Err fault) → Returns (resolved known args target is) (Err fault)
 answers_refused known args target is slice other items result number flag fault same same_other same_items asked some tested fails drafts =
     refused_by known args target is number fault (target_along target is slice result (Some number) same asked some) (flag_along is other flag false same_other tested fails)
     (subst (λ js. Drafts known args js (Err fault)) same_items drafts)

@@ -9,7 +9,7 @@ use Rattle.instructions.specs.declared.instruction.Argument.{Argument}
 use Rattle.instructions.specs.declared.instruction.Instruction.{Instruction}
 use Rattle.instructions.specs.declared.instruction.InstructionKind.{InstructionKind}
 use Rattle.scopes.specs.Scope.{value_in}
-use Rattle.scopes.specs.Evaluate.{Values, arg_texts, is_one_long}
+use Rattle.scopes.specs.Evaluate.{Values, arg_texts, is_long, is_one_long}
 use Rattle.scopes.specs.declared.declaration.Declaration.{Declaration}
 use Rattle.stages.specs.Naming.{Names, Known, stage_called, base_named, leads_nowhere}
 use Rattle.stages.specs.Before.{begun, declared_by, stage_names, all_but_last, outer_scope}
@@ -17,10 +17,6 @@ use Rattle.stages.specs.Before.{begun, declared_by, stage_names, all_but_last, o
 -- the text of a FROM: its word under the scope of the ARGs before the first FROM
 abbrev pub base_text : List Declaration → Parts → List ℕ
 base_text scope image = value (value_in scope) image
-
--- a text is longer than an expanded text may be
-abbrev pub is_long : List ℕ → Bool
-is_long text = is_one_long (text ∷ [])
 
 -- one of some stages has the name that a stage is given
 abbrev pub is_taken : Names → Option (List ℕ) → Bool

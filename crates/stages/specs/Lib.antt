@@ -1,7 +1,9 @@
 pub mod Before
 pub mod Due
+pub mod Faults
 pub mod Naming
 pub mod Needed
+pub mod PrivateFaults
 pub mod PrivateMarks
 pub mod PrivateResolving
 pub mod PrivateTable

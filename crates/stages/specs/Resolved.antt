@@ -58,7 +58,7 @@ unfoldable pub resolved : Known → Values → Option (List ℕ) → List Instru
 resolved known args target is = with_target known args is (target_of (stage_names is) target)
 
 -- what a call answers for a result: the result itself; want of memory says nothing of it
-abbrev pub Answers : {X : Type 0} → Result X Refusal → Result X (Fault Refusal) → Type 0
-Answers result (Ok x) = result ≡ Ok x
-Answers result (Err (Because refusal)) = result ≡ Err refusal
-Answers result (Err Memory) = Unit {0}
+abbrev pub Returns : {X : Type 0} → Result X Refusal → Result X (Fault Refusal) → Type 0
+Returns result (Ok x) = result ≡ Ok x
+Returns result (Err (Because refusal)) = result ≡ Err refusal
+Returns result (Err Memory) = Unit {0}

@@ -1,7 +1,8 @@
 // What is proved of the definitions alone. The functions do nothing: their contracts are laws.
 
-ghost use Rattle.std.specs.Prelude.{◌≡◌, ℕ, List, Bool, true, Option, Ok, Err, Contains};
+ghost use Rattle.std.specs.Prelude.{◌≡◌, ◌≤◌, ◌⊎◌, [], ◌∷◌, ℕ, List, Bool, true, Option, Ok, Err, Contains};
 ghost use Rattle.std.specs.List.{All, list_all};
+ghost use Rattle.plain.specs.Codes.{number_of};
 ghost use Rattle.plain.specs.declared.refusal.Refusal.{Refusal};
 ghost use Rattle.options.specs.declared.copy.CopyFlags.{CopyFlags};
 ghost use Rattle.expand.specs.Value.{Parts};
@@ -12,9 +13,10 @@ ghost use Rattle.instructions.specs.declared.instruction.Source.{Source};
 ghost use Rattle.rows.specs.declared.row.Origin.TheVariants.{Stage as StageOf};
 ghost use Rattle.scopes.specs.Evaluate.{Values};
 ghost use Rattle.dockerfile.specs.Dockerfile.{AscendBelow, IsDockerfile};
+ghost use Rattle.stages.specs.Faults.{stage_refusals, AreJudged};
 ghost use Rattle.stages.specs.Naming.{Known, Names, origins_of};
 ghost use Rattle.stages.specs.Needed.{Refers, IsNeeded, IsClosed};
-ghost use Rattle.stages.specs.Refusals.{IsDue, IsLeastDue};
+ghost use Rattle.stages.specs.Refusals.{LacksTarget, LacksStages, IsDueAtLine, IsDue, IsLeastDue};
 ghost use Rattle.stages.specs.Resolved.{resolved};
 ghost use Rattle.stages.specs.Table.{TableValue, IsTable, NamesKnown};
 ghost use Rattle.stages.specs.declared.stage.ResolvedStage.{ResolvedStage};
@@ -26,6 +28,35 @@ pub fn the_least_refusal_is_told()
         → resolved known args target instructions ≡ Err refusal → IsLeastDue known args target instructions refusal }
     ensures resolved { (known : Known) (args : Values) (target : Option (List ℕ)) (instructions : List Instruction) (table : TableValue)
         → resolved known args target instructions ≡ Ok table → (refusal : Refusal) → IsDue known args target instructions refusal → ⊥ }
+{
+    instructions::laws::the_least_code_is_told();
+}
+
+/// The first of all refusals of a file is what resolving it is refused with, and there is none exactly if that gives a table.
+pub fn the_first_fault_is_the_refusal()
+    ensures first { (known : Known) (args : Values) (target : Option (List ℕ)) (instructions : List Instruction) (refusal : Refusal) (more : List Refusal)
+        → stage_refusals known args target instructions ≡ refusal ∷ more → resolved known args target instructions ≡ Err refusal }
+    ensures refused { (known : Known) (args : Values) (target : Option (List ℕ)) (instructions : List Instruction) (refusal : Refusal)
+        → resolved known args target instructions ≡ Err refusal → (more : List Refusal) × (stage_refusals known args target instructions ≡ refusal ∷ more) }
+    ensures free { (known : Known) (args : Values) (target : Option (List ℕ)) (instructions : List Instruction)
+        → stage_refusals known args target instructions ≡ [] → (table : TableValue) × (resolved known args target instructions ≡ Ok table) }
+    ensures resolved { (known : Known) (args : Values) (target : Option (List ℕ)) (instructions : List Instruction) (table : TableValue)
+        → resolved known args target instructions ≡ Ok table → stage_refusals known args target instructions ≡ [] }
+{}
+
+/// Each of a file's refusals is due, and none is missing: that of the target, that of a file without stages, and for each line for which a
+/// code is due one with that code or a lesser one; but for the lines after an ARG before the first FROM that is refused.
+pub fn all_that_is_due_is_told()
+    ensures due { (known : Known) (args : Values) (target : Option (List ℕ)) (instructions : List Instruction) (refusal : Refusal)
+        → Contains (stage_refusals known args target instructions) refusal → IsDue known args target instructions refusal }
+    ensures target { (known : Known) (args : Values) (target : Option (List ℕ)) (instructions : List Instruction) (refusal : Refusal)
+        → LacksTarget target instructions refusal → Contains (stage_refusals known args target instructions) refusal }
+    ensures stages { (known : Known) (args : Values) (target : Option (List ℕ)) (instructions : List Instruction) (refusal : Refusal)
+        → LacksStages instructions refusal → Contains (stage_refusals known args target instructions) refusal }
+    ensures lines { (known : Known) (args : Values) (target : Option (List ℕ)) (instructions : List Instruction) (refusal : Refusal)
+        (due : IsDueAtLine known args instructions refusal) → AreJudged known args due.before
+        → (listed : Refusal) × Contains (stage_refusals known args target instructions) listed × (listed.line ≡ refusal.line)
+        × (number_of listed.code ≤ number_of refusal.code) }
 {
     instructions::laws::the_least_code_is_told();
 }

@@ -13,6 +13,7 @@
 // ```
 #![tactic(auto)]
 
+mod faults;
 pub mod laws;
 mod marks;
 mod naming;

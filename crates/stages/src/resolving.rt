@@ -1,5 +1,5 @@
 // Going through the instructions of a file.
-ghost use Rattle.std.specs.Prelude.{◌≡◌, ◌≤◌, ◌∷◌, ◌++◌, [], Some, None, option_map, length, IfOk};
+ghost use Rattle.std.specs.Prelude.{◌≡◌, ◌<◌, ◌≤◌, ◌^◌, ◌∷◌, ◌++◌, [], Some, None, option_map, length, IfOk};
 ghost use Rattle.std.specs.FinMap.{get as arg_value};
 ghost use Rattle.plain.specs.Limits.{most_stages};
 ghost use Rattle.instructions.specs.Least.{Meets};
@@ -37,7 +37,7 @@ pub(crate) struct Draft {
 }
 
 /// The image and the name of a stage, of a FROM.
-fn begun(kind: &InstructionKind) -> Option<(&Word, &Option<Text>)>
+pub(crate) fn begun(kind: &InstructionKind) -> Option<(&Word, &Option<Text>)>
     ensures { option_map (λ stage. (stage.0.now, stage.1.now)) result ≡ begun kind.entry.now }
 {
     match kind {
@@ -82,7 +82,7 @@ pub(crate) fn declared_by(kind: &InstructionKind) -> Option<&[Argument]>
 
 /// Whether one of the stages has the name that a stage is given.
 fn is_taken(names: &[Option<Text>], name: &Option<Text>) -> bool
-    requires { length names.now ≤ most_stages }
+    requires { length names.now < 2 ^ 32 }
     ensures { result ≡ is_taken names.now name.now }
 {
     match name {
@@ -92,7 +92,7 @@ fn is_taken(names: &[Option<Text>], name: &Option<Text>) -> bool
 }
 
 /// The tree that a FROM names, where its stage may begin.
-fn base<C>(
+pub(crate) fn base<C>(
     alloc: Global,
     images: &Images<C>,
     outer: &Scope,
@@ -100,7 +100,7 @@ fn base<C>(
     image: &Word,
     name: &Option<Text>,
 ) -> Result<Origin, TextFault>
-    requires { length names.now ≤ most_stages }
+    requires { length names.now < 2 ^ 32 }
     ensures { Meets (base_named (names_in images.now) names.now (base_text outer.now image.now)) (base_due (names_in images.now) names.now (base_text outer.now image.now) name.now) result }
 {
     let is_taken = is_taken(names, name);
@@ -124,7 +124,7 @@ fn base<C>(
     let Some(base) = found? else {
         return Err(Fault::Because(Code::R12));
     };
-    if names.len() == MOST_STAGES {
+    if names.len() >= MOST_STAGES {
         drop(base);
         return Err(Fault::Because(Code::R18));
     }
@@ -316,13 +316,13 @@ fn all_but_last(names: &[Option<Text>]) -> &[Option<Text>]
 }
 
 /// What an instruction of the last of some stages names beside its stage.
-fn inner_origins<C>(
+pub(crate) fn inner_origins<C>(
     alloc: Global,
     images: &Images<C>,
     names: &[Option<Text>],
     kind: &InstructionKind,
 ) -> Result<Items<Origin>, TextFault>
-    requires { length names.now ≤ most_stages }
+    requires { length names.now < 2 ^ 32 }
     ensures { Meets (Some (origins_of (names_in images.now) (all_but_last names.now) kind.now)) (inner_due (names_in images.now) (all_but_last names.now) kind.now) result }
 {
     origins_of(alloc, images, all_but_last(names), kind)

@@ -3,18 +3,20 @@ ghost use Rattle.std.specs.List.{All};
 ghost use Rattle.std.specs.FinMap.{get as arg_value};
 ghost use Rattle.stages.specs.Naming.{names_in};
 ghost use Rattle.stages.specs.Table.{IsTable, NamesKnown};
-ghost use Rattle.stages.specs.Resolved.{resolved, Answers};
+ghost use Rattle.stages.specs.Resolved.{resolved, Returns};
+ghost use Rattle.stages.specs.Faults.{stage_refusals};
 ghost use Rattle.stages.specs.Needed.{AreNeeded};
 ghost use Rattle.stages.specs.PrivateResolving.{with_last};
 ghost use Rattle.stages.specs.PrivateTable.{table_by};
 
+use crate::faults::all_refusals;
 use crate::marks::mark_needed;
 use crate::resolving::{Draft, add_all, with_last};
 use crate::stage::ResolvedStage;
 use crate::target::{are_arguments, refused, target_of};
 use dockerfile::Dockerfile;
 use lines::LineFault;
-use plain::{Code, Items, Memory, Text};
+use plain::{Code, Items, Memory, Refusal, Text};
 use plans::Images;
 use scopes::{Args, Scope};
 use std::alloc::Global;
@@ -59,7 +61,7 @@ impl StageTable {
         args: &Args,
         target: Option<&Text>,
     ) -> Result<StageTable, LineFault>
-        ensures table { Answers (resolved (names_in images.now) (arg_value args.now) (option_map (λ t. t.now) target.entry) file) result }
+        ensures table { Returns (resolved (names_in images.now) (arg_value args.now) (option_map (λ t. t.now) target.entry) file) result }
         ensures known { IfOk result (λ table. All (NamesKnown (names_in images.now)) table.stages) }
     {
         let instructions = file.into_instructions();
@@ -76,6 +78,24 @@ impl StageTable {
         };
         let table = StageTable::of_draft(draft, target)?;
         Ok(table)
+    }
+
+    /// All that the names of a file are refused for, with these images, build arguments and target, in the order of the lines (own): R13 for
+    /// the target, R05 at line 1 where there is no instruction other than ARG, and for each line for which a code is due the least of its
+    /// codes. The refusal of an ARG before the first FROM is the last, since the lines after it would be judged by its value.
+    ///
+    /// The first of these is what `resolve` refuses the file with, and there is none exactly if that gives a table, as the law
+    /// `the_first_fault_is_the_refusal` says.
+    pub fn faults<C>(
+        alloc: Global,
+        file: &Dockerfile,
+        images: &Images<C>,
+        args: &Args,
+        target: Option<&Text>,
+    ) -> Result<Items<Refusal>, Memory>
+        ensures { IfOk result (λ faults. faults ≡ stage_refusals (names_in images.now) (arg_value args.now) (option_map (λ t. t.now) target.entry) file.now) }
+    {
+        all_refusals(alloc, images, args, file.instructions(), target)
     }
 
     /// The table of all that is known behind a file's last instruction.

@@ -1,0 +1,23 @@
+// What a person reads of a refusal: a sentence that says what is wrong, one that says what helps, and the form in which both are shown.
+//
+// It knows the codes, and of a line the name of its instruction, since some codes have several causes. It reads no instruction: a line
+// that is refused may spell none.
+//
+// The central definitions are the table in specs/Table.antt, which has one sentence and one remedy for each code and instruction, and
+// `shown` in specs/Showing.antt.
+//
+// ```
+// shown(alloc, "Dockerfile", Refusal { code: Code::R16, line: 9 }, "COPY --chown=node:node a b")?
+// // Dockerfile:9: R16: the owner and the mode have to be numbers
+// //     9 | COPY --chown=node:node a b
+// //       | write --chown=1000:1000 and --chmod=644 (names would need the image's /etc/passwd)
+// ```
+#![tactic(auto)]
+
+mod showing;
+mod subject;
+mod table;
+
+pub use showing::shown;
+pub use subject::Subject;
+pub use table::{remedy, sentence};

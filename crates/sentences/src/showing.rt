@@ -1,0 +1,67 @@
+ghost use Rattle.std.specs.Prelude.{◌≡◌, IfOk};
+ghost use Rattle.std.specs.String.{string_bytes};
+ghost use Rattle.sentences.specs.Showing.{cited, headed, shown_line, shown_whole, shown};
+
+use crate::{Subject, remedy, sentence};
+use plain::{Code, Memory, Refusal};
+use std::alloc::Global;
+
+/// A line after its number, and what helps after a margin that is as wide.
+fn cited(alloc: Global, number: &str, line: &str, helps: &str) -> Result<String, Memory>
+    ensures { IfOk result (λ text. string_bytes text ≡ cited number.now line.now helps.now) }
+{
+    let margin = " ".repeat(alloc, number.len())?;
+    Ok(format!(in alloc; "    {number} | {line}\n    {margin} | {helps}\n")?)
+}
+
+/// Where a fault is, its code and what is wrong, and then a text.
+fn headed(alloc: Global, place: &str, code: Code, wrong: &str, rest: &str) -> Result<String, Memory>
+    ensures { IfOk result (λ text. string_bytes text ≡ headed place.now code wrong.now rest.now) }
+{
+    Ok(format!(in alloc; "{place}: {code}: {wrong}\n{rest}")?)
+}
+
+/// What is shown of a refusal that is about a line, with the line's number written out.
+fn shown_line(
+    alloc: Global,
+    file: &str,
+    code: Code,
+    number: &str,
+    line: &str,
+) -> Result<String, Memory>
+    ensures { IfOk result (λ text. string_bytes text ≡ shown_line file.now code number.now line.now) }
+{
+    let subject = Subject::of_line(line);
+    let place = format!(in alloc; "{file}:{number}")?;
+    let rest = cited(alloc, number, line, remedy(code, subject))?;
+    headed(
+        alloc,
+        place.as_str(),
+        code,
+        sentence(code, subject),
+        rest.as_str(),
+    )
+}
+
+/// What is shown of a refusal that is about no line.
+fn shown_whole(alloc: Global, file: &str, code: Code) -> Result<String, Memory>
+    ensures { IfOk result (λ text. string_bytes text ≡ shown_whole file.now code) }
+{
+    let subject = Subject::of_line("");
+    let rest = format!(in alloc; "     | {}\n", remedy(code, subject))?;
+    headed(alloc, file, code, sentence(code, subject), rest.as_str())
+}
+
+/// What is shown of a refusal of the file of this name, where `line` is the file's line of the refusal's number: three lines, with the place,
+/// the code and what is wrong; the line with its number; and what helps.
+///
+/// The second of them is left out if the refusal is about no line, having number 0.
+pub fn shown(alloc: Global, file: &str, refusal: Refusal, line: &str) -> Result<String, Memory>
+    ensures { IfOk result (λ text. string_bytes text ≡ shown file.now refusal line.now) }
+{
+    if refusal.line == 0 {
+        return shown_whole(alloc, file, refusal.code);
+    }
+    let number = format!(in alloc; "{}", refusal.line)?;
+    shown_line(alloc, file, refusal.code, number.as_str(), line)
+}

@@ -1,0 +1,249 @@
+// Going through all instructions of a file, past those that are refused.
+ghost use Rattle.std.specs.Prelude.{◌≡◌, ◌<◌, ◌≤◌, ◌^◌, ◌++◌, ◌&&◌, [], ◌∷◌, length, is_some, option_map, IfOk, OnOk};
+ghost use Rattle.std.specs.FinMap.{get as arg_value};
+ghost use Rattle.plain.specs.Limits.{most_lines};
+ghost use Rattle.instructions.specs.Least.{least};
+ghost use Rattle.scopes.specs.Scope.{value_in, kept};
+ghost use Rattle.scopes.specs.Evaluate.{arg_line, arg_texts};
+ghost use Rattle.stages.specs.Naming.{names_in};
+ghost use Rattle.stages.specs.Before.{begun, declared_by, all_but_last, stage_names};
+ghost use Rattle.stages.specs.Due.{base_text, base_due, argument_due, outer_due, inner_due, other_due, kind_due};
+ghost use Rattle.stages.specs.Resolved.{target_of};
+ghost use Rattle.stages.specs.Faults.{is_outer_argument, refusals_behind, target_refusals, empty_refusals, stage_refusals};
+ghost use Rattle.stages.specs.PrivateFaults.{outer_with, outer_other, outer_by, names_by, told, CodeTold, Judges};
+
+use crate::resolving::{base, begun, declared_by, inner_origins};
+use crate::target::{are_arguments, target_of};
+use expand::Word;
+use instructions::{Argument, Instruction, InstructionKind};
+use plain::{Code, Exact, Fault, Items, Memory, Refusal, Text};
+use plans::Images;
+use scopes::{Args, Scope};
+use std::alloc::Global;
+use words::TextFault;
+
+/// The code for which nothing was made, if that is so.
+fn code_of<X: Drop>(told: Result<X, TextFault>) -> Result<Option<Code>, Memory>
+    ensures { IfOk result (CodeTold told) }
+{
+    match told {
+        Ok(made) => {
+            drop(made);
+            Ok(None)
+        }
+        Err(Fault::Because(code)) => Ok(Some(code)),
+        Err(Fault::Memory) => Err(Memory),
+    }
+}
+
+/// The code that is due for a FROM after stages of these names.
+fn base_code<C>(
+    alloc: Global,
+    images: &Images<C>,
+    outer: &Scope,
+    names: &[Option<Text>],
+    image: &Word,
+    name: &Option<Text>,
+) -> Result<Option<Code>, Memory>
+    requires { length names.now < 2 ^ 32 }
+    ensures { IfOk result (λ code. code ≡ least (base_due (names_in images.now) names.now (base_text outer.now image.now) name.now)) }
+{
+    let told = base(alloc, images, outer, names, image, name);
+    let code = code_of(told)?;
+    Ok(code)
+}
+
+/// The code that is due for a FROM, and the names with that of its stage.
+fn begin_code<C>(
+    alloc: Global,
+    images: &Images<C>,
+    outer: &Scope,
+    names: &mut Items<Option<Text>>,
+    image: &Word,
+    name: &Option<Text>,
+) -> Result<Option<Code>, Memory>
+    requires { length names.old < 2 ^ 32 }
+    ensures code { IfOk result (λ code. code ≡ least (base_due (names_in images.now) names.old (base_text outer.now image.now) name.now)) }
+    ensures names { OnOk result (names.new ≡ names.old ++ name.now ∷ []) }
+{
+    let code = base_code(alloc, images, outer, names.as_slice(), image, name)?;
+    let name = name.copy(alloc)?;
+    names.push(name)?;
+    Ok(code)
+}
+
+/// The code that is due for an instruction of the last of some stages.
+fn inner_code<C>(
+    alloc: Global,
+    images: &Images<C>,
+    names: &[Option<Text>],
+    kind: &InstructionKind,
+) -> Result<Option<Code>, Memory>
+    requires { length names.now < 2 ^ 32 }
+    ensures { IfOk result (λ code. code ≡ least (inner_due (names_in images.now) (all_but_last names.now) kind.now)) }
+{
+    let told = inner_origins(alloc, images, names, kind);
+    let code = code_of(told)?;
+    Ok(code)
+}
+
+/// The code that is due for an ARG before the first FROM, which is declared where there is none.
+fn argument_code(
+    alloc: Global,
+    args: &Args,
+    outer: &mut Scope,
+    arguments: &[Argument],
+) -> Result<Option<Code>, Memory>
+    ensures { IfOk result (Judges (argument_due (arg_texts (value_in outer.old) (arg_value args.now) arguments.now)) (kept (outer.old ++ arg_line (value_in outer.old) (arg_value args.now) (λ name. None) arguments.now)) outer.old outer.new) }
+{
+    let empty = Scope::new(alloc);
+    let declared = outer.declare(alloc, arguments, args, &empty);
+    drop(empty);
+    let code = code_of(declared)?;
+    Ok(code)
+}
+
+/// The code that is due for an instruction other than FROM before the first FROM.
+fn outer_code(
+    alloc: Global,
+    args: &Args,
+    outer: &mut Scope,
+    kind: &InstructionKind,
+) -> Result<Option<Code>, Memory>
+    ensures { IfOk result (Judges (outer_due (arg_value args.now) outer.old (declared_by kind.now)) (outer_with (arg_value args.now) outer.old (declared_by kind.now)) outer.old outer.new) }
+{
+    match declared_by(kind) {
+        Some(arguments) => argument_code(alloc, args, outer, arguments),
+        None => Ok(Some(Code::R05)),
+    }
+}
+
+/// The code that is due for an instruction other than FROM after stages of these names.
+fn other_code<C>(
+    alloc: Global,
+    images: &Images<C>,
+    args: &Args,
+    outer: &mut Scope,
+    names: &[Option<Text>],
+    kind: &InstructionKind,
+) -> Result<Option<Code>, Memory>
+    requires { length names.now < 2 ^ 32 }
+    ensures { IfOk result (Judges (other_due (names_in images.now) (arg_value args.now) outer.old names.now kind.now) (outer_other (arg_value args.now) outer.old names.now (declared_by kind.now)) outer.old outer.new) }
+{
+    if names.is_empty() {
+        outer_code(alloc, args, outer, kind)
+    } else {
+        inner_code(alloc, images, names, kind)
+    }
+}
+
+/// The code that is due for an instruction, and what is known after it.
+fn kind_code<C>(
+    alloc: Global,
+    images: &Images<C>,
+    args: &Args,
+    outer: &mut Scope,
+    names: &mut Items<Option<Text>>,
+    kind: &InstructionKind,
+) -> Result<Option<Code>, Memory>
+    requires { length names.old < 2 ^ 32 }
+    ensures code { IfOk result (Judges (kind_due (names_in images.now) (arg_value args.now) outer.old names.old kind.now) (outer_by (arg_value args.now) outer.old names.old (declared_by kind.now) (begun kind.now)) outer.old outer.new) }
+    ensures names { OnOk result (names.new ≡ names_by names.old (begun kind.now)) }
+{
+    match begun(kind) {
+        Some((image, name)) => begin_code(alloc, images, outer, names, image, name),
+        None => other_code(alloc, images, args, outer, names.as_slice(), kind),
+    }
+}
+
+/// What a file is refused for as a whole: for its target, and for having no stage.
+fn whole_refusals(
+    alloc: Global,
+    instructions: &[Instruction],
+    target: Option<&Text>,
+) -> Result<Items<Refusal>, Memory>
+    requires { length instructions.now ≤ most_lines }
+    ensures { IfOk result (λ refusals. refusals ≡ target_refusals (target_of (stage_names instructions.now) (option_map (λ t. t.now) target.entry)) ++ empty_refusals instructions.now) }
+{
+    let mut refusals = Items::new(alloc);
+    if target_of(instructions, target).is_none() {
+        refusals.push(Refusal {
+            code: Code::R13,
+            line: 0,
+        })?;
+    }
+    if are_arguments(instructions) {
+        refusals.push(Refusal {
+            code: Code::R05,
+            line: 1,
+        })?;
+    }
+    Ok(refusals)
+}
+
+/// Whether an instruction after stages of these names is an ARG before the first FROM.
+fn is_outer_argument(names: &[Option<Text>], kind: &InstructionKind) -> bool
+    ensures { result ≡ is_outer_argument names.now (declared_by kind.now) }
+{
+    names.is_empty() && declared_by(kind).is_some()
+}
+
+/// Adds the refusal of an instruction for which a code is due, and answers whether it is the last, being that of an ARG before the first FROM.
+fn tell(
+    refusals: &mut Items<Refusal>,
+    line: u32,
+    code: Option<Code>,
+    is_outer_argument: bool,
+) -> Result<bool, Memory>
+    ensures refusals { OnOk result (refusals.new ≡ refusals.old ++ told line code) }
+    ensures last { IfOk result (λ is_last. is_last ≡ (is_some code && is_outer_argument)) }
+{
+    match code {
+        Some(code) => {
+            refusals.push(Refusal { code, line })?;
+            Ok(is_outer_argument)
+        }
+        None => Ok(false),
+    }
+}
+
+/// Some refusals, and after them those of a file's instructions.
+fn with_line_refusals<C>(
+    alloc: Global,
+    images: &Images<C>,
+    args: &Args,
+    instructions: &[Instruction],
+    refusals: Items<Refusal>,
+) -> Result<Items<Refusal>, Memory>
+    requires { length instructions.now ≤ most_lines }
+    ensures { IfOk result (λ all. all ≡ refusals ++ refusals_behind (names_in images.now) (arg_value args.now) [] instructions.now) }
+{
+    let mut refusals = refusals;
+    let mut outer = Scope::new(alloc);
+    let mut names = Items::new(alloc);
+    for instruction in instructions {
+        let kind = &instruction.kind;
+        let is_outer = is_outer_argument(names.as_slice(), kind);
+        let code = kind_code(alloc, images, args, &mut outer, &mut names, kind)?;
+        let is_last = tell(&mut refusals, instruction.line, code, is_outer)?;
+        if is_last {
+            return Ok(refusals);
+        }
+    }
+    Ok(refusals)
+}
+
+/// All refusals of a file.
+pub(crate) fn all_refusals<C>(
+    alloc: Global,
+    images: &Images<C>,
+    args: &Args,
+    instructions: &[Instruction],
+    target: Option<&Text>,
+) -> Result<Items<Refusal>, Memory>
+    requires { length instructions.now ≤ most_lines }
+    ensures { IfOk result (λ refusals. refusals ≡ stage_refusals (names_in images.now) (arg_value args.now) (option_map (λ t. t.now) target.entry) instructions.now) }
+{
+    let refusals = whole_refusals(alloc, instructions, target)?;
+    with_line_refusals(alloc, images, args, instructions, refusals)
+}
