@@ -19,8 +19,8 @@ use Rattle.clap.specs.declared.error.kind.ErrorKind.TheVariants.{ValueValidation
 use Rattle.clap.proofs.ValueTestLemmas.{accepts-Accepts}
 use Rattle.plain.specs.Limits.{most_workers}
 use Rattle.command.specs.CommandLine.{least_workers, whole_command}
-use Rattle.command.specs.Tasks.{IsTaskOf, IsWorkers, argument_faults, arguments_of, faults_of, pack_of, pack_with}
-use Rattle.command.specs.declared.task.Pack.{Pack as PackWords}
+use Rattle.command.specs.Tasks.{IsBuild, IsTaskOf, IsWorkers, argument_faults, arguments_of, bundle_file, faults_of, pack_of, pack_with}
+use Rattle.command.specs.declared.task.PackOptions.{PackOptions}
 use Rattle.command.specs.declared.task.Task.{Task}
 use Rattle.command.specs.declared.task.Task.TheVariants.{Build, Graph, Pack}
 use Rattle.command.proofs.BuildWalk.{leaf, leaf_ok}
@@ -84,7 +84,7 @@ and_false false = refl
 task_args : (found : Option (Text × List Row)) (task : Task) → IsTaskOf found task → argument_faults found ≡ []
 task_args None task asked = absurd asked
 task_args (Some found) (Build n) asked = rw asked.0 refl
-task_args (Some found) Graph asked = rw asked refl
+task_args (Some found) (Graph file) asked = rw asked.0 refl
 task_args (Some found) (Pack words) asked = go (first_of (codes "DIR") found.1) (arguments_of found.1) asked.1
   where
     go : (folder : Option Text) (args : Option (List (Text × Text)))
@@ -111,10 +111,10 @@ leads x y p z = cond x (Some leaf) (cond y (Some graph_leaf) (cond p (Some pack_
 
 -- `pack` has a folder, and each build argument a `=`
 pack_at : (rows : List Row) (folder : Text) → first_of (codes "DIR") rows ≡ Some folder → argument_faults (Some (codes "pack", rows)) ≡ []
-    → (words : PackWords) × (pack_of rows ≡ Some words)
+    → (words : PackOptions) × (pack_of rows ≡ Some words)
 pack_at rows folder given e = go (arguments_of rows) refl
   where
-    go : (found : Option (List (Text × Text))) → arguments_of rows ≡ found → (words : PackWords) × (pack_of rows ≡ Some words)
+    go : (found : Option (List (Text × Text))) → arguments_of rows ≡ found → (words : PackOptions) × (pack_of rows ≡ Some words)
     go None is = absurd (some_kind _ _ (rw is at e))
     go (Some args) is = (pack_with rows folder args, rw (given, is) refl)
 
@@ -125,8 +125,8 @@ met_at : (p : Text × List Text) (x y k z : Bool) → answers_to p.0 (label_of h
     → (task : Task) × IsTaskOf (option_map (λ s. rows_at s p.1) (leads x y k z)) task
 met_at p true y k z help not_help some e args =
     let found = workers_of _ (leaf_ok p.1 e) in
-    (Build found.0, (refl, found.1))
-met_at p false true k z help not_help some e args = (Graph, refl)
+    (Build (record { workers = found.0; file = bundle_file (rows_at leaf p.1).1 }), (refl, record { workers = found.1; file = refl }))
+met_at p false true k z help not_help some e args = (Graph (bundle_file (rows_at graph_leaf p.1).1), (refl, refl))
 met_at p false false true z help not_help some e args =
     let folder = folder_ok p.1 e in
     let found = pack_at (finished pack_leaf.rules (walk pack_leaf.rules [] nothing_held p.1).held) folder.0 folder.1 args in
@@ -191,6 +191,12 @@ pub clap_fault : (a : App) (words : List Text) (error : Error) → a ≡ whole_c
 clap_fault a words error is parsed =
     still_kind (fault_of whole_command words) (argument_faults (subcommand_of whole_command words)) error
     (subst (λ x. HasKind (fault_of x words) error) is (parsed (ap is_simple_and_free is ∙ simple_and_free)))
+
+-- the task that it found is that of the words
+pub asked_task : (a : App) (words : List Text) (found : Option (Text × List Row)) (rows : Type 0) (task : Task) → a ≡ whole_command
+    → (is_simple a ≡ true → rows × (found ≡ subcommand_of a words)) → IsTaskOf found task → IsTaskOf (subcommand_of whole_command words) task
+asked_task a words found rows task is matched asked =
+    subst (λ f. IsTaskOf f task) ((matched (ap is_simple is ∙ simple)).1 ∙ ap (λ x. subcommand_of x words) is) asked
 
 -- no fault at all, where it found a task
 pub no_faults : (a : App) (words : List Text) (found : Option (Text × List Row)) (rows : Type 0) (task : Task) → a ≡ whole_command

@@ -4,24 +4,27 @@ use Rattle.clap.specs.Words.{Row, Rule, Shape, Text, new_rule}
 use Rattle.clap.specs.Simple.{built, new_shape}
 use Rattle.clap.specs.Kinds.{range_kinds, value_kinds, values_kinds}
 use Rattle.clap.specs.Faults.{level_fault, repeat_fault, set_fault, use_fault, values_fault}
-use Rattle.clap.specs.Walk.{finished, has_row, nothing_held, settled, used, walk, with_default, without}
+use Rattle.clap.specs.Walk.{finished, has_row, nothing_held, reading_by, settled, used, values_or_missing, walk, with_default, without}
 use Rattle.clap.specs.declared.builder.value_parser.ValueParser.TheVariants as vp
 use Rattle.clap.specs.declared.parser.matches.ValueSource.TheVariants.{CommandLine, DefaultValue}
 use Rattle.plain.specs.Limits.{most_workers}
 use Rattle.command.specs.CommandLine.{default_workers, least_workers, whole_command}
 use Rattle.command.proofs.Kept.{or_else-left, or_else-right, passed, some_kind}
-use Rattle.command.proofs.LeafWalk.{leaf_holds}
-use Rattle.command.proofs.Rows.{Fine, Fine-with_values, Fine-without, HasFine, HasFine-with_values, has_fine, is_worker_text}
+use Rattle.command.proofs.LeafWalk.{Keeps, leaf_holds}
+use Rattle.command.proofs.Rows.{Fine, Fine-with_others, Fine-with_values, Fine-without, HasFine, HasFine-with_values, has_fine, is_worker_text}
 
--- `build` as clap builds it: its options are `--workers` and `--help`
+-- `build` as clap builds it: it takes `--workers`, FILE and `--help`
 abbrev pub leaf : Shape
 leaf = slice_index_or (built whole_command).subs 0 (new_shape [])
 
 abbrev workers : Rule
 workers = slice_index_or leaf.rules 0 (new_rule [])
 
+abbrev bundle : Rule
+bundle = slice_index_or leaf.rules 1 (new_rule [])
+
 abbrev help : Rule
-help = slice_index_or leaf.rules 1 (new_rule [])
+help = slice_index_or leaf.rules 2 (new_rule [])
 
 use_workers : (again : Bool) (values : List Text) (rows : List Row) → use_fault again workers values rows ≡ [] → Fine rows
     → Fine (used workers values rows)
@@ -31,7 +34,12 @@ use_workers again (v ∷ vs) rows e fine =
     let all = or_else-right (repeat_fault again workers.id rows) (values_fault workers (v ∷ vs)) set in
     let parser = vp.Signed (pos least_workers) (pos most_workers) in
     let one = or_else-left (value_kinds false parser v) (values_kinds false parser vs) all in
-    Fine-with_values CommandLine v vs (without (codes "workers") rows) (passed (is_worker_text v) _ _ one) (Fine-without rows fine)
+    Fine-with_values CommandLine v vs (without (codes "workers") rows) (passed (is_worker_text v) _ _ one) (Fine-without (codes "workers") rows fine)
+
+use_bundle : Keeps Fine bundle
+use_bundle again values rows e fine =
+    Fine-with_others (codes "FILE") (reading_by bundle) CommandLine (values_or_missing bundle values) (without (codes "FILE") rows) refl
+    (Fine-without (codes "FILE") rows fine)
 
 with_default_ok : (rows : List Row) → Fine rows → HasFine (with_default rows workers)
 with_default_ok rows fine = go (has_row (codes "workers") rows) refl
@@ -40,16 +48,19 @@ with_default_ok rows fine = go (has_row (codes "workers") rows) refl
     go true has = rw has (has_fine rows fine has)
     go false not = rw not (HasFine-with_values DefaultValue default_workers [] rows refl fine)
 
--- help has no default value
+same_rows : (b : Bool) (rows : List Row) → HasFine rows → HasFine (cond b rows rows)
+same_rows true rows has = has
+same_rows false rows has = has
+
+-- neither FILE nor help has a default value
+HasFine-bundle : (rows : List Row) → HasFine rows → HasFine (with_default rows bundle)
+HasFine-bundle rows has = same_rows (has_row (codes "FILE") rows) rows has
+
 HasFine-help : (rows : List Row) → HasFine rows → HasFine (with_default rows help)
-HasFine-help rows has = go (has_row (codes "help") rows)
-  where
-    go : (b : Bool) → HasFine (cond b rows rows)
-    go true = has
-    go false = has
+HasFine-help rows has = same_rows (has_row (codes "help") rows) rows has
 
 pub leaf_ok : (words : List Text) → level_fault leaf [] nothing_held words false [] ≡ []
     → HasFine (finished leaf.rules (walk leaf.rules [] nothing_held words).held)
 leaf_ok words e =
     let end = (walk leaf.rules [] nothing_held words).held in
-    HasFine-help _ (with_default_ok (settled leaf.rules end).rows (leaf_holds leaf ((true, workers) ∷ []) Fine (use_workers, tt) words tt e).0)
+    HasFine-help _ (HasFine-bundle _ (with_default_ok (settled leaf.rules end).rows (leaf_holds leaf ((true, workers) ∷ (true, bundle) ∷ []) Fine (use_workers, (use_bundle, tt)) words tt e).0))

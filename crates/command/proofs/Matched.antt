@@ -8,7 +8,8 @@ use Rattle.clap.specs.declared.parser.matches.ArgMatches.TheViews.{out-SubComman
 use Rattle.clap.specs.declared.parser.matches.SubCommand.{SubCommand}
 use Rattle.plain.specs.Limits.{most_workers}
 use Rattle.command.specs.CommandLine.{least_workers}
-use Rattle.command.specs.Tasks.{IsTaskOf, IsWorkers, pack_of}
+use Rattle.command.specs.Tasks.{IsBuild, IsTaskOf, IsWorkers, pack_of}
+use Rattle.command.specs.declared.task.BuildOptions.{BuildOptions}
 use Rattle.command.specs.declared.task.Task.{Task}
 use Rattle.command.specs.declared.task.Task.TheVariants.{Build, Graph, Pack}
 
@@ -50,16 +51,16 @@ read_out E G only rows one w is value out n h =
     let same : n ≡ w = h.is ∙ sym parsed.1 in
     out (subst (λ k. least_workers ≤ k) same h.least) (subst (λ k. k ≤ most_workers) same h.most)
 
--- without a number of workers there is no task
+-- without what `build` is asked for there is no task
 pub no_task : (o : Option (Text × List Row)) (name : Text) (rows : List Row) → o ≡ Some (name, rows) → name ≡ codes "build"
-    → ((n : ℕ) → IsWorkers rows n → ⊥) → (task : Task) → IsTaskOf o task → ⊥
-no_task o name rows is build none (Build n) h = none n (subst (λ found. IsTaskOf found (Build n)) is h).1
-no_task o name rows is build none Graph h = let graph : name ≡ codes "graph" = subst (λ found. IsTaskOf found Graph) is h in absurd (true≢false (ap (λ t. bytes_eq t (codes "build")) (sym build ∙ graph)))
+    → ((options : BuildOptions) → IsBuild rows options → ⊥) → (task : Task) → IsTaskOf o task → ⊥
+no_task o name rows is build none (Build options) h = none options (subst (λ found. IsTaskOf found (Build options)) is h).1
+no_task o name rows is build none (Graph file) h = let graph : name ≡ codes "graph" = (subst (λ found. IsTaskOf found (Graph file)) is h).0 in absurd (true≢false (ap (λ t. bytes_eq t (codes "build")) (sym build ∙ graph)))
 no_task o name rows is build none (Pack words) h = let pack : name ≡ codes "pack" = (subst (λ found. IsTaskOf found (Pack words)) is h).0 in absurd (true≢false (ap (λ t. bytes_eq t (codes "build")) (sym build ∙ pack)))
 
 -- nor without what `pack` is asked for
 pub no_pack : (o : Option (Text × List Row)) (name : Text) (rows : List Row) → o ≡ Some (name, rows) → name ≡ codes "pack"
     → pack_of rows ≡ None → (task : Task) → IsTaskOf o task → ⊥
-no_pack o name rows is pack none (Build n) h = let build : name ≡ codes "build" = (subst (λ found. IsTaskOf found (Build n)) is h).0 in absurd (true≢false (ap (λ t. bytes_eq t (codes "pack")) (sym pack ∙ build)))
-no_pack o name rows is pack none Graph h = let graph : name ≡ codes "graph" = subst (λ found. IsTaskOf found Graph) is h in absurd (true≢false (ap (λ t. bytes_eq t (codes "pack")) (sym pack ∙ graph)))
+no_pack o name rows is pack none (Build options) h = let build : name ≡ codes "build" = (subst (λ found. IsTaskOf found (Build options)) is h).0 in absurd (true≢false (ap (λ t. bytes_eq t (codes "pack")) (sym pack ∙ build)))
+no_pack o name rows is pack none (Graph file) h = let graph : name ≡ codes "graph" = (subst (λ found. IsTaskOf found (Graph file)) is h).0 in absurd (true≢false (ap (λ t. bytes_eq t (codes "pack")) (sym pack ∙ graph)))
 no_pack o name rows is pack none (Pack words) h = let some : pack_of rows ≡ Some words = (subst (λ found. IsTaskOf found (Pack words)) is h).1 in let bad : None ≡ Some words = sym none ∙ some in cc

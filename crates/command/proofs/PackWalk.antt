@@ -31,8 +31,11 @@ argument = slice_index_or leaf.rules 3 (new_rule [])
 abbrev output : Rule
 output = slice_index_or leaf.rules 4 (new_rule [])
 
+abbrev ignoring : Rule
+ignoring = slice_index_or leaf.rules 5 (new_rule [])
+
 abbrev arguments : Arguments
-arguments = (true, folder) ∷ (true, file) ∷ (true, target) ∷ (true, argument) ∷ (true, output) ∷ []
+arguments = (true, folder) ∷ (true, file) ∷ (true, target) ∷ (true, argument) ∷ (true, output) ∷ (false, ignoring) ∷ []
 
 use_folder : Keeps Filled folder
 use_folder again [] rows e filled = absurd (some_kind _ _ (or_else-left (range_kinds 1 1 0) (set_fault again folder [] rows) e))
@@ -65,6 +68,11 @@ use_output again values rows e filled =
     Filled-with_values (codes "output") (reading_by output) CommandLine (values_or_missing output values) (without (codes "output") rows)
     (not_folder (codes "output") _ refl) (Filled-without (codes "output") rows filled)
 
+use_ignoring : Keeps Filled ignoring
+use_ignoring again values rows e filled =
+    Filled-with_values (codes "apply-ignore") (reading_by ignoring) CommandLine (values_or_missing ignoring values) (without (codes "apply-ignore") rows)
+    (not_folder (codes "apply-ignore") _ refl) (Filled-without (codes "apply-ignore") rows filled)
+
 was_given : (b : Bool) → check_kinds false false (not b || false) ≡ [] → b ≡ true
 was_given true e = refl
 was_given false e = absurd (some_kind _ _ e)
@@ -73,6 +81,6 @@ pub folder_ok : (words : List Text) → level_fault leaf [] nothing_held words f
     → (text : Text) × (first_of (codes "DIR") (finished leaf.rules (walk leaf.rules [] nothing_held words).held) ≡ Some text)
 folder_ok words e =
     let end = (walk leaf.rules [] nothing_held words).held in
-    let held = leaf_holds leaf arguments Filled (use_folder, (use_file, (use_target, (use_argument, (use_output, tt))))) words tt e in
+    let held = leaf_holds leaf arguments Filled (use_folder, (use_file, (use_target, (use_argument, (use_output, (use_ignoring, tt)))))) words tt e in
     given_folder (finished leaf.rules end) (Filled-defaults leaf.rules (settled leaf.rules end).rows held.0)
     (was_given (is_given (codes "DIR") (finished leaf.rules end)) held.1)

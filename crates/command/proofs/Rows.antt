@@ -1,9 +1,11 @@
 -- The rows of `--workers`: each holds a number within the range, whatever is added to them.
-use Rattle.std.proofs.Common.{◌≡◌, Bool, true, false, cond, List, [], ◌∷◌, ◌++◌, Some, refl, ap, ap₂, ◌∙◌, codes, find, bytes_eq, slice_get, option_map, option_and_then, pos}
+use Rattle.std.proofs.Common.{◌≡◌, Bool, true, false, cond, List, [], ◌∷◌, ◌++◌, Some, refl, sym, ap, ap₂, true≢false, ◌∙◌, codes, find, bytes_eq, slice_get, option_map, option_and_then, pos}
+use Rattle.std.proofs.lemmas.Slice.Eq.{bytes_eq-Decides}
 use Rattle.clap.specs.Words.{Row, Text, one_of, read_as}
 use Rattle.clap.specs.ValueTests.{is_signed_in}
 use Rattle.clap.specs.Walk.{has_row, more_values, row_text, stronger, with_values, without}
 use Rattle.clap.specs.Lexer.{without_minus}
+use Rattle.clap.specs.declared.builder.value_parser.Reading.{Reading}
 use Rattle.clap.specs.declared.builder.value_parser.Reading.TheVariants.{WithoutMinus}
 use Rattle.clap.specs.declared.parser.matches.ValueSource.{ValueSource}
 use Rattle.plain.specs.Limits.{most_workers}
@@ -27,11 +29,11 @@ abbrev pub Fine : List Row → Type 0
 Fine [] = Unit {0}
 Fine (row ∷ rows) = (is_worker_row row ≡ true → IsFine row) × Fine rows
 
-pub Fine-without : (rows : List Row) → Fine rows → Fine (without (codes "workers") rows)
-Fine-without [] fine = tt
-Fine-without (row ∷ rows) fine = go (is_worker_row row) (Fine-without rows fine.1)
+pub Fine-without : (id : Text) (rows : List Row) → Fine rows → Fine (without id rows)
+Fine-without id [] fine = tt
+Fine-without id (row ∷ rows) fine = go (bytes_eq row.id id) (Fine-without id rows fine.1)
   where
-    go : (b : Bool) → Fine (without (codes "workers") rows) → Fine (cond b ([] ++ rows) (row ∷ without (codes "workers") rows))
+    go : (b : Bool) → Fine (without id rows) → Fine (cond b ([] ++ rows) (row ∷ without id rows))
     go true later = fine.1
     go false later = (fine.0, later)
 
@@ -59,6 +61,23 @@ Fine-with_values source text more (row ∷ rows) passes fine =
         → Fine (cond b (more_values source (text ∷ more) row ++ rows) (row ∷ with_values (codes "workers") WithoutMinus source (text ∷ more) rows))
     go true later = ((λ e. IsFine-more source (text ∷ more) row (fine.0 e)), fine.1)
     go false later = (fine.0, later)
+
+-- a row of another argument is none of them, whatever is added to it
+added_others : (id : Text) (source : ValueSource) (values : List Text) (row : Row) → bytes_eq id (codes "workers") ≡ false → bytes_eq row.id id ≡ true
+    → is_worker_row (record row { values = row.values ++ values; source = Some (stronger row.source source) }) ≡ true → ⊥
+added_others id source values row other same worker =
+    true≢false (sym (ap (λ t. bytes_eq t (codes "workers")) (sym ((bytes_eq-Decides row.id id).0 same)) ∙ worker) ∙ other)
+
+pub Fine-with_others : (id : Text) (how : Reading) (source : ValueSource) (values : List Text) (rows : List Row) → bytes_eq id (codes "workers") ≡ false
+    → Fine rows → Fine (with_values id how source values rows)
+Fine-with_others id how source values [] other fine = ((λ same. absurd (true≢false (sym same ∙ other))), tt)
+Fine-with_others id how source values (row ∷ rows) other fine =
+    go (bytes_eq row.id id) refl (Fine-with_others id how source values rows other fine.1)
+  where
+    go : (b : Bool) → bytes_eq row.id id ≡ b → Fine (with_values id how source values rows)
+        → Fine (cond b (more_values source values row ++ rows) (row ∷ with_values id how source values rows))
+    go true is later = ((λ worker. absurd (added_others id source values row other is worker)), fine.1)
+    go false not later = (fine.0, later)
 
 -- the option has a row, and it is fine
 pub record HasFine (rows : List Row) : Type 0 where

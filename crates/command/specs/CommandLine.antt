@@ -3,7 +3,7 @@ use Rattle.std.specs.Prelude.{ℕ, [], ◌∷◌, Some, true, codes, pos}
 use Rattle.plain.specs.Limits.{most_workers}
 use Rattle.clap.specs.Words.{App, Rule, Text, new_app, new_rule, with_rule, with_subcommand}
 use Rattle.clap.specs.Simple.{on_top}
-use Rattle.clap.specs.declared.builder.action.ArgAction.TheVariants.{Append}
+use Rattle.clap.specs.declared.builder.action.ArgAction.TheVariants.{Append, SetTrue}
 use Rattle.clap.specs.declared.builder.value_parser.ValueParser.TheVariants as vp
 
 -- the least number of workers of a build (own)
@@ -23,13 +23,17 @@ workers_option = record (new_rule (codes "workers")) {
   defaults = default_workers ∷ [];
 }
 
--- `build [--workers N]` (own)
-abbrev pub build_command : App
-build_command = with_rule (new_app (codes "build")) workers_option
+-- FILE, which may be left out (own)
+abbrev pub bundle_argument : Rule
+bundle_argument = new_rule (codes "FILE")
 
--- `graph` (own)
+-- `build [--workers N] [FILE]` (own)
+abbrev pub build_command : App
+build_command = with_rule (with_rule (new_app (codes "build")) workers_option) bundle_argument
+
+-- `graph [FILE]` (own)
 abbrev pub graph_command : App
-graph_command = new_app (codes "graph")
+graph_command = with_rule (new_app (codes "graph")) bundle_argument
 
 -- DIR, which has to be given (own)
 abbrev pub folder_argument : Rule
@@ -47,9 +51,17 @@ argument_option = record (text_option (codes "build-arg")) { action = Some Appen
 abbrev pub pack_from : App
 pack_from = with_rule (with_rule (with_rule (new_app (codes "pack")) folder_argument) (text_option (codes "file"))) (text_option (codes "target"))
 
+-- `--apply-ignore` (own)
+abbrev pub ignore_flag : Rule
+ignore_flag = record (new_rule (codes "apply-ignore")) { long = Some (codes "apply-ignore"); action = Some SetTrue }
+
 -- `pack DIR [--file F] [--target T] [--build-arg N=V].. [--output FILE]` (own)
+abbrev pub pack_to : App
+pack_to = with_rule (with_rule pack_from argument_option) (text_option (codes "output"))
+
+-- the same with `--apply-ignore` (own)
 abbrev pub pack_command : App
-pack_command = with_rule (with_rule pack_from argument_option) (text_option (codes "output"))
+pack_command = with_rule pack_to ignore_flag
 
 -- `dfsolve COMMAND` of the commands that read a bundle; a command has to be given, and the program has a version to tell (own)
 abbrev pub bundle_command : App

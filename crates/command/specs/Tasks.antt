@@ -1,5 +1,6 @@
 -- What the words that were found ask for (own).
-use Rattle.std.specs.Prelude.{◌≡◌, ◌≤◌, ◌==◌, ◌&&◌, ℕ, Bool, not, List, [], ◌∷◌, Option, Some, None, map, length, codes, bytes_eq, is_some, unwrap_or, option_map, option_and_then, if◌then◌else◌}
+use Rattle.std.specs.Prelude.{◌≡◌, ◌≤◌, ◌==◌, ◌&&◌, ℕ, Bool, false, not, List, [], ◌∷◌, Option, Some, None, map, length, codes, bytes_eq, is_some, unwrap_or, option_map, option_and_then, if◌then◌else◌}
+use Rattle.std.specs.Option.{option_map_or}
 use Rattle.std.specs.List.{list_all, position_or_len, before_first, after_first}
 use Rattle.std.specs.Str.Parse.{IsNumeral, digits_value, without_leading_plus}
 use Rattle.clap.specs.Kinds.{Kinds, or_else}
@@ -8,7 +9,8 @@ use Rattle.clap.specs.Words.{Row, Text, fault_of, first_of, one_of, subcommand_o
 use Rattle.clap.specs.declared.error.kind.ErrorKind.TheVariants.{ValueValidation}
 use Rattle.plain.specs.Limits.{most_workers}
 use Rattle.command.specs.CommandLine.{least_workers, whole_command}
-use Rattle.command.specs.declared.task.Pack.{Pack as PackWords}
+use Rattle.command.specs.declared.task.BuildOptions.{BuildOptions}
+use Rattle.command.specs.declared.task.PackOptions.{PackOptions}
 use Rattle.command.specs.declared.task.Task.{Task}
 use Rattle.command.specs.declared.task.Task.TheVariants.{Build, Graph, Pack}
 
@@ -21,6 +23,15 @@ pub record IsWorkers (rows : List Row) (workers : ℕ) : Type 0 where
   pub is : workers ≡ digits_value 10 (without_leading_plus text)
   pub least : least_workers ≤ workers
   pub most : workers ≤ most_workers
+
+-- the file that holds the bundle, if one is named (own)
+abbrev pub bundle_file : List Row → Option Text
+bundle_file rows = first_of (codes "FILE") rows
+
+-- what `build` is asked for by its matches (own)
+pub record IsBuild (rows : List Row) (options : BuildOptions) : Type 0 where
+  pub workers : IsWorkers rows options.workers
+  pub file : options.file ≡ bundle_file rows
 
 -- a text has a `=` (own)
 abbrev pub has_equals : Text → Bool
@@ -38,26 +49,31 @@ argument_texts rows = unwrap_or (all_of (codes "build-arg") rows) []
 abbrev pub arguments_of : List Row → Option (List (Text × Text))
 arguments_of rows = if list_all has_equals (argument_texts rows) then Some (map argument_of (argument_texts rows)) else None
 
+-- a flag is given: its first value is `true`, which is how clap keeps one (own)
+abbrev pub is_set : Text → List Row → Bool
+is_set flag rows = option_map_or (λ text. bytes_eq text (codes "true")) (first_of flag rows) false
+
 -- what `pack` is asked for by its matches, with this folder and these build arguments (own)
-abbrev pub pack_with : List Row → Text → List (Text × Text) → PackWords
+abbrev pub pack_with : List Row → Text → List (Text × Text) → PackOptions
 pack_with rows folder args = record {
   folder = folder;
   file = first_of (codes "file") rows;
   target = first_of (codes "target") rows;
   args = args;
   output = first_of (codes "output") rows;
+  apply_ignore = is_set (codes "apply-ignore") rows;
 }
 
 -- the same, where there is a folder and each build argument has a `=` (own)
-abbrev pub pack_of : List Row → Option PackWords
+abbrev pub pack_of : List Row → Option PackOptions
 pack_of rows = option_and_then (λ folder. option_map (pack_with rows folder) (arguments_of rows)) (first_of (codes "DIR") rows)
 
 -- the task that a subcommand, by its name and its matches, asks for (own)
 abbrev pub IsTaskOf : Option (Text × List Row) → Task → Type 0
 IsTaskOf None task = ⊥
-IsTaskOf (Some found) (Build workers) = (found.0 ≡ codes "build") × IsWorkers found.1 workers
-IsTaskOf (Some found) Graph = found.0 ≡ codes "graph"
-IsTaskOf (Some found) (Pack words) = (found.0 ≡ codes "pack") × (pack_of found.1 ≡ Some words)
+IsTaskOf (Some found) (Build options) = (found.0 ≡ codes "build") × IsBuild found.1 options
+IsTaskOf (Some found) (Graph file) = (found.0 ≡ codes "graph") × (file ≡ bundle_file found.1)
+IsTaskOf (Some found) (Pack options) = (found.0 ≡ codes "pack") × (pack_of found.1 ≡ Some options)
 
 -- what is wrong with words in which clap finds no fault: a build argument without a `=` (own)
 abbrev pub argument_faults : Option (Text × List Row) → Kinds

@@ -1,7 +1,7 @@
 ghost use Rattle.std.specs.Prelude.{◌≡◌, IfOk, false};
 ghost use Rattle.clap.specs.Words.{app_of, rule_of};
 ghost use Rattle.clap.specs.declared.builder.command.Command.TheViews.{out-Command};
-ghost use Rattle.command.specs.CommandLine.{argument_option, build_command, bundle_command, folder_argument, graph_command, pack_command, pack_from, text_option, whole_command, workers_option};
+ghost use Rattle.command.specs.CommandLine.{argument_option, build_command, bundle_argument, bundle_command, folder_argument, graph_command, ignore_flag, pack_command, pack_from, pack_to, text_option, whole_command, workers_option};
 
 use clap::{Arg, ArgAction, Command, value_parser};
 use plain::limits::MOST_WORKERS;
@@ -12,6 +12,9 @@ pub const LEAST_WORKERS: u8 = 1;
 
 /// The number of workers of a build whose words give none.
 const DEFAULT_WORKERS: &str = "4";
+
+/// The file of a bundle, as it is called in help.
+pub const BUNDLE: &str = "FILE";
 
 /// The folder of `pack`, as it is called in help.
 pub const FOLDER: &str = "DIR";
@@ -25,7 +28,9 @@ pub const BUILD_ARGUMENT: &str = "build-arg";
 
 pub const OUTPUT: &str = "output";
 
-/// The version of the program, which `--version` prints behind its name.
+pub const APPLY_IGNORE: &str = "apply-ignore";
+
+/// The version of the program, which `--version` prints after its name.
 const VERSION: &str = "0.1.0";
 
 /// `dfsolve COMMAND`.
@@ -37,7 +42,7 @@ pub fn whole_command<'a>(alloc: Global) -> Result<Command<'a>, AllocError>
     bundle.subcommand(pack)
 }
 
-/// `dfsolve COMMAND`, but for `pack`.
+/// `dfsolve COMMAND` with the commands that read a bundle.
 fn bundle_command<'a>(alloc: Global) -> Result<Command<'a>, AllocError>
     ensures { IfOk result (λ command. app_of command ≡ bundle_command) }
 {
@@ -51,29 +56,41 @@ fn bundle_command<'a>(alloc: Global) -> Result<Command<'a>, AllocError>
         .subcommand(graph)
 }
 
-/// `build [--workers N]`.
+/// `build [--workers N] [FILE]`.
 fn build_command<'a>(alloc: Global) -> Result<Command<'a>, AllocError>
     ensures app { IfOk result (λ command. app_of command ≡ build_command) }
     ensures local { IfOk result (λ command. (out-Command command).has_globals ≡ false) }
 {
     Command::new(alloc, "build")
-        .about("Solves the bundle on standard input and prints the answer")
-        .arg(workers_option(alloc))
+        .about("Solves the bundle of a file, or on standard input, and prints the answer")
+        .arg(workers_option(alloc))?
+        .arg(bundle_argument(alloc))
 }
 
-/// `graph`.
+/// `graph [FILE]`.
 fn graph_command<'a>(alloc: Global) -> Result<Command<'a>, AllocError>
     ensures app { IfOk result (λ command. app_of command ≡ graph_command) }
     ensures local { IfOk result (λ command. (out-Command command).has_globals ≡ false) }
 {
-    Ok(Command::new(alloc, "graph").about(
-        "Prints the graph of the bundle on standard input, by content addresses",
-    ))
+    Command::new(alloc, "graph")
+        .about(
+            "Prints the graph of the bundle of a file, or on standard input, by content addresses",
+        )
+        .arg(bundle_argument(alloc))
+}
+
+/// `pack DIR [--file F] [--target T] [--build-arg N=V].. [--output FILE] [--apply-ignore]`.
+fn pack_command<'a>(alloc: Global) -> Result<Command<'a>, AllocError>
+    ensures app { IfOk result (λ command. app_of command ≡ pack_command) }
+    ensures local { IfOk result (λ command. (out-Command command).has_globals ≡ false) }
+{
+    let command = pack_to(alloc)?;
+    command.arg(ignore_flag(alloc))
 }
 
 /// `pack DIR [--file F] [--target T] [--build-arg N=V].. [--output FILE]`.
-fn pack_command<'a>(alloc: Global) -> Result<Command<'a>, AllocError>
-    ensures app { IfOk result (λ command. app_of command ≡ pack_command) }
+fn pack_to<'a>(alloc: Global) -> Result<Command<'a>, AllocError>
+    ensures app { IfOk result (λ command. app_of command ≡ pack_to) }
     ensures local { IfOk result (λ command. (out-Command command).has_globals ≡ false) }
 {
     let command = pack_from(alloc)?;
@@ -100,6 +117,14 @@ fn pack_from<'a>(alloc: Global) -> Result<Command<'a>, AllocError>
             "The Dockerfile, in place of DIR/Dockerfile",
         ))?
         .arg(text_option(alloc, TARGET, "STAGE", "The stage to build"))
+}
+
+/// `FILE`.
+fn bundle_argument<'a>(alloc: Global) -> Arg<'a>
+    ensures rule { rule_of result ≡ bundle_argument }
+    ensures local { result.global ≡ false }
+{
+    Arg::new(alloc, BUNDLE).help("The bundle, in place of standard input")
 }
 
 /// `DIR`.
@@ -135,6 +160,17 @@ fn argument_option<'a>(alloc: Global) -> Arg<'a>
         "A build argument; may be given again",
     )
     .action(ArgAction::Append)
+}
+
+/// `--apply-ignore`.
+fn ignore_flag<'a>(alloc: Global) -> Arg<'a>
+    ensures rule { rule_of result ≡ ignore_flag }
+    ensures local { result.global ≡ false }
+{
+    Arg::new(alloc, APPLY_IGNORE)
+        .long(APPLY_IGNORE)
+        .help("Leave out what the ignore file leaves out")
+        .action(ArgAction::SetTrue)
 }
 
 /// `--workers N`.

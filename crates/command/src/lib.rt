@@ -9,7 +9,7 @@
 //
 // ```
 // match read_command(alloc, ["dfsolve", "build"].as_slice()) {
-//     Ok(task) => ..,                    // Task::Build(4)
+//     Ok(task) => ..,                    // Task::Build, with 4 workers and no file
 //     Err(error) => error.print(rt)?,
 // }
 // ```
@@ -20,4 +20,4 @@ mod reading;
 mod task;
 
 pub use reading::read_command;
-pub use task::{Pack, Task};
+pub use task::{BuildOptions, PackOptions, Task};

@@ -4,31 +4,32 @@ ghost use Rattle.clap.specs.Walk.{all_of};
 ghost use Rattle.clap.specs.Words.{FailsBy, first_of, found_of, rows_of, subcommand_of, subcommand_rows_of};
 ghost use Rattle.clap.specs.declared.error.kind.ErrorKind.TheVariants.{ValueValidation};
 ghost use Rattle.command.specs.CommandLine.{whole_command};
-ghost use Rattle.command.specs.Tasks.{IsTaskOf, IsWorkers, argument_of, arguments_of, faults_of, has_equals, pack_of};
+ghost use Rattle.command.specs.Tasks.{IsBuild, IsTaskOf, IsWorkers, argument_of, arguments_of, bundle_file, faults_of, has_equals, is_set, pack_of};
+ghost use Rattle.command.specs.declared.task.BuildOptions.{BuildOptions};
 ghost use Rattle.command.specs.declared.task.Task.{Task};
 
-use crate::commands::{BUILD_ARGUMENT, FILE, FOLDER, LEAST_WORKERS, OUTPUT, TARGET, whole_command};
-use crate::{Pack, Task};
+use crate::commands::{
+    APPLY_IGNORE, BUILD_ARGUMENT, BUNDLE, FILE, FOLDER, LEAST_WORKERS, OUTPUT, TARGET,
+    whole_command,
+};
+use crate::{BuildOptions, PackOptions, Task};
 use clap::error::ErrorKind;
 use clap::{ArgMatches, Error};
 use plain::limits::MOST_WORKERS;
 use plain::{Items, Text};
 use std::alloc::{AllocError, Global};
 
-/// What is told of a build argument without a `=`.
-const NO_EQUALS: &str = "a value of --build-arg is NAME=VALUE, and one has no '='";
-
 /// The task that the words ask for. The first word is the program's name, as in what `env::args` gives,
 /// and is passed over.
 ///
-/// `graph` is a command without options, and `build` one with `--workers N` or `--workers=N` once at most; N is
+/// `graph` is a command with a word FILE that may be left out, and `build` one with that word and `--workers N` or `--workers=N` once at most; N is
 /// decimal digits, of which a `+` may stand in front, and its value is 1 to 64; the default is 4. `pack` is one with a word DIR, with
-/// `--file F`, `--target T` and `--output FILE` once at most, and with `--build-arg N=V` any number of times, each of which has a `=`.
-/// `help`, `help build`, `help graph`, `help pack`, `--help` and `-h`, in front of a command or behind it, ask for help, and `--version` or `-V`
-/// in front of it for the program's name and version.
+/// `--file F`, `--target T`, `--output FILE` and `--apply-ignore` once at most, and with `--build-arg N=V` any number of times, each of which has a `=`.
+/// `help`, `help build`, `help graph`, `help pack`, `--help` and `-h`, before a command or after it, ask for help, and `--version` or `-V`
+/// before it for the program's name and version.
 ///
 /// An error is clap's, and its kind tells what it is: help or the version that was asked for, which are no faults; a fault of the words;
-/// or want of memory. The text that it prints is clap's, but for a build argument without a `=`.
+/// or want of memory. The text that it prints is clap's, except of a build argument without a `=`, which it names.
 pub fn read_command<'a>(alloc: Global, words: &'a [&'a str]) -> Result<Task, Error>
     ensures task { IfOk result
         (IsTaskOf (subcommand_of whole_command (map (λ word. word.now) words.entry.now))) }
@@ -39,19 +40,39 @@ pub fn read_command<'a>(alloc: Global, words: &'a [&'a str]) -> Result<Task, Err
     match command.try_get_matches_from(words) {
         Ok(matches) => match task_of(alloc, &matches)? {
             Some(task) => Ok(task),
-            None => refuse_arguments(alloc),
+            None => refuse_arguments(alloc, &matches),
         },
         Err(error) => Err(error),
     }
 }
 
-/// Refuses a build argument without a `=`.
-fn refuse_arguments(alloc: Global) -> Result<Task, Error>
+/// Refuses a build argument without a `=`, which the matches hold.
+fn refuse_arguments(alloc: Global, matches: &ArgMatches) -> Result<Task, Error>
     ensures { FailsBy (ValueValidation ∷ []) result }
 {
     let mut command = whole_command(alloc)?;
-    let error = command.error(ErrorKind::ValueValidation, NO_EQUALS)?;
+    let text = no_equals(alloc, bare_argument(matches))?;
+    let error = command.error(ErrorKind::ValueValidation, text.as_str())?;
     Err(error)
+}
+
+/// What is said of a build argument without a `=`.
+fn no_equals(alloc: Global, argument: &str) -> Result<String, AllocError> {
+    format!(in alloc; "a value of --build-arg is NAME=VALUE, and '{argument}' has no '='")
+}
+
+/// The first build argument without a `=`.
+fn bare_argument<'m, 'a>(matches: &'m ArgMatches<'a>) -> &'a str {
+    if let Some((_, found)) = matches.subcommand() {
+        if let Some(texts) = argument_texts(found) {
+            for text in texts {
+                if text.split_once('=').is_none() {
+                    return text;
+                }
+            }
+        }
+    }
+    ""
 }
 
 /// The task that a parse found.
@@ -63,26 +84,40 @@ fn task_of(alloc: Global, matches: &ArgMatches) -> Result<Option<Task>, AllocErr
         return Ok(None);
     };
     if name == "build" {
-        let Some(number) = workers_of(found) else {
+        let Some(options) = build_of(alloc, found)? else {
             return Ok(None);
         };
-        return Ok(Some(Task::Build(number)));
+        return Ok(Some(Task::Build(options)));
     }
     if name == "graph" {
-        return Ok(Some(Task::Graph));
+        let file = text_of(alloc, found, BUNDLE)?;
+        return Ok(Some(Task::Graph(file)));
     }
     if name == "pack" {
-        let Some(pack) = pack_of(alloc, found)? else {
+        let Some(options) = pack_of(alloc, found)? else {
             return Ok(None);
         };
-        return Ok(Some(Task::Pack(pack)));
+        return Ok(Some(Task::Pack(options)));
     }
     Ok(None)
 }
 
+/// What the matches of `build` ask for; `None` where they hold no number of workers.
+fn build_of(alloc: Global, matches: &ArgMatches) -> Result<Option<BuildOptions>, AllocError>
+    ensures some { IfOk result (λ found. IfSome found (IsBuild (rows_of (found_of matches.now)))) }
+    ensures none { IfOk result (λ found. IfNone found ((options : BuildOptions)
+        → ¬ IsBuild (rows_of (found_of matches.now)) options)) }
+{
+    let Some(workers) = workers_of(matches) else {
+        return Ok(None);
+    };
+    let file = text_of(alloc, matches, BUNDLE)?;
+    Ok(Some(BuildOptions { workers, file }))
+}
+
 /// What the matches of `pack` ask for; `None` where they hold no folder, or a build argument without a `=`.
-fn pack_of(alloc: Global, matches: &ArgMatches) -> Result<Option<Pack>, AllocError>
-    ensures { IfOk result (λ pack. pack ≡ pack_of (rows_of (found_of matches.now))) }
+fn pack_of(alloc: Global, matches: &ArgMatches) -> Result<Option<PackOptions>, AllocError>
+    ensures { IfOk result (λ options. options ≡ pack_of (rows_of (found_of matches.now))) }
 {
     let Some(folder) = text_of(alloc, matches, FOLDER)? else {
         return Ok(None);
@@ -90,12 +125,13 @@ fn pack_of(alloc: Global, matches: &ArgMatches) -> Result<Option<Pack>, AllocErr
     let Some(args) = arguments_of(alloc, matches)? else {
         return Ok(None);
     };
-    Ok(Some(Pack {
+    Ok(Some(PackOptions {
         folder,
         file: text_of(alloc, matches, FILE)?,
         target: text_of(alloc, matches, TARGET)?,
         args,
         output: text_of(alloc, matches, OUTPUT)?,
+        apply_ignore: is_set(matches, APPLY_IGNORE),
     }))
 }
 
@@ -106,6 +142,16 @@ fn text_of(alloc: Global, matches: &ArgMatches, id: &str) -> Result<Option<Text>
     match matches.get_str(id) {
         Some(text) => Ok(Some(Text::from_string(String::from_str(alloc, text)?))),
         None => Ok(None),
+    }
+}
+
+/// Whether the matches hold a flag of this id that is given.
+fn is_set(matches: &ArgMatches, id: &str) -> bool
+    ensures { result ≡ is_set id.now (rows_of (found_of matches.now)) }
+{
+    match matches.get_str(id) {
+        Some(text) => text == "true",
+        None => false,
     }
 }
 

@@ -3,17 +3,36 @@ use plain::{Items, Text};
 /// What the program is asked to do.
 #[derive(Debug, Drop)]
 pub enum Task {
-    /// `build`: solve the bundle on standard input, with this many workers.
-    Build(u8),
-    /// `graph`: write the graph of the bundle on standard input.
-    Graph,
+    /// `build`: solve a bundle.
+    Build(BuildOptions),
+    /// `graph`: write the graph of a bundle, of the file that is named, or on standard input.
+    Graph(Option<Text>),
     /// `pack`: write the bundle of a folder.
-    Pack(Pack),
+    Pack(PackOptions),
+}
+
+/// What `build` is asked for.
+#[derive(Debug)]
+pub struct BuildOptions {
+    /// How many workers solve the bundle.
+    pub workers: u8,
+    /// The bundle's file, if one is named; else it is on standard input.
+    pub file: Option<Text>,
+}
+
+/// It ends by a call, as `PackOptions` does.
+impl Drop for BuildOptions {
+    fn drop(self) {
+        let BuildOptions {
+            workers: _,
+            file: _,
+        } = self;
+    }
 }
 
 /// What `pack` is asked for.
 #[derive(Debug)]
-pub struct Pack {
+pub struct PackOptions {
     /// The folder.
     pub folder: Text,
     /// The Dockerfile's own file, if one is named.
@@ -24,17 +43,20 @@ pub struct Pack {
     pub args: Items<(Text, Text)>,
     /// Where the bundle is written to in place of standard output, if a file is named.
     pub output: Option<Text>,
+    /// Whether what the ignore file leaves out isn't packed.
+    pub apply_ignore: bool,
 }
 
 /// It ends by a call, so that no proof above goes by which of its fields are there at each place where one is let go.
-impl Drop for Pack {
+impl Drop for PackOptions {
     fn drop(self) {
-        let Pack {
+        let PackOptions {
             folder: _,
             file: _,
             target: _,
             args: _,
             output: _,
+            apply_ignore: _,
         } = self;
     }
 }

@@ -9,6 +9,7 @@ use Rattle.counted.specs.declared.fault.Device.{Device as DeviceReason}
 use Rattle.trees.specs.TreeMap.{TreeMap}
 use Rattle.packing.specs.Packed.{Given, IsPlain, packed_of}
 use Rattle.packing.specs.declared.fault.PackFault.{PackFault}
+use Rattle.packing.specs.declared.fault.PackFault.TheVariants.{Device, Ended, Memory}
 use Rattle.packing.specs.declared.packing.Status.{Status}
 use Rattle.packing.specs.declared.packing.Status.TheVariants.{Built, Refused}
 use Rattle.packing.specs.Ends.{IsBefore, Packs, PacksFolder, of_edge}
@@ -43,3 +44,10 @@ pub written_in_part : (tree : TreeMap) (file : Option (List ℕ)) (given : Given
 written_in_part tree file given text line old failed new failed_then (Because device) is ends written fails count =
     (record { text = text; is = sym is; written = subst (AppendsBeginning old new) ends written }, count)
 written_in_part tree file given text line old failed new failed_then Want is ends written fails count = absurd fails
+
+-- the Dockerfile that was found at first wasn't there
+pub gone : (tree : TreeMap) (file : Option (List ℕ)) (given : Given) (written : Option (List ℕ)) (failed : ℕ) (fault : PackFault)
+    → packed_of tree file given ≡ None → IsBefore fault → Packs (Some tree) file given written failed written failed (Err fault)
+gone tree file given written failed Memory none before = (refl, refl)
+gone tree file given written failed Device none before = absurd before
+gone tree file given written failed Ended none before = (none, (refl, refl))

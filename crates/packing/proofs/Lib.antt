@@ -1,2 +1,3 @@
 pub mod EndFacts
+pub mod LeavingFacts
 pub mod PlainFacts

@@ -17,7 +17,7 @@ use Rattle.trees.specs.Put.{put_into}
 use Rattle.trees.specs.declared.entry.Entry.{Entry}
 use Rattle.trees.specs.declared.entry.Entry.TheVariants.{Directory}
 use Rattle.trees.proofs.TreeLaws.{get-put, get-empty_tree}
-use Rattle.entries.specs.Row.{Row}
+use Rattle.trees.specs.Row.{Row}
 use Rattle.entries.proofs.WrittenFacts.{tree-plain}
 use Rattle.packing.specs.Packed.{Given, IsPlainEntry, IsPlain, bytes_in, dockerfile_among, dockerfile_of, dockerfile_path, files_members, packed_data, packed_of, put_args, put_target, put_texts}
 

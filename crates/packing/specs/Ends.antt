@@ -1,9 +1,9 @@
 -- How packing a folder ends: what it leaves of its writer, for each of its results (own).
-use Rattle.std.specs.Prelude.{◌≡◌, ◌⊎◌, ℕ, ◌+◌, Bool, is_some, List, [], ◌∷◌, ◌++◌, Option, Some, None, Result, Ok, Err, ⊤, IfSome, IsErrAnd, codes}
+use Rattle.std.specs.Prelude.{◌≡◌, ◌⊎◌, ℕ, ◌+◌, Bool, is_some, List, Option, Some, None, Result, Ok, Err, ⊤, IfSome, IsErrAnd, codes}
 use Rattle.std.specs.Io.KnownBytes.{Appends}
 use Rattle.plain.specs.declared.fault.Fault.{Fault}
 use Rattle.plain.specs.declared.fault.Fault.TheVariants.{Because, Memory as Want}
-use Rattle.counted.specs.Edges.{AppendsBeginning}
+use Rattle.counted.specs.Edges.{AppendsBeginning, IsUnwritten, line_of}
 use Rattle.counted.specs.declared.fault.Device.{Device as DeviceReason}
 use Rattle.trees.specs.TreeMap.{TreeMap}
 use Rattle.packing.specs.Packed.{Given, IsPlain, packed_of}
@@ -29,21 +29,17 @@ IsBefore Memory = ⊤
 IsBefore Device = ⊥
 IsBefore Ended = ⊤
 
--- nothing was written, and no write failed
-abbrev pub IsUnwritten : Option (List ℕ) → ℕ → Option (List ℕ) → ℕ → Type 0
-IsUnwritten old failed new failed_then = (new ≡ old) × (failed_then ≡ failed)
-
 -- the whole bundle of a folder was written, with the LF that ends it
 pub record HasPacked (tree : TreeMap) (file : Option (List ℕ)) (given : Given) (old new : Option (List ℕ)) : Type 0 where
   pub text : List ℕ
   pub is : packed_of tree file given ≡ Some text
-  pub written : Appends old new (text ++ 10 ∷ [])
+  pub written : Appends old new (line_of text)
 
 -- a beginning of it was
 pub record HasBegun (tree : TreeMap) (file : Option (List ℕ)) (given : Given) (old new : Option (List ℕ)) : Type 0 where
   pub text : List ℕ
   pub is : packed_of tree file given ≡ Some text
-  pub written : AppendsBeginning old new (text ++ 10 ∷ [])
+  pub written : AppendsBeginning old new (line_of text)
 
 -- How packing ends, by what was found in the folder, the Dockerfile that was named, and what is given, and what its writer has written and how
 -- many of its calls failed. Where no Dockerfile was found, it is refused, and nothing was written. Of a folder that was read its bundle was

@@ -1,3 +1,5 @@
 pub mod Ends
+pub mod Leaving
 pub mod Packed
-pub mod Wanted
+pub mod Options
+pub mod PrivateLeaving

@@ -10,7 +10,7 @@ use Rattle.trees.specs.TreeMap.{TreeMap, directory_meta, file_meta}
 use Rattle.trees.specs.declared.entry.Entry.{Entry}
 use Rattle.trees.specs.declared.entry.Entry.TheVariants.{Directory, File}
 use Rattle.trees.specs.contracts.tree.Tree as tree
-use Rattle.entries.specs.Row.{Row}
+use Rattle.trees.specs.Row.{Row}
 use Rattle.entries.specs.Written.{tree_data}
 
 -- a folder in plain data, for generic code

@@ -6,9 +6,9 @@ ghost use Rattle.trees.specs.Cause.{ChangesTree};
 ghost use Rattle.trees.specs.declared.entry.Entry.TheVariants.{Directory, File};
 ghost use Rattle.serde_json.specs.View.{view};
 ghost use Rattle.packing.specs.Packed.{dockerfile_path, dockerfile_among, dockerfile_of, packed_of, packed_data};
-ghost use Rattle.packing.specs.Wanted.{given_of};
+ghost use Rattle.packing.specs.Options.{given_of};
 
-use crate::Wanted;
+use crate::PackOptions;
 use crate::members::bundle_value;
 use paths::Path;
 use plain::{Bytes, Memory, Text};
@@ -76,11 +76,11 @@ impl Folder {
         self,
         alloc: Global,
         file: Option<Bytes>,
-        wanted: Wanted<'_>,
+        options: PackOptions<'_>,
     ) -> Result<Option<Text>, Memory>
-        ensures { IfOk result (λ text. text ≡ packed_of self file (given_of wanted.entry)) }
+        ensures { IfOk result (λ text. text ≡ packed_of self file (given_of options.entry)) }
     {
-        let made = self.to_value(alloc, &file, wanted);
+        let made = self.to_value(alloc, &file, options);
         drop(self);
         drop(file);
         match made? {
@@ -94,24 +94,24 @@ impl Folder {
         &self,
         alloc: Global,
         file: &Option<Bytes>,
-        wanted: Wanted<'_>,
+        options: PackOptions<'_>,
     ) -> Result<Option<Value>, Memory>
-        ensures { IfOk result (λ value. option_map view value ≡ option_map (λ dockerfile. packed_data (entries self.now) dockerfile (given_of wanted.entry)) (dockerfile_among self.now file.now)) }
+        ensures { IfOk result (λ value. option_map view value ≡ option_map (λ dockerfile. packed_data (entries self.now) dockerfile (given_of options.entry)) (dockerfile_among self.now file.now)) }
     {
         match file {
-            Some(bytes) => Ok(Some(tree_value(alloc, &self.tree, bytes.as_slice(), wanted)?)),
-            None => self.own_value(alloc, wanted),
+            Some(bytes) => Ok(Some(tree_value(alloc, &self.tree, bytes.as_slice(), options)?)),
+            None => self.own_value(alloc, options),
         }
     }
 
     /// The same with the folder's own Dockerfile.
-    fn own_value(&self, alloc: Global, wanted: Wanted<'_>) -> Result<Option<Value>, Memory>
-        ensures { IfOk result (λ value. option_map view value ≡ option_map (λ dockerfile. packed_data (entries self.now) dockerfile (given_of wanted.entry)) (dockerfile_of self.now)) }
+    fn own_value(&self, alloc: Global, options: PackOptions<'_>) -> Result<Option<Value>, Memory>
+        ensures { IfOk result (λ value. option_map view value ≡ option_map (λ dockerfile. packed_data (entries self.now) dockerfile (given_of options.entry)) (dockerfile_of self.now)) }
     {
         let path = dockerfile_path(alloc)?;
         match self.tree.get(&path) {
             Some(Entry::File(_, content)) => {
-                let value = tree_value(alloc, &self.tree, content.as_slice(), wanted)?;
+                let value = tree_value(alloc, &self.tree, content.as_slice(), options)?;
                 Ok(Some(value))
             }
             Some(Entry::Directory(_)) => Ok(None),
@@ -133,11 +133,11 @@ fn tree_value(
     alloc: Global,
     tree: &Tree,
     dockerfile: &[u8],
-    wanted: Wanted<'_>,
+    options: PackOptions<'_>,
 ) -> Result<Value, Memory>
-    ensures { IfOk result (λ value. view value ≡ packed_data (entries tree.now) dockerfile.now (given_of wanted.entry)) }
+    ensures { IfOk result (λ value. view value ≡ packed_data (entries tree.now) dockerfile.now (given_of options.entry)) }
 {
     let rows = tree.entries(alloc)?;
-    let value = bundle_value(alloc, rows.as_slice(), dockerfile, wanted)?;
+    let value = bundle_value(alloc, rows.as_slice(), dockerfile, options)?;
     Ok(value)
 }

@@ -13,12 +13,14 @@
 
 mod fault;
 mod folder;
+pub mod laws;
+mod leaving;
 mod members;
+mod options;
 mod packing;
 mod refusing;
 mod walking;
-mod wanted;
 
 pub use fault::PackFault;
+pub use options::PackOptions;
 pub use packing::{Status, run_pack, run_pack_to_file, run_pack_with};
-pub use wanted::Wanted;

@@ -4,9 +4,9 @@ ghost use Rattle.hex.specs.Hex.{encode_lower};
 ghost use Rattle.serde_json.specs.Data.{string, object, no_members, member};
 ghost use Rattle.serde_json.specs.View.{view, members_view};
 ghost use Rattle.packing.specs.Packed.{files_members, packed_data, put_args, put_target, put_texts};
-ghost use Rattle.packing.specs.Wanted.{given_of};
+ghost use Rattle.packing.specs.Options.{given_of};
 
-use crate::Wanted;
+use crate::PackOptions;
 use entries::tree_to_json;
 use paths::Path;
 use plain::{Memory, Text};
@@ -21,13 +21,13 @@ pub(crate) fn bundle_value(
     alloc: Global,
     rows: &[(Path, &Entry)],
     dockerfile: &[u8],
-    wanted: Wanted<'_>,
+    options: PackOptions<'_>,
 ) -> Result<Value, Memory>
-    ensures { IfOk result (λ value. view value ≡ packed_data (map (λ row. (row.0, row.1.now)) rows.now) dockerfile.now (given_of wanted.entry)) }
+    ensures { IfOk result (λ value. view value ≡ packed_data (map (λ row. (row.0, row.1.now)) rows.now) dockerfile.now (given_of options.entry)) }
 {
     let mut members = files_members(alloc, rows, dockerfile)?;
-    put_args(alloc, &mut members, wanted.args)?;
-    put_target(alloc, &mut members, wanted.target)?;
+    put_args(alloc, &mut members, options.args)?;
+    put_target(alloc, &mut members, options.target)?;
     Ok(Value::Object(members))
 }
 

@@ -1,18 +1,18 @@
 ghost use Rattle.std.specs.Prelude.{◌≡◌, ◌<◌, [], ◌∷◌, ◌++◌, false, Some, is_some, IfOk};
 ghost use Rattle.packing.specs.Ends.{Packs, PacksFolder};
 ghost use Rattle.packing.specs.Packed.{nothing_given};
-ghost use Rattle.packing.specs.Wanted.{given_of};
+ghost use Rattle.packing.specs.Options.{given_of};
 
 use crate::folder::Folder;
+use crate::refusing::{GONE, UNWRITTEN, note_output, refuse, refuse_output};
 use crate::walking::{Found, find_bundle};
-use crate::{PackFault, Wanted};
+use crate::{PackFault, PackOptions};
 use counted::{Counted, CountedWrite, write_all};
 use plain::{Bytes, Items, Memory, Text};
 use std::alloc::Global;
+use std::fs;
 use std::fs::{File, OpenOptions};
-use std::io::ErrorKind;
 use std::rt::Files;
-use std::{fs, io};
 
 /// What became of a folder.
 #[derive(Clone, Copy, Debug, PartialEq, Eq)]
@@ -42,38 +42,42 @@ pub fn run_pack<R: Files + AllocGlobal + Clone + Drop, W: CountedWrite>(
     ensures { PacksFolder false nothing_given (W.contents output.old) (W.failures output.old) (W.contents output.new) (W.failures output.new) result }
 {
     let args = Items::new(alloc);
-    let wanted = Wanted {
+    let options = PackOptions {
         file: None,
         target: None,
         args: args.as_slice(),
+        apply_ignore: false,
     };
     let mut why = Text::from_string(String::new(alloc));
-    run_pack_with(rt, alloc, folder, wanted, output, &mut why)
+    run_pack_with(rt, alloc, folder, options, output, &mut why)
 }
 
-/// Writes the bundle of a folder as `run_pack` does, with what is wanted beside it: a target and build arguments stand in the bundle, and the
+/// Writes the bundle of a folder as `run_pack` does, with what is given beside it: a target and build arguments stand in the bundle, and the
 /// Dockerfile may be a file that is named, in the folder or elsewhere.
 ///
 /// A file that is named may be given by a link. Where there is none, it is `Refused`, and the folder isn't looked at. If it has an ignore file
 /// of its own, with `.dockerignore` after its name, that stands in the context as `/.dockerignore`, in place of the folder's.
 ///
-/// After `Ended` it is noted in `why` what can't be packed: its place on the machine, what it is, and the remedy. Nothing is noted if the
-/// Dockerfile is gone since it was asked for.
+/// If the ignore file is to be applied, what it leaves out isn't packed, and is looked at no further than for its name, or, below a folder that is
+/// left out, where a line may be an exception, for whether it is a folder. The ignore file itself is packed, and so is the folder's `Dockerfile` where
+/// that is the bundle's. A build sees the same context (`laws`). An ignore file with a bad line ends packing.
+///
+/// After `Ended` it is noted in `why` what can't be packed: its place on the machine, what it is, and the remedy.
 pub fn run_pack_with<R: Files + AllocGlobal + Clone + Drop, W: CountedWrite>(
     rt: &R,
     alloc: Global,
     folder: &str,
-    wanted: Wanted<'_>,
+    options: PackOptions<'_>,
     output: &mut W,
     why: &mut Text,
 ) -> Result<Status, PackFault>
     requires writes { W.failures output.old < u64.MAX }
-    ensures { PacksFolder (is_some wanted.entry.file) (given_of wanted.entry) (W.contents output.old) (W.failures output.old) (W.contents output.new) (W.failures output.new) result }
+    ensures { PacksFolder (is_some options.entry.file) (given_of options.entry) (W.contents output.old) (W.failures output.old) (W.contents output.new) (W.failures output.new) result }
 {
-    match find_bundle(rt, alloc, folder, wanted.file, why) {
+    match find_bundle(rt, alloc, folder, options, why) {
         Ok(Some(found)) => {
             let Found { folder, file } = found;
-            write_found(alloc, folder, file, wanted, output)
+            write_found(alloc, folder, file, options, output, why)
         }
         Ok(None) => Ok(Status::Refused),
         Err(fault) => Err(fault),
@@ -85,15 +89,16 @@ fn write_found<W: CountedWrite>(
     alloc: Global,
     folder: Folder,
     file: Option<Bytes>,
-    wanted: Wanted<'_>,
+    options: PackOptions<'_>,
     output: &mut W,
+    why: &mut Text,
 ) -> Result<Status, PackFault>
     requires writes { W.failures output.old < u64.MAX }
-    ensures { Packs (Some folder) file (given_of wanted.entry) (W.contents output.old) (W.failures output.old) (W.contents output.new) (W.failures output.new) result }
+    ensures { Packs (Some folder) file (given_of options.entry) (W.contents output.old) (W.failures output.old) (W.contents output.new) (W.failures output.new) result }
 {
     // The Dockerfile may be gone since it was asked for.
-    let Some(text) = folder.bundle(alloc, file, wanted)? else {
-        return Err(PackFault::Ended);
+    let Some(text) = folder.bundle(alloc, file, options)? else {
+        return Err(refuse(alloc, why, "the Dockerfile", GONE));
     };
     let line = line_of(alloc, text)?;
     write_all(output, line.as_str().as_bytes())?;
@@ -103,24 +108,24 @@ fn write_found<W: CountedWrite>(
 /// Writes the bundle of a folder, as `run_pack_with` does, to the file of this name: whole, in place of a plain file that is there, or not at
 /// all. It is written under the name with `.part` after it and then renamed; what fails there is `Device`, also if there is such a file
 /// already, which is left as it is. If the name is that of a link, a device or a pipe, it is written to straight away, and after `Device`
-/// there may be a beginning of the bundle.
+/// there may be a beginning of the bundle. After `Device` too it is noted in `why` which file it was and what was wrong with it.
 ///
 /// What the machine does with a file is in no contract.
 pub fn run_pack_to_file<R: Files + AllocGlobal + Clone + Drop>(
     rt: &R,
     alloc: Global,
     folder: &str,
-    wanted: Wanted<'_>,
+    options: PackOptions<'_>,
     name: &str,
     why: &mut Text,
 ) -> Result<Status, PackFault> {
-    let Some(found) = find_bundle(rt, alloc, folder, wanted.file, why)? else {
+    let Some(found) = find_bundle(rt, alloc, folder, options, why)? else {
         return Ok(Status::Refused);
     };
     if may_be_replaced(rt, name) {
-        write_file(rt, alloc, found, wanted, name)
+        write_file(rt, alloc, found, options, name, why)
     } else {
-        write_into(rt, alloc, found, wanted, name)
+        write_into(rt, alloc, found, options, name, why)
     }
 }
 
@@ -137,16 +142,19 @@ fn write_into<R: Files + AllocGlobal>(
     rt: &R,
     alloc: Global,
     found: Found,
-    wanted: Wanted<'_>,
+    options: PackOptions<'_>,
     name: &str,
+    why: &mut Text,
 ) -> Result<Status, PackFault> {
     match File::create(rt, name) {
         Ok(file) => {
             let mut output = Counted::new(file);
             let Found { folder, file } = found;
-            write_found(alloc, folder, file, wanted, &mut output)
+            let ended = write_found(alloc, folder, file, options, &mut output, why);
+            note_device(alloc, why, name, &ended);
+            ended
         }
-        Err(error) => Err(device_fault(&error)),
+        Err(error) => Err(refuse_output(alloc, why, name, &error)),
     }
 }
 
@@ -155,36 +163,47 @@ fn write_file<R: Files + AllocGlobal>(
     rt: &R,
     alloc: Global,
     found: Found,
-    wanted: Wanted<'_>,
+    options: PackOptions<'_>,
     name: &str,
+    why: &mut Text,
 ) -> Result<Status, PackFault> {
     let mut part = String::from_str(alloc, name)?;
     part.push_str(".part")?;
-    let mut options = OpenOptions::new();
-    options.write(true).create_new(true);
-    match options.open(rt, part.as_str()) {
+    let mut opening = OpenOptions::new();
+    opening.write(true).create_new(true);
+    match opening.open(rt, part.as_str()) {
         Ok(file) => {
             let mut output = Counted::new(file);
             let Found { folder, file } = found;
-            let ended = write_found(alloc, folder, file, wanted, &mut output);
+            let ended = write_found(alloc, folder, file, options, &mut output, why);
             drop(output);
-            put_in_place(rt, part.as_str(), name, ended)
+            note_device(alloc, why, part.as_str(), &ended);
+            put_in_place(rt, alloc, part.as_str(), name, ended, why)
         }
-        Err(error) => Err(device_fault(&error)),
+        Err(error) => Err(refuse_output(alloc, why, part.as_str(), &error)),
+    }
+}
+
+/// Notes that a file wasn't written whole, where that is how writing ended.
+fn note_device(alloc: Global, why: &mut Text, name: &str, ended: &Result<Status, PackFault>) {
+    if let Err(PackFault::Device) = ended {
+        note_output(alloc, why, name, UNWRITTEN);
     }
 }
 
 /// Gives the file of a bundle that was written its name, or removes it.
 fn put_in_place<R: Files>(
     rt: &R,
+    alloc: Global,
     part: &str,
     name: &str,
     ended: Result<Status, PackFault>,
+    why: &mut Text,
 ) -> Result<Status, PackFault> {
     let ended = match ended {
         Ok(status) => match fs::rename(rt, part, name) {
             Ok(()) => return Ok(status),
-            Err(error) => device_fault(&error),
+            Err(error) => refuse_output(alloc, why, name, &error),
         },
         Err(fault) => fault,
     };
@@ -192,16 +211,7 @@ fn put_in_place<R: Files>(
     Err(ended)
 }
 
-/// What a call of the machine that failed means, for a file that is written.
-fn device_fault(error: &io::Error) -> PackFault {
-    if error.kind() == ErrorKind::OutOfMemory {
-        PackFault::Memory
-    } else {
-        PackFault::Device
-    }
-}
-
-/// A text with an LF behind it.
+/// A text with an LF after it.
 fn line_of(alloc: Global, text: Text) -> Result<Text, Memory>
     ensures { IfOk result (λ line. line ≡ text ++ 10 ∷ []) }
 {

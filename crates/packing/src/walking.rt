@@ -4,11 +4,13 @@ ghost use Rattle.std.specs.Prelude.{◌≡◌, true, None, is_some, IfErr, IfOk,
 ghost use Rattle.packing.specs.Packed.{IsPlain};
 ghost use Rattle.packing.specs.Ends.{IsBefore};
 
-use crate::PackFault;
 use crate::folder::{DOCKERFILE, Folder};
+use crate::leaving::{IGNORE_FILE, Leaving};
 use crate::refusing::{
-    IN_THE_WAY, LINK, NO_FILE, NO_FOLDER, NO_PLAIN_FILE, TOO_DEEP, refuse, refuse_error,
+    CHANGED, IN_THE_WAY, LINK, NO_FILE, NO_FOLDER, NO_PLAIN_FILE, TOO_DEEP, TOO_MANY, refuse,
+    refuse_entry, refuse_error, refuse_line,
 };
+use crate::{PackFault, PackOptions};
 use paths::Path;
 use plain::{Bytes, Fault, Text};
 use std::alloc::Global;
@@ -16,9 +18,6 @@ use std::fs;
 use std::fs::DirEntry;
 use std::io::ErrorKind;
 use std::rt::Files;
-
-/// The name of a context's ignore file, which also ends the name of a Dockerfile's own.
-const IGNORE_FILE: &str = ".dockerignore";
 
 /// The machine's name of a path in a folder.
 fn place_of(alloc: Global, folder: &str, path: &Path) -> Result<String, PackFault>
@@ -36,50 +35,61 @@ pub(crate) struct Found {
     pub(crate) file: Option<Bytes>,
 }
 
-/// All files and directories of a folder, with the Dockerfile that is named; `None` where there is no such file, or no file `Dockerfile` in the
-/// folder, if none is named. That is asked first. After `Ended` it is noted in `why` what can't be packed.
+/// All files and directories of a folder that are packed, with the Dockerfile that is named; `None` where there is no such file, or no file
+/// `Dockerfile` in the folder, if none is named. That is asked first. After `Ended` it is noted in `why` what can't be packed.
 pub(crate) fn find_bundle<R: Files + AllocGlobal + Clone + Drop>(
     rt: &R,
     alloc: Global,
     folder: &str,
-    file: Option<&str>,
+    options: PackOptions<'_>,
     why: &mut Text,
 ) -> Result<Option<Found>, PackFault>
     ensures before { IfErr result IsBefore }
     ensures plain { IfOk result (λ found. IfSome found (λ one. IsPlain one.folder)) }
-    ensures file { IfOk result (λ found. IfSome found (λ one. is_some one.file ≡ is_some file.entry)) }
+    ensures file { IfOk result (λ found. IfSome found (λ one. is_some one.file ≡ is_some options.entry.file)) }
 {
-    match file {
-        Some(file) => find_with_file(rt, alloc, folder, file, why),
-        None => find_folder(rt, alloc, folder, why),
+    match options.file {
+        Some(file) => find_with_file(rt, alloc, folder, file, options.apply_ignore, why),
+        None => find_folder(rt, alloc, folder, options.apply_ignore, why),
     }
 }
 
-/// All files and directories of a folder, if it has a file `Dockerfile`, which is asked first.
+/// What is packed of a folder, if it has a file `Dockerfile`, which is asked first.
 fn find_folder<R: Files + AllocGlobal + Clone + Drop>(
     rt: &R,
     alloc: Global,
     folder: &str,
+    apply_ignore: bool,
     why: &mut Text,
 ) -> Result<Option<Found>, PackFault>
     ensures before { IfErr result IsBefore }
     ensures plain { IfOk result (λ found. IfSome found (λ one. IsPlain one.folder)) }
     ensures file { IfOk result (λ found. IfSome found (λ one. one.file ≡ None)) }
 {
-    if !has_dockerfile(rt, alloc, folder)? {
+    if !has_dockerfile(rt, alloc, folder, why)? {
         return Ok(None);
     }
-    let folder = read_folder(rt, alloc, folder, why)?;
-    Ok(Some(Found { folder, file: None }))
+    let leaving = if apply_ignore {
+        folder_leaving(rt, alloc, folder, true, why)?
+    } else {
+        Leaving::nothing()
+    };
+    let found = read_folder(rt, alloc, folder, &leaving, why);
+    drop(leaving);
+    match found {
+        Ok(folder) => Ok(Some(Found { folder, file: None })),
+        Err(fault) => Err(fault),
+    }
 }
 
-/// All files and directories of a folder, with the Dockerfile of this name, if there is one, which is asked first. Where that has an ignore file
-/// of its own, that is the folder's `/.dockerignore`.
+/// What is packed of a folder, with the Dockerfile of this name, if there is one, which is asked first. Where that has an ignore file of its own,
+/// that is the folder's `/.dockerignore`.
 fn find_with_file<R: Files + AllocGlobal + Clone + Drop>(
     rt: &R,
     alloc: Global,
     folder: &str,
     file: &str,
+    apply_ignore: bool,
     why: &mut Text,
 ) -> Result<Option<Found>, PackFault>
     ensures before { IfErr result IsBefore }
@@ -89,7 +99,7 @@ fn find_with_file<R: Files + AllocGlobal + Clone + Drop>(
     let Some(dockerfile) = read_file(rt, alloc, file, why)? else {
         return Ok(None);
     };
-    match read_ignoring(rt, alloc, folder, file, why) {
+    match read_ignoring(rt, alloc, folder, file, apply_ignore, why) {
         Ok(folder) => Ok(Some(Found {
             folder,
             file: Some(dockerfile),
@@ -101,12 +111,13 @@ fn find_with_file<R: Files + AllocGlobal + Clone + Drop>(
     }
 }
 
-/// All files and directories of a folder, with the ignore file of a Dockerfile as its `/.dockerignore`, if that has one.
+/// What is packed of a folder, with the ignore file of a Dockerfile as its `/.dockerignore`, if that has one.
 fn read_ignoring<R: Files + AllocGlobal + Clone + Drop>(
     rt: &R,
     alloc: Global,
     folder: &str,
     file: &str,
+    apply_ignore: bool,
     why: &mut Text,
 ) -> Result<Folder, PackFault>
     ensures { IfErr result IsBefore }
@@ -115,8 +126,87 @@ fn read_ignoring<R: Files + AllocGlobal + Clone + Drop>(
     if folder.is_empty() {
         return Err(refuse(alloc, why, "the empty text", NO_FOLDER));
     }
-    let mut found = read_folder(rt, alloc, folder, why)?;
-    match put_ignore_file(rt, alloc, file, &mut found, why) {
+    let mut name = String::from_str(alloc, file)?;
+    name.push_str(IGNORE_FILE)?;
+    match own_ignore_file(rt, alloc, name.as_str(), why)? {
+        Some(bytes) => read_with_own(rt, alloc, folder, name.as_str(), bytes, apply_ignore, why),
+        None => {
+            let leaving = if apply_ignore {
+                folder_leaving(rt, alloc, folder, false, why)?
+            } else {
+                Leaving::nothing()
+            };
+            let found = read_folder(rt, alloc, folder, &leaving, why);
+            drop(leaving);
+            found
+        }
+    }
+}
+
+/// What is packed of a folder, with these bytes of the file of this name as its `/.dockerignore`.
+fn read_with_own<R: Files + AllocGlobal + Clone + Drop>(
+    rt: &R,
+    alloc: Global,
+    folder: &str,
+    name: &str,
+    bytes: Bytes,
+    apply_ignore: bool,
+    why: &mut Text,
+) -> Result<Folder, PackFault>
+    ensures { IfErr result IsBefore }
+{
+    let leaving = if apply_ignore {
+        leaving_by(alloc, name, bytes.as_slice(), false, why)
+    } else {
+        Ok(Leaving::nothing())
+    };
+    let leaving = match leaving {
+        Ok(leaving) => leaving,
+        Err(fault) => {
+            drop(bytes);
+            return Err(fault);
+        }
+    };
+    let found = read_folder(rt, alloc, folder, &leaving, why);
+    drop(leaving);
+    match found {
+        Ok(folder) => put_ignore_file(alloc, name, bytes, folder, why),
+        Err(fault) => {
+            drop(bytes);
+            Err(fault)
+        }
+    }
+}
+
+/// The bytes of a Dockerfile's own ignore file, if there is one.
+fn own_ignore_file<R: Files + AllocGlobal>(
+    rt: &R,
+    alloc: Global,
+    name: &str,
+    why: &mut Text,
+) -> Result<Option<Bytes>, PackFault>
+    ensures { IfErr result IsBefore }
+{
+    let found = read_file(rt, alloc, name, why)?;
+    // If what has the name were passed over, files that it is meant to leave out would be packed.
+    if found.is_none() && has_name(rt, name) {
+        return Err(refuse(alloc, why, name, NO_PLAIN_FILE));
+    }
+    Ok(found)
+}
+
+/// Puts a Dockerfile's own ignore file into a folder, at `/.dockerignore`.
+fn put_ignore_file(
+    alloc: Global,
+    name: &str,
+    bytes: Bytes,
+    folder: Folder,
+    why: &mut Text,
+) -> Result<Folder, PackFault>
+    ensures { IfErr result IsBefore }
+{
+    let mut found = folder;
+    match put_at_root(alloc, name, bytes, &mut found, why) {
         Ok(()) => Ok(found),
         Err(fault) => {
             drop(found);
@@ -125,30 +215,59 @@ fn read_ignoring<R: Files + AllocGlobal + Clone + Drop>(
     }
 }
 
-/// Puts the ignore file of a Dockerfile at `/.dockerignore`, if there is one.
-fn put_ignore_file<R: Files + AllocGlobal + Clone + Drop>(
-    rt: &R,
+fn put_at_root(
     alloc: Global,
-    file: &str,
+    name: &str,
+    bytes: Bytes,
     found: &mut Folder,
     why: &mut Text,
 ) -> Result<(), PackFault>
     ensures { IfErr result IsBefore }
 {
-    let mut name = String::from_str(alloc, file)?;
-    name.push_str(IGNORE_FILE)?;
-    let Some(bytes) = read_file(rt, alloc, name.as_str(), why)? else {
-        // If what has the name were passed over, files that it is meant to leave out would be packed.
-        if has_name(rt, name.as_str()) {
-            return Err(refuse(alloc, why, name.as_str(), NO_PLAIN_FILE));
-        }
-        return Ok(());
-    };
     let path = Path::root(alloc).join(alloc, IGNORE_FILE)?;
     match found.add_file(alloc, &path, bytes) {
         Ok(()) => Ok(()),
+        Err(fault) => Err(refuse_entry(alloc, why, name, IN_THE_WAY, fault)),
+    }
+}
+
+/// What the ignore file of a folder leaves out; nothing if there is none.
+fn folder_leaving<R: Files + AllocGlobal>(
+    rt: &R,
+    alloc: Global,
+    folder: &str,
+    dockerfile: bool,
+    why: &mut Text,
+) -> Result<Leaving, PackFault>
+    ensures { IfErr result IsBefore }
+{
+    let mut place = String::from_str(alloc, folder)?;
+    place.push('/')?;
+    place.push_str(IGNORE_FILE)?;
+    match read_file(rt, alloc, place.as_str(), why)? {
+        Some(bytes) => {
+            let leaving = leaving_by(alloc, place.as_str(), bytes.as_slice(), dockerfile, why);
+            drop(bytes);
+            leaving
+        }
+        None => Ok(Leaving::nothing()),
+    }
+}
+
+/// What the ignore file of these bytes leaves out, which the machine has at this place.
+fn leaving_by(
+    alloc: Global,
+    place: &str,
+    bytes: &[u8],
+    dockerfile: bool,
+    why: &mut Text,
+) -> Result<Leaving, PackFault>
+    ensures { IfErr result IsBefore }
+{
+    match Leaving::read(alloc, bytes, dockerfile) {
+        Ok(leaving) => Ok(leaving),
         Err(Fault::Memory) => Err(PackFault::Memory),
-        Err(Fault::Because(_)) => Err(refuse(alloc, why, name.as_str(), IN_THE_WAY)),
+        Err(Fault::Because(bad)) => Err(refuse_line(alloc, why, place, bad.number)),
     }
 }
 
@@ -189,8 +308,13 @@ fn bytes_of<R: Files + AllocGlobal>(
     }
 }
 
-/// Whether there is a file `Dockerfile` in a folder; a link is none.
-fn has_dockerfile<R: Files>(rt: &R, alloc: Global, folder: &str) -> Result<bool, PackFault>
+/// Whether there is a file `Dockerfile` in a folder; a link is none. If the machine can't tell, that ends packing.
+fn has_dockerfile<R: Files>(
+    rt: &R,
+    alloc: Global,
+    folder: &str,
+    why: &mut Text,
+) -> Result<bool, PackFault>
     ensures { IfErr result IsBefore }
 {
     // The empty text names no folder, and `/Dockerfile` is another one's.
@@ -202,22 +326,26 @@ fn has_dockerfile<R: Files>(rt: &R, alloc: Global, folder: &str) -> Result<bool,
     place.push_str(DOCKERFILE)?;
     match fs::symlink_metadata(rt, place.as_str()) {
         Ok(found) => Ok(found.is_file()),
-        Err(error) if error.kind() == ErrorKind::OutOfMemory => Err(PackFault::Memory),
-        Err(_) => Ok(false),
+        Err(error) => match error.kind() {
+            // In what is no folder there is no file either.
+            ErrorKind::NotFound | ErrorKind::NotADirectory => Ok(false),
+            _ => Err(refuse_error(alloc, why, place.as_str(), &error)),
+        },
     }
 }
 
-/// All files and directories of a folder. The folder itself may be a link; none is followed in it.
+/// What is packed of a folder. The folder itself may be a link; none is followed in it.
 fn read_folder<R: Files + AllocGlobal + Clone + Drop>(
     rt: &R,
     alloc: Global,
     folder: &str,
+    leaving: &Leaving,
     why: &mut Text,
 ) -> Result<Folder, PackFault>
     ensures { IfErr result IsBefore }
 {
     let mut found = Folder::new(alloc);
-    match read_all(rt, alloc, folder, &mut found, why) {
+    match read_all(rt, alloc, folder, leaving, &mut found, why) {
         Ok(()) => Ok(found),
         Err(fault) => {
             drop(found);
@@ -226,11 +354,12 @@ fn read_folder<R: Files + AllocGlobal + Clone + Drop>(
     }
 }
 
-/// Adds all files and directories of a folder.
+/// Adds all that is packed of a folder.
 fn read_all<R: Files + AllocGlobal + Clone + Drop>(
     rt: &R,
     alloc: Global,
     folder: &str,
+    leaving: &Leaving,
     found: &mut Folder,
     why: &mut Text,
 ) -> Result<(), PackFault>
@@ -244,17 +373,27 @@ fn read_all<R: Files + AllocGlobal + Clone + Drop>(
             return Ok(());
         };
         let place = place_of(alloc, folder, &path)?;
-        read_names(rt, alloc, place.as_str(), &path, found, &mut left, why)?;
+        read_names(
+            rt,
+            alloc,
+            place.as_str(),
+            &path,
+            leaving,
+            found,
+            &mut left,
+            why,
+        )?;
     }
-    Err(PackFault::Ended)
+    Err(refuse(alloc, why, folder, TOO_MANY))
 }
 
-/// Adds what lies in one directory of a folder, which the machine has at this place, and lists the directories among it.
+/// Adds what is packed of one directory of a folder, which the machine has at this place, and lists the directories among it that are to be read.
 fn read_names<R: Files + AllocGlobal + Clone + Drop>(
     rt: &R,
     alloc: Global,
     place: &str,
     path: &Path,
+    leaving: &Leaving,
     found: &mut Folder,
     left: &mut Vec<Path>,
     why: &mut Text,
@@ -265,7 +404,7 @@ fn read_names<R: Files + AllocGlobal + Clone + Drop>(
         Ok(rows) => {
             for row in rows {
                 match row {
-                    Ok(row) => read_row(rt, alloc, &row, path, found, left, why)?,
+                    Ok(row) => read_row(rt, alloc, &row, path, leaving, found, left, why)?,
                     Err(error) => return Err(refuse_error(alloc, why, place, &error)),
                 }
             }
@@ -275,12 +414,13 @@ fn read_names<R: Files + AllocGlobal + Clone + Drop>(
     }
 }
 
-/// Adds one file or directory that lies in the directory of this path.
+/// Adds one file or directory that lies in the directory of this path, if it is packed.
 fn read_row<R: Files + AllocGlobal>(
     rt: &R,
     alloc: Global,
     row: &DirEntry<R>,
     path: &Path,
+    leaving: &Leaving,
     found: &mut Folder,
     left: &mut Vec<Path>,
     why: &mut Text,
@@ -289,38 +429,60 @@ fn read_row<R: Files + AllocGlobal>(
 {
     let at = row.path();
     let place = at.as_str();
-    let kind = match row.file_type() {
-        Ok(kind) => kind,
-        Err(error) => return Err(refuse_error(alloc, why, place, &error)),
-    };
-    if !kind.is_dir() && !kind.is_file() {
-        let what = if kind.is_symlink() { LINK } else { NO_FILE };
-        return Err(refuse(alloc, why, place, what));
-    }
     match path.join(alloc, row.file_name()) {
-        Ok(path) => {
-            if kind.is_dir() {
-                return add_directory(alloc, path, found, left);
+        Ok(path) if leaving.leaves_whole(&path) => Ok(()),
+        Ok(path) => match row.file_type() {
+            Ok(kind) if kind.is_dir() => {
+                add_directory(alloc, place, path, leaving, found, left, why)
             }
-            let bytes = bytes_of(rt, alloc, place, why)?;
-            found.add_file(alloc, &path, bytes)?;
-            Ok(())
-        }
+            Ok(_) if !leaving.packs(&path) => Ok(()),
+            Ok(kind) if kind.is_file() => add_file(rt, alloc, place, &path, found, why),
+            Ok(kind) => {
+                let what = if kind.is_symlink() { LINK } else { NO_FILE };
+                Err(refuse(alloc, why, place, what))
+            }
+            Err(error) => Err(refuse_error(alloc, why, place, &error)),
+        },
         Err(Fault::Memory) => Err(PackFault::Memory),
         Err(Fault::Because(_)) => Err(refuse(alloc, why, place, TOO_DEEP)),
     }
 }
 
-/// Adds a directory, and lists it among those that are still to be read.
-fn add_directory(
+/// Adds a file.
+fn add_file<R: Files + AllocGlobal>(
+    rt: &R,
     alloc: Global,
-    path: Path,
+    place: &str,
+    path: &Path,
     found: &mut Folder,
-    left: &mut Vec<Path>,
+    why: &mut Text,
 ) -> Result<(), PackFault>
     ensures { IfErr result IsBefore }
 {
-    found.add_directory(alloc, &path)?;
+    let bytes = bytes_of(rt, alloc, place, why)?;
+    match found.add_file(alloc, path, bytes) {
+        Ok(()) => Ok(()),
+        Err(fault) => Err(refuse_entry(alloc, why, place, CHANGED, fault)),
+    }
+}
+
+/// Adds a directory, if it is packed, and lists it among those that are still to be read: what is left out may hold what is kept.
+fn add_directory(
+    alloc: Global,
+    place: &str,
+    path: Path,
+    leaving: &Leaving,
+    found: &mut Folder,
+    left: &mut Vec<Path>,
+    why: &mut Text,
+) -> Result<(), PackFault>
+    ensures { IfErr result IsBefore }
+{
+    if leaving.packs(&path) {
+        if let Err(fault) = found.add_directory(alloc, &path) {
+            return Err(refuse_entry(alloc, why, place, CHANGED, fault));
+        }
+    }
     left.push(path)?;
     Ok(())
 }

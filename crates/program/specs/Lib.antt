@@ -1,3 +1,4 @@
+pub mod PrivateFiles
 pub mod PrivateRuns
 pub mod Runs
 pub mod Saying

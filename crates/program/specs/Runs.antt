@@ -1,26 +1,28 @@
 -- What the program does with a command line: what it writes where, and the status that it ends with (own).
-use Rattle.std.specs.Prelude.{◌≡◌, ◌≢◌, ◌⊎◌, ℕ, List, [], ◌∷◌, ◌++◌, map, Bool, false, not, ◌&&◌, ◌==◌, length, Option, Some, None, is_some, Result, Ok, Err, codes}
+use Rattle.std.specs.Prelude.{◌≡◌, ◌≢◌, ◌⊎◌, ℕ, List, map, Bool, false, not, ◌&&◌, ◌==◌, length, [], ◌++◌, Option, Some, None, is_some, Result, Ok, Err, IsErrAnd, ⊤, codes}
 use Rattle.std.specs.Borrow.{Bor}
 use Rattle.plain.specs.declared.fault.Fault.{Fault}
 use Rattle.plain.specs.declared.fault.Fault.TheVariants.{Because, Memory}
 use Rattle.clap.specs.Words.{subcommand_of, IsAmong}
 use Rattle.clap.specs.declared.error.kind.ErrorKind.{ErrorKind}
 use Rattle.clap.specs.declared.error.kind.ErrorKind.TheVariants.{DisplayHelp, DisplayVersion}
+use Rattle.counted.specs.Edges.{line_of}
 use Rattle.command.specs.CommandLine.{whole_command}
 use Rattle.command.specs.Tasks.{IsTaskOf, faults_of}
-use Rattle.command.specs.declared.task.Pack.{Pack as PackWords}
+use Rattle.command.specs.declared.task.PackOptions.{PackOptions}
 use Rattle.command.specs.declared.task.Task.{Task}
 use Rattle.command.specs.declared.task.Task.TheVariants.{Build, Graph, Pack}
 use Rattle.plans.specs.Value.{Out}
 use Rattle.build.specs.declared.status.Status.{Status}
 use Rattle.build.specs.declared.status.BuildFault.{BuildFault}
-use Rattle.build.specs.Ends.{Devices, Ends, GraphEnds}
+use Rattle.build.specs.declared.status.BuildFault.TheVariants.{Clash, Device, Memory as NoMemory}
+use Rattle.build.specs.Ends.{Devices, Ends, GraphEnds, devices}
 use Rattle.build.specs.Faults.{exit_status}
 use Rattle.build.specs.Messages.{fault_text}
 use Rattle.packing.specs.Ends.{PacksFolder, fault_text as pack_fault_text}
 use Rattle.packing.specs.Packed.{Given}
 use Rattle.packing.specs.declared.fault.PackFault.{PackFault}
-use Rattle.packing.specs.declared.fault.PackFault.TheVariants.{Ended}
+use Rattle.packing.specs.declared.fault.PackFault.TheVariants.{Device as PackDevice, Ended}
 use Rattle.packing.specs.declared.packing.Status.{Status as PackStatus}
 use Rattle.packing.specs.declared.packing.Status.TheVariants.{Built as Packed, Refused as Unpacked}
 use Rattle.program.specs.declared.arguments.NotText.{NotText}
@@ -38,10 +40,6 @@ streams devices errors = record { devices = devices; errors = errors }
 abbrev pub output_of : Streams → Stream
 output_of now = record { written = now.devices.written; failed = now.devices.failed_writes }
 
--- a text as a line
-abbrev pub line_of : List ℕ → List ℕ
-line_of text = text ++ 10 ∷ []
-
 -- what is said on the stream for errors of how a build ended: nothing where an answer was written, else why there is none
 abbrev pub SaysEnd : Result Status BuildFault → Stream → Stream → Type 0
 SaysEnd (Ok status) old new = new ≡ old
@@ -54,23 +52,64 @@ pub record Calls (EndsSo : Devices → Devices → Result Status BuildFault → 
   pub says : SaysEnd ended old.errors new.errors
   pub is : status ≡ exit_status ended
 
+-- why a file can't be opened
+abbrev pub IsOpenFault : BuildFault → Type 0
+IsOpenFault NoMemory = ⊤
+IsOpenFault Device = ⊤
+IsOpenFault Clash = ⊥
+
+-- a file of the machine wasn't opened, and nothing was written
+pub record IsUnopened (output new_output : Stream) (ended : Result Status BuildFault) : Type 0 where
+  pub fault : IsErrAnd ended IsOpenFault
+  pub unwritten : new_output ≡ output
+
+-- A call was made on a file of the machine, none of whose reads had failed. What the file holds is in no contract: what ended so is said for
+-- some bytes that it has left, or for bytes that aren't known.
+pub record HasOpened (EndsSo : Devices → Devices → Result Status BuildFault → Type 0) (output new_output : Stream) (ended : Result Status BuildFault) : Type 0 where
+  pub left : Option (List ℕ)
+  pub left_then : Option (List ℕ)
+  pub failed_reads : ℕ
+  pub ends : EndsSo (devices left 0 output.written output.failed) (devices left_then failed_reads new_output.written new_output.failed) ended
+
+-- what is said after `device failed`: nothing, or the file's name and what is known of it
+abbrev pub IsTold : List ℕ → List ℕ → Type 0
+IsTold name told = (told ≡ []) ⊎ ((why : List ℕ) × (told ≡ codes ": " ++ name ++ codes " " ++ why))
+
+-- that a device failed is said, and of the file what is known, or as much of that as there was memory for
+pub record SaysNamed (name : List ℕ) (old new : Stream) : Type 0 where
+  pub told : List ℕ
+  pub is : IsTold name told
+  pub says : Says (line_of (fault_text Device ++ told)) old new
+
+-- what is said of how a call on a file of this name ended: what is said of one on the reader, and where a device failed, the file's name too
+abbrev pub SaysFileEnd : List ℕ → Result Status BuildFault → Stream → Stream → Type 0
+SaysFileEnd name ended old new = SaysEnd ended old new ⊎ ((ended ≡ Err Device) × SaysNamed name old new)
+
+-- a call that ends so was made on the file of this name, if it could be opened, and the program ends with its status
+pub record CallsFile (name : List ℕ) (EndsSo : Devices → Devices → Result Status BuildFault → Type 0) (output new_output errors new_errors : Stream) (status : ℕ) : Type 0 where
+  pub ended : Result Status BuildFault
+  pub ends : IsUnopened output new_output ended ⊎ HasOpened EndsSo output new_output ended
+  pub says : SaysFileEnd name ended errors new_errors
+  pub is : status ≡ exit_status ended
+
 -- nothing was read
 pub record IsUnread (old new : Streams) : Type 0 where
   pub left : new.devices.left ≡ old.devices.left
   pub failed_reads : new.devices.failed_reads ≡ old.devices.failed_reads
 
 -- nothing is given beside the folder
-abbrev pub is_bare : PackWords → Bool
-is_bare words = not (is_some words.file) && (not (is_some words.target) && ((length words.args == 0) && not (is_some words.output)))
+abbrev pub is_bare : PackOptions → Bool
+is_bare options = not (is_some options.file) && (not (is_some options.target) && ((length options.args == 0) && (not (is_some options.output) && not options.apply_ignore)))
 
--- that a folder can't be packed is said, and why, or as much of that as there was memory for
-pub record SaysWhy (old new : Stream) : Type 0 where
+-- that a folder wasn't packed is said, and why, or as much of that as there was memory for
+pub record SaysWhy (fault : PackFault) (old new : Stream) : Type 0 where
   pub why : List ℕ
-  pub says : Says (line_of (pack_fault_text Ended ++ why)) old new
+  pub says : Says (line_of (pack_fault_text fault ++ why)) old new
 
--- what is said of a fault of packing; what can't be packed is named only where something is given beside the folder
+-- what is said of a fault of packing; what can't be packed or written is named only where something is given beside the folder
 abbrev pub SaysFault : Bool → PackFault → Stream → Stream → Type 0
-SaysFault false Ended old new = SaysWhy old new
+SaysFault false Ended old new = SaysWhy Ended old new
+SaysFault false PackDevice old new = SaysWhy PackDevice old new
 SaysFault bare fault old new = Says (line_of (pack_fault_text fault)) old new
 
 -- what is said on the stream for errors of how packing ended: nothing where a bundle was written, else why there is none
@@ -86,20 +125,20 @@ pack_status (Ok Unpacked) = 2
 pack_status (Err fault) = 3
 
 -- what stands in a bundle beside a folder's files and its Dockerfile, by the words of `pack`
-abbrev pub given_by : PackWords → Given
-given_by words = record { target = words.target; args = words.args }
+abbrev pub given_by : PackOptions → Given
+given_by options = record { target = options.target; args = options.args }
 
 -- where a bundle goes to: where answers are written, or to a file of the machine, of which nothing is known; then nothing is written there
-abbrev pub PacksInto : Option (List ℕ) → PackWords → Stream → Stream → Result PackStatus PackFault → Type 0
-PacksInto None words output new_output ended =
-    PacksFolder (is_some words.file) (given_by words) output.written output.failed new_output.written new_output.failed ended
-PacksInto (Some file) words output new_output ended = new_output ≡ output
+abbrev pub PacksInto : Option (List ℕ) → PackOptions → Stream → Stream → Result PackStatus PackFault → Type 0
+PacksInto None options output new_output ended =
+    PacksFolder (is_some options.file) (given_by options) output.written output.failed new_output.written new_output.failed ended
+PacksInto (Some file) options output new_output ended = new_output ≡ output
 
 -- a folder was packed, of which nothing is known, and the program ends with its status
-pub record Packs (words : PackWords) (output new_output errors new_errors : Stream) (status : ℕ) : Type 0 where
+pub record Packs (options : PackOptions) (output new_output errors new_errors : Stream) (status : ℕ) : Type 0 where
   pub ended : Result PackStatus PackFault
-  pub packs : PacksInto words.output words output new_output ended
-  pub says : SaysPack (is_bare words) ended errors new_errors
+  pub packs : PacksInto options.output options output new_output ended
+  pub says : SaysPack (is_bare options) ended errors new_errors
   pub is : status ≡ pack_status ended
 
 -- what clap says where answers are written, and not as a fault
@@ -129,11 +168,16 @@ SaysKind kind output new_output errors new_errors =
 abbrev pub OnWriters : (Stream → Stream → Stream → Stream → ℕ → Type 0) → Streams → Streams → ℕ → Type 0
 OnWriters Said old new status = IsUnread old new × Said (output_of old) (output_of new) old.errors new.errors status
 
+-- a call that ends so was made: on the reader, or on the file that is named, and then nothing was read from the reader
+abbrev pub CallsBy : Option (List ℕ) → (Devices → Devices → Result Status BuildFault → Type 0) → Streams → Streams → ℕ → Type 0
+CallsBy None EndsSo old new status = Calls EndsSo old new status
+CallsBy (Some name) EndsSo old new status = OnWriters (CallsFile name EndsSo) old new status
+
 -- a task was done: a build was run, a graph was drawn, or a folder was packed
 abbrev pub Does : Out → Task → Streams → Streams → ℕ → Type 0
-Does out (Build workers) old new status = Calls (Ends out) old new status
-Does out Graph old new status = Calls GraphEnds old new status
-Does out (Pack words) old new status = OnWriters (Packs words) old new status
+Does out (Build options) old new status = CallsBy options.file (Ends out) old new status
+Does out (Graph file) old new status = CallsBy file GraphEnds old new status
+Does out (Pack options) old new status = OnWriters (Packs options) old new status
 
 -- a mistake in the words
 abbrev pub Mistakes : Stream → Stream → Stream → Stream → ℕ → Type 0

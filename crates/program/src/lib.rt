@@ -11,6 +11,8 @@
 #![tactic(auto)]
 
 mod arguments;
+mod bundle_file;
+mod bundles;
 mod running;
 mod saying;
 

@@ -2,28 +2,24 @@ ghost use Rattle.std.specs.Prelude.{◌≡◌, ◌≢◌, ◌<◌, ◌+◌, ◌�
 ghost use Rattle.clap.specs.Values.{kind_of};
 ghost use Rattle.clap.specs.Kinds.{HasKind};
 ghost use Rattle.command.specs.Tasks.{faults_of};
-ghost use Rattle.counted.specs.Edges.{LosesBeginning};
+ghost use Rattle.counted.specs.Edges.{LosesBeginning, line_of};
 ghost use Rattle.plain.specs.Limits.{most_bundle_bytes};
 ghost use Rattle.build.specs.Ends.{devices};
-ghost use Rattle.build.specs.Faults.{exit_status};
-ghost use Rattle.program.specs.Runs.{Runs, streams, texts_in, line_of, pack_status, Packs, SaysEnd, SaysPack, SaysWhy, is_bare};
+ghost use Rattle.program.specs.Runs.{Runs, streams, texts_in, pack_status, Packs, SaysPack, SaysWhy, is_bare};
 ghost use Rattle.program.specs.PrivateRuns.{IsRefused};
-ghost use Rattle.build.specs.Messages.{fault_text};
 ghost use Rattle.packing.specs.Ends.{fault_text as pack_fault_text};
-ghost use Rattle.packing.specs.declared.fault.PackFault.TheVariants.{Ended};
 ghost use Rattle.program.specs.Saying.{stream};
 
-use crate::saying::say;
+use crate::bundles::{build_bundle, draw_bundle};
+use crate::saying::{NO_MEMORY_LINE, say};
 use crate::{NotText, WordsFault};
-use build::{BuildFault, Status, run_build, run_graph, status_code};
 use clap::Error;
 use clap::error::ErrorKind;
-use command::{Pack, Task, read_command};
+use command::{PackOptions, Task, read_command};
 use counted::{CountedRead, CountedWrite};
 use executor::Executor;
-use packing::{PackFault, Wanted, run_pack_to_file, run_pack_with};
+use packing::{PackFault, run_pack_to_file, run_pack_with};
 use plain::{Fault, Text};
-use solver::OpenGate;
 use std::alloc::{AllocError, Global};
 use std::rt::Files;
 use std::sync::Wait;
@@ -41,15 +37,12 @@ const NO_DOCKERFILE: u8 = 2;
 /// The status where a folder was not packed whole.
 const NO_BUNDLE: u8 = 3;
 
-/// What is said where there was no memory.
-const NO_MEMORY_LINE: &str = "out of memory\n";
-
 /// Does what the words of a command line ask for, and gives the status to end with.
 ///
 /// The first word is the program's name. Where the system gave no words, it is handed why. The context of a build is filtered in several
-/// threads, its graph is solved by as many workers as the words say, and all else is done in the caller's. `files` is what a folder is read
-/// from that is to be packed, and where its bundle is written to, if the words name a file for it. No more than one byte past the limit of
-/// bundles is read.
+/// threads, its graph is solved by as many workers as the words say, and all else is done in the caller's. `files` is what a bundle is read
+/// from whose file the words name, and a folder that is to be packed, and where its bundle is written to, if the words name a file for it. If they
+/// name a bundle's file, nothing is read from `input`. No more than one byte past the limit of bundles is read.
 pub fn run_program<
     'a,
     F: Files + AllocGlobal + Clone + Drop,
@@ -91,62 +84,52 @@ pub fn run_program<
         }
     };
     match read_command(alloc, words) {
-        Ok(Task::Build(workers)) => {
-            let workers = u32::from(workers);
-            let ended = run_build(alloc, rt, input, output, executor, workers, &OpenGate);
-            finish(errors, ended)
+        Ok(Task::Build(options)) => {
+            let status = build_bundle(alloc, rt, files, &options, input, output, errors, executor);
+            drop(options);
+            status
         }
-        Ok(Task::Graph) => {
-            let ended = run_graph(alloc, rt, input, output);
-            finish(errors, ended)
+        Ok(Task::Graph(file)) => {
+            let status = draw_bundle(alloc, rt, files, &file, input, output, errors);
+            drop(file);
+            status
         }
-        Ok(Task::Pack(words)) => {
-            let status = pack(alloc, files, &words, output, errors);
-            drop(words);
+        Ok(Task::Pack(options)) => {
+            let status = pack(alloc, files, &options, output, errors);
+            drop(options);
             status
         }
         Err(error) => refuse_words(alloc, output, errors, &error),
     }
 }
 
-/// Says why there is no whole answer, where there is none, and gives the status to end with.
-fn finish<S: CountedWrite>(errors: &mut S, ended: Result<Status, BuildFault>) -> u8
-    requires says { S.failures errors.old < u64.MAX }
-    ensures says { SaysEnd ended (stream (S.contents errors.old) (S.failures errors.old)) (stream (S.contents errors.new) (S.failures errors.new)) }
-    ensures is { result ≡ exit_status ended }
-{
-    if let Err(fault) = &ended {
-        say(errors, fault_line(*fault));
-    }
-    status_code(ended)
-}
-
 /// Packs a folder as the words ask, and gives the status to end with.
 fn pack<F: Files + AllocGlobal + Clone + Drop, W: CountedWrite, S: CountedWrite>(
     alloc: Global,
     files: &F,
-    words: &Pack,
+    options: &PackOptions,
     output: &mut W,
     errors: &mut S,
 ) -> u8
     requires writes { W.failures output.old < u64.MAX }
     requires says { S.failures errors.old < u64.MAX }
-    ensures { Packs words.now
+    ensures { Packs options.now
         (stream (W.contents output.old) (W.failures output.old)) (stream (W.contents output.new) (W.failures output.new))
         (stream (S.contents errors.old) (S.failures errors.old)) (stream (S.contents errors.new) (S.failures errors.new)) result }
 {
-    let folder = words.folder.as_str();
-    let wanted = Wanted {
-        file: text_in(&words.file),
-        target: text_in(&words.target),
-        args: words.args.as_slice(),
+    let folder = options.folder.as_str();
+    let given = packing::PackOptions {
+        file: text_in(&options.file),
+        target: text_in(&options.target),
+        args: options.args.as_slice(),
+        apply_ignore: options.apply_ignore,
     };
     let mut why = Text::from_string(String::new(alloc));
-    let ended = match &words.output {
-        Some(name) => run_pack_to_file(files, alloc, folder, wanted, name.as_str(), &mut why),
-        None => run_pack_with(files, alloc, folder, wanted, output, &mut why),
+    let ended = match &options.output {
+        Some(name) => run_pack_to_file(files, alloc, folder, given, name.as_str(), &mut why),
+        None => run_pack_with(files, alloc, folder, given, output, &mut why),
     };
-    if is_bare(words) {
+    if is_bare(options) {
         finish_pack(errors, ended)
     } else {
         finish_named(alloc, errors, ended, why.as_str())
@@ -154,13 +137,14 @@ fn pack<F: Files + AllocGlobal + Clone + Drop, W: CountedWrite, S: CountedWrite>
 }
 
 /// Whether the words of `pack` give nothing beside the folder.
-fn is_bare(words: &Pack) -> bool
-    ensures { result ≡ is_bare words.now }
+fn is_bare(options: &PackOptions) -> bool
+    ensures { result ≡ is_bare options.now }
 {
-    !words.file.is_some()
-        && !words.target.is_some()
-        && words.args.is_empty()
-        && !words.output.is_some()
+    !options.file.is_some()
+        && !options.target.is_some()
+        && options.args.is_empty()
+        && !options.output.is_some()
+        && !options.apply_ignore
 }
 
 /// A text that may be there, lent.
@@ -192,7 +176,7 @@ fn finish_pack<S: CountedWrite>(errors: &mut S, ended: Result<packing::Status, P
     }
 }
 
-/// The same, naming what can't be packed.
+/// The same, naming what can't be packed, or the file that can't be written.
 fn finish_named<S: CountedWrite>(
     alloc: Global,
     errors: &mut S,
@@ -205,29 +189,33 @@ fn finish_named<S: CountedWrite>(
 {
     match ended {
         Err(PackFault::Ended) => {
-            say_why(alloc, errors, why);
+            say_why(alloc, errors, PackFault::Ended, why);
+            NO_BUNDLE
+        }
+        Err(PackFault::Device) => {
+            say_why(alloc, errors, PackFault::Device, why);
             NO_BUNDLE
         }
         _ => finish_pack(errors, ended),
     }
 }
 
-/// Says that a folder can't be packed, and why, if there is memory to say it.
-fn say_why<S: CountedWrite>(alloc: Global, errors: &mut S, why: &str)
+/// Says that a folder wasn't packed, and why, if there is memory to say it.
+fn say_why<S: CountedWrite>(alloc: Global, errors: &mut S, fault: PackFault, why: &str)
     requires says { S.failures errors.old < u64.MAX }
-    ensures { SaysWhy (stream (S.contents errors.old) (S.failures errors.old)) (stream (S.contents errors.new) (S.failures errors.new)) }
+    ensures { SaysWhy fault (stream (S.contents errors.old) (S.failures errors.old)) (stream (S.contents errors.new) (S.failures errors.new)) }
 {
-    match why_line(alloc, why) {
+    match why_line(alloc, fault, why) {
         Ok(line) => say(errors, line.as_str()),
-        Err(_) => say(errors, pack_fault_line(PackFault::Ended)),
+        Err(_) => say(errors, pack_fault_line(fault)),
     }
 }
 
-/// Why a folder can't be packed, as a line.
-fn why_line(alloc: Global, why: &str) -> Result<Text, AllocError>
-    ensures { IfOk result (λ line. (text : List ℕ) × (line ≡ line_of (pack_fault_text Ended ++ text))) }
+/// Why a folder wasn't packed, as a line.
+fn why_line(alloc: Global, fault: PackFault, why: &str) -> Result<Text, AllocError>
+    ensures { IfOk result (λ line. (text : List ℕ) × (line ≡ line_of (pack_fault_text fault ++ text))) }
 {
-    let mut line = String::from_str(alloc, "cannot pack")?;
+    let mut line = String::from_str(alloc, pack_fault_words(fault))?;
     if !why.is_empty() {
         line.push_str(": ")?;
         line.push_str(why)?;
@@ -271,18 +259,18 @@ fn refuse_words<W: CountedWrite, S: CountedWrite>(
     BAD_COMMAND
 }
 
-/// Why a build wrote no whole answer, as a line.
-fn fault_line(fault: BuildFault) -> &'static str
-    ensures { result.now ≡ line_of (fault_text fault) }
+/// Why packing wrote no whole bundle.
+fn pack_fault_words(fault: PackFault) -> &'static str
+    ensures { result.now ≡ pack_fault_text fault }
 {
     match fault {
-        BuildFault::Memory => NO_MEMORY_LINE,
-        BuildFault::Device => "device failed\n",
-        BuildFault::Clash => "address clash\n",
+        PackFault::Memory => "out of memory",
+        PackFault::Device => "device failed",
+        PackFault::Ended => "cannot pack",
     }
 }
 
-/// Why packing wrote no whole bundle, as a line.
+/// The same as a line.
 fn pack_fault_line(fault: PackFault) -> &'static str
     ensures { result.now ≡ line_of (pack_fault_text fault) }
 {

@@ -1,6 +1,6 @@
 use Rattle.std.proofs.Common.{map, sym, subst}
 use Rattle.clap.specs.Words.{FailsBy}
-use Rattle.command.proofs.Accepted.{bare_argument, clap_fault, no_faults}
+use Rattle.command.proofs.Accepted.{asked_task, bare_argument, clap_fault, no_faults}
 use Rattle.command.proofs.reading.read_command.Goals as goal
 
 pub returns-in-Some-clause-faults : goal.returns-in-Some-clause-faults
@@ -14,3 +14,7 @@ returns-in-Ok-clause-faults c =
 
 pub returns-clause-faults : goal.returns-clause-faults
 returns-clause-faults c = clap_fault _ (map (λ word. word.now) c.args.words.now) c.in-Err.error c.in_ok-command.ensures c.in-Err.ensures.kinds
+
+pub returns-in-Some-clause-task : goal.returns-in-Some-clause-task
+returns-in-Some-clause-task c =
+    asked_task _ (map (λ word. word.now) c.args.words.now) _ _ c.in-Some.task c.in_ok-command.ensures c.in-Ok.ensures.matches (rw c.in-Some.is at c.in_ok-task-in-Ok.ensures.some)

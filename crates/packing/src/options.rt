@@ -1,12 +1,14 @@
 use plain::Text;
 
-/// What a folder is packed with, beside what lies in it.
+/// What a folder is packed with, beside what lies in it, lent.
 #[derive(Clone, Copy, Debug)]
-pub struct Wanted<'a> {
+pub struct PackOptions<'a> {
     /// The Dockerfile, where it isn't the folder's file `Dockerfile`.
     pub file: Option<&'a str>,
     /// The bundle's target.
     pub target: Option<&'a str>,
     /// The build arguments, each a name and a value. Of a name twice the last counts.
     pub args: &'a [(Text, Text)],
+    /// Whether what the ignore file leaves out isn't packed.
+    pub apply_ignore: bool,
 }

@@ -1,0 +1,80 @@
+// What a folder's bundle leaves out: what its ignore file does.
+ghost use Rattle.std.specs.Prelude.{◌≡◌, ◌↔◌, IsTrue};
+ghost use Rattle.packing.specs.PrivateLeaving.{IsKept, IsPacked, is_own};
+
+use crate::folder::DOCKERFILE;
+use ignorefile::{Ignore, IgnoreFault};
+use paths::Path;
+use std::alloc::Global;
+
+/// The name of a context's ignore file, which also ends the name of a Dockerfile's own.
+pub(crate) const IGNORE_FILE: &str = ".dockerignore";
+
+/// The ignore file by whose lines entries are left out; none, and then all are packed.
+#[derive(Drop)]
+pub(crate) struct Leaving {
+    ignore: Option<Ignore>,
+    /// Whether the folder's file `Dockerfile` is the bundle's, and so is packed whatever the lines say.
+    dockerfile: bool,
+    /// Whether a line may be an exception, by which something is kept in a folder that is left out.
+    may_except: bool,
+}
+
+impl Leaving {
+    /// Nothing is left out. It takes no memory.
+    pub(crate) fn nothing() -> Leaving {
+        Leaving {
+            ignore: None,
+            dockerfile: true,
+            may_except: false,
+        }
+    }
+
+    /// What an ignore file of these bytes leaves out, where the folder's file `Dockerfile` is the bundle's or isn't.
+    pub(crate) fn read(
+        alloc: Global,
+        bytes: &[u8],
+        dockerfile: bool,
+    ) -> Result<Leaving, IgnoreFault> {
+        let ignore = Ignore::read(alloc, bytes)?;
+        Ok(Leaving {
+            ignore: Some(ignore),
+            dockerfile,
+            may_except: bytes.contains(&b'!'),
+        })
+    }
+
+    /// Whether what has this path is packed: the ignore file keeps it, or it is that file itself or the bundle's Dockerfile.
+    pub(crate) fn packs(&self, path: &Path) -> bool
+        ensures { IsTrue result ↔ IsPacked self.now path.now }
+    {
+        self.is_own(path) || self.keeps(path)
+    }
+
+    /// Whether the ignore file keeps a path.
+    fn keeps(&self, path: &Path) -> bool
+        ensures { IsTrue result ↔ IsKept self.now path.now }
+    {
+        match &self.ignore {
+            Some(ignore) => ignore.keeps(path),
+            None => true,
+        }
+    }
+
+    /// Whether a path is that of the ignore file, or of the bundle's Dockerfile.
+    fn is_own(&self, path: &Path) -> bool
+        ensures { result ≡ is_own self.now.dockerfile path.now }
+    {
+        match path.components() {
+            [name] => {
+                name.as_str() == IGNORE_FILE || (self.dockerfile && name.as_str() == DOCKERFILE)
+            }
+            _ => false,
+        }
+    }
+
+    /// Whether nothing in the folder at this path can be packed, nor the folder itself.
+    pub(crate) fn leaves_whole(&self, path: &Path) -> bool {
+        !self.may_except && !self.packs(path)
+    }
+}

@@ -1,0 +1,231 @@
+// What is done with a bundle: it is built, or its graph is drawn. It is on the reader, or a file that is named holds it.
+ghost use Rattle.std.specs.Prelude.{◌≡◌, ◌<◌, ◌≤◌, ◌+◌, ◌++◌, ℕ, List, IfOk};
+ghost use Rattle.counted.specs.Edges.{LosesBeginning, line_of};
+ghost use Rattle.plain.specs.Limits.{most_bundle_bytes, most_workers};
+ghost use Rattle.build.specs.Ends.{Ends, GraphEnds, devices};
+ghost use Rattle.build.specs.Faults.{exit_status};
+ghost use Rattle.build.specs.Messages.{fault_text};
+ghost use Rattle.build.specs.declared.status.BuildFault.TheVariants.{Device};
+ghost use Rattle.program.specs.Runs.{CallsBy, CallsFile, IsOpenFault, IsTold, SaysEnd, SaysFileEnd, SaysNamed, streams};
+ghost use Rattle.program.specs.Saying.{stream};
+
+use crate::bundle_file::{open_bundle, why_of};
+use crate::saying::{NO_MEMORY_LINE, say};
+use build::{BuildFault, Status, run_build, run_graph, status_code};
+use command::BuildOptions;
+use counted::{CountedRead, CountedWrite};
+use executor::Executor;
+use plain::Text;
+use solver::OpenGate;
+use std::alloc::{AllocError, Global};
+use std::io;
+use std::io::ErrorKind;
+use std::rt::Files;
+use std::sync::Wait;
+use std::thread::Threads;
+
+/// Builds a bundle as the words ask, and gives the status to end with.
+pub(crate) fn build_bundle<F: Files, R: CountedRead, W: CountedWrite, S: CountedWrite, E: Executor>(
+    alloc: Global,
+    rt: &(impl Threads + Wait + Sync),
+    files: &F,
+    options: &BuildOptions,
+    input: &mut R,
+    output: &mut W,
+    errors: &mut S,
+    executor: &E,
+) -> u8
+    requires workers { (0 < options.now.workers) × (options.now.workers ≤ most_workers) }
+    requires reads { R.failures input.old < u64.MAX }
+    requires writes { W.failures output.old < u64.MAX }
+    requires says { S.failures errors.old < u64.MAX }
+    ensures calls { CallsBy options.now.file (Ends (E.out executor.now))
+        (streams (devices (R.remaining input.old) (R.failures input.old) (W.contents output.old) (W.failures output.old)) (stream (S.contents errors.old) (S.failures errors.old)))
+        (streams (devices (R.remaining input.new) (R.failures input.new) (W.contents output.new) (W.failures output.new)) (stream (S.contents errors.new) (S.failures errors.new)))
+        result }
+    ensures taken { LosesBeginning (most_bundle_bytes + 1) (R.remaining input.old) (R.remaining input.new) }
+{
+    let workers = u32::from(options.workers);
+    match &options.file {
+        Some(name) => build_file(
+            alloc,
+            rt,
+            files,
+            name.as_str(),
+            workers,
+            output,
+            errors,
+            executor,
+        ),
+        None => {
+            let ended = run_build(alloc, rt, input, output, executor, workers, &OpenGate);
+            finish(errors, ended)
+        }
+    }
+}
+
+/// Draws the graph of a bundle, and gives the status to end with.
+pub(crate) fn draw_bundle<F: Files, R: CountedRead, W: CountedWrite, S: CountedWrite>(
+    alloc: Global,
+    rt: &(impl Threads + Wait + Sync),
+    files: &F,
+    file: &Option<Text>,
+    input: &mut R,
+    output: &mut W,
+    errors: &mut S,
+) -> u8
+    requires reads { R.failures input.old < u64.MAX }
+    requires writes { W.failures output.old < u64.MAX }
+    requires says { S.failures errors.old < u64.MAX }
+    ensures calls { CallsBy file.now GraphEnds
+        (streams (devices (R.remaining input.old) (R.failures input.old) (W.contents output.old) (W.failures output.old)) (stream (S.contents errors.old) (S.failures errors.old)))
+        (streams (devices (R.remaining input.new) (R.failures input.new) (W.contents output.new) (W.failures output.new)) (stream (S.contents errors.new) (S.failures errors.new)))
+        result }
+    ensures taken { LosesBeginning (most_bundle_bytes + 1) (R.remaining input.old) (R.remaining input.new) }
+{
+    match file {
+        Some(name) => draw_file(alloc, rt, files, name.as_str(), output, errors),
+        None => {
+            let ended = run_graph(alloc, rt, input, output);
+            finish(errors, ended)
+        }
+    }
+}
+
+/// Builds the bundle of a file.
+fn build_file<F: Files, W: CountedWrite, S: CountedWrite, E: Executor>(
+    alloc: Global,
+    rt: &(impl Threads + Wait + Sync),
+    files: &F,
+    name: &str,
+    workers: u32,
+    output: &mut W,
+    errors: &mut S,
+    executor: &E,
+) -> u8
+    requires workers { (0 < workers) × (workers ≤ most_workers) }
+    requires writes { W.failures output.old < u64.MAX }
+    requires says { S.failures errors.old < u64.MAX }
+    ensures { CallsFile name.now (Ends (E.out executor.now))
+        (stream (W.contents output.old) (W.failures output.old)) (stream (W.contents output.new) (W.failures output.new))
+        (stream (S.contents errors.old) (S.failures errors.old)) (stream (S.contents errors.new) (S.failures errors.new)) result }
+{
+    match open_bundle(files, name) {
+        Ok(mut file) => {
+            let ended = run_build(alloc, rt, &mut file, output, executor, workers, &OpenGate);
+            finish_file(alloc, errors, ended, name, file.why)
+        }
+        Err(error) => {
+            let ended = Err(open_fault(&error));
+            finish_file(alloc, errors, ended, name, why_of(error.kind()))
+        }
+    }
+}
+
+/// Draws the graph of the bundle of a file.
+fn draw_file<F: Files, W: CountedWrite, S: CountedWrite>(
+    alloc: Global,
+    rt: &(impl Threads + Wait + Sync),
+    files: &F,
+    name: &str,
+    output: &mut W,
+    errors: &mut S,
+) -> u8
+    requires writes { W.failures output.old < u64.MAX }
+    requires says { S.failures errors.old < u64.MAX }
+    ensures { CallsFile name.now GraphEnds
+        (stream (W.contents output.old) (W.failures output.old)) (stream (W.contents output.new) (W.failures output.new))
+        (stream (S.contents errors.old) (S.failures errors.old)) (stream (S.contents errors.new) (S.failures errors.new)) result }
+{
+    match open_bundle(files, name) {
+        Ok(mut file) => {
+            let ended = run_graph(alloc, rt, &mut file, output);
+            finish_file(alloc, errors, ended, name, file.why)
+        }
+        Err(error) => {
+            let ended = Err(open_fault(&error));
+            finish_file(alloc, errors, ended, name, why_of(error.kind()))
+        }
+    }
+}
+
+/// Says why there is no whole answer, where there is none, and gives the status to end with.
+fn finish<S: CountedWrite>(errors: &mut S, ended: Result<Status, BuildFault>) -> u8
+    requires says { S.failures errors.old < u64.MAX }
+    ensures says { SaysEnd ended (stream (S.contents errors.old) (S.failures errors.old)) (stream (S.contents errors.new) (S.failures errors.new)) }
+    ensures is { result ≡ exit_status ended }
+{
+    if let Err(fault) = &ended {
+        say(errors, fault_line(*fault));
+    }
+    status_code(ended)
+}
+
+/// The same for the bundle of a file: a failed device is said with what is known of the file, which follows its name.
+fn finish_file<S: CountedWrite>(
+    alloc: Global,
+    errors: &mut S,
+    ended: Result<Status, BuildFault>,
+    name: &str,
+    why: &str,
+) -> u8
+    requires says { S.failures errors.old < u64.MAX }
+    ensures says { SaysFileEnd name.now ended (stream (S.contents errors.old) (S.failures errors.old)) (stream (S.contents errors.new) (S.failures errors.new)) }
+    ensures is { result ≡ exit_status ended }
+{
+    match &ended {
+        Err(BuildFault::Device) => {
+            say_named(alloc, errors, name, why);
+            status_code(ended)
+        }
+        _ => finish(errors, ended),
+    }
+}
+
+/// Why a file couldn't be opened: the device, or want of memory.
+fn open_fault(error: &io::Error) -> BuildFault
+    ensures { IsOpenFault result }
+{
+    if error.kind() == ErrorKind::OutOfMemory {
+        BuildFault::Memory
+    } else {
+        BuildFault::Device
+    }
+}
+
+/// Says that a device failed, and what is known of the file of this name, if there is memory to say it.
+fn say_named<S: CountedWrite>(alloc: Global, errors: &mut S, name: &str, why: &str)
+    requires says { S.failures errors.old < u64.MAX }
+    ensures { SaysNamed name.now (stream (S.contents errors.old) (S.failures errors.old)) (stream (S.contents errors.new) (S.failures errors.new)) }
+{
+    match named_line(alloc, name, why) {
+        Ok(line) => say(errors, line.as_str()),
+        Err(_) => say(errors, fault_line(BuildFault::Device)),
+    }
+}
+
+/// That a device failed, and what is known of the file of this name, as a line.
+fn named_line(alloc: Global, name: &str, why: &str) -> Result<Text, AllocError>
+    ensures { IfOk result (λ line. (told : List ℕ) × (IsTold name.now told × (line ≡ line_of (fault_text Device ++ told)))) }
+{
+    let mut line = String::from_str(alloc, "device failed")?;
+    if !why.is_empty() {
+        line.push_str(": ")?;
+        line.push_str(name)?;
+        line.push_str(" ")?;
+        line.push_str(why)?;
+    }
+    line.push('\n')?;
+    Ok(Text::from_string(line))
+}
+
+/// Why a build wrote no whole answer, as a line.
+fn fault_line(fault: BuildFault) -> &'static str
+    ensures { result.now ≡ line_of (fault_text fault) }
+{
+    match fault {
+        BuildFault::Memory => NO_MEMORY_LINE,
+        BuildFault::Device => "device failed\n",
+        BuildFault::Clash => "address clash\n",
+    }
+}
