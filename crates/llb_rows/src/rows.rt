@@ -1,6 +1,6 @@
 // What each row is: an operation on its inputs, or a definition.
 
-use crate::{commands, files};
+use crate::{commands, files, vertices};
 use llbmessages::{
     Constraints, Definition, Input, MergeInput, MergeOp, Op, OpKind, OpMetadata, Platform, SourceOp,
 };
@@ -22,10 +22,13 @@ pub(crate) enum Row {
     Merge,
     End,
     Definition,
+    VertexImage,
+    VertexMakeDir,
+    VertexCopy,
 }
 
 /// The rows, in the order in which they are printed.
-pub(crate) const ROWS: [Row; 11] = [
+pub(crate) const ROWS: [Row; 14] = [
     Row::Image,
     Row::Context,
     Row::MakeDir,
@@ -37,6 +40,9 @@ pub(crate) const ROWS: [Row; 11] = [
     Row::Merge,
     Row::End,
     Row::Definition,
+    Row::VertexImage,
+    Row::VertexMakeDir,
+    Row::VertexCopy,
 ];
 
 impl Row {
@@ -53,16 +59,19 @@ impl Row {
             Row::Merge => "merge",
             Row::End => "end",
             Row::Definition => "definition",
+            Row::VertexImage => "vertex-image",
+            Row::VertexMakeDir => "vertex-mkdir",
+            Row::VertexCopy => "vertex-copy",
         }
     }
 
     /// The digests of the inputs.
     fn inputs(self) -> &'static [&'static str] {
         match self {
-            Row::Image | Row::Context | Row::Heredoc | Row::Definition => &[],
             Row::MakeDir | Row::SharedCache => &[A],
             Row::Copy | Row::CopyTwice | Row::Command | Row::Merge => &[A, B],
             Row::End => &[B],
+            _ => &[],
         }
     }
 
@@ -72,7 +81,8 @@ impl Row {
     }
 }
 
-const A: &str = "sha256:aaaaaaaaaaaaaaaaaaaaaaaaaaaaaaaaaaaaaaaaaaaaaaaaaaaaaaaaaaaaaaaa";
+pub(crate) const A: &str =
+    "sha256:aaaaaaaaaaaaaaaaaaaaaaaaaaaaaaaaaaaaaaaaaaaaaaaaaaaaaaaaaaaaaaaa";
 
 const B: &str = "sha256:bbbbbbbbbbbbbbbbbbbbbbbbbbbbbbbbbbbbbbbbbbbbbbbbbbbbbbbbbbbbbbbb";
 
@@ -80,6 +90,9 @@ const B: &str = "sha256:bbbbbbbbbbbbbbbbbbbbbbbbbbbbbbbbbbbbbbbbbbbbbbbbbbbbbbbb
 pub(crate) fn line(alloc: Global, row: Row) -> Result<String, Memory> {
     let bytes = match row {
         Row::Definition => definition(alloc)?,
+        Row::VertexImage => bytes(alloc, vertices::image(alloc))?,
+        Row::VertexMakeDir => bytes(alloc, vertices::make_dir(alloc))?,
+        Row::VertexCopy => bytes(alloc, vertices::copy(alloc))?,
         row => operation(alloc, row)?,
     };
     let digits = hex::encode(alloc, bytes.as_slice())?;
@@ -102,7 +115,12 @@ pub(crate) fn texts(alloc: Global, texts: &[&str]) -> Result<Items<Text>, Memory
 
 fn operation(alloc: Global, row: Row) -> Result<Bytes, Memory> {
     let kind = kind(alloc, row)?;
-    match of_kind(alloc, row, kind) {
+    bytes(alloc, of_kind(alloc, row, kind))
+}
+
+/// The bytes of an operation, if it was made.
+fn bytes(alloc: Global, op: Result<Op, Memory>) -> Result<Bytes, Memory> {
+    match op {
         Ok(op) => op.to_bytes(alloc),
         Err(memory) => Err(memory),
     }
@@ -149,7 +167,7 @@ fn inputs(alloc: Global, digests: &[&str]) -> Result<Items<Input>, Memory> {
     Ok(inputs)
 }
 
-fn platform(alloc: Global) -> Result<Platform, Memory> {
+pub(crate) fn platform(alloc: Global) -> Result<Platform, Memory> {
     Ok(Platform {
         architecture: text(alloc, "amd64")?,
         os: text(alloc, "linux")?,
@@ -168,7 +186,7 @@ fn kind(alloc: Global, row: Row) -> Result<OpKind, Memory> {
         Row::Command => commands::command(alloc),
         Row::SharedCache => commands::shared_cache(alloc),
         Row::Merge => merge(alloc),
-        Row::End | Row::Definition => Ok(OpKind::End),
+        _ => Ok(OpKind::End),
     }
 }
 

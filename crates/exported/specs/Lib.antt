@@ -1,0 +1,9 @@
+pub mod Commands
+pub mod Files
+pub mod Making
+pub mod Merges
+pub mod Names
+pub mod Operations
+pub mod Patterns
+pub mod Places
+pub mod Sources

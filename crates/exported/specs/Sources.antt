@@ -1,0 +1,23 @@
+-- Trees that no operation makes (BuildKit's LLB, `SourceOp`; BuildKit, attributes of local sources).
+use Rattle.std.specs.Prelude.{ℕ, Option, Some, None, List, [], ◌∷◌, ◌++◌, codes}
+use Rattle.llbmessages.specs.declared.source.SourceOp.{SourceOp}
+use Rattle.exported.specs.Names.{whole_name}
+
+-- an image, by its whole name
+unfoldable pub image_source : List ℕ → SourceOp
+image_source name = record { identifier = codes "docker-image://" ++ whole_name name; attrs = [] }
+
+-- the attribute of patterns, if there are some: a JSON list of them
+abbrev pub exclude_entries : Option (List ℕ) → List (List ℕ × List ℕ)
+exclude_entries None = []
+exclude_entries (Some patterns) = (codes "local.excludepatterns", patterns) ∷ []
+
+-- the attributes of the files that a build is given. `local.unique` tells builds apart that run at the same time with other files, which an engine
+-- would take for one
+abbrev pub context_entries : List ℕ → Option (List ℕ) → List (List ℕ × List ℕ)
+context_entries unique excludes =
+    (exclude_entries excludes ++ (codes "local.sharedkeyhint", codes "context") ∷ []) ++ (codes "local.unique", unique) ∷ []
+
+-- the files that a build is given, without those of some patterns
+unfoldable pub context_source : List ℕ → Option (List ℕ) → SourceOp
+context_source unique excludes = record { identifier = codes "local://context"; attrs = context_entries unique excludes }
