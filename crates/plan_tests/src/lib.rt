@@ -1,12 +1,10 @@
-// Tests of what makes a plan and solves it in one thread: `globs`, `ignorefile`, `contexts`, `dockerfile`, `stages`, `imageconfig`, `llb`, `lowering`,
-// `rewrite`, `cachemounts`, `board`, `solver` and `replay`. They stand in a crate of their own, since a library with tests in it is proved twice.
+// Tests of what makes a plan: `globs`, `ignorefile`, `contexts`, `dockerfile`, `stages`, `imageconfig`, `lowering`, `rewrite` and `cachemounts`.
+// They stand in a crate of their own, since a library with tests in it is proved twice; what solves a plan is tested in `solution_tests`.
 //
 // Each shows what no clause says: an example from the rules, that a call succeeds if there is memory, and large inputs. Whole builds, the
 // table `programs` of `tables`, go through the rest of what these crates do.
 #![tactic(auto)]
 
-#[cfg(test)]
-mod building;
 #[cfg(test)]
 mod caches;
 #[cfg(test)]
@@ -14,14 +12,8 @@ mod configurations;
 #[cfg(test)]
 mod files;
 #[cfg(test)]
-mod graphs;
-#[cfg(test)]
-mod histories;
-#[cfg(test)]
 mod links;
 #[cfg(test)]
 mod names;
 #[cfg(test)]
 mod patterns;
-#[cfg(test)]
-mod solutions;
