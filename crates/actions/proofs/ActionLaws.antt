@@ -35,10 +35,11 @@ use Rattle.runs.specs.declared.run.CacheUse.{CacheUse}
 use Rattle.scopes.specs.Scope.{run_env, names_of, names_differ, is_environment_name, value_in}
 use Rattle.scopes.specs.declared.declaration.Declaration.{Declaration}
 use Rattle.actions.proofs.LimitFacts.{neither}
-use Rattle.actions.specs.Texts.{is_long, is_within}
-use Rattle.scopes.specs.Evaluate.{Values}
+use Rattle.actions.specs.Texts.{is_within}
+use Rattle.scopes.specs.Evaluate.{Values, is_long}
 use Rattle.actions.specs.Copy.{file_sources, is_bad_source, is_far_source, is_far_destination, origin_for, copied, copy_action, copy_due}
-use Rattle.actions.specs.Run.{words_of, target_in, bind_at, binds_of, cache_at, caches_of, known_id, known_ids, targets_in, has_far_folder, is_unreadable, is_bind, run_action, run_due}
+use Rattle.instructions.specs.Command.{words_of}
+use Rattle.actions.specs.Run.{target_in, bind_at, binds_of, cache_at, caches_of, known_id, known_ids, targets_in, has_far_folder, is_unreadable, is_bind, run_action, run_due}
 
 some_none : (c : Code) → Some c ≡ None → ⊥
 some_none c e = none-some c (sym e)

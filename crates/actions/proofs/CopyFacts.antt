@@ -10,7 +10,8 @@ use Rattle.llb.specs.declared.op.FileSource.{FileSource}
 use Rattle.options.specs.Lists.{all_some}
 use Rattle.options.specs.declared.copy.CopyFlags.{CopyFlags}
 use Rattle.paths.specs.Reading.{read_from}
-use Rattle.actions.specs.Texts.{is_long, is_within}
+use Rattle.scopes.specs.Evaluate.{is_long}
+use Rattle.actions.specs.Texts.{is_within}
 use Rattle.actions.specs.Copy.{goes_into, is_empty_source, is_far_source, is_far_destination, due_of, copied}
 use Rattle.actions.specs.PrivateTexts.{short, near, is_some_and, is_misspelled, is_empty_text, lacks_slash, destination_of}
 use Rattle.actions.proofs.LimitFacts.{unless_some, unless_none}

@@ -1,11 +1,10 @@
 -- Texts against their limit.
 use Rattle.std.specs.Prelude.{◌≡◌, ◌<◌, ◌≤◌, ◌||◌, ℕ, Bool, true, false, List, Some, None, length, nat_lt, refl, if◌then◌else◌}
 use Rattle.std.proofs.Common.{sym, subst}
-use Rattle.std.proofs.Math.Bool.{or-false}
 use Rattle.std.proofs.lemmas.Bool.{lt-ltb, le-ltb, true≢false}
 use Rattle.std.proofs.lemmas.Option.{same_Some, none-some}
 use Rattle.plain.specs.Limits.{most_text_bytes}
-use Rattle.actions.specs.Texts.{is_long}
+use Rattle.scopes.specs.Evaluate.{is_long}
 use Rattle.actions.specs.PrivateTexts.{short}
 
 pub neither : (a b : Bool) → (a || b) ≡ false → (a ≡ false) × (b ≡ false)
@@ -13,7 +12,7 @@ neither true b e = absurd (true≢false e)
 neither false b e = (refl, e)
 
 pub long_is : (text : List ℕ) → is_long text ≡ nat_lt most_text_bytes (length text)
-long_is text = or-false (nat_lt most_text_bytes (length text))
+long_is text = refl
 
 -- a text within the limit is short
 pub short_text : (text : List ℕ) → length text ≤ most_text_bytes → short text ≡ Some text

@@ -9,7 +9,7 @@ use Rattle.globs.specs.Glob.{is_malformed}
 use Rattle.llb.specs.declared.op.FileSource.{FileSource}
 use Rattle.llb.specs.declared.op.FileSource.TheVariants.{Pattern, Data}
 use Rattle.options.specs.Lists.{all_some}
-use Rattle.actions.specs.Texts.{is_long}
+use Rattle.scopes.specs.Evaluate.{is_long}
 use Rattle.actions.specs.Copy.{ends_in_slash, is_empty_source, is_bad_source, is_far_source, is_no_folder}
 use Rattle.actions.specs.PrivateTexts.{short, near, is_some_and, is_misspelled, is_empty_text, lacks_slash}
 use Rattle.actions.proofs.LimitFacts.{long_is, unless_some, unless_none}

@@ -21,10 +21,10 @@ use Rattle.instructions.specs.declared.instruction.Body.{Body}
 use Rattle.instructions.specs.declared.instruction.Body.TheVariants.{Expanded, Literal}
 use Rattle.instructions.specs.declared.instruction.Source.{Source}
 use Rattle.instructions.specs.declared.instruction.Source.TheVariants.{Files, Document}
-use Rattle.scopes.specs.Evaluate.{Values}
+use Rattle.scopes.specs.Evaluate.{Values, is_long}
 use Rattle.scopes.specs.Scope.{value_in}
 use Rattle.scopes.specs.declared.declaration.Declaration.{Declaration}
-use Rattle.actions.specs.Texts.{is_long, is_within}
+use Rattle.actions.specs.Texts.{is_within}
 
 -- the sources
 

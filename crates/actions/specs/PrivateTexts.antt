@@ -4,7 +4,8 @@ use Rattle.paths.specs.Reading.{read_from}
 use Rattle.globs.specs.Glob.{is_malformed}
 use Rattle.llb.specs.declared.op.FileSource.{FileSource}
 use Rattle.llb.specs.declared.op.FileSource.TheVariants.{Pattern, Data}
-use Rattle.actions.specs.Texts.{is_long, is_within}
+use Rattle.scopes.specs.Evaluate.{is_long}
+use Rattle.actions.specs.Texts.{is_within}
 use Rattle.actions.specs.Copy.{ends_in_slash, goes_into, is_far_source}
 
 -- a text, where it isn't too long

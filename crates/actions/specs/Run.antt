@@ -1,6 +1,6 @@
 -- What a RUN does, where it stands in a stage, and which codes are due for it there (Dockerfile reference, RUN, RUN --mount, SHELL and
 -- USER; BuildKit's LLB, the exec operation).
-use Rattle.std.specs.Prelude.{ℕ, ◌||◌, Bool, true, false, not, List, [], ◌∷◌, ◌++◌, map, filter, Option, Some, None, if◌then◌else◌}
+use Rattle.std.specs.Prelude.{ℕ, ◌||◌, Bool, true, false, not, List, [], ◌++◌, map, filter, Option, Some, None, if◌then◌else◌}
 use Rattle.std.specs.List.{filter_map, list_any}
 use Rattle.plain.specs.declared.refusal.Code.{Code}
 use Rattle.plain.specs.declared.refusal.Code.TheVariants.{R17, R18}
@@ -17,17 +17,10 @@ use Rattle.options.specs.declared.mount.Mount.{Mount}
 use Rattle.options.specs.declared.mount.MountKind.{MountKind}
 use Rattle.options.specs.declared.mount.MountKind.TheVariants.{Bind as BindOf, Cache as CacheOf}
 use Rattle.instructions.specs.declared.instruction.Command.{Command}
-use Rattle.instructions.specs.declared.instruction.Command.TheVariants.{Exec as Listed, Shell as Script}
+use Rattle.instructions.specs.Command.{words_of}
 use Rattle.scopes.specs.Scope.{run_env}
 use Rattle.scopes.specs.declared.declaration.Declaration.{Declaration}
 use Rattle.actions.specs.Texts.{is_within}
-
--- the command
-
--- the words that are run: those of a list in JSON; a text for the shell is one word behind the shell's own
-abbrev pub words_of : List (List ℕ) → Command → List (List ℕ)
-words_of shell (Listed words) = words
-words_of shell (Script text) = shell ++ text ∷ []
 
 -- the mounts
 

@@ -1,6 +1,7 @@
 ghost use Rattle.std.specs.Prelude.{◌≡◌, Some, IfOk};
 ghost use Rattle.instructions.specs.Least.{Meets};
-ghost use Rattle.actions.specs.Run.{binds_of, caches_of, words_of, exec_of, run_action, run_due};
+ghost use Rattle.instructions.specs.Command.{words_of};
+ghost use Rattle.actions.specs.Run.{binds_of, caches_of, exec_of, run_action, run_due};
 
 use crate::Surroundings;
 use crate::mounts::{mounts_stand_together, read_mounts, whole_binds, whole_caches};

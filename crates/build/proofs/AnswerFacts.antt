@@ -32,7 +32,7 @@ use Rattle.bundle.specs.Answer.{built_text, failed_text}
 use Rattle.bundle.specs.Parts.{parts_of}
 use Rattle.bundle.specs.Reading.{ignore_bytes, told_line, IsBundle, Completes, ReadsBundle}
 use Rattle.bundle.specs.declared.parts.Parts.{Parts}
-use Rattle.entries.specs.Row.{Row}
+use Rattle.trees.specs.Row.{Row}
 use Rattle.contexts.specs.Context.{IsListing, IsContext}
 use Rattle.ignorefile.specs.File.{ignore_of}
 use Rattle.ignorefile.specs.declared.line.Line.{Line}

@@ -7,9 +7,9 @@ use Rattle.plain.specs.declared.refusal.Refusal.{Refusal}
 use Rattle.instructions.specs.declared.instruction.Instruction.{Instruction}
 use Rattle.dockerfile.specs.Dockerfile.{IsRead}
 use Rattle.stages.specs.Naming.{names_in}
-use Rattle.stages.specs.Resolved.{resolved, Answers as Resolves}
+use Rattle.stages.specs.Resolved.{resolved, Returns as Resolves}
 use Rattle.stages.specs.Table.{TableValue}
-use Rattle.evaluation.specs.Evaluated.{Answers as Evaluates}
+use Rattle.evaluation.specs.Evaluated.{EvaluatesTable as Evaluates}
 use Rattle.imageconfig.specs.Reading.{config_in}
 use Rattle.imageconfig.specs.declared.config.Config.{Config}
 use Rattle.bundle.specs.declared.whole.Bundle.{Bundle}

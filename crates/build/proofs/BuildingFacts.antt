@@ -9,7 +9,7 @@ use Rattle.plain.specs.declared.refusal.Refusal.{Refusal}
 use Rattle.plain.specs.declared.fault.Fault.{Fault}
 use Rattle.plain.specs.declared.fault.Fault.TheVariants as edge
 use Rattle.counted.specs.declared.fault.Device.{Device}
-use Rattle.counted.specs.Edges.{AppendsBeginning, LosesBeginning, ReadsFirst, CountsFault, IsDevice}
+use Rattle.counted.specs.Edges.{AppendsBeginning, LosesBeginning, ReadsFirst, CountsFault, IsDevice, line_of}
 use Rattle.imageconfig.specs.Reading.{config_in}
 use Rattle.imageconfig.specs.declared.config.Config.{Config}
 use Rattle.bundle.specs.Parts.{parts_within, parts_of}
@@ -22,7 +22,7 @@ use Rattle.build.specs.declared.status.BuildFault.{BuildFault}
 use Rattle.build.specs.declared.status.BuildFault.TheVariants.{Memory, Device as FailedDevice, Clash}
 use Rattle.build.specs.Faults.{of_edge}
 use Rattle.evaluation.specs.declared.evaluated.Evaluated.{Evaluated}
-use Rattle.build.specs.Meaning.{Asks, Answers, line_of}
+use Rattle.build.specs.Meaning.{Asks, Answers}
 use Rattle.build.specs.Graph.{GraphAnswers, GraphClashes}
 use Rattle.build.specs.PrivateShowing.{IsShown}
 use Rattle.build.specs.PrivateTelling.{TellsBundle, IsTold}
@@ -131,7 +131,7 @@ pub has_told : (out : Out) (old new : Devices) (bytes : List ℕ) (result : Resu
 has_told out old new bytes (Ok status) read ended reads =
     subst (HasAnswered (AnswersUnder out) old new) ended.2
     (answered (AnswersUnder out) (λ bytes bundle status text same a. answers bytes bundle out status text same a) old new bytes ended.0.line ended.0 read ended.1 refl ended.3 reads ended.4)
-has_told out old new bytes (Err Memory) read ended reads = (record { written = ended.0; failed_writes = ended.1 }, reads)
+has_told out old new bytes (Err Memory) read ended reads = ((ended.0, ended.1), reads)
 has_told out old new bytes (Err FailedDevice) read ended reads = inr (record {
   bundle = read.bundle;
   is = read.is;
@@ -161,13 +161,13 @@ graph_begun old new bytes line told fault read tells is written reads writes dev
 pub graph_faulted : (old new : Devices) (bytes : List ℕ) (fault : BuildFault)
     → IsReadOf old.left bytes → IsShown bytes (Err fault) → new.written ≡ old.written → new.failed_reads ≡ old.failed_reads → new.failed_writes ≡ old.failed_writes
     → GraphEnds old new (Err fault)
-graph_faulted old new bytes Memory read told written reads writes = (record { written = written; failed_writes = writes }, reads)
+graph_faulted old new bytes Memory read told written reads writes = ((written, writes), reads)
 graph_faulted old new bytes FailedDevice read told written reads writes = absurd told
 graph_faulted old new bytes Clash read told written reads writes = record {
   bundle = read.bundle;
   is = read.is;
   clash = record { made = told.made; asks = asks bytes read.bundle (Ok told.made) read.same told.asks; plan = told.plan; is = told.is; means = told.means; stands = told.stands; clashes = told.clashes };
-  unwritten = record { written = written; failed_writes = writes };
+  unwritten = (written, writes);
   failed_reads = reads;
 }
 

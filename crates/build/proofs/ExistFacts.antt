@@ -52,7 +52,7 @@ pub record PhaseLaws : Type 0 where
   pub known : (known : Known) (args : Values) (target : Option (List ℕ)) (is : List Instruction) (table : TableValue)
       → resolved known args target is ≡ Ok table → All (NamesKnown known) table.stages
   pub evaluates : (args : Values) (images : ImagesValue Config) (context : TreeMap) (table : TableValue) → IsTable table
-      → ((made : Evaluated) × evaluation.Answers args images context table (Ok made)) ⊎ ((refusal : Refusal) × evaluation.Answers args images context table (Err (Because refusal)))
+      → ((made : Evaluated) × evaluation.EvaluatesTable args images context table (Ok made)) ⊎ ((refusal : Refusal) × evaluation.EvaluatesTable args images context table (Err (Because refusal)))
   pub formed : (args : Values) (images : ImagesValue Config) (context : TreeMap) (needed : List Bool) (table : TableValue) (walk : Walk) (made : Evaluated)
       → IsTable table → AreNeeded table.stages table.target needed → HaveEnvironments images → evaluated args images needed table ≡ Ok walk
       → IsMade images context table.target walk made → IsWellFormed made.rows

@@ -17,7 +17,8 @@ use Rattle.build.specs.declared.status.Status.TheVariants.{Built, Refused}
 use Rattle.build.specs.declared.status.BuildFault.{BuildFault}
 use Rattle.build.specs.declared.status.BuildFault.TheVariants.{Memory, Device, Clash}
 use Rattle.build.specs.declared.told.Told.{Told}
-use Rattle.build.specs.Meaning.{Asks, line_of}
+use Rattle.counted.specs.Edges.{line_of}
+use Rattle.build.specs.Meaning.{Asks}
 use Rattle.build.specs.Graph.{IsGraphOf, Shows}
 use Rattle.build.specs.Telling.{IsAsked}
 use Rattle.build.specs.PrivateShowing.{ShowsAsked, PlanClashes, IsFileShown, IsShown}

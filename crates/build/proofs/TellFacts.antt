@@ -5,7 +5,7 @@ use Rattle.plain.specs.declared.fault.Fault.{Fault}
 use Rattle.plain.specs.declared.fault.Fault.TheVariants as edge
 use Rattle.plain.specs.declared.refusal.Refusal.{Refusal}
 use Rattle.counted.specs.declared.fault.Device.{Device as DeviceFailed}
-use Rattle.counted.specs.Edges.{AppendsBeginning, CountsFault, IsDevice}
+use Rattle.counted.specs.Edges.{AppendsBeginning, CountsFault, IsDevice, line_of}
 use Rattle.counted.specs.Gathering.{IsWritten}
 use Rattle.plans.specs.Plan.{PlanValue, problem_of}
 use Rattle.plans.specs.Value.{Out}
@@ -19,7 +19,7 @@ use Rattle.build.specs.declared.status.Status.TheVariants.{Refused}
 use Rattle.build.specs.declared.status.BuildFault.{BuildFault}
 use Rattle.build.specs.declared.status.BuildFault.TheVariants.{Memory, Device, Clash}
 use Rattle.build.specs.declared.told.Told.{Told}
-use Rattle.build.specs.Meaning.{Asks, Tells, line_of}
+use Rattle.build.specs.Meaning.{Asks, Tells}
 use Rattle.build.specs.PrivateTelling.{TellsText, TellsSolution, TellsPlan, TellsAsked, TellsBundle, IsTold}
 use Rattle.build.specs.Telling.{status_of, text_of}
 

@@ -1,12 +1,12 @@
 -- How a build ends: what it leaves of its reader and its writer, for each of its results (own).
 use Rattle.std.specs.Prelude.{◌≡◌, ◌⊎◌, ℕ, ◌+◌, List, Option, Some, None, Result, Ok, Err, ⊤}
 use Rattle.std.specs.Io.KnownBytes.{Appends}
-use Rattle.counted.specs.Edges.{AppendsBeginning}
+use Rattle.counted.specs.Edges.{AppendsBeginning, IsUnwritten, line_of}
 use Rattle.plans.specs.Value.{Out}
 use Rattle.build.specs.declared.status.Status.{Status}
 use Rattle.build.specs.declared.status.BuildFault.{BuildFault}
 use Rattle.build.specs.declared.status.BuildFault.TheVariants.{Memory, Device, Clash}
-use Rattle.build.specs.Meaning.{Answers, line_of}
+use Rattle.build.specs.Meaning.{Answers}
 use Rattle.build.specs.Graph.{GraphAnswers, GraphClashes}
 
 -- A reader and a writer: the bytes that are left to be read and those that were written, where they are known, and how many calls
@@ -29,9 +29,8 @@ IsAllLeft None bundle = ⊤
 IsAllLeft (Some all) bundle = bundle ≡ all
 
 -- nothing was written, and no write failed
-pub record IsUnwritten (old new : Devices) : Type 0 where
-  pub written : new.written ≡ old.written
-  pub failed_writes : new.failed_writes ≡ old.failed_writes
+abbrev pub LeavesWriter : Devices → Devices → Type 0
+LeavesWriter old new = IsUnwritten old.written old.failed_writes new.written new.failed_writes
 
 -- what a call may answer: which statuses and texts are answers to a bundle of these bytes
 abbrev pub Answering : Type 1
@@ -63,15 +62,15 @@ pub record HasClashed (Collides : List ℕ → Type 0) (old new : Devices) : Typ
   pub bundle : List ℕ
   pub is : IsAllLeft old.left bundle
   pub clash : Collides bundle
-  pub unwritten : IsUnwritten old new
+  pub unwritten : LeavesWriter old new
   pub failed_reads : new.failed_reads ≡ old.failed_reads
 
 -- How a call that reads a bundle and writes one answer ends, by its result: an answer was written; there was no memory, and nothing was
 -- written; a read failed, and nothing was written, or a write failed; or two operations clash, and nothing was written.
 abbrev pub EndsBy : Answering → (List ℕ → Type 0) → Devices → Devices → Result Status BuildFault → Type 0
 EndsBy Said Collides old new (Ok status) = HasAnswered Said old new status
-EndsBy Said Collides old new (Err Memory) = IsUnwritten old new × (new.failed_reads ≡ old.failed_reads)
-EndsBy Said Collides old new (Err Device) = (IsUnwritten old new × (new.failed_reads ≡ old.failed_reads + 1)) ⊎ HasBegun Said old new
+EndsBy Said Collides old new (Err Memory) = LeavesWriter old new × (new.failed_reads ≡ old.failed_reads)
+EndsBy Said Collides old new (Err Device) = (LeavesWriter old new × (new.failed_reads ≡ old.failed_reads + 1)) ⊎ HasBegun Said old new
 EndsBy Said Collides old new (Err Clash) = HasClashed Collides old new
 
 -- the answers to a bundle under an executor

@@ -1,6 +1,6 @@
 -- What the bytes of a bundle ask for, and which answer says what it gives under an executor. What a file's stages give is run instruction
 -- by instruction (`lowering`); nothing here knows a graph, a vertex or a worker.
-use Rattle.std.specs.Prelude.{◌≡◌, ◌⊎◌, ℕ, List, [], ◌∷◌, ◌++◌, Bool, Result, Ok, Err}
+use Rattle.std.specs.Prelude.{◌≡◌, ◌⊎◌, ℕ, List, Bool, Result, Ok, Err}
 use Rattle.std.specs.FinMap.{entries, get}
 use Rattle.plain.specs.declared.fault.Fault.TheVariants.{Because}
 use Rattle.plain.specs.declared.refusal.Refusal.{Refusal}
@@ -73,7 +73,3 @@ pub record Answers (bytes : List ℕ) (out : Out) (status : Status) (text : List
   pub asked : Result Evaluated Refusal
   pub asks : Asks bytes asked
   pub tells : Tells out asked status text
-
--- a text as a line: with the LF that ends it (own)
-abbrev pub line_of : List ℕ → List ℕ
-line_of text = text ++ 10 ∷ []

@@ -9,7 +9,7 @@ use Rattle.drawing.specs.Drawn.{Clashes}
 use Rattle.build.specs.declared.status.BuildFault.{BuildFault}
 use Rattle.build.specs.declared.status.BuildFault.TheVariants.{Memory, Device, Clash}
 use Rattle.build.specs.declared.told.Told.{Told}
-use Rattle.build.specs.Meaning.{line_of}
+use Rattle.counted.specs.Edges.{line_of}
 use Rattle.build.specs.Graph.{Shows, GraphAnswers, GraphClashes}
 
 -- a line shows what is asked for: it is a text that does, and LF

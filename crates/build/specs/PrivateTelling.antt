@@ -2,7 +2,7 @@
 use Rattle.std.specs.Prelude.{◌≡◌, ℕ, ◌+◌, List, Option, Result, Ok, Err}
 use Rattle.std.specs.Io.KnownBytes.{Appends}
 use Rattle.plain.specs.declared.refusal.Refusal.{Refusal}
-use Rattle.counted.specs.Edges.{AppendsBeginning}
+use Rattle.counted.specs.Edges.{AppendsBeginning, line_of}
 use Rattle.plans.specs.Plan.{PlanValue, problem_of}
 use Rattle.plans.specs.Value.{Out}
 use Rattle.imageconfig.specs.declared.config.Config.{Config}
@@ -13,7 +13,7 @@ use Rattle.build.specs.declared.status.Status.{Status}
 use Rattle.build.specs.declared.status.BuildFault.{BuildFault}
 use Rattle.build.specs.declared.status.BuildFault.TheVariants.{Memory, Device, Clash}
 use Rattle.build.specs.declared.told.Told.{Told}
-use Rattle.build.specs.Meaning.{Tells, Answers, line_of}
+use Rattle.build.specs.Meaning.{Tells, Answers}
 use Rattle.build.specs.Telling.{status_of, text_of}
 
 -- a line of this status and this text

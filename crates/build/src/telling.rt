@@ -8,7 +8,7 @@ ghost use Rattle.serde_json.specs.Written.{compact_text};
 ghost use Rattle.imageconfig.specs.Writing.{config_data};
 ghost use Rattle.bundle.specs.Answer.{built_text, failed_text, refused_text};
 ghost use Rattle.build.specs.Lowerable.{IsLowerable};
-ghost use Rattle.build.specs.Meaning.{line_of};
+ghost use Rattle.counted.specs.Edges.{line_of};
 ghost use Rattle.build.specs.PrivateTelling.{TellsAsked, TellsBundle, TellsPlan, TellsSolution, TellsText, IsTold};
 ghost use Rattle.build.specs.declared.status.Status.TheVariants.{Built, Failed, Refused};
 

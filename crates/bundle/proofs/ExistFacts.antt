@@ -26,7 +26,7 @@ use Rattle.cachemounts.specs.Content.{common_content}
 use Rattle.plans.specs.Images.{ImagesValue}
 use Rattle.plans.specs.Sources.{name_cmp}
 use Rattle.plans.specs.declared.images.Image as image
-use Rattle.entries.specs.Row.{Row}
+use Rattle.trees.specs.Row.{Row}
 use Rattle.entries.specs.Reading.{rows_of}
 use Rattle.entries.specs.Listing.{is_listing, listing_in}
 use Rattle.bundle.specs.declared.parts.Files.{Files}

@@ -8,7 +8,7 @@ use Rattle.trees.specs.TreeMap.{is_file, is_directory}
 use Rattle.trees.specs.declared.entry.Entry.{Entry}
 use Rattle.trees.specs.declared.entry.Entry.TheVariants.{Directory, File}
 use Rattle.contexts.specs.Context.{IsListing}
-use Rattle.entries.specs.Row.{Row}
+use Rattle.trees.specs.Row.{Row}
 use Rattle.entries.specs.Listing.{clash, is_root, is_root_file, is_listing}
 use Rattle.entries.proofs.ApartFacts.{clash-same, clash-way, clash-flip}
 use Rattle.entries.proofs.RowFacts.{no-clash, none-of, listing-tail, listing-root}

@@ -11,7 +11,7 @@ use Rattle.serde_json.specs.Read.{read}
 use Rattle.plain.specs.Limits.{most_bundle_bytes}
 use Rattle.strict.specs.Strict.{strict, at_most_one, rows_in}
 use Rattle.trees.specs.TreeMap.{TreeMap}
-use Rattle.entries.specs.Row.{Row}
+use Rattle.trees.specs.Row.{Row}
 use Rattle.entries.specs.Reading.{content_in}
 use Rattle.entries.specs.Listing.{listing_in}
 use Rattle.entries.specs.Whole.{tree_of}

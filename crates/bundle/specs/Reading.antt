@@ -12,7 +12,7 @@ use Rattle.ignorefile.specs.declared.line.Line.{Line}
 use Rattle.ignorefile.specs.File.{ignore_of}
 use Rattle.contexts.specs.Context.{IsListing, IsContext}
 use Rattle.cachemounts.specs.Content.{common_content}
-use Rattle.entries.specs.Row.{Row}
+use Rattle.trees.specs.Row.{Row}
 use Rattle.bundle.specs.declared.parts.Parts.{Parts}
 use Rattle.bundle.specs.declared.whole.Bundle.{Bundle}
 use Rattle.bundle.specs.Parts.{parts_of}

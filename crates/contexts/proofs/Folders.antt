@@ -11,7 +11,8 @@ use Rattle.trees.specs.declared.entry.Entry.TheVariants.{Directory}
 use Rattle.trees.specs.declared.meta.Meta.{Meta}
 use Rattle.trees.specs.TreeMap.{TreeMap, IsTree, directory_meta, is_directory}
 use Rattle.trees.specs.Put.{planted, cause_at}
-use Rattle.contexts.specs.Context.{Row, IsListing, owned_meta}
+use Rattle.trees.specs.Row.{Row}
+use Rattle.contexts.specs.Context.{IsListing, owned_meta}
 use Rattle.contexts.specs.PrivatePlaces.{Wanted, From, AreFolders, HasModes, AreApart}
 use Rattle.contexts.proofs.Rows.{get-within, get-snoc, get-before, get-last, at-or-after, same-or-not, planted-here, planted-other}
 use Rattle.contexts.proofs.Placing.{no-cause-by, directory-no-file}

@@ -5,7 +5,7 @@ use Rattle.std.specs.List.{AllZip}
 use Rattle.ignorefile.specs.declared.line.Line.{Line}
 use Rattle.ignorefile.specs.Kept.{Kept}
 use Rattle.plain.specs.declared.memory.Memory.{Memory}
-use Rattle.contexts.specs.Context.{Row}
+use Rattle.trees.specs.Row.{Row}
 
 abbrev pub Flags : List Line → List Row → List Bool → Type 0
 Flags lines rows flags = AllZip (λ row flag. IsTrue flag ↔ Kept lines row.0) rows flags

@@ -8,7 +8,8 @@ use Rattle.trees.specs.declared.entry.Entry.{Entry}
 use Rattle.trees.specs.TreeMap.{TreeMap}
 use Rattle.trees.proofs.TreeLaws.{same_tree}
 use Rattle.ignorefile.specs.declared.line.Line.{Line}
-use Rattle.contexts.specs.Context.{Row, Has, IsListing, IsFolder, IsContext, owned}
+use Rattle.trees.specs.Row.{Row, Has}
+use Rattle.contexts.specs.Context.{IsListing, IsFolder, IsContext, owned}
 
 module _ (rows : List Row) (lines : List Line) (listing : IsListing rows) where
   one-row : (row other : Row) → Has rows row → Has rows other → row.0 ≡ other.0 → row ≡ other

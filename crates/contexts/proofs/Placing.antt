@@ -18,7 +18,8 @@ use Rattle.trees.specs.TreeMap.{TreeMap, directory_meta, is_directory, is_file, 
 use Rattle.trees.specs.Put.{planted, cause_at, clash_of}
 use Rattle.trees.proofs.TreeLaws.{get-empty_tree}
 use Rattle.trees.proofs.WayLaws.{open-from_fronts}
-use Rattle.contexts.specs.Context.{Row, IsListing, owned}
+use Rattle.trees.specs.Row.{Row}
+use Rattle.contexts.specs.Context.{IsListing, owned}
 use Rattle.contexts.specs.PrivatePlaces.{Wanted, From, ComesFrom, IsPlaced}
 use Rattle.contexts.proofs.Rows.{get-within, at-or-after, same-or-not, planted-here, planted-other, planted-kept}
 

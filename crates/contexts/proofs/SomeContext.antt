@@ -20,7 +20,8 @@ use Rattle.globs.proofs.Tests.{cut-to, cut-from}
 use Rattle.ignorefile.specs.Kept.{Touches, TouchesAt, Kept}
 use Rattle.ignorefile.specs.Line.{is_deep, holds, Relates}
 use Rattle.ignorefile.specs.declared.line.Line.{Line}
-use Rattle.contexts.specs.Context.{Row, Has, IsListing, Stays, IsFolder, IsContext, owned}
+use Rattle.trees.specs.Row.{Row, Has}
+use Rattle.contexts.specs.Context.{IsListing, Stays, IsFolder, IsContext, owned}
 use Rattle.contexts.proofs.OneContext.{one-folder}
 use Rattle.contexts.proofs.Rows.{at-or-after, same-or-not}
 use Rattle.contexts.proofs.Whole.{listed-or-not}

@@ -12,7 +12,8 @@ use Rattle.trees.specs.declared.meta.Meta.{Meta}
 use Rattle.trees.specs.TreeMap.{TreeMap, directory_meta, is_directory}
 use Rattle.ignorefile.specs.declared.line.Line.{Line}
 use Rattle.ignorefile.specs.Kept.{Kept}
-use Rattle.contexts.specs.Context.{Row, Has, IsListing, Stays, IsFolder, IsContext, owned, owned_meta}
+use Rattle.trees.specs.Row.{Row, Has}
+use Rattle.contexts.specs.Context.{IsListing, Stays, IsFolder, IsContext, owned, owned_meta}
 use Rattle.contexts.specs.PrivatePlaces.{Wanted, From, ComesFrom, IsPlaced, AreFolders, HasModes, AreApart}
 use Rattle.contexts.proofs.Rows.{zip-at, same-or-not}
 

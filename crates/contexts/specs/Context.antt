@@ -6,17 +6,10 @@ use Rattle.paths.specs.Fronts.{is_front}
 use Rattle.trees.specs.declared.entry.Entry.{Entry}
 use Rattle.trees.specs.declared.entry.Entry.TheVariants.{Directory, File}
 use Rattle.trees.specs.declared.meta.Meta.{Meta}
+use Rattle.trees.specs.Row.{Row, Has}
 use Rattle.trees.specs.TreeMap.{TreeMap, directory_meta, is_directory}
 use Rattle.ignorefile.specs.declared.line.Line.{Line}
 use Rattle.ignorefile.specs.Kept.{Kept}
-
--- a row of a context's list: a path and what stands there
-abbrev pub Row : Type 0
-Row = List (List ℕ) × Entry
-
--- the list has this row
-abbrev pub Has : List Row → Row → Type 0
-Has rows row = (n : ℕ) × (slice_get rows n ≡ Some row)
 
 -- What a context's list is: no path stands in it twice, what stands on the way to another path is a directory, and so is the root.
 pub record IsListing (rows : List Row) : Type 0 where

@@ -7,7 +7,8 @@ use Rattle.trees.specs.declared.entry.Entry.{Entry}
 use Rattle.trees.specs.declared.entry.Entry.TheVariants.{Directory}
 use Rattle.trees.specs.declared.meta.Meta.{Meta}
 use Rattle.trees.specs.TreeMap.{TreeMap, directory_meta, is_directory}
-use Rattle.contexts.specs.Context.{Row, owned, owned_meta}
+use Rattle.trees.specs.Row.{Row}
+use Rattle.contexts.specs.Context.{owned, owned_meta}
 
 -- a row is wanted: its flag says so, or it is the root
 abbrev pub Wanted : List Bool → ℕ → Row → Type 0

@@ -2,7 +2,8 @@
 ghost use Rattle.std.specs.Prelude.{◌≡◌, List};
 ghost use Rattle.trees.specs.TreeMap.{TreeMap};
 ghost use Rattle.ignorefile.specs.declared.line.Line.{Line};
-ghost use Rattle.contexts.specs.Context.{Row, IsListing, IsContext};
+ghost use Rattle.trees.specs.Row.{Row};
+ghost use Rattle.contexts.specs.Context.{IsListing, IsContext};
 
 /// A folder's entries and an ignore file have one context at most.
 pub fn a_listing_has_one_context()

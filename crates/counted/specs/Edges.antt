@@ -1,5 +1,5 @@
 -- What reading all and writing all do, whatever their device does (own).
-use Rattle.std.specs.Prelude.{◌≡◌, ◌≤◌, ℕ, ◌+◌, List, ◌++◌, length, take, drop, Option, Some, None, Result, Ok, Err, ⊤}
+use Rattle.std.specs.Prelude.{◌≡◌, ◌≤◌, ℕ, ◌+◌, List, [], ◌∷◌, ◌++◌, length, take, drop, Option, Some, None, Result, Ok, Err, ⊤}
 use Rattle.std.specs.Io.KnownBytes.{Appends, Consumes}
 use Rattle.plain.specs.declared.fault.Fault.{Fault}
 use Rattle.plain.specs.declared.fault.Fault.TheVariants.{Because, Memory}
@@ -9,9 +9,17 @@ use Rattle.counted.specs.declared.fault.Device.{Device}
 abbrev pub IsBeginning : List ℕ → List ℕ → Type 0
 IsBeginning front all = (rest : List ℕ) × (all ≡ front ++ rest)
 
+-- a text as a line: with the LF that ends it
+abbrev pub line_of : List ℕ → List ℕ
+line_of text = text ++ 10 ∷ []
+
 -- known bytes grow by a beginning of a text
 abbrev pub AppendsBeginning : Option (List ℕ) → Option (List ℕ) → List ℕ → Type 0
 AppendsBeginning old new text = (front : List ℕ) × IsBeginning front text × Appends old new front
+
+-- a writer that holds these bytes, of whose calls so many failed, is left so: nothing was written, and no call failed
+abbrev pub IsUnwritten : Option (List ℕ) → ℕ → Option (List ℕ) → ℕ → Type 0
+IsUnwritten old failed new failed_then = (new ≡ old) × (failed_then ≡ failed)
 
 -- known bytes lose a beginning of theirs, of no more bytes than these many
 abbrev pub LosesBeginning : ℕ → Option (List ℕ) → Option (List ℕ) → Type 0

@@ -18,7 +18,7 @@ use Rattle.stages.specs.Needed.{AreNeeded}
 use Rattle.stages.specs.Table.{TableValue, IsTable}
 use Rattle.stages.specs.declared.stage.ResolvedStage.{ResolvedStage}
 use Rattle.imageconfig.specs.declared.config.Config.{Config}
-use Rattle.evaluation.specs.Evaluated.{no_stage, IsMade, Answers, config_at}
+use Rattle.evaluation.specs.Evaluated.{no_stage, IsMade, EvaluatesTable, config_at}
 use Rattle.evaluation.specs.Images.{ImageNames, AreSources}
 use Rattle.evaluation.specs.PrivateMaking.{MakesWith, Makes}
 use Rattle.evaluation.specs.PrivateNames.{AreWhole}
@@ -36,12 +36,12 @@ all_whole table stages are same =
 
 -- what a table answers
 
-pub answers_none : (args : Values) (images : ImagesValue Config) (context : TreeMap) (table : TableValue) → Answers args images context table (Err Memory)
+pub answers_none : (args : Values) (images : ImagesValue Config) (context : TreeMap) (table : TableValue) → EvaluatesTable args images context table (Err Memory)
 answers_none args images context table = tt
 
 pub answers_told : (args : Values) (images : ImagesValue Config) (context : TreeMap) (table : TableValue) (outer : List Declaration) (stages : List ResolvedStage) (needed : List Bool) (fault : Fault Refusal)
     → outer ≡ table.outer → stages ≡ table.stages → AreNeeded table.stages table.target needed → AreStages args (value_in outer) images needed stages (Err fault)
-    → Answers args images context table (Err fault)
+    → EvaluatesTable args images context table (Err fault)
 unfolding AreStages
 answers_told args images context table outer stages needed (Because refusal) same_outer same are told = (
   needed,
@@ -76,7 +76,7 @@ made_of images context number walk states config (Err Memory) same is h = tt
 
 pub answers_made : (args : Values) (images : ImagesValue Config) (context : TreeMap) (table : TableValue) (outer : List Declaration) (stages : List ResolvedStage) (target : ℕ) (needed : List Bool) (walk : Walk) (result : Result Evaluated (Fault Refusal))
     → outer ≡ table.outer → stages ≡ table.stages → target ≡ table.target → AreNeeded table.stages table.target needed → AreStages args (value_in outer) images needed stages (Ok walk)
-    → Makes images context target walk result → Answers args images context table result
+    → Makes images context target walk result → EvaluatesTable args images context table result
 unfolding AreStages Makes
 answers_made args images context table outer stages target needed walk (Ok made) same_outer same same_target are went is = (
   needed,

@@ -23,7 +23,7 @@ use Rattle.stages.specs.Table.{TableValue, IsBefore, IsResolved, IsStage, IsTabl
 use Rattle.stages.specs.declared.stage.ResolvedInstruction.{ResolvedInstruction}
 use Rattle.stages.specs.declared.stage.ResolvedStage.{ResolvedStage}
 use Rattle.imageconfig.specs.declared.config.Config.{Config}
-use Rattle.evaluation.specs.Evaluated.{evaluated, config_at, Answers}
+use Rattle.evaluation.specs.Evaluated.{evaluated, config_at, EvaluatesTable}
 use Rattle.evaluation.specs.Images.{ImageNames, AreSources}
 use Rattle.evaluation.specs.declared.evaluated.Evaluated.{Evaluated}
 use Rattle.evaluation.specs.declared.walk.Walk.{Walk}
@@ -250,7 +250,7 @@ sources_are context all names =
 
 abbrev pub HasAnswer : Values → ImagesValue Config → TreeMap → TableValue → Type 0
 HasAnswer args images context table =
-    ((made : Evaluated) × Answers args images context table (Ok made)) ⊎ ((refusal : Refusal) × Answers args images context table (Err (Because refusal)))
+    ((made : Evaluated) × EvaluatesTable args images context table (Ok made)) ⊎ ((refusal : Refusal) × EvaluatesTable args images context table (Err (Because refusal)))
 
 answer_by : (args : Values) (images : ImagesValue Config) (context : TreeMap) (table : TableValue) (needed : List Bool) (result : Result Walk Refusal)
     → AreNeeded table.stages table.target needed → evaluated args images needed table ≡ result → HasAnswer args images context table

@@ -6,7 +6,7 @@ use Rattle.plain.specs.declared.fault.Fault.TheVariants.{Because, Memory}
 use Rattle.plain.specs.declared.refusal.Code.{Code}
 use Rattle.plain.specs.declared.refusal.Refusal.{Refusal}
 use Rattle.imageconfig.specs.Stage.{unless_due}
-use Rattle.stages.specs.Resolved.{Answers}
+use Rattle.stages.specs.Resolved.{Returns}
 use Rattle.evaluation.specs.Refusals.{one_more, all_from}
 
 pub refused_stays : {X P : Type 0} (step : P → X → Result P Refusal) (refusal : Refusal) (xs : List X) → all_from step (Err refusal) xs ≡ Err refusal
@@ -38,7 +38,7 @@ so_far_more step first all rest left x now more far is made = record {
 }
 
 pub so_far_told : {X P : Type 0} (step : P → X → Result P Refusal) (first : P) (all rest left : List X) (x : X) (now : P) (fault : Fault Refusal)
-    → SoFar step first all rest now → rest ≡ x ∷ left → Answers (step now x) (Err fault) → Answers (all_from step (Ok first) all) (Err fault)
+    → SoFar step first all rest now → rest ≡ x ∷ left → Returns (step now x) (Err fault) → Returns (all_from step (Ok first) all) (Err fault)
 so_far_told step first all rest left x now (Because refusal) far is told =
     sym far.told ∙ (ap (all_from step (Ok now)) is ∙ (ap (λ r. all_from step r left) told ∙ refused_stays step refusal left))
 so_far_told step first all rest left x now Memory far is told = tt

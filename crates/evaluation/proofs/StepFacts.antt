@@ -18,7 +18,7 @@ use Rattle.evaluation.specs.Images.{ImageNames, with_origins, many_due}
 use Rattle.evaluation.specs.Instruction.{due}
 use Rattle.evaluation.specs.PrivateInstruction.{done}
 use Rattle.imageconfig.specs.Stage.{unless_due}
-use Rattle.stages.specs.Resolved.{Answers}
+use Rattle.stages.specs.Resolved.{Returns}
 use Rattle.evaluation.specs.PrivateRefusals.{many_refused}
 use Rattle.evaluation.specs.PrivateStage.{IsDone, put_to, IsPut, IsStepped, IsNext, AreNext}
 use Rattle.evaluation.specs.Stages.{next_instruction, instructions_from}
@@ -55,7 +55,7 @@ not_due code line rest none = ap (λ c. unless_due c line rest) none
 many_is : (names : ImageNames) (b : Bool) → nat_lt most_images (length names) ≡ b → many_due names ≡ (if b then Some R18 else None)
 many_is names b h = ap (λ t. if t then Some R18 else None) h
 
-pub many_told : {X : Type 0} (names : ImageNames) (line : ℕ) (rest : Result X Refusal) → nat_lt most_images (length names) ≡ true → Answers (unless_due (many_due names) line rest) (Err (many_refused line))
+pub many_told : {X : Type 0} (names : ImageNames) (line : ℕ) (rest : Result X Refusal) → nat_lt most_images (length names) ≡ true → Returns (unless_due (many_due names) line rest) (Err (many_refused line))
 many_told names line rest h = ap (λ c. unless_due c line rest) (many_is names true h)
 
 pub few_go_on : {X : Type 0} (names : ImageNames) (line : ℕ) (rest : Result X Refusal) → nat_lt most_images (length names) ≡ false → unless_due (many_due names) line rest ≡ rest
@@ -68,7 +68,7 @@ pub put_many : (steps : List Step) (names : ImageNames) (line : ℕ) (made : Don
 unfolding IsPut
 put_many steps names line made fault is h =
     let told = many_told names line (Ok (put_to steps names line made)) h in
-    subst (λ (f : Fault Refusal). Answers (unless_due (many_due names) line (Ok (put_to steps names line made))) (Err f)) (sym is) told
+    subst (λ (f : Fault Refusal). Returns (unless_due (many_due names) line (Ok (put_to steps names line made))) (Err f)) (sym is) told
 
 pub put_done : (steps : List Step) (names : ImageNames) (line : ℕ) (made : Done) (p : Progress) → nat_lt most_images (length names) ≡ false → p ≡ put_to steps names line made
     → IsPut steps names line made (Ok p)
@@ -91,8 +91,8 @@ pub stepped_put : (args outer : Values) (s : State) (kind : InstructionKind) (or
     → IsDone args outer s kind origins line (Ok made) → IsPut steps names line made result → IsStepped args outer s kind origins line steps names result
 unfolding IsDone IsStepped IsPut
 stepped_put args outer s kind origins line steps names made result told put =
-    subst (λ (r : Result Progress Refusal). Answers r result) (sym (not_due (least (due args s kind)) line _ told.1))
-    (subst (λ (d : Done). Answers (unless_due (many_due names) line (Ok (put_to steps names line d))) result) told.0 put)
+    subst (λ (r : Result Progress Refusal). Returns r result) (sym (not_due (least (due args s kind)) line _ told.1))
+    (subst (λ (d : Done). Returns (unless_due (many_due names) line (Ok (put_to steps names line d))) result) told.0 put)
 
 pub next_stepped : (args outer : Values) (p named : Progress) (r : ResolvedInstruction) (origins : List Origin) (result : Result Progress (Fault Refusal))
     → named ≡ (record { state = p.state; steps = p.steps; names = with_origins p.names origins }) → origins ≡ r.origins
@@ -100,10 +100,10 @@ pub next_stepped : (args outer : Values) (p named : Progress) (r : ResolvedInstr
 unfolding IsNext IsStepped
 next_stepped args outer p named r origins result is same h =
     subst (λ (os : List Origin).
-    Answers (unless_due (least (due args p.state r.instruction.kind)) r.instruction.line (unless_due (many_due (with_origins p.names os)) r.instruction.line
+    Returns (unless_due (least (due args p.state r.instruction.kind)) r.instruction.line (unless_due (many_due (with_origins p.names os)) r.instruction.line
     (Ok (put_to p.steps (with_origins p.names os) r.instruction.line (done args outer p.state r.instruction.kind r.origins))))) result) same
     (subst (λ (q : Progress).
-    Answers (unless_due (least (due args q.state r.instruction.kind)) r.instruction.line (unless_due (many_due q.names) r.instruction.line
+    Returns (unless_due (least (due args q.state r.instruction.kind)) r.instruction.line (unless_due (many_due q.names) r.instruction.line
     (Ok (put_to q.steps q.names r.instruction.line (done args outer q.state r.instruction.kind r.origins))))) result) is h)
 
 pub next_none : (args outer : Values) (p : Progress) (r : ResolvedInstruction) → IsNext args outer p r (Err Memory)
@@ -128,7 +128,7 @@ pub next_refused : (args outer : Values) (first : Progress) (all rest left whole
     → NextSoFar args outer first all rest now → rest ≡ r ∷ left → all ≡ whole → IsNext args outer now r (Err fault) → AreNext args outer first whole (Err fault)
 unfolding NextSoFar IsNext AreNext
 next_refused args outer first all rest left whole r now fault far is same told =
-    subst (λ (rs : List ResolvedInstruction). Answers (instructions_from args outer (Ok first) rs) (Err fault)) same
+    subst (λ (rs : List ResolvedInstruction). Returns (instructions_from args outer (Ok first) rs) (Err fault)) same
     (so_far_told (next_instruction args outer) first all rest left r now fault far is told)
 
 pub next_all : (args outer : Values) (first : Progress) (all rest whole : List ResolvedInstruction) (now : Progress)

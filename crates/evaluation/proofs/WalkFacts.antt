@@ -20,7 +20,7 @@ use Rattle.evaluation.specs.Images.{ImageNames, with_origin, many_due}
 use Rattle.evaluation.specs.PrivateStage.{AreNext}
 use Rattle.evaluation.specs.PrivateWalk.{AreFew, AreNamed, begun_with, IsEnded, IsWalk, IsStageAdded, IsNextStage, AreStages}
 use Rattle.imageconfig.specs.Stage.{unless_due}
-use Rattle.stages.specs.Resolved.{Answers}
+use Rattle.stages.specs.Resolved.{Returns}
 use Rattle.evaluation.specs.PrivateRefusals.{many_refused}
 use Rattle.evaluation.specs.Stages.{instructions_from, with_ended, with_none, stage_from, next_stage, stages_from}
 use Rattle.evaluation.specs.declared.stage.Progress.{Progress}
@@ -35,7 +35,7 @@ pub few_refused : (names : ImageNames) (line : ℕ) (fault : Fault Refusal) → 
 unfolding AreFew
 few_refused names line fault is many =
     let told = many_told names line (Ok names) many in
-    subst (λ (f : Fault Refusal). Answers (unless_due (many_due names) line (Ok names)) (Err f)) (sym is) told
+    subst (λ (f : Fault Refusal). Returns (unless_due (many_due names) line (Ok names)) (Err f)) (sym is) told
 
 pub few_all : (names : ImageNames) (line : ℕ) → nat_lt most_images (length names) ≡ false → AreFew names line (Ok names)
 unfolding AreFew
@@ -43,7 +43,7 @@ few_all names line few = few_go_on names line (Ok names) few
 
 pub named_few : (names more : ImageNames) (base : Origin) (line : ℕ) (result : Result ImageNames (Fault Refusal)) → more ≡ with_origin names base → AreFew more line result → AreNamed names base line result
 unfolding AreNamed AreFew
-named_few names more base line result is h = subst (λ (ns : ImageNames). Answers (unless_due (many_due ns) line (Ok ns)) result) is h
+named_few names more base line result is h = subst (λ (ns : ImageNames). Returns (unless_due (many_due ns) line (Ok ns)) result) is h
 
 pub named_none : (names : ImageNames) (base : Origin) (line : ℕ) → AreNamed names base line (Err Memory)
 unfolding AreNamed
@@ -85,8 +85,8 @@ unfolding AreNamed IsEnded AreNext
 ended_next args outer images states names more line base rs result named next =
     let few = not_due (many_due (with_origin names base)) line (Ok (with_origin names base)) more named in
     let whole : more ≡ with_origin names base = sym (same_ok (with_origin names base) more few.behind) in
-    subst (λ (c : Option Code). Answers (unless_due c line (instructions_from args outer (Ok (begun_with images states base (with_origin names base))) rs)) result) (sym few.none)
-    (subst (λ (ns : ImageNames). Answers (instructions_from args outer (Ok (begun_with images states base ns)) rs) result) whole next)
+    subst (λ (c : Option Code). Returns (unless_due c line (instructions_from args outer (Ok (begun_with images states base (with_origin names base))) rs)) result) (sym few.none)
+    (subst (λ (ns : ImageNames). Returns (instructions_from args outer (Ok (begun_with images states base ns)) rs) result) whole next)
 
 -- a needed stage behind those before it
 
@@ -116,8 +116,8 @@ unfolding IsEnded IsStageAdded IsWalk
 added_well args outer images walk stage p result ended is =
     let begun : Result Progress Refusal = instructions_from args outer (Ok (begun_with images walk.states stage.base (with_origin walk.names stage.base))) stage.instructions in
     let well = not_due (many_due (with_origin walk.names stage.base)) stage.line begun p ended in
-    subst (λ (c : Option Code). Answers (unless_due c stage.line (with_ended walk stage begun)) result) (sym well.none)
-    (subst (λ (r : Result Progress Refusal). Answers (with_ended walk stage r) result) (sym well.behind) is)
+    subst (λ (c : Option Code). Returns (unless_due c stage.line (with_ended walk stage begun)) result) (sym well.none)
+    (subst (λ (r : Result Progress Refusal). Returns (with_ended walk stage r) result) (sym well.behind) is)
 
 pub added_put : (args outer : Values) (images : ImagesValue Config) (walk : Walk) (stage : ResolvedStage) (states : List (Option State)) (rs : List ResolvedInstruction) (p : Progress) (result : Result Walk (Fault Refusal))
     → states ≡ walk.states → rs ≡ stage.instructions → IsEnded args outer images states walk.names stage.line stage.base rs (Ok p)
@@ -144,11 +144,11 @@ walk_rows rows more states names result is h = subst (λ (rs : List (Option Stag
 
 -- a stage behind those before it
 
-next_by : (marked : Bool) (then_is else_is : Result Walk Refusal) (result : Result Walk (Fault Refusal)) → marked ≡ true → Answers then_is result → Answers (if marked then then_is else else_is) result
-next_by marked then_is else_is result h k = subst (λ (b : Bool). Answers (if b then then_is else else_is) result) (sym h) k
+next_by : (marked : Bool) (then_is else_is : Result Walk Refusal) (result : Result Walk (Fault Refusal)) → marked ≡ true → Returns then_is result → Returns (if marked then then_is else else_is) result
+next_by marked then_is else_is result h k = subst (λ (b : Bool). Returns (if b then then_is else else_is) result) (sym h) k
 
-next_not : (marked : Bool) (then_is else_is : Result Walk Refusal) (result : Result Walk (Fault Refusal)) → marked ≡ false → Answers else_is result → Answers (if marked then then_is else else_is) result
-next_not marked then_is else_is result h k = subst (λ (b : Bool). Answers (if b then then_is else else_is) result) (sym h) k
+next_not : (marked : Bool) (then_is else_is : Result Walk Refusal) (result : Result Walk (Fault Refusal)) → marked ≡ false → Returns else_is result → Returns (if marked then then_is else else_is) result
+next_not marked then_is else_is result h k = subst (λ (b : Bool). Returns (if b then then_is else else_is) result) (sym h) k
 
 pub marked_at : (needed : List Bool) (n long : ℕ) (marked b : Bool) → n ≡ long → marked ≡ is_marked needed n → marked ≡ b → is_marked needed long ≡ b
 marked_at needed n long marked b same is h = ap (is_marked needed) (sym same) ∙ (sym is ∙ h)
@@ -190,7 +190,7 @@ pub stages_refused : (args outer : Values) (images : ImagesValue Config) (needed
     → AreStages args outer images needed whole (Err fault)
 unfolding StagesSoFar IsNextStage AreStages
 stages_refused args outer images needed all rest left whole stage now fault far is same told =
-    subst (λ (ss : List ResolvedStage). Answers (stages_from args outer images needed (Ok no_stage) ss) (Err fault)) same
+    subst (λ (ss : List ResolvedStage). Returns (stages_from args outer images needed (Ok no_stage) ss) (Err fault)) same
     (so_far_told (next_stage args outer images needed) no_stage all rest left stage now fault far is told)
 
 pub stages_all : (args outer : Values) (images : ImagesValue Config) (needed : List Bool) (all rest whole : List ResolvedStage) (now : Walk)

@@ -43,9 +43,9 @@ pub record IsMade (images : ImagesValue Config) (context : TreeMap) (number : �
 
 -- what evaluating a table answers, with the marks of just the stages that its target needs: what its stages are evaluated to, or the
 -- refusal of the first line for which a code is due, with the least of its codes; want of memory says nothing of it
-abbrev pub Answers : Values → ImagesValue Config → TreeMap → TableValue → Result Evaluated (Fault Refusal) → Type 0
-Answers args images context table (Ok made) =
+abbrev pub EvaluatesTable : Values → ImagesValue Config → TreeMap → TableValue → Result Evaluated (Fault Refusal) → Type 0
+EvaluatesTable args images context table (Ok made) =
     (needed : List Bool) × AreNeeded table.stages table.target needed × ((walk : Walk) × (evaluated args images needed table ≡ Ok walk) × IsMade images context table.target walk made)
-Answers args images context table (Err (Because refusal)) =
+EvaluatesTable args images context table (Err (Because refusal)) =
     (needed : List Bool) × AreNeeded table.stages table.target needed × (evaluated args images needed table ≡ Err refusal)
-Answers args images context table (Err Memory) = Unit {0}
+EvaluatesTable args images context table (Err Memory) = Unit {0}

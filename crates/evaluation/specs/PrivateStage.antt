@@ -12,7 +12,7 @@ use Rattle.evaluation.specs.Images.{ImageNames, many_due}
 use Rattle.evaluation.specs.Instruction.{due}
 use Rattle.evaluation.specs.PrivateInstruction.{done}
 use Rattle.imageconfig.specs.Stage.{unless_due}
-use Rattle.stages.specs.Resolved.{Answers}
+use Rattle.stages.specs.Resolved.{Returns}
 use Rattle.evaluation.specs.PrivateRefusals.{EvaluatesTo}
 use Rattle.evaluation.specs.Stages.{step_of, next_instruction, instructions_from}
 use Rattle.evaluation.specs.declared.instruction.Done.{Done}
@@ -29,17 +29,17 @@ put_to steps names line made = record { state = made.state; steps = steps ++ ste
 
 -- what putting it to the stage answers, with these images named
 unfoldable pub IsPut : List Step → ImageNames → ℕ → Done → Result Progress (Fault Refusal) → Type 0
-IsPut steps names line made result = Answers (unless_due (many_due names) line (Ok (put_to steps names line made))) result
+IsPut steps names line made result = Returns (unless_due (many_due names) line (Ok (put_to steps names line made))) result
 
 -- what an instruction of this line answers that is put to a stage of these steps, with these images named
 unfoldable pub IsStepped : Values → Values → State → InstructionKind → List Origin → ℕ → List Step → ImageNames → Result Progress (Fault Refusal) → Type 0
 IsStepped args outer s kind origins line steps names result =
-    Answers (unless_due (least (due args s kind)) line (unless_due (many_due names) line (Ok (put_to steps names line (done args outer s kind origins))))) result
+    Returns (unless_due (least (due args s kind)) line (unless_due (many_due names) line (Ok (put_to steps names line (done args outer s kind origins))))) result
 
 -- what the next instruction of a stage answers
 unfoldable pub IsNext : Values → Values → Progress → ResolvedInstruction → Result Progress (Fault Refusal) → Type 0
-IsNext args outer p r result = Answers (next_instruction args outer p r) result
+IsNext args outer p r result = Returns (next_instruction args outer p r) result
 
 -- what the instructions of a stage answer
 unfoldable pub AreNext : Values → Values → Progress → List ResolvedInstruction → Result Progress (Fault Refusal) → Type 0
-AreNext args outer p rs result = Answers (instructions_from args outer (Ok p) rs) result
+AreNext args outer p rs result = Returns (instructions_from args outer (Ok p) rs) result

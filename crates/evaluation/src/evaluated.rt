@@ -8,7 +8,7 @@ ghost use Rattle.rows.specs.declared.row.Stage.{Stage as StageValue};
 ghost use Rattle.stages.specs.Naming.{names_in};
 ghost use Rattle.stages.specs.Needed.{AreNeeded};
 ghost use Rattle.stages.specs.Table.{NamesKnown};
-ghost use Rattle.evaluation.specs.Evaluated.{Answers, config_at, config_of};
+ghost use Rattle.evaluation.specs.Evaluated.{EvaluatesTable, config_at, config_of};
 ghost use Rattle.evaluation.specs.Images.{AreSources};
 ghost use Rattle.evaluation.specs.PrivateMaking.{MakesWith, Makes, AnswersWhole};
 
@@ -166,7 +166,7 @@ fn evaluate_needed(
     needed: &[bool],
 ) -> Result<Evaluated, LineFault>
     requires { AreNeeded table.stages table.target needed.now }
-    ensures answers { Answers (arg_value args.now) images context table result }
+    ensures answers { EvaluatesTable (arg_value args.now) images context table result }
     ensures whole { AnswersWhole images table result }
 {
     runs_are_well_formed();
@@ -208,7 +208,7 @@ pub fn evaluate(
     context: Tree,
     args: &Args,
 ) -> Result<Evaluated, LineFault>
-    ensures answers { Answers (arg_value args.now) images context table result }
+    ensures answers { EvaluatesTable (arg_value args.now) images context table result }
     ensures rows { IfOk result (λ made. IsWellFormed made.rows) }
     ensures target { IfOk result (λ made. (stage : StageValue) × (slice_get made.rows made.target ≡ SomeOf (SomeOf stage))) }
     ensures named { IfOk result (λ made. All (NamesKnown (names_in images)) table.stages → All (RowNames (HasTree made.sources)) made.rows) }

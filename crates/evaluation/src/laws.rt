@@ -25,7 +25,7 @@ ghost use Rattle.imageconfig.specs.Stage.{stage_config};
 ghost use Rattle.imageconfig.specs.declared.config.Config.{Config};
 ghost use Rattle.evaluation.specs.Chain.{IsChain, chain_history};
 ghost use Rattle.evaluation.specs.Configuration.{in_scope, base_config};
-ghost use Rattle.evaluation.specs.Evaluated.{evaluated, config_at, IsMade, Answers};
+ghost use Rattle.evaluation.specs.Evaluated.{evaluated, config_at, IsMade, EvaluatesTable};
 ghost use Rattle.evaluation.specs.NeededLines.{JudgedLine, needed_lines, IsLeastRefusal, SameWhereMarked};
 ghost use Rattle.evaluation.specs.Reached.{ComesTo, HaveEnvironments, HasScopesEnvironment};
 ghost use Rattle.evaluation.specs.Stages.{instructions_from};
@@ -38,7 +38,7 @@ ghost use Rattle.evaluation.specs.declared.walk.Walk.{Walk};
 /// Each table has an evaluation or a refusal.
 pub fn every_table_is_evaluated_or_refused()
     ensures { (args : Values) (images : ImagesValue Config) (context : TreeMap) (table : TableValue) → IsTable table
-        → ((made : Evaluated) × Answers args images context table (Ok made)) ⊎ ((refusal : Refusal) × Answers args images context table (Err (Because refusal))) }
+        → ((made : Evaluated) × EvaluatesTable args images context table (Ok made)) ⊎ ((refusal : Refusal) × EvaluatesTable args images context table (Err (Because refusal))) }
 {}
 
 /// Of all codes that are due for lines of needed stages, each line judged where it stands, the least is told: by line, and on a line by

@@ -17,12 +17,12 @@ use Rattle.instructions.specs.declared.instruction.Assignment.{Assignment}
 use Rattle.instructions.specs.declared.instruction.Label.{Label}
 use Rattle.instructions.specs.declared.instruction.InstructionKind.{InstructionKind}
 use Rattle.instructions.specs.declared.instruction.InstructionKind.TheVariants as kind
-use Rattle.scopes.specs.Evaluate.{Values, env_texts, is_one_long}
+use Rattle.scopes.specs.Evaluate.{Values, env_texts, is_one_long, is_long}
 use Rattle.scopes.specs.Scope.{is_environment_name}
 use Rattle.imageconfig.specs.declared.config.Config.{Config}
 use Rattle.imageconfig.specs.Rows.{Row, names_of, put_rows, add_names}
 use Rattle.imageconfig.specs.Ports.{port_key}
-use Rattle.imageconfig.specs.Lines.{is_long, is_empty, texts_of, env_rows, label_rows, is_label_long, port_keys, is_bad_port}
+use Rattle.imageconfig.specs.Lines.{is_empty, texts_of, env_rows, label_rows, is_label_long, port_keys, is_bad_port}
 use Rattle.imageconfig.specs.PrivateLines.{within, valued, has_no_byte, is_no_port, row_with, row_of, assigned_values, assigned_rows, labelled_values, labelled_rows, short_texts, exposed_keys, path_within, path_of, applied, found_due, IsChanged}
 use Rattle.imageconfig.specs.Steps.{dir_of, due, changed}
 

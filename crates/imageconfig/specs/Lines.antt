@@ -1,6 +1,6 @@
 -- What the lines of a stage say of its configuration, each word with its value under the scope before the line, and the codes that are due
 -- for them. Of a text that is longer than an expanded text may be nothing else is told (own).
-use Rattle.std.specs.Prelude.{ℕ, ◌==◌, ◌||◌, ◌&&◌, Bool, false, not, List, [], ◌∷◌, ◌++◌, map, length, is_some, nat_lt}
+use Rattle.std.specs.Prelude.{ℕ, ◌==◌, ◌||◌, ◌&&◌, Bool, false, not, List, map, length, is_some, nat_lt}
 use Rattle.std.specs.List.{list_any, filter_map}
 use Rattle.plain.specs.Limits.{most_text_bytes}
 use Rattle.plain.specs.declared.refusal.Code.{Code}
@@ -9,15 +9,9 @@ use Rattle.paths.specs.Reading.{read_from, limit_of}
 use Rattle.expand.specs.Value.{Parts, value}
 use Rattle.instructions.specs.declared.instruction.Assignment.{Assignment}
 use Rattle.instructions.specs.declared.instruction.Label.{Label}
-use Rattle.instructions.specs.declared.instruction.Command.{Command}
-use Rattle.instructions.specs.declared.instruction.Command.TheVariants.{Exec, Shell}
-use Rattle.scopes.specs.Evaluate.{Values, env_texts, is_one_long}
+use Rattle.scopes.specs.Evaluate.{Values, env_texts, is_long, is_one_long}
 use Rattle.imageconfig.specs.Rows.{Row}
 use Rattle.imageconfig.specs.Ports.{port_key}
-
--- a text is longer than an expanded text may be
-abbrev pub is_long : List ℕ → Bool
-is_long text = nat_lt most_text_bytes (length text)
 
 abbrev pub is_empty : List ℕ → Bool
 is_empty text = length text == 0
@@ -77,8 +71,3 @@ abbrev pub dir_due : Values → List (List ℕ) → Parts → Code → Bool
 dir_due before base word R06 = is_empty (value before word)
 dir_due before base word R18 = is_long (value before word) || is_some (limit_of (read_from (value before word) base))
 dir_due before base word code = false
-
--- the words of a command: those of a list, or the shell's words with the text as one more (Dockerfile reference, shell and exec form)
-abbrev pub words_of : List (List ℕ) → Command → List (List ℕ)
-words_of shell (Exec words) = words
-words_of shell (Shell text) = shell ++ text ∷ []

@@ -19,7 +19,7 @@ use Rattle.scopes.specs.Evaluate.{Values}
 use Rattle.imageconfig.specs.declared.config.Config.{Config}
 use Rattle.imageconfig.specs.Rows.{Row, put_rows, add_names}
 use Rattle.imageconfig.specs.Ports.{port_key}
-use Rattle.imageconfig.specs.Lines.{words_of}
+use Rattle.instructions.specs.Command.{words_of}
 use Rattle.imageconfig.specs.Steps.{dir_of, nothing_due}
 
 -- a text, if it isn't too long

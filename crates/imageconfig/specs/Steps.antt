@@ -13,7 +13,8 @@ use Rattle.instructions.specs.declared.instruction.InstructionKind.TheVariants.{
 use Rattle.scopes.specs.Evaluate.{Values}
 use Rattle.imageconfig.specs.declared.config.Config.{Config}
 use Rattle.imageconfig.specs.Rows.{put_rows, add_names}
-use Rattle.imageconfig.specs.Lines.{env_rows, env_due, label_rows, label_due, texts_of, port_keys, port_due, volume_due, text_due, dir_due, words_of}
+use Rattle.instructions.specs.Command.{words_of}
+use Rattle.imageconfig.specs.Lines.{env_rows, env_due, label_rows, label_due, texts_of, port_keys, port_due, volume_due, text_due, dir_due}
 
 -- the working directory, which is the root where none is set
 abbrev pub dir_of : Option (List (List ℕ)) → List (List ℕ)

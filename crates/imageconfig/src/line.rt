@@ -7,7 +7,7 @@ ghost use Rattle.options.specs.Lists.{all_some};
 ghost use Rattle.instructions.specs.Instruction.{assignment_names};
 ghost use Rattle.instructions.specs.Least.{Meets};
 ghost use Rattle.scopes.specs.Scope.{value_in, is_environment_name};
-ghost use Rattle.imageconfig.specs.Lines.{words_of};
+ghost use Rattle.instructions.specs.Command.{words_of};
 ghost use Rattle.imageconfig.specs.Rows.{names_of};
 ghost use Rattle.imageconfig.specs.PrivateLines.{valued, has_no_byte, row_with, row_of, assigned_values, assigned_rows, assigned_due, labelled_values, labelled_rows, labelled_due, short_texts, exposed_keys, exposed_due, mounted_due, single_due, path_of, path_due};
 

@@ -1,5 +1,5 @@
 -- CMD and ENTRYPOINT: a command, which is a list in JSON or a text for the shell.
-use Rattle.std.specs.Prelude.{ℕ, ◌==◌, Bool, false, List, Option, Some, None, length}
+use Rattle.std.specs.Prelude.{ℕ, ◌==◌, Bool, false, List, [], ◌∷◌, ◌++◌, Option, Some, None, length}
 use Rattle.plain.specs.declared.refusal.Code.{Code}
 use Rattle.plain.specs.declared.refusal.Code.TheVariants.{R06}
 use Rattle.words.specs.Form.{json_form}
@@ -26,3 +26,8 @@ command_read text = Some (command_of text)
 abbrev pub command_due : List ℕ → Code → Bool
 command_due text R06 = length text == 0
 command_due text code = false
+
+-- the words that are run: those of a list in JSON; a text for the shell is one word after the shell's own (Dockerfile reference, SHELL)
+abbrev pub words_of : List (List ℕ) → Command → List (List ℕ)
+words_of shell (Exec words) = words
+words_of shell (Script text) = shell ++ text ∷ []

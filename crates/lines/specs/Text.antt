@@ -41,7 +41,7 @@ IsRefused text answer = ((¬ (IsShort text)) × (answer ≡ refusal R18 0))
     ⊎ (IsShort text × IsUtf8 text × ((found : List Line) × (faults : List Refusal) × IsFile (text_lines text) found faults × IsLeast faults answer)))
 
 -- what reading a text answers: its logical lines, or why there are none; where memory is out, nothing is said of the text
-abbrev pub Answers : {A : Type 0} → List ℕ → Result (Vec Line A) (Fault Refusal) → Type 0
-Answers text (Ok found) = AreLines text found.items
-Answers text (Err (Because answer)) = IsRefused text answer
-Answers text (Err Memory) = Unit {0}
+abbrev pub ReadsText : {A : Type 0} → List ℕ → Result (Vec Line A) (Fault Refusal) → Type 0
+ReadsText text (Ok found) = AreLines text found.items
+ReadsText text (Err (Because answer)) = IsRefused text answer
+ReadsText text (Err Memory) = Unit {0}

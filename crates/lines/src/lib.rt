@@ -5,7 +5,7 @@
 //
 // The central definition is `AreLines` in specs/Text.antt, and specs/File.antt says what a file is: directives at the top, then blocks,
 // each of them a line that is dropped or a logical line with the bodies of its heredocs. Each list of lines has such a structure, and by
-// it just one list of logical lines. `IsRefused` says by which one of its faults a text is refused, and `Answers` is both: what
+// it just one list of logical lines. `IsRefused` says by which one of its faults a text is refused, and `ReadsText` is both: what
 // `Reader::finish` gives, however the text was cut. The files Private*.antt in specs/ serve private functions alone. `laws` says what
 // follows.
 //

@@ -23,7 +23,7 @@ pub struct Reader {
 impl Reader {
     ghost use Rattle.std.specs.Prelude.{◌++◌, ℕ, List, [], OnOk, OnErr};
     ghost use Rattle.lines.specs.Reader.{Holds};
-    ghost use Rattle.lines.specs.Text.{Answers};
+    ghost use Rattle.lines.specs.Text.{ReadsText};
 
     /// A reader that was fed nothing. It takes no memory.
     pub fn new(alloc: Global) -> Reader
@@ -58,7 +58,7 @@ impl Reader {
     /// the second time, R03 at an escape directive whose value is neither a backslash nor a backtick, R08 at an instruction with an
     /// unclosed heredoc, and R18 at the 4,097th logical line. Lines are numbered from 1 on.
     pub fn finish(self, alloc: Global) -> Result<Vec<Line>, LineFault>
-        ensures { (text : List ℕ) → Holds self text → Answers text result }
+        ensures { (text : List ℕ) → Holds self text → ReadsText text result }
     {
         if self.is_too_long {
             return Err(Fault::Because(Refusal {

@@ -1,7 +1,7 @@
 ghost use Rattle.std.specs.Prelude.{◌≡◌, ◌==◌, count_by, IfOk};
 ghost use Rattle.std.specs.Str.Lossy.{utf8_valid_len};
 ghost use Rattle.lines.specs.PrivateSteps.{Reads};
-ghost use Rattle.lines.specs.Text.{without_byte_order_mark, text_lines, first_bad_line, IsShort, Answers};
+ghost use Rattle.lines.specs.Text.{without_byte_order_mark, text_lines, first_bad_line, IsShort, ReadsText};
 
 use crate::faults::least;
 use crate::state::FileState;
@@ -58,7 +58,7 @@ fn bad_line(bytes: &[u8], valid: usize) -> u32
 /// The logical lines of a text, or why there are none.
 pub fn lines_of(alloc: Global, bytes: &[u8]) -> Result<Vec<Line>, LineFault>
     requires { IsShort bytes.now }
-    ensures { Answers bytes.now result }
+    ensures { ReadsText bytes.now result }
 {
     let text = match str::from_utf8(bytes) {
         Ok(text) => text,

@@ -1,5 +1,5 @@
 -- Which lines a vertex has after one was added to them.
-use Rattle.std.proofs.Common.{◌≡◌, ◌⊎◌, inl, inr, ◌<◌, ℕ, zero, suc, Bool, true, false, List, [], ◌∷◌, refl, sym, ap, ◌∙◌, subst, arith}
+use Rattle.std.proofs.Common.{◌≡◌, ◌⊎◌, inl, inr, ◌<◌, ◌≤◌, ℕ, zero, suc, Bool, true, false, List, [], ◌∷◌, refl, sym, ap, ◌∙◌, subst, arith}
 use Rattle.std.specs.Prelude.{◌↔◌, Contains, min, nat_lt, slice_index_or}
 use Rattle.std.specs.List.{filter}
 use Rattle.std.proofs.lemmas.Bool.{lt-ltb, cases_lt}
@@ -111,3 +111,15 @@ least_among first (second ∷ lines) = elim (cases_lt first (least_line (second 
 pub least_of : (lines : List ℕ) (line : ℕ) → Contains lines line → Contains lines (least_line lines)
 least_of [] line h = absurd (contains_nil line h)
 least_of (first ∷ lines) line h = least_among first lines
+
+-- and no greater than any of them
+pub least_below : (lines : List ℕ) (line : ℕ) → Contains lines line → least_line lines ≤ line
+least_below [] line h = absurd (contains_nil line h)
+least_below (first ∷ []) line h = elim (contains_cases first line [] h) [
+  | inl same ↦ omega (arith, same)
+  | inr none ↦ absurd (contains_nil line none)
+]
+least_below (first ∷ second ∷ lines) line h = elim (contains_cases first line (second ∷ lines) h) [
+  | inl same ↦ omega (arith, same)
+  | inr rest ↦ (let l = least_below (second ∷ lines) line rest in omega (arith, l))
+]

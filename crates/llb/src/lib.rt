@@ -13,7 +13,6 @@
 // ```
 #![tactic(auto)]
 
-mod copying;
 mod fault;
 mod graph;
 mod hash;

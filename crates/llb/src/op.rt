@@ -1,6 +1,5 @@
-use crate::copying::with_copy;
 use paths::{Name, Path};
-use plain::{Exact, Items, Memory, Text, Variable};
+use plain::{Exact, Items, Memory, Text, Variable, with_copy};
 use runs::CacheUse;
 use std::alloc::Global;
 use trees::{Content, CopyOptions};

@@ -2,8 +2,7 @@ ghost use Rattle.std.specs.Prelude.{◌≡◌, IfOk};
 ghost use Rattle.llb.specs.WellFormed.{is_well_formed};
 
 use crate::Op;
-use crate::copying::with_copy;
-use plain::{Exact, Items, Memory};
+use plain::{Exact, Items, Memory, with_copy};
 use std::alloc::Global;
 use std::marker::Model;
 

@@ -4,6 +4,7 @@ use Rattle.std.specs.Prelude.{slice_get, Contains}
 use Rattle.std.specs.List.{AllZip}
 use Rattle.std.proofs.lemmas.List.Elements.{Contains-append_cases}
 use Rattle.plain.specs.Marks.{IsPath}
+use Rattle.plain.proofs.MarkFacts.{path_both}
 use Rattle.llb.specs.Reach.{HasInput, Reaches}
 use Rattle.llb.specs.declared.op.Op.{Op}
 use Rattle.llb.specs.declared.op.Op.TheVariants.{Exec as ExecOp, Copy as CopyOp, MakeDirs as MakeDirsOp, Merge as MergeOp}
@@ -25,11 +26,6 @@ use Rattle.lowering.specs.Vertices.{Tips, Places, HasPlace, IsVertex, IsOrigin, 
 use Rattle.lowering.specs.Vertices.{AreLowered, IsStageLowered, AreRowsLowered}
 use Rattle.lowering.proofs.Fronts.{slice_get-kept}
 use Rattle.lowering.proofs.ValueFacts.{place_is}
-
--- a path, and one that goes on from its end
-path_both : (Step : ℕ → ℕ → Type 0) (from middle to : ℕ) (path more : List ℕ) → IsPath Step from path middle → IsPath Step middle more to → IsPath Step from (path ++ more) to
-path_both Step from middle to [] more first second = subst (λ n. IsPath Step n more to) (sym first) second
-path_both Step from middle to (next ∷ path) more first second = (first.0, path_both Step next middle to path more first.1 second)
 
 reach_on : (vertices : List Vertex) (from middle to : ℕ) → Reaches vertices from middle → Reaches vertices middle to → Reaches vertices from to
 reach_on vertices from middle to first second = (first.0 ++ second.0, path_both (HasInput vertices) from middle to first.0 second.0 first.1 second.1)

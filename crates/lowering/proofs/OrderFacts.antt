@@ -11,7 +11,7 @@ use Rattle.llb.specs.declared.op.Op.TheVariants.{Source as SourceOp, Exec as Exe
 use Rattle.llb.specs.declared.op.Source.TheVariants.{Scratch}
 use Rattle.llb.specs.declared.op.CopyFiles.{CopyFiles}
 use Rattle.llb.specs.declared.vertex.Vertex.{Vertex}
-use Rattle.llb.proofs.LineFacts.{contains_nil, contains_here, contains_cases, least_of}
+use Rattle.llb.proofs.LineFacts.{contains_nil, contains_here, contains_cases, least_of, least_below}
 use Rattle.plans.specs.Plan.{PlanValue, problem_of, line_at, HasLinesInOrder}
 use Rattle.plans.specs.Value.{Out}
 use Rattle.rows.specs.declared.row.Origin.{Origin}
@@ -226,17 +226,6 @@ stands_in_order plan rows target stands in_order = λ id line v there behind.
     (is line id v ((stands.lines id line).0 behind) there)
 
 -- ---- least lines
-
-pub least_below : (lines : List ℕ) (line : ℕ) → Contains lines line → least_line lines ≤ line
-least_below [] line h = absurd (contains_nil {X = ℕ} line h)
-least_below (first ∷ []) line h = elim (contains_cases {X = ℕ} first line [] h) [
-  | inl same ↦ omega (arith, same)
-  | inr none ↦ absurd (contains_nil {X = ℕ} line none)
-]
-least_below (first ∷ second ∷ lines) line h = elim (contains_cases {X = ℕ} first line (second ∷ lines) h) [
-  | inl same ↦ omega (arith, same)
-  | inr rest ↦ (let l = least_below (second ∷ lines) line rest in omega (arith, l))
-]
 
 -- if lines are in order and each vertex has one, no input's least line is greater than its vertex's
 pub in_order_least : {C : Type 0} (out : Out) (plan : PlanValue C) → LinesInOrder plan.graph → AreLined plan.graph → HasLinesInOrder (problem_of out plan)

@@ -148,3 +148,10 @@ module _ (Step : ℕ → ℕ → Type 0) (size first : ℕ) where
     closed = λ from to. so_far.closed from to (omega (arith, over));
     only = so_far.only;
   }
+
+-- ---- paths
+
+-- a path, and one that goes on from its end
+pub path_both : (Step : ℕ → ℕ → Type 0) (from middle to : ℕ) (path more : List ℕ) → IsPath Step from path middle → IsPath Step middle more to → IsPath Step from (path ++ more) to
+path_both Step from middle to [] more first second = subst (λ n. IsPath Step n more to) (sym first) second
+path_both Step from middle to (next ∷ path) more first second = (first.0, path_both Step next middle to path more first.1 second)

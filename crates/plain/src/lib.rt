@@ -18,6 +18,7 @@
 #![tactic(auto)]
 
 mod bytes;
+mod copying;
 mod exact;
 mod fault;
 pub mod growth;
@@ -34,6 +35,7 @@ mod text;
 mod variable;
 
 pub use bytes::Bytes;
+pub use copying::with_copy;
 pub use exact::Exact;
 pub use fault::Fault;
 pub use items::{Items, copied_items};

@@ -17,7 +17,8 @@ use Rattle.lowering.specs.Means.{world, lines_at, AreLined, Means}
 use Rattle.rows.specs.Order.{IsInOrder}
 use Rattle.lowering.specs.Order.{HasLineBy, LinesInOrder}
 use Rattle.lowering.specs.Outcome.{IsOutcome}
-use Rattle.lowering.proofs.OrderFacts.{least_below, in_order_least, least_in_order}
+use Rattle.llb.proofs.LineFacts.{least_below}
+use Rattle.lowering.proofs.OrderFacts.{in_order_least, least_in_order}
 use Rattle.lowering.proofs.SerialFacts.{serial_least, serial_fails}
 use Rattle.rewrite.specs.Flat.{with_first, spelled_as, spelled_at, spelled_to, spelled_out, flat_inputs, IsFlattened}
 use Rattle.rewrite.specs.Pruned.{HasReachedFailure, IsPruned, KeepsMeaning}

@@ -9,7 +9,6 @@
 // ```
 #![tactic(auto)]
 
-mod copying;
 pub mod laws;
 mod run;
 

@@ -1,6 +1,5 @@
-use crate::copying::with_copy;
 use paths::Path;
-use plain::{Exact, Items, Memory, Sharing, Text, Variable};
+use plain::{Exact, Items, Memory, Sharing, Text, Variable, with_copy};
 use std::alloc::Global;
 use trees::Tree;
 

@@ -49,9 +49,13 @@ expanded_default before None None = None
 abbrev pub arg_texts : Values → Values → List Argument → List (List ℕ)
 arg_texts before args arguments = filter_map (λ a. expanded_default before (args a.name) a.default) arguments
 
--- one of the texts is longer than an expanded text may be
+-- a text is longer than an expanded text may be (own): it gets no other test, and R18 is due for it
+abbrev pub is_long : List ℕ → Bool
+is_long text = nat_lt most_text_bytes (length text)
+
+-- one of the texts is
 abbrev pub is_one_long : List (List ℕ) → Bool
-is_one_long texts = list_any (λ text. nat_lt most_text_bytes (length text)) texts
+is_one_long texts = list_any is_long texts
 
 -- what a call on a line answers, and the scope after it, `texts` being those that the line expands, perhaps none: the line is
 -- added where none of them is too long; else R18, and the scope is as it was, as it is for want of memory

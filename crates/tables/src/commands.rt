@@ -1,8 +1,8 @@
-// `commands`: command lines, whose words are cut at each space, and behind `=>` what they ask for, or the kind of fault. Behind ` | `
+// `commands`: command lines, whose words are cut at each space, and after `=>` what they ask for, or the kind of fault. After ` | `
 // stands a part of what is told of the fault.
 
 use clap::Error;
-use command::{Pack, Task, read_command};
+use command::{BuildOptions, PackOptions, Task, read_command};
 use plain::{Memory, Text};
 use std::alloc::Global;
 
@@ -22,26 +22,51 @@ fn answer_to_case(alloc: Global, case: &str) -> Result<String, Memory> {
 
 fn task_text(alloc: Global, task: Task) -> Result<String, Memory> {
     match task {
-        Task::Build(workers) => Ok(format!(in alloc; "build with {workers}")?),
-        Task::Graph => Ok(String::from_str(alloc, "graph")?),
-        Task::Pack(words) => {
-            let told = pack_text(alloc, &words);
-            drop(words);
+        Task::Build(options) => {
+            let told = build_text(alloc, &options);
+            drop(options);
+            told
+        }
+        Task::Graph(file) => {
+            let told = graph_text(alloc, &file);
+            drop(file);
+            told
+        }
+        Task::Pack(options) => {
+            let told = pack_text(alloc, &options);
+            drop(options);
             told
         }
     }
 }
 
-/// What `pack` is asked for: its folder, and behind it each option that is given, a build argument as its name and its value.
-fn pack_text(alloc: Global, words: &Pack) -> Result<String, Memory> {
-    let mut told = format!(in alloc; "pack of [{}]", words.folder.as_str())?;
-    add_text(alloc, &mut told, "file", &words.file)?;
-    add_text(alloc, &mut told, "target", &words.target)?;
-    for (name, value) in words.args.as_slice() {
+/// What `build` is asked for: its workers, and after them the bundle's file, if one is named.
+fn build_text(alloc: Global, options: &BuildOptions) -> Result<String, Memory> {
+    let mut told = format!(in alloc; "build with {}", options.workers)?;
+    add_text(alloc, &mut told, "of", &options.file)?;
+    Ok(told)
+}
+
+/// What `graph` is asked for.
+fn graph_text(alloc: Global, file: &Option<Text>) -> Result<String, Memory> {
+    let mut told = String::from_str(alloc, "graph")?;
+    add_text(alloc, &mut told, "of", file)?;
+    Ok(told)
+}
+
+/// What `pack` is asked for: its folder, and after it each option that is given, a build argument as its name and its value.
+fn pack_text(alloc: Global, options: &PackOptions) -> Result<String, Memory> {
+    let mut told = format!(in alloc; "pack of [{}]", options.folder.as_str())?;
+    add_text(alloc, &mut told, "file", &options.file)?;
+    add_text(alloc, &mut told, "target", &options.target)?;
+    for (name, value) in options.args.as_slice() {
         let (name, value) = (name.as_str(), value.as_str());
         told.push_str(format!(in alloc; " arg [{name}] [{value}]")?.as_str())?;
     }
-    add_text(alloc, &mut told, "output", &words.output)?;
+    add_text(alloc, &mut told, "output", &options.output)?;
+    if options.apply_ignore {
+        told.push_str(" without what is ignored")?;
+    }
     Ok(told)
 }
 

@@ -11,7 +11,7 @@ use Rattle.paths.specs.Order.{path_cmp, name_cmp}
 use Rattle.paths.specs.Path.{IsClean}
 use Rattle.paths.proofs.FrontLaws.{both_second, name_same, name_itself}
 use Rattle.globs.specs.declared.part.Part.{Part}
-use Rattle.globs.specs.Component.{relates_to_name, StandsFor}
+use Rattle.globs.specs.Component.{relates_to_name, RelatesOnlyTo}
 use Rattle.globs.specs.Glob.{glob_of, matches, some_matches}
 use Rattle.trees.specs.declared.entry.Entry.{Entry}
 use Rattle.trees.specs.TreeMap.{TreeMap}
@@ -153,19 +153,19 @@ same-test true b to from = sym (to refl)
 same-test false true to from = from refl
 same-test false false to from = refl
 
-is-named : (parts : List Part) (name k : List ℕ) → StandsFor parts name → relates_to_name parts k ≡ pointwise nat_eq name k
+is-named : (parts : List Part) (name k : List ℕ) → RelatesOnlyTo parts name → relates_to_name parts k ≡ pointwise nat_eq name k
 is-named parts name k stands =
     same-test (relates_to_name parts k) (pointwise nat_eq name k)
     (λ h. texts_ties name k ∙ ap (eq_by_cmp name_cmp name) ((stands k).0 h) ∙ name_itself name)
     (λ h. (stands k).1 (sym (name_same name k (sym (texts_ties name k) ∙ h))))
 
-named-below : (at : List (List ℕ)) (name : List ℕ) (parts : List Part) (more : List (List Part)) → StandsFor parts name → (rows : Rows)
+named-below : (at : List (List ℕ)) (name : List ℕ) (parts : List Part) (more : List (List Part)) → RelatesOnlyTo parts name → (rows : Rows)
     → paths_that at (matches (parts ∷ more)) rows ≡ paths_that (at ++ name ∷ []) (matches more) (entries_below (name ∷ []) rows)
 named-below at name parts more stands rows =
     kept-below at name (matches (parts ∷ more)) (matches more) refl (λ k path. ap (λ b. b && matches more path) (is-named parts name k stands)) rows
 
 -- what is left is below the child of its name
-found-child : (at : List (List ℕ)) (name : List ℕ) (parts : List Part) (more : List (List Part)) (branch child : TreeMap) → StandsFor parts name
+found-child : (at : List (List ℕ)) (name : List ℕ) (parts : List Part) (more : List (List Part)) (branch child : TreeMap) → RelatesOnlyTo parts name
     → ((rest : List (List ℕ)) → get branch (name ∷ rest) ≡ get child rest)
     → paths_that at (matches (parts ∷ more)) (entries branch) ≡ paths_that (at ++ name ∷ []) (matches more) (entries child)
 found-child at name parts more branch child stands there =
@@ -177,21 +177,21 @@ clean-child at name branch child there clean =
     subst (AreClean (at ++ name ∷ [])) (sym (entries-child branch child name there)) (clean-below at name (entries branch) clean)
 
 -- and where there is none, nothing is found
-found-no_child : (at : List (List ℕ)) (name : List ℕ) (parts : List Part) (more : List (List Part)) (branch : TreeMap) → StandsFor parts name
+found-no_child : (at : List (List ℕ)) (name : List ℕ) (parts : List Part) (more : List (List Part)) (branch : TreeMap) → RelatesOnlyTo parts name
     → ((rest : List (List ℕ)) → get branch (name ∷ rest) ≡ None) → paths_that at (matches (parts ∷ more)) (entries branch) ≡ []
 found-no_child at name parts more branch stands none =
     named-below at name parts more stands (entries branch) ∙ ap (paths_that (at ++ name ∷ []) (matches more)) (entries-no_child branch name none)
 
 -- the same of what was found before and after
 pub child-found : (at : List (List ℕ)) (name : List ℕ) (components : List (List Part)) (parts : List Part) (branch child : TreeMap) (before after : List (List (List ℕ))) → 1 ≤ length components → parts ≡ get_or components 0 parts
-    → StandsFor parts name → ((rest : List (List ℕ)) → get branch (name ∷ rest) ≡ get child rest)
+    → RelatesOnlyTo parts name → ((rest : List (List ℕ)) → get branch (name ∷ rest) ≡ get child rest)
     → after ≡ before ++ paths_that (at ++ name ∷ []) (matches (take (length components - 1) (drop 1 components))) (entries child) → after ≡ before ++ paths_that at (matches components) (entries branch)
 child-found at name components parts branch child before after more first stands there found =
     found ∙ ap (λ paths. before ++ paths) (sym (found-child at name parts (take (length components - 1) (drop 1 components)) branch child stands there))
     ∙ (λ i. before ++ paths_that at (matches (sym (split-first components parts more first) i)) (entries branch))
 
 pub no-child-found : (at : List (List ℕ)) (name : List ℕ) (components : List (List Part)) (parts : List Part) (branch : TreeMap) (before : List (List (List ℕ))) → 1 ≤ length components → parts ≡ get_or components 0 parts
-    → StandsFor parts name → ((rest : List (List ℕ)) → get branch (name ∷ rest) ≡ None) → before ≡ before ++ paths_that at (matches components) (entries branch)
+    → RelatesOnlyTo parts name → ((rest : List (List ℕ)) → get branch (name ∷ rest) ≡ None) → before ≡ before ++ paths_that at (matches components) (entries branch)
 no-child-found at name components parts branch before more first stands none =
     sym (append-nil before) ∙ ap (λ paths. before ++ paths) (sym (found-no_child at name parts (take (length components - 1) (drop 1 components)) branch stands none))
     ∙ (λ i. before ++ paths_that at (matches (sym (split-first components parts more first) i)) (entries branch))

@@ -2,7 +2,7 @@ use Rattle.std.proofs.Common.{ℕ, List, subst}
 use Rattle.counted.specs.Gathering.{nothing, sink, Says}
 use Rattle.counted.proofs.GatheringFacts.{says_both}
 use Rattle.bundle.specs.Answer.{built_text}
-use Rattle.build.specs.Meaning.{line_of}
+use Rattle.counted.specs.Edges.{line_of}
 use Rattle.build.specs.declared.status.Status.TheVariants.{Built}
 use Rattle.build.proofs.TellFacts.{text_told, text_begun}
 use Rattle.build.proofs.telling.write_built.Goals as goal

@@ -1,7 +1,7 @@
 use Rattle.std.proofs.Common.{sym, subst}
 use Rattle.std.specs.Prelude.{List}
 use Rattle.contexts.specs.Context.{IsListing}
-use Rattle.entries.specs.Row.{Row}
+use Rattle.trees.specs.Row.{Row}
 use Rattle.bundle.proofs.ListingFacts.{listing}
 use Rattle.bundle.proofs.whole.filtered.Goals as goal
 

@@ -4,7 +4,7 @@ use Rattle.paths.specs.Path.{IsClean}
 use Rattle.trees.specs.Put.{cause_at, planted}
 use Rattle.trees.specs.TreeMap.{TreeMap, directory_meta}
 use Rattle.trees.specs.declared.entry.Entry.{Entry}
-use Rattle.contexts.specs.Context.{Row}
+use Rattle.trees.specs.Row.{Row}
 use Rattle.trees.proofs.TreeLaws.{get-placed}
 use Rattle.contexts.specs.PrivatePlaces.{IsPlaced, AreFolders, Wanted}
 use Rattle.contexts.proofs.Rows.{front-all, front-less, front-at, length-more, get-within}

@@ -1,6 +1,6 @@
 use Rattle.std.proofs.Common.{◌∙◌, ◌↔◌, IsTrue, Bool, List, sym, ap, subst, length}
 use Rattle.ignorefile.specs.Kept.{Kept}
-use Rattle.contexts.specs.Context.{Row}
+use Rattle.trees.specs.Row.{Row}
 use Rattle.contexts.proofs.Joining.{Flags}
 use Rattle.contexts.proofs.Rows.{zip-length}
 use Rattle.contexts.proofs.Whole.{apart, is-context}
