@@ -25,7 +25,7 @@ use Rattle.trees.specs.Put.{cause_at, placed}
 use Rattle.trees.specs.Copy.{placed_entry, parent_meta, last_placed, kind_of, file_path, placements, match_changes, path_changes, paths_changes, source_changes, changes_of, changed_tree, needs_directory, is_repeated, kind_placed, change_cause, first_cause, is_missing, goes_into, tree_of_changes, copied, HasName, is_repeated_by}
 use Rattle.trees.specs.Cause.{tree_or}
 use Rattle.trees.specs.Subtree.{map_below}
-use Rattle.trees.specs.PrivateCopy.{with_change}
+use Rattle.trees.specs.PrivateCopy.{with_change, IsNamed}
 use Rattle.trees.proofs.CopyLaws.{changed_tree-more, get-changed_tree, kind_placed-more}
 use Rattle.trees.proofs.SubtreeLaws.{entries_below-IsBelow, below-IsTree}
 use Rattle.paths.proofs.FrontLaws.{path_itself, path_same, both_second, both_hold}
@@ -33,10 +33,6 @@ use Rattle.trees.proofs.TreeLaws.{placed-IsTree, free-from_cause, get-empty_tree
 use Rattle.trees.proofs.CopySteps.{free-placement, with_directory-IsTree}
 
 -- ---- the paths of a COPY's changes have names only
-
-abbrev pub IsNamed : Change → Type 0
-IsNamed (Place path entry) = AreNames path
-IsNamed (Make path) = IsClean path
 
 names-of : (p : List (List ℕ)) → IsClean p → AreNames p
 names-of p h = record { names = h.names; short = h.short }
@@ -81,12 +77,12 @@ drop-first : (P : List (List ℕ) × Entry → Type 0) (rows : Rows) → AllByRe
 drop-first P [] h = tt
 drop-first P (row ∷ rows) h = h.1
 
-all-join : (xs ys : List Change) → AllByRecursion IsNamed xs → AllByRecursion IsNamed ys → AllByRecursion IsNamed (xs ++ ys)
+pub all-join : (xs ys : List Change) → AllByRecursion IsNamed xs → AllByRecursion IsNamed ys → AllByRecursion IsNamed (xs ++ ys)
 all-join [] ys h g = g
 all-join (x ∷ xs) ys h g = (h.0, all-join xs ys h.1 g)
 
 module _ (o : CopyOptions) (into : Bool) (from : TreeMap) (dest : List (List ℕ)) (tree : IsTree from) (clean : IsClean dest) where
-  named-match : (path : List (List ℕ)) (there : Option Entry) → get from path ≡ there → AllByRecursion IsNamed (match_changes o into dest path there (entries (map_below from path)))
+  pub named-match : (path : List (List ℕ)) (there : Option Entry) → get from path ≡ there → AllByRecursion IsNamed (match_changes o into dest path there (entries (map_below from path)))
   named-match path None is = tt
   named-match path (Some (File meta content)) is = (names-place into dest _ (names-of dest clean) (names-drop (length path - 1) path (names-of path (tree.clean path (ap is_some is)))), tt)
   named-match path (Some (Directory meta)) is = (
@@ -122,7 +118,7 @@ first-none : (a b : Option Cause) → option_or a b ≡ None → (a ≡ None) ×
 first-none None b e = (refl, e)
 first-none (Some c) b e = absurd (true≢false (ap is_some e))
 
-laid-more : (meta : Meta) (tree : TreeMap) (before changes : List Change) → IsTree (changed_tree meta tree before) → AllByRecursion IsNamed changes → first_cause meta tree before changes ≡ None → IsTree (changed_tree meta tree (before ++ changes))
+pub laid-more : (meta : Meta) (tree : TreeMap) (before changes : List Change) → IsTree (changed_tree meta tree before) → AllByRecursion IsNamed changes → first_cause meta tree before changes ≡ None → IsTree (changed_tree meta tree (before ++ changes))
 laid-more meta tree before [] h named none = subst (λ (is : List Change). IsTree (changed_tree meta tree is)) (sym (append-nil before)) h
 laid-more meta tree before (change ∷ changes) h named none =
     let both = first-none (change_cause (kind_placed before) (get (changed_tree meta tree before)) change) (first_cause meta tree (before ++ change ∷ []) changes) none in

@@ -1,15 +1,14 @@
--- From the steps of a COPY of one folder to what its call promises.
-use Rattle.std.specs.Prelude.{◌≡◌, ℕ, ◌≤◌, Bool, true, false, ◌||◌, cond, T, Option, Some, None, Result, Ok, Err, List, [], ◌∷◌, ◌++◌, length, is_some, drop}
-use Rattle.std.proofs.Common.{sym, ap, refl, ◌∙◌, subst, true≢false}
+-- From the steps of a COPY of folders to what its calls promise.
+use Rattle.std.specs.Prelude.{◌≡◌, ℕ, ◌+◌, ◌<◌, ◌≤◌, get_or, IfSome, Bool, true, false, ◌||◌, ◌⊎◌, cond, T, Option, Some, None, Result, Ok, Err, List, [], ◌∷◌, ◌++◌, length, is_some, drop}
+use Rattle.std.proofs.Common.{sym, ap, refl, ◌∙◌, subst, true≢false, append-nil, append_assoc, inl, inr, zero, suc, arith}
+use Rattle.std.proofs.lemmas.List.{drop_more}
 use Rattle.std.specs.List.{AllByRecursion}
 use Rattle.std.specs.Option.{option_or}
-use Rattle.std.specs.Ordering.{eq_by_cmp, is_lt, is_eq}
-use Rattle.std.specs.declared.cmp.Ordering.{Ordering}
-use Rattle.std.specs.declared.cmp.Ordering.TheVariants.{Less, Equal, Greater}
+use Rattle.std.specs.Ordering.{eq_by_cmp, is_lt}
 use Rattle.std.specs.FinMap.{get, find, entries, entries_sorted, get-entries, empty, get-empty}
 use Rattle.std.specs.FinMap.Entries.{is_sorted, below_all}
 use Rattle.paths.specs.Order.{path_cmp}
-use Rattle.paths.specs.Fronts.{is_front}
+use Rattle.paths.specs.Fronts.{is_front, fronts}
 use Rattle.paths.specs.Path.{IsClean}
 use Rattle.plain.specs.declared.fault.Fault.{Fault}
 use Rattle.plain.specs.declared.fault.Fault.TheVariants.{Because, Memory}
@@ -17,29 +16,31 @@ use Rattle.trees.specs.declared.meta.Meta.{Meta}
 use Rattle.trees.specs.declared.entry.Entry.{Entry}
 use Rattle.trees.specs.declared.entry.Entry.TheVariants.{Directory, File}
 use Rattle.trees.specs.declared.copy.CopyOptions.{CopyOptions}
-use Rattle.trees.specs.declared.copy.CopySource.{CopySource}
 use Rattle.trees.specs.declared.copy.Change.{Change}
 use Rattle.trees.specs.declared.copy.Change.TheVariants.{Make}
 use Rattle.trees.specs.declared.cause.Cause.{Cause}
-use Rattle.trees.specs.TreeMap.{TreeMap, IsTree, is_directory}
+use Rattle.trees.specs.TreeMap.{TreeMap, IsTree, is_directory, is_file, is_blocked, directory_meta}
+use Rattle.trees.specs.Over.{over}
 use Rattle.trees.specs.Cause.{ChangesTree}
 use Rattle.trees.specs.Make.{make_cause, with_directory, made_with}
 use Rattle.trees.specs.Subtree.{map_below}
-use Rattle.trees.specs.Copy.{path_changes, match_changes, HasName, placed_entry, placements, parent_meta, changes_of, changed_tree, first_cause}
-use Rattle.trees.specs.PrivateCopy.{AppliesChanges, PlacesAll, TellsCause, IsWholeFolder}
+use Rattle.trees.specs.declared.copy.CopySource.{CopySource}
+use Rattle.trees.specs.Copy.{changes_of, source_changes, paths_changes, path_changes, match_changes, placed_entry, placements, last_placed, needs_directory, changed_tree, first_cause}
+use Rattle.trees.specs.PrivateCopy.{AppliesChanges, TellsCause, IsUnder, is_way, IsFreeBelow, MeetInDirectories, IsPlacedNode, IsLaidPlaced, IsNamed, Begins, IsJoined, Joins, IsWhole, IsHung, HangsIn, keeping}
 use Rattle.trees.specs.PrivateNode.{NodeValue, map_of, IsBelow, IsFilled, filled}
-use Rattle.paths.proofs.FrontLaws.{path_same, path_itself, front-irrefl, front-of, both_first, both_second}
+use Rattle.paths.proofs.FrontLaws.{path_same, path_itself, both_first, both_second, front-irrefl, front-of, front-parts}
 use Rattle.trees.proofs.CauseLaws.{tree_or-ok, tree_or-err}
-use Rattle.trees.proofs.CopyLaws.{get-with_directory}
+use Rattle.trees.proofs.CopyLaws.{get-changed_tree, get-with_directory, any-append, way-either}
 use Rattle.trees.proofs.CopyRows.{entries-head, of_directory}
-use Rattle.trees.proofs.CopyTrees.{changed_tree-IsTree}
-use Rattle.trees.proofs.SubtreeLaws.{own-below, same-below, entries_below-IsBelow}
+use Rattle.trees.proofs.CopyTrees.{named-match, all-join, laid-more}
+use Rattle.trees.proofs.SubtreeLaws.{same-below, entries_below-IsBelow, below-IsTree}
 use Rattle.trees.proofs.NodeLaws.{get-map_of_root, get-map_of_cons}
+use Rattle.trees.proofs.TreeLaws.{same_tree, get-over, over-IsTree, empty-IsTree, file-from_directory, get-empty_tree}
+use Rattle.trees.proofs.TreeSteps.{own-entry, leaf-empty}
+use Rattle.trees.proofs.WayLaws.{open-from_fronts}
 use Rattle.trees.proofs.FillSteps.{filled-under, filled-apart}
-use Rattle.trees.proofs.FolderSteps as steps
-
-abbrev Path : Type 0
-Path = List (List ℕ)
+use Rattle.trees.proofs.PlacedSteps.{placed-tree, placed-some, placed-kind, placements-placed}
+use Rattle.trees.proofs.FolderSteps.{Path, cancel, below-way, never, last_placed-append, first_cause-append, IsRow, IsHanging, IsFresh, AreFresh, hang-make, hang-all, make-free, no-causes, none-found, last-found}
 
 abbrev Rows : Type 0
 Rows = List (Path × Entry)
@@ -48,20 +49,15 @@ is-true : (b : Bool) → T b → b ≡ true
 is-true true h = refl
 is-true false h = absurd h
 
--- ---- the rows of a folder but for its own
+none-from : (x : Option Entry) → (is_some x ≡ true → ⊥) → x ≡ None
+none-from None h = refl
+none-from (Some e) h = absurd (h refl)
 
-none-found : (r : Path) (rows : Rows) → below_all path_cmp r rows ≡ true → find path_cmp r rows ≡ None
-none-found r [] s = refl
-none-found r (row ∷ rows) s = ap (λ x. cond (is_eq x) (Some row.1) (find path_cmp r rows)) (less (path_cmp r row.0) (both_first _ _ s)) ∙ none-found r rows (both_second (is_lt (path_cmp r row.0)) _ s)
-  where
-    less : (x : Ordering) → is_lt x ≡ true → x ≡ Less
-    less Less e = refl
-    less Equal e = absurd (true≢false (sym e))
-    less Greater e = absurd (true≢false (sym e))
+-- ---- the rows of a folder but for its own
 
 module _ (below : TreeMap) where
   all-rows : (rows : Rows) → is_sorted path_cmp rows ≡ true → below_all path_cmp [] rows ≡ true → ((q : Path) (e : Entry) → find path_cmp q rows ≡ Some e → get below q ≡ Some e)
-      → AllByRecursion (λ (row : Path × Entry). ((c : List ℕ) × ((cs : Path) × (row.0 ≡ c ∷ cs))) × (get below row.0 ≡ Some row.1)) rows
+      → AllByRecursion (λ (row : Path × Entry). IsUnder [] row.0 × (get below row.0 ≡ Some row.1)) rows
   all-rows [] s low f = tt
   all-rows (([], e) ∷ rows) s low f = absurd (true≢false (sym (both_first (is_lt (path_cmp [] [])) (below_all path_cmp [] rows) low)))
   all-rows ((c ∷ cs, e) ∷ rows) s low f = (
@@ -73,68 +69,291 @@ module _ (below : TreeMap) where
       by q x g true t = absurd (true≢false (sym (ap is_some (sym (ap (λ p. find path_cmp p rows) (path_same q (c ∷ cs) t) ∙ none-found (c ∷ cs) rows (both_first _ _ s)) ∙ g))))
       by q x g false t = g
 
-some-or : (x : Option Entry) (e : Entry) → is_some (option_or x (Some e)) ≡ true
-some-or None e = refl
-some-or (Some x) e = refl
+-- ---- one tree laid over another that it meets in directories
 
-made-stands : (meta : Meta) (tree : TreeMap) (dest : Path) → is_some (get (with_directory meta tree dest) dest) ≡ true
-made-stands meta tree dest =
-    ap is_some (get-with_directory meta tree dest dest ∙ (λ i. option_or (get tree dest) (cond (way i) (Some (Directory meta)) None))) ∙ some-or (get tree dest) (Directory meta)
+module _ (low up : TreeMap) (low_is : IsTree low) (up_is : IsTree up) (meets : MeetInDirectories low up) where
+  -- no file of the upper stands on the way to what the lower has
+  way_open : (c : List ℕ) (cs : Path) → is_some (get low (c ∷ cs)) ≡ true → is_blocked (get up) (c ∷ cs) ≡ false
+  way_open c cs some = open-from_fronts (get up) (c ∷ cs) (λ f g. at f g (get up f) refl)
+    where
+      at : (f : Path) → is_front f (c ∷ cs) ≡ true → (x : Option Entry) → get up f ≡ x → is_file (get up f) ≡ false
+      at f g None is = ap is_file is
+      at [] g (Some e) is = file-from_directory (get up []) up_is.root
+      at (d ∷ ds) g (Some e) is =
+          let d_is = low_is.parents (d ∷ ds) (c ∷ cs) g some in
+          file-from_directory (get up (d ∷ ds)) (meets.at d ds (directory-some (get low (d ∷ ds)) d_is) (ap is_some is)).1
+        where
+          directory-some : (x : Option Entry) → is_directory x ≡ true → is_some x ≡ true
+          directory-some None d = d
+          directory-some (Some e) d = refl
+
+  laid-at : (c : List ℕ) (cs : Path) → get (over low up) (c ∷ cs) ≡ option_or (get up (c ∷ cs)) (get low (c ∷ cs))
+  laid-at c cs = get-over low up (c ∷ cs) ∙ ap (option_or (get up (c ∷ cs))) (by (get low (c ∷ cs)) refl)
+    where
+      blank : (b : Bool) → cond {A = Option Entry} b None None ≡ None
+      blank true = refl
+      blank false = refl
+
+      by : (x : Option Entry) → get low (c ∷ cs) ≡ x → cond (is_blocked (get up) (c ∷ cs)) None (get low (c ∷ cs)) ≡ get low (c ∷ cs)
+      by None is = ap (cond (is_blocked (get up) (c ∷ cs)) None) is ∙ blank (is_blocked (get up) (c ∷ cs)) ∙ sym is
+      by (Some e) is = ap (λ b. cond b None (get low (c ∷ cs))) (way_open c cs (ap is_some is))
+
+  kind-low : (c : List ℕ) (cs : Path) (e : Entry) → get low (c ∷ cs) ≡ Some e → is_directory (get (over low up) (c ∷ cs)) ≡ is_directory (Some e)
+  kind-low c cs e is = ap is_directory (laid-at c cs) ∙ by (get up (c ∷ cs)) refl
+    where
+      by : (x : Option Entry) → get up (c ∷ cs) ≡ x → is_directory (option_or (get up (c ∷ cs)) (get low (c ∷ cs))) ≡ is_directory (Some e)
+      by None g = (λ i. is_directory (option_or (g i) (is i)))
+      by (Some x) g =
+          let both = meets.at c cs (ap is_some is) (ap is_some g) in
+          (λ i. is_directory (option_or (g i) (get low (c ∷ cs)))) ∙ ap is_directory (sym g) ∙ both.1 ∙ sym both.0 ∙ ap is_directory is
+
+  upper-at : (c : List ℕ) (cs : Path) (e : Entry) → get up (c ∷ cs) ≡ Some e → get (over low up) (c ∷ cs) ≡ Some e
+  upper-at c cs e is = laid-at c cs ∙ ap (λ x. option_or x (get low (c ∷ cs))) is
+
+-- ---- one folder more is joined
+
+module _ (dest : Path) (before : List Change) (low up : TreeMap) (top : Entry) (j : IsJoined dest before low) (up_is : IsTree up) (own : get up [] ≡ Some top) (meets : MeetInDirectories low up)
+    (few : (r : Path) → is_some (get up r) ≡ true → length (dest ++ r) ≤ 64) (named : AllByRecursion IsNamed (Make dest ∷ placements keeping dest (drop 1 (entries up)))) where
+  abbrev whole : TreeMap
+  whole = over low up
+
+  abbrev rows : Rows
+  rows = drop 1 (entries up)
+
+  whole_is : IsTree whole
+  whole_is = over-IsTree low up j.tree up_is
+
+  sorted : is_sorted path_cmp (([], top) ∷ rows) ≡ true
+  sorted = ap (is_sorted path_cmp) (sym (entries-head up top own)) ∙ is-true _ (entries_sorted up)
+
+  order : is_sorted path_cmp rows ≡ true
+  order = both_second (below_all path_cmp [] rows) _ sorted
+
+  first : below_all path_cmp [] rows ≡ true
+  first = both_first _ _ sorted
+
+  holds : (c : List ℕ) (cs : Path) → get up (c ∷ cs) ≡ find path_cmp (c ∷ cs) rows
+  holds c cs = get-entries up (c ∷ cs) ∙ ap (find path_cmp (c ∷ cs)) (entries-head up top own)
+
+  sound : (q : Path) (e : Entry) → find path_cmp q rows ≡ Some e → get up q ≡ Some e
+  sound [] e f = absurd (true≢false (sym (ap is_some (sym (none-found [] rows first) ∙ f))))
+  sound (c ∷ cs) e f = holds c cs ∙ f
+
+  abbrev IsOfUpper : Path × Entry → Type 0
+  IsOfUpper row = IsUnder [] row.0 × (get up row.0 ≡ Some row.1)
+
+  as-rows : (xs : Rows) → AllByRecursion IsOfUpper xs → AllByRecursion (IsRow dest whole whole_is) xs
+  as-rows [] h = tt
+  as-rows (x ∷ xs) h = (
+    record {
+      named = h.0.0;
+      there = ap is_some stands;
+      kind = ap is_directory stands;
+      few = few x.0 (ap is_some h.0.1);
+    },
+    as-rows xs h.1,
+  )
+    where
+      stands : get whole x.0 ≡ Some x.1
+      stands = ap (get whole) h.0.0.1.1 ∙ upper-at low up j.tree up_is meets h.0.0.0 h.0.0.1.0 x.1 (ap (get up) (sym h.0.0.1.1) ∙ h.0.1)
+
+  of-upper : AllByRecursion IsOfUpper rows
+  of-upper = all-rows up rows order first sound
+
+  start : IsHanging dest whole whole_is before
+  start = record { placed = placed; needs = λ q n. needs q (j.needs q n) }
+    where
+      lies : (q : Path) (u : IsUnder dest q) → last_placed before q ≡ get low (u.0 ∷ u.1.0)
+      lies q u = ap (last_placed before) u.1.1 ∙ j.last u.0 u.1.0
+
+      placed : (q : Path) (e : Entry) → last_placed before q ≡ Some e → (u : IsUnder dest q) × (is_directory (get whole (u.0 ∷ u.1.0)) ≡ is_directory (Some e))
+      placed q e l = let u = j.under q e l in (u, kind-low low up j.tree up_is meets u.0 u.1.0 e (sym (lies q u) ∙ l))
+
+      directory : (u : Path) (c : List ℕ) (cs : Path) → u ≡ c ∷ cs → (x : Option Entry) → get low (c ∷ cs) ≡ x → is_directory x ≡ true → is_directory (get whole (c ∷ cs)) ≡ true
+      directory u c cs e None is d = absurd (true≢false (sym d))
+      directory u c cs e (Some x) is d = kind-low low up j.tree up_is meets c cs x is ∙ d
+
+      needs : (q : Path) → (is_way dest q ≡ true) ⊎ ((u : IsUnder dest q) × (is_directory (get low (u.0 ∷ u.1.0)) ≡ true)) → (is_way dest q ≡ true) ⊎ ((u : IsUnder dest q) × (is_directory (get whole (u.0 ∷ u.1.0)) ≡ true))
+      needs q (inl w) = inl w
+      needs q (inr (u, d)) = inr (u, directory (u.0 ∷ u.1.0) u.0 u.1.0 refl (get low (u.0 ∷ u.1.0)) refl d)
+
+  abbrev making : List Change
+  making = before ++ Make dest ∷ []
+
+  fresh : (xs : Rows) → AllByRecursion IsOfUpper xs → AreFresh dest whole whole_is making xs
+  fresh [] h = tt
+  fresh (x ∷ xs) h = (by (get low x.0) refl, fresh xs h.1)
+    where
+      before-is : last_placed making (dest ++ x.0) ≡ get low x.0
+      before-is =
+          last_placed-append before (Make dest ∷ []) (dest ++ x.0) ∙ ap (λ r. last_placed before (dest ++ r)) h.0.0.1.1
+          ∙ j.last h.0.0.0 h.0.0.1.0 ∙ ap (get low) (sym h.0.0.1.1)
+
+      by : (y : Option Entry) → get low x.0 ≡ y → IsFresh dest whole whole_is making x
+      by None is = inl (before-is ∙ is)
+      by (Some y) is = inr (ap is_directory (sym h.0.1) ∙ ap (λ r. is_directory (get up r)) h.0.0.1.1 ∙ both.1)
+        where
+          both : (is_directory (get low (h.0.0.0 ∷ h.0.0.1.0)) ≡ true) × (is_directory (get up (h.0.0.0 ∷ h.0.0.1.0)) ≡ true)
+          both = meets.at h.0.0.0 h.0.0.1.0 (ap (λ r. is_some (get low r)) (sym h.0.0.1.1) ∙ ap is_some is) (ap (λ r. is_some (get up r)) (sym h.0.0.1.1) ∙ ap is_some h.0.1)
+
+  abbrev more : List Change
+  more = Make dest ∷ placements keeping dest rows
+
+  joined-whole : before ++ more ≡ making ++ placements keeping dest rows
+  joined-whole = sym (append_assoc before (Make dest ∷ []) (placements keeping dest rows))
+
+  end : IsHanging dest whole whole_is (before ++ more)
+  end = subst (IsHanging dest whole whole_is) (sym joined-whole) (hang-all dest whole whole_is making rows (hang-make dest whole whole_is before start) (as-rows rows of-upper))
+
+  no-cause : (meta : Meta) (tree : TreeMap) → make_cause (get tree) dest ≡ None → IsFreeBelow tree dest → first_cause meta tree [] (before ++ more) ≡ None
+  no-cause meta tree free none =
+      first_cause-append meta tree [] before more
+      ∙ (λ i. option_or (j.fine meta tree free none i) (option_or (make-free dest whole whole_is meta tree free none before start i) (first_cause meta tree making (placements keeping dest rows))))
+      ∙ no-causes dest whole whole_is meta tree free none making rows (hang-make dest whole whole_is before start) (as-rows rows of-upper) order (fresh rows of-upper)
+
+  begun : (before ≡ []) ⊎ Begins dest before → Begins dest (before ++ more)
+  begun (inl none) = (placements keeping dest rows, ap (λ (cs : List Change). cs ++ more) none)
+  begun (inr b) = (b.0 ++ more, ap (λ (cs : List Change). cs ++ more) b.1)
+
+  last-whole : (c : List ℕ) (cs : Path) → last_placed (before ++ more) (dest ++ c ∷ cs) ≡ get whole (c ∷ cs)
+  last-whole c cs =
+      last_placed-append before more (dest ++ c ∷ cs)
+      ∙ (λ i. option_or (last_placed-append (Make dest ∷ []) (placements keeping dest rows) (dest ++ c ∷ cs) i) (j.last c cs i))
+      ∙ (λ i. option_or (option_or (last-found dest rows (c ∷ cs) order i) None) (get low (c ∷ cs)))
+      ∙ ap (λ x. option_or x (get low (c ∷ cs))) (or_none (find path_cmp (c ∷ cs) rows) ∙ sym (holds c cs))
+      ∙ sym (laid-at low up j.tree up_is meets c cs)
+    where
+      or_none : (x : Option Entry) → option_or x None ≡ x
+      or_none None = refl
+      or_none (Some e) = refl
+
+  pub joined-more : IsJoined dest (before ++ more) whole
+  joined-more = record {
+    tree = whole_is;
+    named = all-join before more j.named named;
+    last = last-whole;
+    under = λ q e l. (end.placed q e l).0;
+    needs = end.needs;
+    fine = no-cause;
+    begins = inr (begun j.begins);
+  }
+
+-- nothing is joined yet
+pub joined-none : (dest : Path) (leaf : NodeValue) → leaf.top ≡ Directory directory_meta → leaf.below ≡ empty → IsJoined dest [] (map_of leaf)
+joined-none dest leaf top below = subst (IsJoined dest []) (sym (leaf-empty leaf top below)) (record {
+  tree = empty-IsTree;
+  named = tt;
+  last = λ c cs. sym (get-empty_tree (c ∷ cs));
+  under = λ q e l. absurd (true≢false (ap is_some (sym l)));
+  needs = λ q n. absurd (true≢false (sym n));
+  fine = λ meta tree free none. refl;
+  begins = inl refl;
+})
+
+-- ---- the changes of one match
+
+-- a match that is a directory is a tree of its own
+pub match-tree : (from : TreeMap) (path : Path) (folder : NodeValue) (told : Bool) → IsTree from → IsBelow from path (map_of folder) → told ≡ is_directory (Some folder.top) → told ≡ true → IsTree (map_of folder)
+match-tree from path folder told from_is lies is t = below-IsTree from path (map_of folder) from_is (ap is_directory (own-entry from path folder lies) ∙ sym is ∙ t) lies
+
+pub match-joined : (o : CopyOptions) (from : TreeMap) (dest path : Path) (folder : NodeValue) (told : Bool) (joined : NodeValue) (new : TreeMap) → IsTree from → IsClean dest → IsBelow from path (map_of folder) → told ≡ is_directory (Some folder.top) → told ≡ true
+    → ((r : Path) → is_some (get (map_of folder) r) ≡ true → length (dest ++ r) ≤ 64) → MeetInDirectories joined.below folder.below → IsLaidPlaced o (map_of joined) folder new → (into : Bool) → Joins dest (path_changes o into from dest path) (map_of joined) new
+match-joined o from dest path folder told joined new from_is clean lies is t few meets laid into before j =
+    subst (λ (cs : List Change). IsJoined dest (before ++ cs) new) (sym changes-are)
+    (subst (λ (m : TreeMap). IsJoined dest (before ++ Make dest ∷ placements keeping dest (drop 1 (entries (map_of laid.upper)))) m) (sym laid.laid)
+    (joined-more dest before (map_of joined) (map_of laid.upper) laid.upper.top j (placed-tree o folder laid.upper laid.placed folder_is) (get-map_of_root laid.upper) (record { at = meet })
+    (λ r some. few r (placed-some o folder laid.upper laid.placed r some)) (subst (λ (cs : List Change). AllByRecursion IsNamed cs) changes-are named)))
   where
-    way : (is_front dest dest || eq_by_cmp path_cmp dest dest) ≡ true
-    way = (λ i. front-irrefl dest i || path_itself dest i)
+    directory : is_directory (Some folder.top) ≡ true
+    directory = sym is ∙ t
+
+    folder_is : IsTree (map_of folder)
+    folder_is = match-tree from path folder told from_is lies is t
+
+    of-match : path_changes o into from dest path ≡ Make dest ∷ placements o dest (drop 1 (entries (map_of folder)))
+    of-match =
+        (λ i. match_changes o into dest path (get from path) (entries (same-below from path (map_below from path) (map_of folder) (entries_below-IsBelow from path) lies i)))
+        ∙ of_directory o into dest path (get from path) (entries (map_of folder)) (ap is_directory (own-entry from path folder lies) ∙ directory)
+
+    changes-are : path_changes o into from dest path ≡ Make dest ∷ placements keeping dest (drop 1 (entries (map_of laid.upper)))
+    changes-are = of-match ∙ ap (λ (cs : List Change). Make dest ∷ cs) (sym (placements-placed o dest folder laid.upper laid.placed))
+
+    named : AllByRecursion IsNamed (path_changes o into from dest path)
+    named = named-match o into from dest from_is clean path (get from path) refl
+
+    meet : (c : List ℕ) (cs : Path) → is_some (get (map_of joined) (c ∷ cs)) ≡ true → is_some (get (map_of laid.upper) (c ∷ cs)) ≡ true → (is_directory (get (map_of joined) (c ∷ cs)) ≡ true) × (is_directory (get (map_of laid.upper) (c ∷ cs)) ≡ true)
+    meet c cs s u =
+        let below-old = get-map_of_cons joined c cs in
+        let in-folder = placed-some o folder laid.upper laid.placed (c ∷ cs) u in
+        let both = meets.at c cs (ap is_some (sym below-old) ∙ s) (ap is_some (sym (get-map_of_cons folder c cs)) ∙ in-folder) in
+        (ap is_directory below-old ∙ both.0, placed-kind o folder laid.upper laid.placed (c ∷ cs) ∙ ap is_directory (get-map_of_cons folder c cs) ∙ both.1)
+
+-- ---- one after the other
+
+drop-all : {A : Type 0} (xs : List A) (n : ℕ) → length xs ≤ n → drop n xs ≡ []
+drop-all [] zero less = refl
+drop-all [] (suc n) less = refl
+drop-all (x ∷ xs) zero less = absurd (omega arith)
+drop-all (x ∷ xs) (suc n) less = drop-all xs n (omega arith)
+
+pub joins-none : (dest : Path) (m : TreeMap) → Joins dest [] m m
+joins-none dest m before j = subst (λ (cs : List Change). IsJoined dest cs m) (sym (append-nil before)) j
+
+pub joins-more : (dest : Path) (xs ys : List Change) (a b c : TreeMap) → Joins dest xs a b → Joins dest ys b c → Joins dest (xs ++ ys) a c
+joins-more dest xs ys a b c h g before j = subst (λ (cs : List Change). IsJoined dest cs c) (append_assoc before xs ys) (g (before ++ xs) (h before j))
+
+pub paths-more : (o : CopyOptions) (into : Bool) (from : TreeMap) (dest : Path) (paths : List Path) (index : ℕ) (path : Path) (a b c : TreeMap) → index < length paths → path ≡ get_or paths index path → Joins dest (path_changes o into from dest path) a b
+    → Joins dest (paths_changes o into from dest (drop (index + 1) paths)) b c → Joins dest (paths_changes o into from dest (drop index paths)) a c
+paths-more o into from dest paths index path a b c less is h g =
+    subst (λ (ps : List Path). Joins dest (paths_changes o into from dest ps) a c) (sym (drop_more paths index path less ∙ ap (λ (q : Path). q ∷ drop (index + 1) paths) (sym is)))
+    (joins-more dest (path_changes o into from dest path) (paths_changes o into from dest (drop (index + 1) paths)) a b c h g)
+
+pub paths-none : (o : CopyOptions) (into : Bool) (from : TreeMap) (dest : Path) (paths : List Path) (index : ℕ) (a : TreeMap) → length paths ≤ index → Joins dest (paths_changes o into from dest (drop index paths)) a a
+paths-none o into from dest paths index a less = subst (λ (ps : List Path). Joins dest (paths_changes o into from dest ps) a a) (sym (drop-all paths index less)) (joins-none dest a)
+
+pub sources-more : (o : CopyOptions) (into : Bool) (from : TreeMap) (dest : Path) (sources : List CopySource) (index : ℕ) (source : CopySource) (a b c : TreeMap) → index < length sources → source ≡ get_or sources index source → Joins dest (source_changes o into from dest source) a b
+    → Joins dest (changes_of o into from dest (drop (index + 1) sources)) b c → Joins dest (changes_of o into from dest (drop index sources)) a c
+sources-more o into from dest sources index source a b c less is h g =
+    subst (λ (ss : List CopySource). Joins dest (changes_of o into from dest ss) a c) (sym (drop_more sources index source less ∙ ap (λ (q : CopySource). q ∷ drop (index + 1) sources) (sym is)))
+    (joins-more dest (source_changes o into from dest source) (changes_of o into from dest (drop (index + 1) sources)) a b c h g)
+
+pub sources-none : (o : CopyOptions) (into : Bool) (from : TreeMap) (dest : Path) (sources : List CopySource) (index : ℕ) (a : TreeMap) → length sources ≤ index → Joins dest (changes_of o into from dest (drop index sources)) a a
+sources-none o into from dest sources index a less = subst (λ (ss : List CopySource). Joins dest (changes_of o into from dest ss) a a) (sym (drop-all sources index less)) (joins-none dest a)
+
+-- a folder is laid as it is placed
+pub laid-placed : (o : CopyOptions) (old : TreeMap) (folder upper : NodeValue) (new : TreeMap) → IsPlacedNode o folder upper → new ≡ over old (map_of upper) → IsLaidPlaced o old folder new
+laid-placed o old folder upper new h is = record { upper = upper; placed = h; laid = is }
 
 -- ---- the call that hangs a folder in
 
-module _ (meta : Meta) (o : CopyOptions) (tree : TreeMap) (dest : Path) (folder : NodeValue)
-    (plain : (e : Entry) → placed_entry o e ≡ e) (folder_is : IsTree (map_of folder)) (none : (c : List ℕ) (cs : Path) → get tree (dest ++ c ∷ cs) ≡ None)
-    (few : (r : Path) → is_some (get (map_of folder) r) ≡ true → length (dest ++ r) ≤ 64) where
-  rows : Rows
-  rows = drop 1 (entries (map_of folder))
+pub hung-in : (meta : Meta) (tree mid new : TreeMap) (dest a : Path) (folder : NodeValue) → made_with meta tree dest ≡ Ok mid → a ≡ dest → IsFilled (get mid) (get new) a folder.below → (make_cause (get tree) dest ≡ None) × IsHung meta tree dest (map_of folder) new
+hung-in meta tree mid new dest a folder done same h =
+    let made = tree_or-ok (make_cause (get tree) dest) (with_directory meta tree dest) mid done in
+    let there : is_some (get mid a) ≡ true = (λ i. is_some (get (sym made.1 i) (same i))) ∙ made-stands in (
+      made.0,
+      record {
+        under = λ c cs. h.at there (dest ++ c ∷ cs) ∙ (λ i. filled-at (same i) (dest ++ c ∷ cs)) ∙ filled-under (get mid) folder.below dest c cs ∙ sym (get-map_of_cons folder c cs);
+        apart = λ q out. h.at there q ∙ (λ i. filled-at (same i) q) ∙ filled-apart (get mid) folder.below dest q out ∙ ap (λ m. get m q) (sym made.1);
+      },
+    )
+  where
+    filled-at : Path → Path → Option Entry
+    filled-at p q = filled (get mid) folder.below p q
 
-  head : entries (map_of folder) ≡ ([], folder.top) ∷ drop 1 (entries (map_of folder))
-  head = entries-head (map_of folder) folder.top (get-map_of_root folder)
+    some-or : (x : Option Entry) (e : Entry) → is_some (option_or x (Some e)) ≡ true
+    some-or None e = refl
+    some-or (Some x) e = refl
 
-  sorted : is_sorted path_cmp (([], folder.top) ∷ drop 1 (entries (map_of folder))) ≡ true
-  sorted = ap (is_sorted path_cmp) (sym head) ∙ is-true _ (entries_sorted (map_of folder))
+    way : is_way dest dest ≡ true
+    way = λ i. front-irrefl dest i || path_itself dest i
 
-  holds : (c : List ℕ) (cs : Path) → get (map_of folder) (c ∷ cs) ≡ find path_cmp (c ∷ cs) (drop 1 (entries (map_of folder)))
-  holds c cs = get-entries (map_of folder) (c ∷ cs) ∙ ap (find path_cmp (c ∷ cs)) head
+    made-stands : is_some (get (with_directory meta tree dest) dest) ≡ true
+    made-stands =
+        ap is_some (get-with_directory meta tree dest dest ∙ (λ i. option_or (get tree dest) (cond (way i) (Some (Directory meta)) None))) ∙ some-or (get tree dest) (Directory meta)
 
-  low : below_all path_cmp [] (drop 1 (entries (map_of folder))) ≡ true
-  low = both_first _ _ sorted
-
-  sound : (q : Path) (e : Entry) → find path_cmp q (drop 1 (entries (map_of folder))) ≡ Some e → get (map_of folder) q ≡ Some e
-  sound [] e f = absurd (true≢false (sym (ap is_some (sym (none-found [] (drop 1 (entries (map_of folder))) low) ∙ f))))
-  sound (c ∷ cs) e f = holds c cs ∙ f
-
-  as-rows : (free : make_cause (get tree) dest ≡ None) (xs : Rows) → AllByRecursion (λ (row : Path × Entry). ((c : List ℕ) × ((cs : Path) × (row.0 ≡ c ∷ cs))) × (get (map_of folder) row.0 ≡ Some row.1)) xs
-      → AllByRecursion (steps.IsRow meta o tree (map_of folder) dest plain folder_is free none few) xs
-  as-rows free [] h = tt
-  as-rows free (x ∷ xs) h = (record { named = h.0.0; at = h.0.1 }, as-rows free xs h.1)
-
-  pub folder-done : (mid new : TreeMap) (a : Path) → made_with meta tree dest ≡ Ok mid → a ≡ dest → IsFilled (get mid) (get new) a folder.below
-      → (first_cause meta tree [] (Make dest ∷ placements o dest (drop 1 (entries (map_of folder)))) ≡ None) × (new ≡ changed_tree meta tree (Make dest ∷ placements o dest (drop 1 (entries (map_of folder)))))
-  folder-done mid new a done same h =
-      let made = tree_or-ok (make_cause (get tree) dest) (with_directory meta tree dest) mid done in
-      let all = as-rows made.0 (drop 1 (entries (map_of folder))) (all-rows (map_of folder) (drop 1 (entries (map_of folder))) (both_second (below_all path_cmp [] (drop 1 (entries (map_of folder)))) _ sorted) low sound) in
-      let order = both_second (below_all path_cmp [] (drop 1 (entries (map_of folder)))) _ sorted in
-      let there : is_some (get mid a) ≡ true = (λ i. is_some (get (sym made.1 i) (same i))) ∙ made-stands meta tree dest in (
-        steps.folder-causes meta o tree (map_of folder) dest plain folder_is made.0 none few (drop 1 (entries (map_of folder))) all order,
-        steps.folder-hung meta o tree (map_of folder) dest plain folder_is made.0 none few (drop 1 (entries (map_of folder))) all order holds new
-            (record {
-              under = λ c cs. h.at there (dest ++ c ∷ cs) ∙ (λ i. filled-at mid (same i) (dest ++ c ∷ cs)) ∙ filled-under (get mid) folder.below dest c cs ∙ sym (get-map_of_cons folder c cs);
-              apart = λ q out. h.at there q ∙ (λ i. filled-at mid (same i) q) ∙ filled-apart (get mid) folder.below dest q out ∙ ap (λ m. get m q) (sym made.1);
-            }),
-      )
-    where
-      filled-at : TreeMap → Path → Path → Option Entry
-      filled-at mid p q = filled (get mid) folder.below p q
-
-  pub folder-fails : (mid : TreeMap) (fault : Fault Cause) → ChangesTree (made_with meta tree dest) tree mid (Err fault) → TellsCause fault (first_cause meta tree [] (Make dest ∷ placements o dest (drop 1 (entries (map_of folder)))))
-  folder-fails mid (Because cause) h =
-      ap (λ c. option_or c (first_cause meta tree (Make dest ∷ []) (placements o dest (drop 1 (entries (map_of folder)))))) (tree_or-err (make_cause (get tree) dest) (with_directory meta tree dest) cause h.0)
-  folder-fails mid Memory h = tt
+pub hung-not : (meta : Meta) (tree mid : TreeMap) (dest : Path) (fault : Fault Cause) → ChangesTree (made_with meta tree dest) tree mid (Err fault) → TellsCause fault (make_cause (get tree) dest)
+hung-not meta tree mid dest (Because cause) h = tree_or-err (make_cause (get tree) dest) (with_directory meta tree dest) cause h.0
+hung-not meta tree mid dest Memory h = tt
 
 -- ---- which folders are hung in
 
@@ -142,16 +361,12 @@ pub keeps-plain : (o : CopyOptions) → o.owner ≡ None → o.mode ≡ None →
 keeps-plain o owner mode (Directory m) = (λ i. placed_entry (record { into = o.into; owner = owner i; mode = mode i }) (Directory m))
 keeps-plain o owner mode (File m b) = (λ i. placed_entry (record { into = o.into; owner = owner i; mode = mode i }) (File m b))
 
-none-from : (x : Option Entry) → (is_some x ≡ true → ⊥) → x ≡ None
-none-from None h = refl
-none-from (Some e) h = absurd (h refl)
-
 -- below nothing lies nothing
-pub free-none : (tree : TreeMap) (dest : Path) → IsTree tree → get tree dest ≡ None → (c : List ℕ) (cs : Path) → get tree (dest ++ c ∷ cs) ≡ None
+pub free-none : (tree : TreeMap) (dest : Path) → IsTree tree → get tree dest ≡ None → IsFreeBelow tree dest
 free-none tree dest is none c cs = none-from _ (λ some. true≢false (sym (is.parents dest (dest ++ c ∷ cs) (front-of dest c cs) some) ∙ ap is_directory none))
 
 -- and below a node that nothing is below
-pub free-bare : (tree : TreeMap) (dest : Path) (node : NodeValue) → IsBelow tree dest (map_of node) → node.below ≡ empty → (c : List ℕ) (cs : Path) → get tree (dest ++ c ∷ cs) ≡ None
+pub free-bare : (tree : TreeMap) (dest : Path) (node : NodeValue) → IsBelow tree dest (map_of node) → node.below ≡ empty → IsFreeBelow tree dest
 free-bare tree dest node lies bare c cs = sym (lies.at (c ∷ cs)) ∙ get-map_of_cons node c cs ∙ ap (λ m. get m (c ∷ cs)) bare ∙ get-empty path_cmp (c ∷ cs)
 
 -- no path of a folder is too deep where the folder stands
@@ -160,30 +375,86 @@ few-here from folder path is lies r some =
     let clean = is.clean (path ++ r) (ap is_some (sym (lies.at r)) ∙ some) in
     clean.few
 
--- ---- the COPY of one folder
-
-pub folder-changes : (tree : TreeMap) (o : CopyOptions) (from : TreeMap) (dest : Path) (sources : List CopySource) (folder : TreeMap) (into : Bool) → IsWholeFolder tree from dest sources folder → changes_of o into from dest sources ≡ Make dest ∷ placements o dest (drop 1 (entries folder))
-folder-changes tree o from dest sources folder into w =
-    ap (changes_of o into from dest) w.only
-    ∙ whole (path_changes-is)
+-- changes that leave something begin
+pub is-whole : (tree : TreeMap) (dest : Path) (changes : List Change) (leaf folder : NodeValue) → leaf.top ≡ Directory directory_meta → leaf.below ≡ empty → IsFreeBelow tree dest → (name : List ℕ) × (is_some (get folder.below (name ∷ [])) ≡ true) → Joins dest changes (map_of leaf) (map_of folder)
+    → IsWhole tree dest changes (map_of folder)
+is-whole tree dest changes leaf folder top below free full joins = record { joined = j; begins = by j.begins; free = free }
   where
-    path_changes-is : path_changes o into from dest w.match ≡ Make dest ∷ placements o dest (drop 1 (entries folder))
-    path_changes-is =
-        (λ i. match_changes o into dest w.match (get from w.match) (entries (same-below from w.match (map_below from w.match) folder (entries_below-IsBelow from w.match) w.lies i)))
-        ∙ of_directory o into dest w.match (get from w.match) (entries folder) (ap is_directory (own-below from w.match folder w.lies) ∙ w.directory)
+    j : IsJoined dest changes (map_of folder)
+    j = joins [] (joined-none dest leaf top below)
 
-    no-more : (xs : List Change) → xs ++ [] ≡ xs
-    no-more [] = refl
-    no-more (x ∷ xs) = ap (λ ys. x ∷ ys) (no-more xs)
+    by : (changes ≡ []) ⊎ Begins dest changes → Begins dest changes
+    by (inr b) = b
+    by (inl none) =
+        absurd (true≢false (sym full.1 ∙ ap is_some (sym (get-map_of_cons folder full.0 [])) ∙ ap is_some (sym (j.last full.0 [])) ∙ (λ i. is_some (last_placed (none i) (dest ++ full.0 ∷ [])))))
 
-    whole : {x : List Change} → path_changes o into from dest w.match ≡ x → (path_changes o into from dest w.match ++ []) ++ [] ≡ x
-    whole e = no-more _ ∙ no-more _ ∙ e
+-- what was found is whole
+pub found-whole : (tree : TreeMap) (o : CopyOptions) (from : TreeMap) (dest : Path) (sources : List CopySource) (found : Option NodeValue) (folder : NodeValue) → IfSome found (λ folder. (into : Bool) → IsWhole tree dest (changes_of o into from dest sources) (map_of folder)) → found ≡ Some folder
+    → (into : Bool) → IsWhole tree dest (changes_of o into from dest sources) (map_of folder)
+found-whole tree o from dest sources found folder h is = subst (λ (x : Option NodeValue). IfSome x (λ folder. (into : Bool) → IsWhole tree dest (changes_of o into from dest sources) (map_of folder))) is h
 
-pub folder-applies : (tree : TreeMap) (o : CopyOptions) (from : TreeMap) (dest : Path) (sources : List CopySource) (folder new : TreeMap) (into : Bool) (meta : Meta) (r : Result (Unit {0}) (Fault Cause)) → IsTree tree → IsClean dest → meta ≡ parent_meta o → IsWholeFolder tree from dest sources folder
-    → PlacesAll meta (Make dest ∷ placements o dest (drop 1 (entries folder))) tree new r → AppliesChanges (parent_meta o) (changes_of o into from dest sources) tree new r
-folder-applies tree o from dest sources folder new into meta (Ok done) tree_is clean same w h =
-    let fine : first_cause (parent_meta o) tree [] (changes_of o into from dest sources) ≡ None = (λ i. first_cause (sym same i) tree [] (folder-changes tree o from dest sources folder into w i)) ∙ h.0 in
-    let is : new ≡ changed_tree (parent_meta o) tree (changes_of o into from dest sources) = h.1 ∙ (λ i. changed_tree (same i) tree (sym (folder-changes tree o from dest sources folder into w) i)) in
-    (fine, (is, subst IsTree (sym is) (changed_tree-IsTree tree from sources dest o into tree_is w.from_is clean (subst (λ (ss : List CopySource). AllByRecursion HasName ss) (sym w.only) (tt, tt)) fine)))
-folder-applies tree o from dest sources folder new into meta (Err (Because cause)) tree_is clean same w h = (λ i. first_cause (sym same i) tree [] (folder-changes tree o from dest sources folder into w i)) ∙ h
-folder-applies tree o from dest sources folder new into meta (Err Memory) tree_is clean same w h = tt
+-- ---- what is hung in is what the changes come to
+
+module _ (meta : Meta) (tree : TreeMap) (dest : Path) (changes : List Change) (folder : TreeMap) (w : IsWhole tree dest changes folder) (new : TreeMap) (h : IsHung meta tree dest folder new) where
+  at-under : (c : List ℕ) (cs : Path) → get (changed_tree meta tree changes) (dest ++ c ∷ cs) ≡ get folder (c ∷ cs)
+  at-under c cs =
+      get-changed_tree meta tree changes (dest ++ c ∷ cs)
+      ∙ (λ i. option_or (w.joined.last c cs i) (option_or (w.free c cs i) (cond (needs_directory changes (dest ++ c ∷ cs)) (Some (Directory meta)) None)))
+      ∙ by (get folder (c ∷ cs)) refl (needs_directory changes (dest ++ c ∷ cs)) refl
+    where
+      not_needed : get folder (c ∷ cs) ≡ None → (is_way dest (dest ++ c ∷ cs) ≡ true) ⊎ ((u : IsUnder dest (dest ++ c ∷ cs)) × (is_directory (get folder (u.0 ∷ u.1.0)) ≡ true)) → ⊥
+      not_needed none (inl way) = below-way dest c cs way
+      not_needed none (inr u) = true≢false (sym u.1 ∙ ap (λ r. is_directory (get folder r)) (sym (cancel dest (c ∷ cs) (u.0.0 ∷ u.0.1.0) u.0.1.1)) ∙ ap is_directory none)
+
+      by : (x : Option Entry) → get folder (c ∷ cs) ≡ x → (b : Bool) → needs_directory changes (dest ++ c ∷ cs) ≡ b → option_or x (option_or None (cond b (Some (Directory meta)) None)) ≡ x
+      by (Some e) is b n = refl
+      by None is false n = refl
+      by None is true n = absurd (not_needed is (w.joined.needs (dest ++ c ∷ cs) n))
+
+  not-under : (q : Path) → is_front dest q ≡ false → IsUnder dest q → ⊥
+  not-under q out u = true≢false (sym (front-of dest u.0 u.1.0) ∙ (λ i. is_front dest (sym u.1.1 i)) ∙ out)
+
+  last-apart : (q : Path) → is_front dest q ≡ false → (x : Option Entry) → last_placed changes q ≡ x → x ≡ None
+  last-apart q out None l = refl
+  last-apart q out (Some e) l = absurd (not-under q out (w.joined.under q e l))
+
+  needs-apart : (q : Path) → is_front dest q ≡ false → needs_directory changes q ≡ is_way dest q
+  needs-apart q out = by (is_way dest q) refl
+    where
+      made_first : needs_directory changes q ≡ (is_way dest q || needs_directory w.begins.0 q)
+      made_first = (λ i. needs_directory (w.begins.1 i) q) ∙ any-append (eq_by_cmp path_cmp q) (fronts dest ++ dest ∷ []) _ ∙ ap (λ b. b || needs_directory w.begins.0 q) (way-either q dest)
+
+      not_needed : is_way dest q ≡ false → (is_way dest q ≡ true) ⊎ ((u : IsUnder dest q) × (is_directory (get folder (u.0 ∷ u.1.0)) ≡ true)) → ⊥
+      not_needed is (inl g) = true≢false (sym g ∙ is)
+      not_needed is (inr u) = not-under q out u.0
+
+      by : (b : Bool) → is_way dest q ≡ b → needs_directory changes q ≡ b
+      by true is = made_first ∙ ap (λ b. b || needs_directory w.begins.0 q) is
+      by false is = never (needs_directory changes q) (λ n. not_needed is (w.joined.needs q n))
+
+  at-apart : (q : Path) → is_front dest q ≡ false → get (changed_tree meta tree changes) q ≡ get (with_directory meta tree dest) q
+  at-apart q out =
+      get-changed_tree meta tree changes q
+      ∙ (λ i. option_or (last-apart q out (last_placed changes q) refl i) (option_or (get tree q) (cond (needs-apart q out i) (Some (Directory meta)) None)))
+      ∙ sym (get-with_directory meta tree dest q)
+
+  hung-is : new ≡ changed_tree meta tree changes
+  hung-is = same_tree _ _ (λ q. at q (is_front dest q) refl)
+    where
+      at : (q : Path) (b : Bool) → is_front dest q ≡ b → get new q ≡ get (changed_tree meta tree changes) q
+      at q false out = h.apart q out ∙ sym (at-apart q out)
+      at q true f =
+          let parts = front-parts dest q f in
+          ap (get new) parts.1.1 ∙ h.under parts.0 parts.1.0 ∙ sym (at-under parts.0 parts.1.0) ∙ ap (get (changed_tree meta tree changes)) (sym parts.1.1)
+
+pub whole-applies : (meta parent : Meta) (tree : TreeMap) (dest : Path) (changes : List Change) (folder new : TreeMap) (r : Result (Unit {0}) (Fault Cause)) → IsTree tree → meta ≡ parent → IsWhole tree dest changes folder → HangsIn meta dest folder tree new r → AppliesChanges parent changes tree new r
+whole-applies meta parent tree dest changes folder new r tree_is same w h = subst (λ (m : Meta). AppliesChanges m changes tree new r) same (by r h)
+  where
+    by : (r : Result (Unit {0}) (Fault Cause)) → HangsIn meta dest folder tree new r → AppliesChanges meta changes tree new r
+    by (Ok done) g =
+        let fine = w.joined.fine meta tree g.0 w.free in
+        let is = hung-is meta tree dest changes folder w new g.1 in
+        (fine, (is, subst IsTree (sym is) (laid-more meta tree [] changes tree_is w.joined.named fine)))
+    by (Err (Because cause)) g =
+        (λ i. first_cause meta tree [] (w.begins.1 i)) ∙ ap (λ c. option_or c (first_cause meta tree (Make dest ∷ []) w.begins.0)) g
+    by (Err Memory) g = tt

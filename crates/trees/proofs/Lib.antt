@@ -21,6 +21,7 @@ mod CutSteps
 mod CopySteps
 mod CopyRows
 mod FillSteps
+mod MeetSteps
 mod PlacedSteps
 mod FolderSteps
 mod FolderDone

@@ -1,5 +1,5 @@
 -- From the steps by which a folder is made as a COPY places it to what they come to.
-use Rattle.std.specs.Prelude.{◌≡◌, ℕ, ◌+◌, ◌<◌, ◌≤◌, Bool, true, false, cond, Option, Some, None, Result, List, [], ◌∷◌, ◌++◌, length, drop, get_or, is_some, option_map}
+use Rattle.std.specs.Prelude.{◌≡◌, ℕ, ◌+◌, ◌<◌, ◌≤◌, Bool, true, false, cond, Option, Some, None, List, [], ◌∷◌, ◌++◌, length, drop, get_or, is_some, option_map}
 use Rattle.std.proofs.Common.{sym, ap, refl, ◌∙◌, subst, append-nil, append_assoc, zero, suc, arith}
 use Rattle.std.proofs.lemmas.List.{drop_more}
 use Rattle.std.specs.Ordering.{eq_by_cmp}
@@ -12,19 +12,15 @@ use Rattle.std.specs.FinMap.{get, find, entries, get-entries}
 use Rattle.std.specs.FinMap.Entries.{is_sorted}
 use Rattle.paths.specs.Order.{name_cmp, path_cmp}
 use Rattle.paths.proofs.FrontLaws.{both_hold, both_first, both_second}
-use Rattle.plain.specs.declared.fault.Fault.{Fault}
-use Rattle.trees.specs.declared.meta.Meta.{Meta}
 use Rattle.trees.specs.declared.entry.Entry.{Entry}
 use Rattle.trees.specs.declared.entry.Entry.TheVariants.{Directory, File}
-use Rattle.trees.specs.declared.cause.Cause.{Cause}
 use Rattle.trees.specs.declared.copy.CopyOptions.{CopyOptions}
-use Rattle.trees.specs.declared.copy.Change.{Change}
-use Rattle.trees.specs.declared.copy.Change.TheVariants.{Place, Make}
-use Rattle.trees.specs.TreeMap.{TreeMap, IsTree, is_directory}
+use Rattle.trees.specs.declared.copy.Change.TheVariants.{Place}
+use Rattle.trees.specs.TreeMap.{IsTree, is_directory}
 use Rattle.trees.specs.Copy.{placed_entry, placements}
 use Rattle.trees.specs.PrivateNode.{NodeValue, map_of, below_name, lists_of, flat, is_full, are_full, are_parts, height_of, height_of-append}
 use Rattle.trees.specs.PrivateWalk.{rows_of}
-use Rattle.trees.specs.PrivateCopy.{placed_rows, IsPlacedNode, ArePlacedKids, ArePlacedParts, keeping, PlacesAll}
+use Rattle.trees.specs.PrivateCopy.{placed_rows, IsPlacedNode, ArePlacedKids, ArePlacedParts, keeping}
 use Rattle.trees.proofs.NodeSteps.{node_of}
 use Rattle.trees.proofs.KidLists.{sorted-from_keys, insert-last, passed-more}
 use Rattle.trees.proofs.PartLists.{names-append, same-sorted, same-full, full-append, full-second, flat-one}
@@ -212,15 +208,15 @@ kept-kind o (Some (File m b)) = refl
 pub placed-some : (o : CopyOptions) (old new : NodeValue) → IsPlacedNode o old new → (q : Path) → is_some (get (map_of new) q) ≡ true → is_some (get (map_of old) q) ≡ true
 placed-some o old new h q s = sym (ap is_some (get-placed o old new h q) ∙ kept-some o (get (map_of old) q)) ∙ s
 
+pub placed-kind : (o : CopyOptions) (old new : NodeValue) → IsPlacedNode o old new → (q : Path) → is_directory (get (map_of new) q) ≡ is_directory (get (map_of old) q)
+placed-kind o old new h q = ap is_directory (get-placed o old new h q) ∙ kept-kind o (get (map_of old) q)
+
 pub placed-tree : (o : CopyOptions) (old new : NodeValue) → IsPlacedNode o old new → IsTree (map_of old) → IsTree (map_of new)
 placed-tree o old new h tree = record {
   clean = λ q s. tree.clean q (placed-some o old new h q s);
-  root = kind [] ∙ tree.root;
-  parents = λ front q f s. kind front ∙ tree.parents front q f (placed-some o old new h q s);
+  root = placed-kind o old new h [] ∙ tree.root;
+  parents = λ front q f s. placed-kind o old new h front ∙ tree.parents front q f (placed-some o old new h q s);
 }
-  where
-    kind : (q : Path) → is_directory (get (map_of new) q) ≡ is_directory (get (map_of old) q)
-    kind q = ap is_directory (get-placed o old new h q) ∙ kept-kind o (get (map_of old) q)
 
 -- where neither owner nor mode is asked for, an entry is placed as it is
 pub kept : (e : Entry) → placed_entry keeping e ≡ e
@@ -235,16 +231,14 @@ placed-once : (o : CopyOptions) (dest : Path) (rows : Rows) → placements keepi
 placed-once o dest [] = refl
 placed-once o dest (row ∷ rows) = λ i. Place (dest ++ row.0) (kept (placed_entry o row.1) i) ∷ placed-once o dest rows i
 
-plain-once : (o : CopyOptions) → ((e : Entry) → placed_entry o e ≡ e) → (dest : Path) (rows : Rows) → placements keeping dest rows ≡ placements o dest rows
-plain-once o plain dest [] = refl
-plain-once o plain dest (row ∷ rows) = λ i. Place (dest ++ row.0) ((kept row.1 ∙ sym (plain row.1)) i) ∷ plain-once o plain dest rows i
+-- what a COPY places of a folder is what it places of the one that was made so, if that keeps owners and modes
+pub placements-placed : (o : CopyOptions) (dest : Path) (old new : NodeValue) → IsPlacedNode o old new → placements keeping dest (drop 1 (entries (map_of new))) ≡ placements o dest (drop 1 (entries (map_of old)))
+placements-placed o dest old new h = ap (λ (rows : Rows). placements keeping dest (drop 1 rows)) h.rows ∙ ap (placements keeping dest) (rest-placed o (entries (map_of old))) ∙ placed-once o dest (drop 1 (entries (map_of old)))
 
-pub hung-placed : (o : CopyOptions) (meta : Meta) (dest : Path) (old new : NodeValue) (tree then : TreeMap) (r : Result (Unit {0}) (Fault Cause)) → IsPlacedNode o old new
-    → PlacesAll meta (Make dest ∷ placements keeping dest (drop 1 (entries (map_of new)))) tree then r → PlacesAll meta (Make dest ∷ placements o dest (drop 1 (entries (map_of old)))) tree then r
-hung-placed o meta dest old new tree then r h done =
-    subst (λ (cs : List Change). PlacesAll meta (Make dest ∷ cs) tree then r)
-    (ap (λ (rows : Rows). placements keeping dest (drop 1 rows)) h.rows ∙ ap (placements keeping dest) (rest-placed o (entries (map_of old))) ∙ placed-once o dest (drop 1 (entries (map_of old)))) done
+plain-rows : (o : CopyOptions) → ((e : Entry) → placed_entry o e ≡ e) → (rows : Rows) → rows ≡ placed_rows o rows
+plain-rows o plain [] = refl
+plain-rows o plain (row ∷ rows) = λ i. (row.0, sym (plain row.1) i) ∷ plain-rows o plain rows i
 
-pub hung-plain : (o : CopyOptions) (meta : Meta) (dest : Path) (folder tree then : TreeMap) (r : Result (Unit {0}) (Fault Cause)) → ((e : Entry) → placed_entry o e ≡ e)
-    → PlacesAll meta (Make dest ∷ placements keeping dest (drop 1 (entries folder))) tree then r → PlacesAll meta (Make dest ∷ placements o dest (drop 1 (entries folder))) tree then r
-hung-plain o meta dest folder tree then r plain done = subst (λ (cs : List Change). PlacesAll meta (Make dest ∷ cs) tree then r) (plain-once o plain dest (drop 1 (entries folder))) done
+-- where each entry is placed as it is, a folder is as it is placed
+pub placed-plain : (o : CopyOptions) (node : NodeValue) → ((e : Entry) → placed_entry o e ≡ e) → IsPlacedNode o node node
+placed-plain o node plain = record { rows = plain-rows o plain (entries (map_of node)) }

@@ -1,9 +1,14 @@
 -- By what the functions inside this crate that carry out a COPY are stated: one change after another.
-use Rattle.std.specs.Prelude.{◌≡◌, ℕ, ◌≤◌, Bool, true, false, ◌∷◌, ◌++◌, map, length, is_some, Option, Some, None, Result, Ok, Err, List, []}
+use Rattle.std.specs.Prelude.{◌≡◌, ℕ, Bool, true, false, ◌||◌, ◌⊎◌, ◌∷◌, ◌++◌, map, is_some, Option, Some, None, Result, Ok, Err, List, []}
+use Rattle.std.specs.List.{AllByRecursion}
 use Rattle.std.specs.Option.{option_or}
+use Rattle.std.specs.Ordering.{eq_by_cmp}
 use Rattle.std.specs.Map.{keys_of}
 use Rattle.std.specs.FinMap.{get, entries}
 use Rattle.paths.specs.Path.{IsClean}
+use Rattle.paths.specs.Long.{AreNames}
+use Rattle.paths.specs.Order.{path_cmp}
+use Rattle.paths.specs.Fronts.{is_front}
 use Rattle.plain.specs.declared.fault.Fault.{Fault}
 use Rattle.plain.specs.declared.fault.Fault.TheVariants.{Because, Memory}
 use Rattle.trees.specs.declared.meta.Meta.{Meta}
@@ -12,14 +17,13 @@ use Rattle.trees.specs.declared.copy.Change.TheVariants.{Place, Make}
 use Rattle.trees.specs.declared.cause.Cause.{Cause}
 use Rattle.trees.specs.declared.entry.Entry.{Entry}
 use Rattle.trees.specs.declared.copy.CopyOptions.{CopyOptions}
-use Rattle.trees.specs.declared.copy.CopySource.{CopySource}
-use Rattle.trees.specs.declared.copy.CopySource.TheVariants.{Found}
-use Rattle.trees.specs.PrivateNode.{NodeValue, map_of, flat, are_parts, IsBelow}
+use Rattle.trees.specs.PrivateNode.{NodeValue, map_of, flat, are_parts}
 use Rattle.trees.specs.PrivateWalk.{rows_of}
 use Rattle.trees.specs.TreeMap.{TreeMap, IsTree, is_directory}
 use Rattle.trees.specs.Put.{placed}
-use Rattle.trees.specs.Make.{with_directory}
-use Rattle.trees.specs.Copy.{placed_entry, placed_by, kind_of, change_cause, first_cause, changed_tree}
+use Rattle.trees.specs.Make.{make_cause, with_directory}
+use Rattle.trees.specs.Over.{over}
+use Rattle.trees.specs.Copy.{placed_entry, placed_by, last_placed, needs_directory, kind_of, change_cause, first_cause, changed_tree}
 
 -- the tree after one change more
 abbrev pub with_change : Meta → TreeMap → Change → TreeMap
@@ -53,11 +57,6 @@ abbrev pub AppliesChanges : Meta → List Change → TreeMap → TreeMap → Res
 AppliesChanges meta changes old new (Ok done) = (first_cause meta old [] changes ≡ None) × ((new ≡ changed_tree meta old changes) × IsTree new)
 AppliesChanges meta changes old new (Err fault) = TellsCause fault (first_cause meta old [] changes)
 
--- the same, but nothing is said of the tree's being one
-abbrev pub PlacesAll : Meta → List Change → TreeMap → TreeMap → Result (Unit {0}) (Fault Cause) → Type 0
-PlacesAll meta changes old new (Ok done) = (first_cause meta old [] changes ≡ None) × (new ≡ changed_tree meta old changes)
-PlacesAll meta changes old new (Err fault) = TellsCause fault (first_cause meta old [] changes)
-
 -- entries as they are placed, at the same paths
 abbrev pub placed_rows : CopyOptions → List (List (List ℕ) × Entry) → List (List (List ℕ) × Entry)
 placed_rows options rows = map (λ row. (row.0, placed_entry options row.1)) rows
@@ -80,15 +79,65 @@ pub record ArePlacedParts (options : CopyOptions) (old new : List (List (List �
 abbrev pub keeping : CopyOptions
 keeping = record { into = false; owner = None; mode = None }
 
--- a COPY of one folder as a whole: folder is what lies below its one match, and nothing lies below the destination, from which no path of
--- the folder gets too deep
-pub record IsWholeFolder (tree : TreeMap) (from : TreeMap) (dest : List (List ℕ)) (sources : List CopySource) (folder : TreeMap) : Type 0 where
-  pub match : List (List ℕ)
-  pub only : sources ≡ Found (match ∷ []) ∷ []
-  pub clean : IsClean dest
-  pub from_is : IsTree from
-  pub lies : IsBelow from match folder
-  pub directory : is_directory (get folder []) ≡ true
-  pub tree_is : IsTree folder
-  pub free : (name : List ℕ) (rest : List (List ℕ)) → get tree (dest ++ name ∷ rest) ≡ None
-  pub few : (path : List (List ℕ)) → is_some (get folder path) ≡ true → length (dest ++ path) ≤ 64
+-- ---- folders that a COPY hangs in as one
+
+-- a path is below another one: it goes on from there by these names
+abbrev pub IsUnder : List (List ℕ) → List (List ℕ) → Type 0
+IsUnder top path = (name : List ℕ) × ((rest : List (List ℕ)) × (path ≡ top ++ name ∷ rest))
+
+-- a path on the way to the destination, or the destination itself
+abbrev pub is_way : List (List ℕ) → List (List ℕ) → Bool
+is_way dest path = is_front path dest || eq_by_cmp path_cmp path dest
+
+-- nothing lies below a path
+abbrev pub IsFreeBelow : TreeMap → List (List ℕ) → Type 0
+IsFreeBelow tree top = (name : List ℕ) (rest : List (List ℕ)) → get tree (top ++ name ∷ rest) ≡ None
+
+-- where something stands below both, it is a directory in both
+pub record MeetInDirectories (one other : TreeMap) : Type 0 where
+  pub at : (name : List ℕ) (rest : List (List ℕ)) → is_some (get one (name ∷ rest)) ≡ true → is_some (get other (name ∷ rest)) ≡ true → (is_directory (get one (name ∷ rest)) ≡ true) × (is_directory (get other (name ∷ rest)) ≡ true)
+
+-- a folder, with the owners and modes that a COPY puts on it, was laid over a tree
+pub record IsLaidPlaced (options : CopyOptions) (old : TreeMap) (folder : NodeValue) (new : TreeMap) : Type 0 where
+  pub upper : NodeValue
+  pub placed : IsPlacedNode options folder upper
+  pub laid : new ≡ over old (map_of upper)
+
+-- a change's path has names only
+abbrev pub IsNamed : Change → Type 0
+IsNamed (Place path entry) = AreNames path
+IsNamed (Make path) = IsClean path
+
+-- the first of these changes makes the destination
+abbrev pub Begins : List (List ℕ) → List Change → Type 0
+Begins dest changes = (rest : List Change) × (changes ≡ Make dest ∷ rest)
+
+-- Changes of a COPY of folders: where nothing lies below the destination none of them fails, and below it they leave what is joined.
+pub record IsJoined (dest : List (List ℕ)) (changes : List Change) (joined : TreeMap) : Type 0 where
+  pub tree : IsTree joined
+  pub named : AllByRecursion IsNamed changes
+  pub last : (name : List ℕ) (rest : List (List ℕ)) → last_placed changes (dest ++ name ∷ rest) ≡ get joined (name ∷ rest)
+  pub under : (path : List (List ℕ)) (entry : Entry) → last_placed changes path ≡ Some entry → IsUnder dest path
+  pub needs : (path : List (List ℕ)) → needs_directory changes path ≡ true → (is_way dest path ≡ true) ⊎ ((u : IsUnder dest path) × (is_directory (get joined (u.0 ∷ u.1.0)) ≡ true))
+  pub fine : (meta : Meta) (tree : TreeMap) → make_cause (get tree) dest ≡ None → IsFreeBelow tree dest → first_cause meta tree [] changes ≡ None
+  pub begins : (changes ≡ []) ⊎ Begins dest changes
+
+-- what joined the changes before joins these too
+abbrev pub Joins : List (List ℕ) → List Change → TreeMap → TreeMap → Type 0
+Joins dest changes old new = (before : List Change) → IsJoined dest before old → IsJoined dest (before ++ changes) new
+
+-- the folder that a COPY's changes come to, where nothing lies below the destination
+pub record IsWhole (tree : TreeMap) (dest : List (List ℕ)) (changes : List Change) (folder : TreeMap) : Type 0 where
+  pub joined : IsJoined dest changes folder
+  pub begins : Begins dest changes
+  pub free : IsFreeBelow tree dest
+
+-- a map with a folder below the destination, and elsewhere what stands once the destination is made
+pub record IsHung (meta : Meta) (tree : TreeMap) (dest : List (List ℕ)) (folder : TreeMap) (new : TreeMap) : Type 0 where
+  pub under : (name : List ℕ) (rest : List (List ℕ)) → get new (dest ++ name ∷ rest) ≡ get folder (name ∷ rest)
+  pub apart : (path : List (List ℕ)) → is_front dest path ≡ false → get new path ≡ get (with_directory meta tree dest) path
+
+-- a call makes the destination and hangs a folder in below it, or tells why it can't be made; after a fault nothing is said of the tree
+abbrev pub HangsIn : Meta → List (List ℕ) → TreeMap → TreeMap → TreeMap → Result (Unit {0}) (Fault Cause) → Type 0
+HangsIn meta dest folder old new (Ok done) = (make_cause (get old) dest ≡ None) × IsHung meta old dest folder new
+HangsIn meta dest folder old new (Err fault) = TellsCause fault (make_cause (get old) dest)

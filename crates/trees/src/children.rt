@@ -1,4 +1,4 @@
-ghost use Rattle.std.specs.Prelude.{◌≡◌, ◌↔◌, ℕ, true, Some, None, List, [], ◌∷◌, ◌++◌, is_some, IsTrue, IfOk, IfErr, OnOk, OnErr, option_copied};
+ghost use Rattle.std.specs.Prelude.{◌≡◌, ◌↔◌, ℕ, true, false, Some, None, List, [], ◌∷◌, ◌++◌, is_some, IsTrue, IfOk, IfErr, OnOk, OnErr, option_copied};
 ghost use Rattle.std.specs.Borrow.{sem};
 ghost use Rattle.std.specs.List.Sorted.{IsStrictlySortedBy};
 ghost use Rattle.std.specs.Map.{lookup, keys_of};
@@ -12,7 +12,7 @@ ghost use Rattle.trees.specs.Rows.{lent_rows};
 ghost use Rattle.trees.specs.Copy.{placements};
 ghost use Rattle.trees.specs.PrivateNode.{joined, rows_under, AreKids, ArePlanted, AreCut, AreFilled, AreLaid};
 ghost use Rattle.trees.specs.PrivateLent.{LendsKid};
-ghost use Rattle.trees.specs.PrivateCopy.{ArePlacedKids};
+ghost use Rattle.trees.specs.PrivateCopy.{ArePlacedKids, MeetInDirectories};
 
 use crate::copy::Change;
 use crate::kids::Kids;
@@ -295,6 +295,22 @@ impl Children {
             }
         }
         others.next().is_none()
+    }
+
+    /// Whether something stands at one path in or below both, unless it is a directory in both.
+    #[cycle(meeting)]
+    pub(crate) fn meets(&self, other: &Children) -> bool
+        ensures { result ≡ false → MeetInDirectories (joined self.now) (joined other.now) }
+    {
+        let mut others = other.iter();
+        while let Some((name, kid)) = others.next() {
+            if let Some(own) = self.get(name) {
+                if !own.is_directory() || !kid.is_directory() || own.meets(kid) {
+                    return true;
+                }
+            }
+        }
+        false
     }
 
     /// Adds a row for each entry of these children and below them, in path order, their folder's path being `at`.

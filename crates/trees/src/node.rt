@@ -1,4 +1,4 @@
-ghost use Rattle.std.specs.Prelude.{◌≡◌, ◌↔◌, ◌<◌, ℕ, true, Some, None, List, [], ◌∷◌, ◌++◌, is_some, drop, length, IsTrue, IfOk, OnOk, OnErr, MatchOption, option_copied, option_and_then};
+ghost use Rattle.std.specs.Prelude.{◌≡◌, ◌↔◌, ◌<◌, ℕ, true, false, Some, None, List, [], ◌∷◌, ◌++◌, is_some, drop, length, IsTrue, IfOk, OnOk, OnErr, MatchOption, option_copied, option_and_then};
 ghost use Rattle.std.specs.FinMap.{get, empty, entries};
 ghost use Rattle.paths.specs.Path.{IsClean};
 ghost use Rattle.trees.specs.TreeMap.{is_blocked, is_directory, meta_of};
@@ -7,7 +7,7 @@ ghost use Rattle.trees.specs.Over.{over};
 ghost use Rattle.trees.specs.Copy.{placements, kind_of};
 ghost use Rattle.trees.specs.PrivateNode.{map_of, IsPlanted, IsBelow, IsCut, IsFilled, rows_under};
 ghost use Rattle.trees.specs.PrivateWalk.{rows_of};
-ghost use Rattle.trees.specs.PrivateCopy.{IsPlacedNode};
+ghost use Rattle.trees.specs.PrivateCopy.{IsPlacedNode, MeetInDirectories};
 
 use crate::children::Children;
 use crate::copy::Change;
@@ -271,9 +271,19 @@ impl Node {
 
     /// Whether nothing is below this node.
     pub(crate) fn is_bare(&self) -> bool
-        ensures { IsTrue result → self.now.below ≡ empty }
+        ensures bare { IsTrue result → self.now.below ≡ empty }
+        ensures full { result ≡ false → (name : List ℕ) × (is_some (get self.now.below (name ∷ [])) ≡ true) }
     {
         self.kids.is_none()
+    }
+
+    /// Whether something stands at one path below both, unless it is a directory in both. The names of the other are looked up here, and
+    /// only where both have a folder does it go on below.
+    #[cycle(meeting)]
+    pub(crate) fn meets(&self, other: &Node) -> bool
+        ensures { result ≡ false → MeetInDirectories self.now.below other.now.below }
+    {
+        self.kids.meets(&other.kids)
     }
 
     /// Takes away what stands at a path below this node, with all below it. Where there is no memory, nothing has changed.

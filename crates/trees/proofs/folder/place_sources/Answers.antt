@@ -1,9 +1,10 @@
-use Rattle.trees.specs.Copy.{goes_into}
+use Rattle.trees.specs.Copy.{parent_meta, changes_of, goes_into}
 use Rattle.trees.specs.PrivateNode.{map_of}
-use Rattle.trees.proofs.FolderDone.{folder-applies}
+use Rattle.trees.proofs.FolderDone.{found-whole, whole-applies}
 use Rattle.trees.proofs.folder.place_sources.Goals as goal
 
 pub returns-in-Some : goal.returns-in-Some
 returns-in-Some c =
-    folder-applies (map_of c.args.root.now) c.args.options.now c.args.from.now c.args.dest.now c.args.sources.now (map_of c.in-Some.folder.now) (map_of c.place_whole.new.root) (goes_into (map_of c.args.root.now) c.args.dest.now c.args.options.now) _ c.place_whole.result
-    c.requires c.in-Some.ensures.clean c.parent_meta-parent.ensures c.in-Some.ensures c.place_whole.ensures
+    whole-applies c.parent_meta-parent.result (parent_meta c.args.options.now) (map_of c.args.root.now) c.args.dest.now (changes_of c.args.options.now (goes_into (map_of c.args.root.now) c.args.dest.now c.args.options.now) c.args.from.now c.args.dest.now c.args.sources.now) (map_of c.in-Some.folder) (map_of c.hang_in.new.root) c.hang_in.result
+    c.requires c.parent_meta-parent.ensures
+    (found-whole (map_of c.args.root.now) c.args.options.now c.args.from.now c.args.dest.now c.args.sources.now c.in_ok-folder.field-0 c.in-Some.folder c.in_ok-folder.ensures c.in-Some.is (goes_into (map_of c.args.root.now) c.args.dest.now c.args.options.now)) c.hang_in.ensures
