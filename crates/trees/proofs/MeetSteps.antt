@@ -66,3 +66,7 @@ meet-step own others rest name kid found next has kids h = record { at = λ c cs
 -- none is left
 pub meet-none : (own : Kids) → MeetInDirectories (joined own) (joined [])
 meet-none own = record { at = λ c cs s t. absurd (true≢false (sym t ∙ ap is_some (get-joined [] c cs))) }
+
+-- no children meet anything
+pub none-meets : (own others : Kids) → own ≡ [] → MeetInDirectories (joined own) (joined others)
+none-meets own others none = record { at = λ c cs s t. absurd (true≢false (sym s ∙ (λ i. is_some (get (joined (none i)) (c ∷ cs))) ∙ ap is_some (get-joined [] c cs))) }

@@ -302,6 +302,10 @@ impl Children {
     pub(crate) fn meets(&self, other: &Children) -> bool
         ensures { result ≡ false → MeetInDirectories (joined self.now) (joined other.now) }
     {
+        // The first folder of a COPY meets nothing, and may have many names.
+        if self.is_none() {
+            return false;
+        }
         let mut others = other.iter();
         while let Some((name, kid)) = others.next() {
             if let Some(own) = self.get(name) {

@@ -2,7 +2,7 @@ use Rattle.std.proofs.Common.{◌∙◌, sym, subst, [], ◌∷◌, ◌++◌, Li
 use Rattle.trees.specs.PrivateNode.{NodeValue, joined}
 use Rattle.trees.specs.PrivateCopy.{MeetInDirectories}
 use Rattle.trees.proofs.KidLists.{passed-more}
-use Rattle.trees.proofs.MeetSteps.{kids-apart, kids-meet, meet-step, meet-none}
+use Rattle.trees.proofs.MeetSteps.{kids-apart, kids-meet, meet-step, meet-none, none-meets}
 use Rattle.trees.proofs.+meeting.Goals as goal
 
 pub children::Children::meets-loop-name-preserved-in-Some-get : goal.children::Children::meets-loop-name-preserved-in-Some-get
@@ -22,3 +22,6 @@ children::Children::meets-loop-name-preserved t c = (
 pub children::Children::meets-returns : goal.children::Children::meets-returns
 children::Children::meets-returns t c = λ f.
     c.loop-name.invariant.0 (subst (λ (l : List (List ℕ × NodeValue)). MeetInDirectories (joined c.args.self.now) (joined l)) (sym c.in_default.ensures.0) (meet-none c.args.self.now))
+
+pub children::Children::meets-returns-then-is_none : goal.children::Children::meets-returns-then-is_none
+children::Children::meets-returns-then-is_none t c = λ f. none-meets c.args.self.now c.args.other.now (c.is_none.ensures.0 c.if-is_none.true)
