@@ -1,0 +1,269 @@
+"""Small files that cost much, for `tools/hostile --costs`: each kind at two sizes, with what it costs and how that grows."""
+import itertools
+import os
+import resource
+import subprocess
+import sys
+import tempfile
+import time
+
+from hostile_inputs import PLAIN, Spelled, bundle_of, lines_of, nested
+
+# the hasher of the maps' tables: its first state, and what it multiplies by
+STATE = 0x243F6A8885A308D3
+MULTIPLIER = 0x9E3779B97F4A7C15
+LETTERS = "abcdefghijklmnopqrstuvwxyzABCDEFGHIJKLMNOPQRSTUVWXYZ_0123456789"
+
+
+def folded_multiply(first, second):
+    product = first * second
+    return product & 0xFFFFFFFFFFFFFFFF ^ product >> 64
+
+
+def names_that_meet(count):
+    """Names of 32 bytes with one hash: where the third eight bytes are the hasher's state, a factor is 0 whatever the last eight are."""
+    for tail in itertools.product(LETTERS, repeat=4):
+        front = "name_whose_t" + "".join(tail)
+        first, second = (int.from_bytes(front[at : at + 8].encode(), "little") for at in (0, 8))
+        state = folded_multiply(first ^ (STATE + 32), second ^ MULTIPLIER).to_bytes(8, "little")
+        if all(chr(byte) in LETTERS for byte in state):
+            return [f"{front}{state.decode()}{k:08}" for k in range(count)]
+    raise ValueError("no front")
+
+
+def image(config=None, tree=()):
+    return {"config": {**PLAIN, **({"config": config} if config else {})}, "tree": list(tree)}
+
+
+def files(names, text=""):
+    return [{"path": "/" + name, "text": text} for name in names]
+
+
+def env_names(count):
+    """Variables on one line whose names meet in the map's table."""
+    return bundle_of(lines_of("ENV " + " ".join(name + "=" for name in names_that_meet(count))))
+
+
+def other_env_names(count):
+    """The same with names of that length that don't meet."""
+    return bundle_of(lines_of("ENV " + " ".join(f"a{k:031}=" for k in range(count))))
+
+
+def label_names(count):
+    """Keys on one line of LABEL that meet."""
+    return bundle_of(lines_of("LABEL " + " ".join(name + "=" for name in names_that_meet(count))))
+
+
+def image_labels(count):
+    """An image's Labels that meet."""
+    return bundle_of("FROM a", images={"a": image({"Labels": dict.fromkeys(names_that_meet(count), "")})})
+
+
+def image_env(count):
+    """An image's Env that meets."""
+    return bundle_of("FROM a", images={"a": image({"Env": [name + "=" for name in names_that_meet(count)]})})
+
+
+def image_volumes(count):
+    """An image's Volumes that meet."""
+    return bundle_of("FROM a", images={"a": image({"Volumes": {name: {} for name in names_that_meet(count)}})})
+
+
+def stages_on_labels(stages, labels):
+    """Stages from one image, of each of which the target copies a file, so each has the image's configuration."""
+    lines = [line for k in range(stages) for line in (f"FROM a AS s{k}", f"LABEL own={k}")]
+    lines += ["FROM scratch", *(f"COPY --from=s{k} /f /f{k}" for k in range(stages))]
+    return bundle_of("\n".join(lines), images={"a": image({"Labels": {f"label{k}": "" for k in range(labels)}}, files(["f"]))})
+
+
+def labels_of_stages(count):
+    """30 stages from an image with so many labels, of which the answer has none."""
+    return stages_on_labels(30, count)
+
+
+def stages_of_labels(count):
+    """So many stages from an image of 10,000 labels, of which the answer has none."""
+    return stages_on_labels(count, 10000)
+
+
+MEBIBYTE = ["ARG a=" + "x" * 1024, "ARG b=" + "$a" * 1023]
+
+
+def values_answered(count):
+    """Values of 1 MiB, each of them in the answer."""
+    return bundle_of(lines_of(*MEBIBYTE, *(f"ENV c{k}={k}$b" for k in range(count))))
+
+
+def values_kept(count):
+    """The same in a stage of which the target copies one file."""
+    text = lines_of(*MEBIBYTE, *(f"ENV c{k}={k}$b" for k in range(count)), "RUN put /f x")
+    return bundle_of(text.replace("scratch", "scratch AS a", 1) + "\nFROM scratch\nCOPY --from=a /f /f")
+
+
+def values_replaced(count):
+    """One variable that is set anew to a value of 1 MiB."""
+    return bundle_of(lines_of(*MEBIBYTE, *(f"ENV c={k}$b" for k in range(count)), "ENV c="))
+
+
+def values_drawn(count):
+    """RUNs under one value of 1 MiB, drawn."""
+    return bundle_of(lines_of(*MEBIBYTE, "ENV c=$b", *(f"RUN put /a {k}" for k in range(count))))
+
+
+def stars(count):
+    """A pattern of so many stars against 500 names of 255 bytes, none of which it matches."""
+    names = ["a" * 251 + f"{k:04}" for k in range(500)]
+    return bundle_of(lines_of("COPY " + "*a" * count + "*b /d/"), context=files(names))
+
+
+def patterns_and_names(count):
+    """So many patterns and so many names in one folder, each pattern for one of them."""
+    return bundle_of(lines_of("COPY " + " ".join(f"f{k:05}*" for k in range(count)) + " /d/"), context=files(f"f{k:05}" for k in range(count)))
+
+
+def ignore_lines(count):
+    """So many ignore lines of 30 `**` against 50 paths of 64 components."""
+    lines = "\n".join("**/a/" * 30 + f"b{k}" for k in range(count))
+    context = [*files([".dockerignore"], lines), *files("a/" * 63 + f"f{k}" for k in range(50))]
+    return bundle_of(lines_of("COPY . /"), context=context)
+
+
+def ignore_stars(count):
+    """50 ignore lines of so many `**` against 50 such paths."""
+    lines = "\n".join("**/a/" * count + f"b{k}" for k in range(50))
+    context = [*files([".dockerignore"], lines), *files("a/" * 63 + f"f{k}" for k in range(50))]
+    return bundle_of(lines_of("COPY . /"), context=context)
+
+
+def images(count):
+    """Images, sixteen in a RUN's binds."""
+    lines = ["RUN " + " ".join(f"--mount=from=i{16 * k + b},target=/m{b}" for b in range(16)) + f" put /g {k}" for k in range(count // 16)]
+    return bundle_of(lines_of(*lines), images={f"i{k}": image() for k in range(count)})
+
+
+def nests(count):
+    """Lists of 120 in one another, so many, under a key that is dropped."""
+    return bundle_of("FROM scratch", images={"a": {"config": {**PLAIN, "x": [nested(120)] * count}, "tree": []}})
+
+
+def nest_too_deep(count):
+    """So many `[` and nothing else."""
+    return ("[" * count).encode()
+
+
+def environments(count):
+    """Lines of ENV and RUN in turn, so a RUN's environment is all that stands above it."""
+    return bundle_of(lines_of(*(line for k in range(count) for line in (f"ENV v{k}=", "RUN true"))))
+
+
+def doubled_trees(count):
+    """So many stages that each copy the one before twice, so the last has two to that number of files; the target has one."""
+    lines = ["FROM scratch AS s0", "RUN put /f x"]
+    for k in range(1, count + 1):
+        lines += [f"FROM scratch AS s{k}", f"COPY --from=s{k - 1} / /a/", f"COPY --from=s{k - 1} / /b/"]
+    return bundle_of("\n".join([*lines, "FROM scratch", f"COPY --from=s{count} {'/a' * count}/f /f"]))
+
+
+def words_in_words(count):
+    """So many words of 32 `${` in one another."""
+    return bundle_of(lines_of(*(f"ENV v{k % 8}=" + "${a:-" * 32 + "x" + "}" * 32 for k in range(count))))
+
+
+def continued(count):
+    """One instruction over so many lines, with a comment between each two."""
+    return bundle_of(lines_of("RUN put /a \\\n" + "#\nx \\\n" * count + "y"))
+
+
+def heredocs(count):
+    """One COPY of so many heredocs."""
+    return bundle_of(lines_of("COPY " + " ".join(f"<<e{k}" for k in range(count)) + " /d/", *(f"x\ne{k}" for k in range(count))))
+
+
+def deep_paths(count):
+    """A context of so many files, each 64 components deep in folders of its own."""
+    return bundle_of(lines_of("COPY . /"), context=files(f"a{k}/" + "p/" * 62 + "f" for k in range(count)))
+
+
+def bumps(count):
+    """A script that makes a file longer by a byte so many times."""
+    return bundle_of(lines_of("RUN <<E", *["bump /a"] * count, "E"))
+
+
+def cats(count):
+    """Copies of a file of 4 MiB by commands, in a stage of which the target copies nothing of them."""
+    lines = ["FROM i AS a", *(f"RUN cat /f /f{k}" for k in range(count)), "RUN put /g x", "FROM scratch", "COPY --from=a /g /g"]
+    return bundle_of("\n".join(lines), images={"i": image(tree=files(["f"], "x" * (4 << 20)))})
+
+
+def numbers(count):
+    """A key that is dropped, with so many numbers."""
+    return bundle_of("FROM scratch", images={"a": {"config": {**PLAIN, "x": Spelled("[" + "1," * count + "1]")}, "tree": []}})
+
+
+KINDS = {
+    env_names: (500, 2000), other_env_names: (5000, 20000), label_names: (500, 2000), image_labels: (500, 2000), image_env: (500, 2000), image_volumes: (500, 2000),
+    labels_of_stages: (2500, 10000), stages_of_labels: (8, 32),
+    values_kept: (16, 64), values_answered: (8, 32), values_replaced: (50, 200), values_drawn: (4, 16),
+    stars: (30, 120), patterns_and_names: (500, 2000), ignore_lines: (100, 400), ignore_stars: (8, 32),
+    images: (2000, 8000), nests: (1500, 6000), nest_too_deep: (1 << 20, 4 << 20), numbers: (60000, 240000), environments: (200, 800),
+    doubled_trees: (15, 60), deep_paths: (250, 1000), words_in_words: (500, 2000), continued: (20000, 80000), heredocs: (1500, 6000),
+    bumps: (10000, 40000), cats: (8, 32),
+}
+DRAWN = {values_drawn, environments}
+
+
+def bundle_file(make, size):
+    """A file with a kind's bundle. Another process makes it, since the most memory of a run counts that of the process that starts it."""
+    given = tempfile.TemporaryFile()
+    maker = os.fork()
+    if maker == 0:
+        status = 1
+        try:
+            given.write(make(size))
+            given.flush()
+            status = 0
+        finally:
+            os._exit(status)
+    if os.waitpid(maker, 0)[1] != 0:
+        sys.exit("no bundle was made")
+    return given
+
+
+def measure(options, given, words):
+    """Processor seconds, MiB, how it ended and bytes of the answer of one run on a bundle's file."""
+
+    def limit():
+        resource.setrlimit(resource.RLIMIT_AS, (options.memory << 20,) * 2)
+        resource.setrlimit(resource.RLIMIT_CPU, (options.seconds * 10,) * 2)
+
+    with tempfile.TemporaryFile() as answer:
+        given.seek(0)
+        run = subprocess.Popen([options.program, *words], stdin=given, stdout=answer, stderr=subprocess.DEVNULL, preexec_fn=limit)
+        _, status, used = os.wait4(run.pid, 0)
+        return used.ru_utime + used.ru_stime, used.ru_maxrss / 1024, os.waitstatus_to_exitcode(status), answer.seek(0, 2)
+
+
+def print_kind(options, make, sizes, words):
+    """The rows of a kind; the second says how many times as much it has and takes."""
+    before = None
+    name = make.__name__ + (", drawn" if words == ["graph"] else "")
+    for size in sizes:
+        with bundle_file(make, size) as given:
+            seconds, memory, status, answer = measure(options, given, words)
+            now = [given.seek(0, 2), answer, max(seconds, 0.001), memory]
+        grown = " | ".join(f"{its / max(was, 0.001):.1f}" for its, was in zip(now, before)) if before else " | | | "
+        print(f"| `{name}` | {size} | {now[0]} | {answer} | {seconds:.2f} | {memory:.0f} | {status} | {grown} |", flush=True)
+        before = now
+
+
+def print_table(options):
+    print("| Kind | Size | Bytes in | Answer, bytes | Processor s | MiB | Status | Times the bytes | the answer | the seconds | the MiB |")
+    print("|---|---|---|---|---|---|---|---|---|---|---|")
+    for make, sizes in KINDS.items():
+        if not options.kinds or make.__name__ in options.kinds:
+            if make is not values_drawn:
+                print_kind(options, make, sizes, ["build", "--workers", "1"])
+            if make in DRAWN:
+                print_kind(options, make, sizes, ["graph"])
+    print("\n" + "\n".join(f"- `{make.__name__}`: {make.__doc__}" for make in KINDS if not options.kinds or make.__name__ in options.kinds))
+    print(time.strftime("\nmade on %Y-%m-%d at %H:%M"), file=sys.stderr)
