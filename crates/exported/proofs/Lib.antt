@@ -1,1 +1,3 @@
 mod Characters
+mod OpsFacts
+mod OrderLemmas

@@ -1,9 +1,12 @@
 pub mod Commands
+pub mod Exporting
 pub mod Files
 pub mod Making
 pub mod Merges
 pub mod Names
 pub mod Operations
+pub mod Order
 pub mod Patterns
 pub mod Places
+pub mod PrivateExporting
 pub mod Sources
