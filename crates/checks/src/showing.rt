@@ -1,0 +1,107 @@
+ghost use Rattle.std.specs.Prelude.{◌≡◌, ◌-◌, map, IfOk};
+ghost use Rattle.std.specs.String.{string_bytes};
+ghost use Rattle.lines.specs.Text.{without_byte_order_mark, text_lines};
+ghost use Rattle.sentences.specs.Showing.{shown};
+ghost use Rattle.checks.specs.Shown.{place_of, readable_lines, line_at, shown_faults};
+
+use plain::{Code, Memory, Refusal, Text};
+use sentences::shown;
+use std::alloc::{AllocError, Global};
+
+/// What is shown of faults, in their order, each as `sentences::shown` gives it, whose lines are counted in this text: a Dockerfile's, or that
+/// of its ignore file. It need not be UTF-8: what isn't is shown as U+FFFD. The line of a number that the text hasn't is shown as an empty one.
+pub fn shown_faults(alloc: Global, faults: &[Refusal], text: &[u8]) -> Result<Text, Memory>
+    ensures { IfOk result (λ shown. shown ≡ shown_faults (readable_lines text.now) faults.now) }
+{
+    let readable = String::from_utf8_lossy(alloc, text)?;
+    let shown = shown_in(alloc, faults, readable.as_str())?;
+    Ok(Text::from_string(shown))
+}
+
+/// The same of a text that is UTF-8. The lines are listed only where there are several faults: one is found without memory for each line.
+fn shown_in(alloc: Global, faults: &[Refusal], text: &str) -> Result<String, Memory>
+    ensures { IfOk result (λ shown. string_bytes shown ≡ shown_faults (text_lines text.now) faults.now) }
+{
+    match faults {
+        [] => Ok(String::new(alloc)),
+        [fault] => shown_fault(alloc, *fault, found_line(text, fault.line)),
+        [_, _, ..] => {
+            let lines = lines_of(alloc, text)?;
+            shown_each(alloc, faults, &lines)
+        }
+    }
+}
+
+/// What is shown of faults, one after another, their lines being among these.
+fn shown_each(alloc: Global, faults: &[Refusal], lines: &[&str]) -> Result<String, Memory>
+    ensures { IfOk result (λ shown. string_bytes shown ≡ shown_faults (map (λ line. line.now) lines.now) faults.now) }
+{
+    let mut text = String::new(alloc);
+    for fault in faults {
+        let shown = shown_fault(alloc, *fault, listed_line(lines, fault.line))?;
+        text.push_str(shown.as_str())?;
+    }
+    Ok(text)
+}
+
+/// What is shown of a fault that is about this line.
+fn shown_fault(alloc: Global, fault: Refusal, line: &str) -> Result<String, Memory>
+    ensures { IfOk result (λ text. string_bytes text ≡ shown (place_of fault.code) fault line.now) }
+{
+    shown(alloc, place_of(fault.code), fault, line)
+}
+
+/// What a fault of this code is in.
+fn place_of(code: Code) -> &'static str
+    ensures { result.now ≡ place_of code }
+{
+    match code {
+        Code::R19 => ".dockerignore",
+        Code::R20 => "bundle",
+        _ => "Dockerfile",
+    }
+}
+
+/// A text without its leading byte order mark.
+fn without_byte_order_mark(text: &str) -> &str
+    ensures { result.now ≡ without_byte_order_mark text.now }
+{
+    match text.strip_prefix('\u{feff}') {
+        Some(rest) => rest,
+        None => text,
+    }
+}
+
+/// The lines of a text.
+fn lines_of(alloc: Global, text: &str) -> Result<Vec<&str>, AllocError>
+    ensures { IfOk result (λ lines. map (λ line. line.now) lines.items ≡ text_lines text.now) }
+{
+    without_byte_order_mark(text).lines().collect(alloc)
+}
+
+/// The place of a line among a file's, which counts from 0 where its number counts from 1.
+fn index_of(number: u32) -> usize
+    ensures { result ≡ number - 1 }
+{
+    (number as usize).saturating_sub(1)
+}
+
+/// The line of this number, the empty one where there is none.
+fn found_line(text: &str, number: u32) -> &str
+    ensures { result.now ≡ line_at (text_lines text.now) number }
+{
+    match without_byte_order_mark(text).lines().nth(index_of(number)) {
+        Some(line) => line,
+        None => "",
+    }
+}
+
+/// The same, where the lines are listed.
+fn listed_line<'a>(lines: &[&'a str], number: u32) -> &'a str
+    ensures { result.now ≡ line_at (map (λ line. line.now) lines.now) number }
+{
+    match lines.get(index_of(number)) {
+        Some(line) => line,
+        None => "",
+    }
+}
