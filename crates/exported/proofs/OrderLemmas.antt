@@ -21,9 +21,9 @@ use Rattle.exported.specs.declared.making.Made.{Made}
 use Rattle.exported.specs.declared.making.Made.TheVariants.{Same, By}
 use Rattle.exported.specs.declared.fault.Obstacle.{Obstacle}
 use Rattle.exported.specs.declared.fault.Obstacle.TheVariants.{Unspeakable, Clash}
-use Rattle.exported.specs.Places.{digest_of, number_of, with_once, with_place, inputs_after, inputs_of}
+use Rattle.exported.specs.Places.{digest_of, number_of, with_once, inputs_after, inputs_of}
 use Rattle.exported.specs.Operations.{input_at, op_on, end_op}
-use Rattle.exported.specs.Merges.{with_tree, trees_after, trees_at}
+use Rattle.exported.specs.Merges.{trees_after, trees_at}
 use Rattle.exported.specs.Making.{places_at, source_made, merged, made_on, vertex_made}
 use Rattle.exported.specs.Exporting.{and_then, is_speakable, op_at, with_found, with_op, placed, vertex_placed, all_placed, root_op, ended_at, ended, exported}
 use Rattle.exported.specs.Order.{IsOn, AreInOrder}
