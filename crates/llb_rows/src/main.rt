@@ -1,9 +1,9 @@
-// Writes operations of BuildKit's LLB, a definition, and what three vertices of a graph are, each as a line: a name, and the bytes as
-// hexadecimal digits.
+// Writes operations of BuildKit's LLB, a definition, what three vertices of a graph are, and the definitions of two plans, each as a line: a
+// name, and the bytes as hexadecimal digits.
 //
 // What it has to print stands in `stdout`, which another program made: `protoc --deterministic_output --encode=pb.Op ops.proto` of Debian's
 // protobuf-compiler 3.21.12 in the folder `protoc`, from the texts there, in their order (`definition` is a `pb.Definition`); `xxd -p` made the
-// digits. So a field's number or type that isn't that of `ops.proto`, a default that is written, or an empty message that isn't, shows here.
+// digits. `plans.sh` there made the definitions of plans, with digests by `sha256sum`. So a field's number or type that isn't that of `ops.proto`, a default that is written, or an empty message that isn't, shows here.
 // Whether `ops.proto` is BuildKit's own schema doesn't.
 #![tactic(auto)]
 
@@ -11,6 +11,7 @@ mod commands;
 mod files;
 mod rows;
 mod vertices;
+mod whole;
 
 use plain::Memory;
 use rows::ROWS;

@@ -1,6 +1,6 @@
 // What each row is: an operation on its inputs, or a definition.
 
-use crate::{commands, files, vertices};
+use crate::{commands, files, vertices, whole};
 use llbmessages::{
     Constraints, Definition, Input, MergeInput, MergeOp, Op, OpKind, OpMetadata, Platform, SourceOp,
 };
@@ -25,10 +25,12 @@ pub(crate) enum Row {
     VertexImage,
     VertexMakeDir,
     VertexCopy,
+    Plan,
+    EmptyPlan,
 }
 
 /// The rows, in the order in which they are printed.
-pub(crate) const ROWS: [Row; 14] = [
+pub(crate) const ROWS: [Row; 16] = [
     Row::Image,
     Row::Context,
     Row::MakeDir,
@@ -43,6 +45,8 @@ pub(crate) const ROWS: [Row; 14] = [
     Row::VertexImage,
     Row::VertexMakeDir,
     Row::VertexCopy,
+    Row::Plan,
+    Row::EmptyPlan,
 ];
 
 impl Row {
@@ -62,6 +66,8 @@ impl Row {
             Row::VertexImage => "vertex-image",
             Row::VertexMakeDir => "vertex-mkdir",
             Row::VertexCopy => "vertex-copy",
+            Row::Plan => "plan",
+            Row::EmptyPlan => "empty-plan",
         }
     }
 
@@ -93,6 +99,8 @@ pub(crate) fn line(alloc: Global, row: Row) -> Result<String, Memory> {
         Row::VertexImage => bytes(alloc, vertices::image(alloc))?,
         Row::VertexMakeDir => bytes(alloc, vertices::make_dir(alloc))?,
         Row::VertexCopy => bytes(alloc, vertices::copy(alloc))?,
+        Row::Plan => whole::plan(alloc)?,
+        Row::EmptyPlan => whole::empty_plan(alloc)?,
         row => operation(alloc, row)?,
     };
     let digits = hex::encode(alloc, bytes.as_slice())?;
