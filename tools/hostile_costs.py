@@ -45,7 +45,7 @@ def env_names(count):
 
 
 def other_env_names(count):
-    """The same with names of that length that don't meet."""
+    """Variables on one line with names of that length that don't meet."""
     return bundle_of(lines_of("ENV " + " ".join(f"a{k:031}=" for k in range(count))))
 
 
@@ -95,7 +95,7 @@ def values_answered(count):
 
 
 def values_kept(count):
-    """The same in a stage of which the target copies one file."""
+    """So many values of 1 MiB in a stage of which the target copies one file."""
     text = lines_of(*MEBIBYTE, *(f"ENV c{k}={k}$b" for k in range(count)), "RUN put /f x")
     return bundle_of(text.replace("scratch", "scratch AS a", 1) + "\nFROM scratch\nCOPY --from=a /f /f")
 
@@ -206,7 +206,7 @@ KINDS = {
     values_kept: (16, 64), values_answered: (8, 32), values_replaced: (50, 200), values_drawn: (4, 16),
     stars: (30, 120), patterns_and_names: (500, 2000), ignore_lines: (100, 400), ignore_stars: (8, 32),
     images: (2000, 8000), nests: (1500, 6000), nest_too_deep: (1 << 20, 4 << 20), numbers: (60000, 240000), environments: (200, 800),
-    doubled_trees: (15, 60), deep_paths: (250, 1000), words_in_words: (500, 2000), continued: (20000, 80000), heredocs: (1500, 6000),
+    doubled_trees: (14, 20), deep_paths: (250, 1000), words_in_words: (500, 2000), continued: (20000, 80000), heredocs: (1500, 6000),
     bumps: (10000, 40000), cats: (8, 32),
 }
 DRAWN = {values_drawn, environments}
@@ -251,7 +251,7 @@ def print_kind(options, make, sizes, words):
         with bundle_file(make, size) as given:
             seconds, memory, status, answer = measure(options, given, words)
             now = [given.seek(0, 2), answer, max(seconds, 0.001), memory]
-        grown = " | ".join(f"{its / max(was, 0.001):.1f}" for its, was in zip(now, before)) if before else " | | | "
+        grown = " | ".join(f"{its / max(was, 0.001):.1f}" for its, was in zip(now, before)) if before else "| | | "
         print(f"| `{name}` | {size} | {now[0]} | {answer} | {seconds:.2f} | {memory:.0f} | {status} | {grown} |", flush=True)
         before = now
 
