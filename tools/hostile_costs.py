@@ -251,7 +251,7 @@ def print_kind(options, make, sizes, words):
         with bundle_file(make, size) as given:
             seconds, memory, status, answer = measure(options, given, words)
             now = [given.seek(0, 2), answer, max(seconds, 0.001), memory]
-        grown = " | ".join(f"{its / max(was, 0.001):.1f}" for its, was in zip(now, before)) if before else "| | | "
+        grown = " | ".join(f"{its / max(was, 0.001):.1f}" for its, was in zip(now, before)) if before else "| | |"
         print(f"| `{name}` | {size} | {now[0]} | {answer} | {seconds:.2f} | {memory:.0f} | {status} | {grown} |", flush=True)
         before = now
 
