@@ -1,11 +1,10 @@
 ghost use Rattle.std.specs.Prelude.{◌≡◌, IfOk};
-ghost use Rattle.std.specs.Option.{option_and_then, option_map};
+ghost use Rattle.std.specs.Option.{option_and_then};
 ghost use Rattle.contexts.specs.Context.{IsListing, IsContext};
 ghost use Rattle.plain.specs.declared.refusal.Code.TheVariants.{R19};
 ghost use Rattle.serde_json.specs.Read.{read};
 ghost use Rattle.strict.specs.Gives.{Gives};
 ghost use Rattle.bundle.specs.Parts.{parts_in, parts_within, parts_of};
-ghost use Rattle.bundle.specs.declared.parts.Parts.{Parts as PartsValue};
 ghost use Rattle.bundle.specs.Reading.{is_ignore_path, bytes_in, ignore_bytes, told_line, IsBundle, Completes, ReadsBundle};
 
 use crate::parts::{Files, Named, Parts, read_parts};
@@ -210,22 +209,6 @@ fn parts_of<C: FromJson>(alloc: Global, bytes: &[u8]) -> Result<Parts<C>, ReadFa
     ensures { Gives result (parts_of C.reading bytes.now) }
 {
     parts_within(alloc, MOST_BUNDLE_BYTES, bytes)
-}
-
-/// The bytes of a bundle's ignore file, be they good or bad; none where it has no such file.
-///
-/// It is for telling about a bundle that is refused for its ignore file: what `read_bundle` reads of one that isn't holds the file's lines no more.
-pub fn read_ignore_file<C: FromJson>(alloc: Global, bytes: &[u8]) -> Result<Bytes, ReadFault>
-    ensures { Gives result (option_map (λ (parts : PartsValue C). ignore_bytes parts.files.context) (parts_of C.reading bytes.now)) }
-{
-    match parts_of::<C>(alloc, bytes) {
-        Ok(parts) => {
-            let copied = Bytes::from_slice(alloc, ignore_bytes(parts.files.context.rows()));
-            drop(parts);
-            Ok(copied?)
-        }
-        Err(fault) => Err(fault),
-    }
 }
 
 /// Reads a bundle: JSON in any spelling, of at most 67,108,864 bytes. The context is filtered by its own file `/.dockerignore`, in several
