@@ -14,6 +14,9 @@ use Rattle.bundle.specs.declared.parts.Parts.{Parts}
 use Rattle.bundle.specs.declared.whole.Bundle.{Bundle}
 use Rattle.bundle.specs.Parts.{parts_in, parts_within, parts_of}
 use Rattle.bundle.specs.Reading.{Completes, ReadsBundle}
+use Rattle.bundle.specs.declared.whole.IgnoreFile.{IgnoreFile}
+use Rattle.bundle.specs.IgnoreFile.{ReadsIgnoreFile}
+use Rattle.bundle.specs.PrivateIgnore.{FindsIgnore}
 
 module _ {C : Type 0} (config : Data → Option C) where
   -- more bytes than the limit are no bundle
@@ -40,3 +43,9 @@ module _ {C : Type 0} (config : Data → Option C) where
   reads bytes parts (Ok bundle) e h = (parts, (e, h))
   reads bytes parts (Err (Because refusal)) e h = inr (parts, (e, h))
   reads bytes parts (Err Memory) e h = tt
+
+  -- what their context gives of an ignore file
+  pub ignore_read : (bytes : List ℕ) (parts : Parts C) (r : Result IgnoreFile (Fault Refusal)) → parts_of config bytes ≡ Some parts → FindsIgnore parts.files.context r → ReadsIgnoreFile config bytes r
+  ignore_read bytes parts (Ok file) e h = record { parts = parts; is = e; has = h }
+  ignore_read bytes parts (Err (Because refusal)) e h = inr (parts, (e, h))
+  ignore_read bytes parts (Err Memory) e h = tt

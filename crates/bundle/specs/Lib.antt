@@ -1,3 +1,5 @@
 pub mod Answer
+pub mod IgnoreFile
 pub mod Parts
+pub mod PrivateIgnore
 pub mod Reading

@@ -6,6 +6,8 @@ ghost use Rattle.serde_json.specs.Read.{read};
 ghost use Rattle.strict.specs.Gives.{Gives};
 ghost use Rattle.bundle.specs.Parts.{parts_in, parts_within, parts_of};
 ghost use Rattle.bundle.specs.Reading.{is_ignore_path, bytes_in, ignore_bytes, told_line, IsBundle, Completes, ReadsBundle};
+ghost use Rattle.bundle.specs.IgnoreFile.{ReadsIgnoreFile};
+ghost use Rattle.bundle.specs.PrivateIgnore.{FindsIgnore};
 
 use crate::parts::{Files, Named, Parts, read_parts};
 use cachemounts::CacheStore;
@@ -36,6 +38,15 @@ pub struct Bundle<C> {
     pub caches: CacheStore,
     /// The target's text, if one is given.
     pub target: Option<Text>,
+}
+
+/// The ignore file of a context.
+#[derive(Drop)]
+pub struct IgnoreFile {
+    /// Its bytes, none where the context has none.
+    pub bytes: Bytes,
+    /// The lines that these say.
+    pub lines: Ignore,
 }
 
 /// Whether a path is `/.dockerignore`.
@@ -171,6 +182,18 @@ fn complete<C: Drop>(
     }
 }
 
+/// The ignore file of a context, as it is listed.
+fn ignore_in(alloc: Global, context: &Listing) -> Result<IgnoreFile, Fault<Refusal>>
+    ensures { FindsIgnore context.now result }
+{
+    let bytes = Bytes::from_slice(alloc, ignore_bytes(context.rows()))?;
+    match Ignore::read(alloc, bytes.as_slice()) {
+        Ok(lines) => Ok(IgnoreFile { bytes, lines }),
+        Err(Fault::Because(bad)) => Err(Fault::Because(bad_ignore(bad.number))),
+        Err(Fault::Memory) => Err(Fault::Memory),
+    }
+}
+
 /// The parts of a bundle's text. What is lent of it ends here.
 fn parts_in_text<C: FromJson>(alloc: Global, text: &str) -> Result<Parts<C>, ReadFault>
     ensures { Gives result (option_and_then (parts_in C.reading) (read text.now)) }
@@ -225,6 +248,28 @@ pub fn read_bundle<C: FromJson>(
 {
     match parts_of(alloc, bytes) {
         Ok(parts) => complete(alloc, rt, parts),
+        Err(Fault::Because(_)) => Err(Fault::Because(Refusal {
+            code: Code::R20,
+            line: 0,
+        })),
+        Err(Fault::Memory) => Err(Fault::Memory),
+    }
+}
+
+/// Reads the ignore file of a bundle. The bundle is read whole, and its context isn't filtered. The refusals are those of `read_bundle`.
+pub fn read_ignore_file<C: FromJson>(
+    alloc: Global,
+    bytes: &[u8],
+) -> Result<IgnoreFile, Fault<Refusal>>
+    ensures { ReadsIgnoreFile C.reading bytes.now result }
+{
+    let parts: Result<Parts<C>, ReadFault> = parts_of(alloc, bytes);
+    match parts {
+        Ok(parts) => {
+            let found = ignore_in(alloc, &parts.files.context);
+            drop(parts);
+            found
+        }
         Err(Fault::Because(_)) => Err(Fault::Because(Refusal {
             code: Code::R20,
             line: 0,
