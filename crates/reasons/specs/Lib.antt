@@ -1,0 +1,2 @@
+pub mod PrivateReasons
+pub mod Reasons
