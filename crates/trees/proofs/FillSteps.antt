@@ -22,6 +22,10 @@ one_name : (tie : Bool) (now then_now old : Option Entry) → (tie ≡ true → 
 one_name true now then_now old h = h refl
 one_name false now then_now old h = refl
 
+either : (tie : Bool) (o : Option Entry) → cond tie o o ≡ o
+either true o = refl
+either false o = refl
+
 -- a child that was filled is one of children that were filled
 pub fill-kid : (old_kids kids : List (List ℕ × NodeValue)) (name : List ℕ) (rest : List (List ℕ)) (below : TreeMap) (kid before : NodeValue) → Some before ≡ lookup (is_at (name_cmp name)) old_kids → IsKid old_kids kids name kid
     → IsFilled (get (map_of before)) (get (map_of kid)) rest below → AreFilled (joined old_kids) (joined kids) name rest below
@@ -34,21 +38,35 @@ fill-kid old_kids kids name rest below kid before has changed h =
           ∙ (λ i. cond (eq_by_cmp name_cmp d name) (get (map_of kid) ds) (sym (get-joined old_kids d ds) i))
           ∙ one_name (eq_by_cmp name_cmp d name) (get (map_of kid) ds) (filled (λ q. get (joined old_kids) (d ∷ q)) below rest ds) (get (joined old_kids) (d ∷ ds))
           (λ tie. h.at (ap is_some (sym (here name refl rest)) ∙ some) ds ∙ (λ i. filled (λ q. sym (here d (name_same d name tie) q) i) below rest ds));
+      kept = λ none d ds.
+          get-joined kids d ds
+          ∙ ap (λ o. at_kid o ds) (find_changed old_kids kids name kid changed d)
+          ∙ pulled (eq_by_cmp name_cmp d name) (λ v. get (map_of v) ds) kid (find name_cmp d old_kids)
+          ∙ (λ i. cond (eq_by_cmp name_cmp d name) (get (map_of kid) ds) (sym (get-joined old_kids d ds) i))
+          ∙ one_name (eq_by_cmp name_cmp d name) (get (map_of kid) ds) (get (joined old_kids) (d ∷ ds)) (get (joined old_kids) (d ∷ ds))
+          (λ tie. h.kept (ap is_some (sym (here name refl rest)) ∙ none) ds ∙ sym (here d (name_same d name tie) ds))
+          ∙ either (eq_by_cmp name_cmp d name) (get (joined old_kids) (d ∷ ds));
     }
   where
     here : (d : List ℕ) → d ≡ name → (q : List (List ℕ)) → get (joined old_kids) (d ∷ q) ≡ get (map_of before) q
     here d same q = get-joined old_kids d q ∙ (λ i. at_kid (find name_cmp (same i) old_kids) q) ∙ ap (λ o. at_kid o q) (sym (has ∙ lookup-find name old_kids))
 
 -- where there is no such child, nothing stood at the path
-pub fill-none : (old_kids kids : List (List ℕ × NodeValue)) (name : List ℕ) (rest : List (List ℕ)) (below : TreeMap) → None ≡ lookup (is_at (name_cmp name)) old_kids → AreFilled (joined old_kids) (joined kids) name rest below
-fill-none old_kids kids name rest below none =
-    record { at = λ some. absurd (true≢false (sym some ∙ ap is_some (get-joined old_kids name rest ∙ ap (λ o. at_kid o rest) (sym (none ∙ lookup-find name old_kids))))) }
+pub fill-none : (old_kids kids : List (List ℕ × NodeValue)) (name : List ℕ) (rest : List (List ℕ)) (below : TreeMap) → None ≡ lookup (is_at (name_cmp name)) old_kids → kids ≡ old_kids → AreFilled (joined old_kids) (joined kids) name rest below
+fill-none old_kids kids name rest below none same =
+    record {
+      at = λ some. absurd (true≢false (sym some ∙ ap is_some (get-joined old_kids name rest ∙ ap (λ o. at_kid o rest) (sym (none ∙ lookup-find name old_kids)))));
+      kept = λ missing d ds. ap (λ (k : List (List ℕ × NodeValue)). get (joined k) (d ∷ ds)) same;
+    }
 
 -- children that were filled make a node that was
 pub fill-step : (value : NodeValue) (top : Entry) (old_kids kids : List (List ℕ × NodeValue)) (path : List (List ℕ)) (name : List ℕ) (below : TreeMap) → node_of top old_kids ≡ value → 1 ≤ length path → name ≡ get_or path 0 name → AreFilled (joined old_kids) (joined kids) name (take (length path - 1) (drop 1 path)) below
     → IsFilled (get (map_of value)) (get (map_of (node_of top kids))) path below
 fill-step value top old_kids kids path name below is more first h =
-    record { at = λ some q. filled_at ((λ i. is_some (get (map_of value) (sym (path-parts path name more first) i))) ∙ some) q ∙ (λ i. filled (get (map_of value)) below (sym (path-parts path name more first) i) q) }
+    record {
+      at = λ some q. filled_at ((λ i. is_some (get (map_of value) (sym (path-parts path name more first) i))) ∙ some) q ∙ (λ i. filled (get (map_of value)) below (sym (path-parts path name more first) i) q);
+      kept = λ none q. kept_at ((λ i. is_some (get (map_of value) (sym (path-parts path name more first) i))) ∙ none) q;
+    }
   where
     under : (d : List ℕ) (ds : List (List ℕ)) → get (joined old_kids) (d ∷ ds) ≡ get (map_of value) (d ∷ ds)
     under d ds = sym (get-map_of_cons (node_of top old_kids) d ds) ∙ (λ i. get (map_of (is i)) (d ∷ ds))
@@ -60,10 +78,21 @@ fill-step value top old_kids kids path name below is more first h =
         ∙ h.at (ap is_some (under name (take (length path - 1) (drop 1 path))) ∙ some) d ds
         ∙ (λ i. cond (eq_by_cmp name_cmp d name) (filled (λ q. under d q i) below (take (length path - 1) (drop 1 path)) ds) (under d ds i))
 
+    kept_at : is_some (get (map_of value) (name ∷ take (length path - 1) (drop 1 path))) ≡ false → (q : List (List ℕ)) → get (map_of (node_of top kids)) q ≡ get (map_of value) q
+    kept_at none [] = get-map_of_root (node_of top kids) ∙ sym ((λ i. get (map_of (sym is i)) []) ∙ get-map_of_root (node_of top old_kids))
+    kept_at none (d ∷ ds) = get-map_of_cons (node_of top kids) d ds ∙ h.kept (ap is_some (under name (take (length path - 1) (drop 1 path))) ∙ none) d ds ∙ under d ds
+
 -- the node itself
 pub fill-own : (value : NodeValue) (top : Entry) (old_kids kids : List (List ℕ × NodeValue)) (path : List (List ℕ)) (below : TreeMap) → node_of top old_kids ≡ value → length path < 1 → joined kids ≡ below → IsFilled (get (map_of value)) (get (map_of (node_of top kids))) path below
-fill-own value top old_kids kids path below is less same = record { at = λ some q. by q ∙ (λ i. filled (get (map_of value)) below (sym (empty-path path less) i) q) }
+fill-own value top old_kids kids path below is less same =
+    record {
+      at = λ some q. by q ∙ (λ i. filled (get (map_of value)) below (sym (empty-path path less) i) q);
+      kept = λ none. absurd (true≢false (sym (ap is_some own) ∙ (λ i. is_some (get (map_of value) (sym (empty-path path less) i))) ∙ none));
+    }
   where
+    own : get (map_of value) [] ≡ Some top
+    own = (λ i. get (map_of (sym is i)) []) ∙ get-map_of_root (node_of top old_kids)
+
     by : (q : List (List ℕ)) → get (map_of (node_of top kids)) q ≡ filled (get (map_of value)) below [] q
     by [] = get-map_of_root (node_of top kids) ∙ sym ((λ i. get (map_of (sym is i)) []) ∙ get-map_of_root (node_of top old_kids))
     by (c ∷ cs) = get-map_of_cons (node_of top kids) c cs ∙ ap (λ m. get m (c ∷ cs)) same

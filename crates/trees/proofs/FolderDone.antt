@@ -253,7 +253,7 @@ joined-none dest leaf top below = subst (IsJoined dest []) (sym (leaf-empty leaf
 -- ---- the changes of one match
 
 -- a match that is a directory is a tree of its own
-pub match-tree : (from : TreeMap) (path : Path) (folder : NodeValue) (told : Bool) → IsTree from → IsBelow from path (map_of folder) → told ≡ is_directory (Some folder.top) → told ≡ true → IsTree (map_of folder)
+match-tree : (from : TreeMap) (path : Path) (folder : NodeValue) (told : Bool) → IsTree from → IsBelow from path (map_of folder) → told ≡ is_directory (Some folder.top) → told ≡ true → IsTree (map_of folder)
 match-tree from path folder told from_is lies is t = below-IsTree from path (map_of folder) from_is (ap is_directory (own-entry from path folder lies) ∙ sym is ∙ t) lies
 
 pub match-joined : (o : CopyOptions) (from : TreeMap) (dest path : Path) (folder : NodeValue) (told : Bool) (joined : NodeValue) (new : TreeMap) → IsTree from → IsClean dest → IsBelow from path (map_of folder) → told ≡ is_directory (Some folder.top) → told ≡ true
@@ -368,12 +368,6 @@ free-none tree dest is none c cs = none-from _ (λ some. true≢false (sym (is.p
 -- and below a node that nothing is below
 pub free-bare : (tree : TreeMap) (dest : Path) (node : NodeValue) → IsBelow tree dest (map_of node) → node.below ≡ empty → IsFreeBelow tree dest
 free-bare tree dest node lies bare c cs = sym (lies.at (c ∷ cs)) ∙ get-map_of_cons node c cs ∙ ap (λ m. get m (c ∷ cs)) bare ∙ get-empty path_cmp (c ∷ cs)
-
--- no path of a folder is too deep where the folder stands
-pub few-here : (from folder : TreeMap) (path : Path) → IsTree from → IsBelow from path folder → (r : Path) → is_some (get folder r) ≡ true → length (path ++ r) ≤ 64
-few-here from folder path is lies r some =
-    let clean = is.clean (path ++ r) (ap is_some (sym (lies.at r)) ∙ some) in
-    clean.few
 
 -- changes that leave something begin
 pub is-whole : (tree : TreeMap) (dest : Path) (changes : List Change) (leaf folder : NodeValue) → leaf.top ≡ Directory directory_meta → leaf.below ≡ empty → IsFreeBelow tree dest → (name : List ℕ) × (is_some (get folder.below (name ∷ [])) ≡ true) → Joins dest changes (map_of leaf) (map_of folder)

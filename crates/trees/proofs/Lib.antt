@@ -22,6 +22,7 @@ mod CopySteps
 mod CopyRows
 mod FillSteps
 mod MeetSteps
+mod DepthSteps
 mod PlacedSteps
 mod FolderSteps
 mod FolderDone

@@ -13,7 +13,7 @@ use Rattle.trees.specs.declared.entry.Entry.{Entry}
 use Rattle.trees.specs.declared.entry.Entry.TheVariants.{Directory, File}
 use Rattle.paths.specs.Order.{name_cmp}
 use Rattle.trees.specs.TreeMap.{TreeMap, is_blocked, is_file, is_directory}
-use Rattle.trees.specs.PrivateNode.{NodeValue, map_of, laid_kid, AreLaid}
+use Rattle.trees.specs.PrivateNode.{NodeValue, map_of, joined, laid_kid, AreLaid}
 use Rattle.trees.specs.Over.{over}
 use Rattle.paths.proofs.FrontLaws.{name_same}
 use Rattle.trees.proofs.WayLaws.{is_blocked-cons}
@@ -128,6 +128,15 @@ changed_tree-more old upper now its rest new name kid kid' below changed_tree ne
 pub laid-start : (old upper its : List (List ℕ × NodeValue)) → its ≡ upper → IsStrictlySortedBy name_cmp (keys_of upper) → AreLaying old upper old its
 laid-start old upper its lent ordered =
     record { at = λ c. (λ i. laid_kid (find name_cmp c old) (find name_cmp c (lent i))); ordered = subst (λ (l : List (List ℕ × NodeValue)). IsStrictlySortedBy name_cmp (keys_of l)) (sym lent) ordered }
+
+-- what stands below children that were laid over others
+pub laid-get : (old upper new : List (List ℕ × NodeValue)) → AreLaid old upper new → (c : List ℕ) (cs : List (List ℕ)) → get (joined new) (c ∷ cs) ≡ option_or (get (joined upper) (c ∷ cs)) (cond (blocked_in (find name_cmp c upper) cs) None (get (joined old) (c ∷ cs)))
+laid-get old upper new laid c cs =
+    get-joined new c cs
+    ∙ alone (find name_cmp c new) cs
+    ∙ ap (λ o. in_map o cs) (laid.at c)
+    ∙ both (find name_cmp c old) (find name_cmp c upper) cs
+    ∙ (λ i. option_or (sym (get-joined upper c cs) i) (cond (blocked_in (find name_cmp c upper) cs) None (sym (get-joined old c cs) i)))
 
 -- what the test for a directory said of the upper node
 pub told_file : (up : NodeValue) (top : Entry) (kids : List (List ℕ × NodeValue)) (told : Bool) → node_of top kids ≡ up → told ≡ is_directory (Some top) → told ≡ false → is_directory (Some up.top) ≡ false

@@ -1,18 +1,15 @@
 -- The steps of a walk: it enters what comes next, and leaves a folder that has nothing left.
-use Rattle.std.specs.Prelude.{◌≡◌, ℕ, ◌+◌, ◌<◌, ◌≤◌, Bool, true, false, cond, Option, Some, None, List, [], ◌∷◌, ◌++◌, length, is_some, IsSome, MatchOption, vec_len, vec_capacity}
+use Rattle.std.specs.Prelude.{◌≡◌, ℕ, ◌+◌, ◌<◌, ◌≤◌, Option, Some, None, List, [], ◌∷◌, ◌++◌, length, IsSome, vec_len, vec_capacity}
 use Rattle.std.proofs.Common.{sym, ap, refl, ◌∙◌, subst, true≢false, arith, length-append, Bor}
 use Rattle.std.proofs.lemmas.List.{map-append, length-map}
 use Rattle.std.specs.List.{AllByRecursion}
 use Rattle.std.specs.Option.{option_to_list}
-use Rattle.std.specs.Ordering.{eq_by_cmp}
-use Rattle.std.specs.FinMap.{get, entries, get-entries, find}
+use Rattle.std.specs.FinMap.{entries}
 use Rattle.std.specs.declared.vec.Vec.{Vec}
 use Rattle.plain.specs.Limits.{most_components}
-use Rattle.paths.specs.Order.{path_cmp}
 use Rattle.paths.specs.Path.{IsClean}
-use Rattle.paths.proofs.FrontLaws.{path_same}
 use Rattle.trees.specs.declared.entry.Entry.{Entry}
-use Rattle.trees.specs.TreeMap.{TreeMap, IsTree}
+use Rattle.trees.specs.TreeMap.{IsTree}
 use Rattle.trees.specs.Rows.{lent_names}
 use Rattle.trees.specs.PrivateNode.{NodeValue, map_of, below_name}
 use Rattle.trees.specs.PrivateWalk.{rows_of, rows_left, IsOnWay}
@@ -131,33 +128,3 @@ begins names above kids root tree own no_names none_above room_names room_above 
       room_names = omega arith;
       room_above = omega arith;
     }
-
--- ---- a folder is gone through, to see how deep it is
-
--- what holds of each path in a list holds of each path at which something is found
-all-found : (P : List (List ℕ) → Type 0) (rows : List (List (List ℕ) × Entry)) → AllByRecursion (λ row. P row.0) rows → (q : List (List ℕ)) → is_some (find path_cmp q rows) ≡ true → P q
-all-found P [] h q s = absurd (true≢false (sym s))
-all-found P (row ∷ rows) h q s = by (eq_by_cmp path_cmp q row.0) refl s (all-found P rows h.1 q)
-  where
-    by : (tie : Bool) → eq_by_cmp path_cmp q row.0 ≡ tie → is_some (cond tie (Some row.1) (find path_cmp q rows)) ≡ true → (is_some (find path_cmp q rows) ≡ true → P q) → P q
-    by true t found later = subst P (sym (path_same q row.0 t)) h.0
-    by false t found later = later found
-
--- the paths of these rows have no more names than so many
-abbrev pub AreWithin : ℕ → List (List (List ℕ) × Entry) → Type 0
-AreWithin most rows = AllByRecursion (λ row. length row.0 ≤ most) rows
-
--- so no path of a tree has more, where all its rows are so
-pub within-rows : (tree : TreeMap) (most : ℕ) → AreWithin most (entries tree) → (q : List (List ℕ)) → is_some (get tree q) ≡ true → length q ≤ most
-within-rows tree most all q some = all-found (λ p. length p ≤ most) (entries tree) all q (ap is_some (sym (get-entries tree q)) ∙ some)
-
--- where the walk goes on from a row that is within, the rows before it are, if those to come are
-pub within-next : (most : ℕ) (next : Option (Bor Entry)) (names : List (Bor (List ℕ))) (at : List (List ℕ)) (left rest : List (List (List ℕ) × Entry)) → MatchOption next ((left ≡ []) × (rest ≡ [])) (λ entry. left ≡ (at, entry.now) ∷ rest) → is_some next ≡ true → lent_names names ≡ at → length names ≤ most → AreWithin most rest → AreWithin most left
-within-next most None names at left rest step some same few all = absurd (true≢false (sym some))
-within-next most (Some entry) names at left rest step some same few all =
-    subst (AreWithin most) (sym step) (subst (λ (p : List (List ℕ)). length p ≤ most) same (subst (λ n. n ≤ most) (sym (length-lent_names names)) few), all)
-
--- and where it has come to its end, there are none
-pub within-none : (most : ℕ) (next : Option (Bor Entry)) (at : List (List ℕ)) (left rest : List (List (List ℕ) × Entry)) → MatchOption next ((left ≡ []) × (rest ≡ [])) (λ entry. left ≡ (at, entry.now) ∷ rest) → is_some next ≡ false → AreWithin most left
-within-none most None at left rest step none = subst (AreWithin most) (sym step.0) tt
-within-none most (Some entry) at left rest step none = absurd (true≢false none)

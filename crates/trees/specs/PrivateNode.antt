@@ -14,6 +14,7 @@ use Rattle.std.specs.FinMap.Entries.{is_sorted, below_all}
 use Rattle.std.specs.FinMap.{get, insert, empty, entries, retain_keys, find, code}
 use Rattle.std.proofs.Common.{arith}
 use denote.Param.Weighed.{most}
+use Rattle.plain.specs.Limits.{most_components}
 use Rattle.paths.specs.Path.{is_at_or_under}
 use Rattle.trees.specs.declared.meta.Meta.{Meta}
 use Rattle.trees.specs.declared.entry.Entry.{Entry}
@@ -162,6 +163,10 @@ height_falls (part ∷ parts) =
     let e = height_of-append (arc_value part).entries (flat (lists_of parts)) in
     omega arith
 
+-- No path below a node has more names than this. A number greater than that of a tree's longest path says nothing.
+pub record IsDepth (depth : ℕ) (below : TreeMap) : Type 0 where
+  pub few : depth ≤ most_components → (path : List (List ℕ)) → is_some (get below path) ≡ true → length path ≤ depth
+
 -- the map of a node in which an entry stands at a path, `old` being what stood before
 pub record IsPlanted (old : List (List ℕ) → Option Entry) (new : TreeMap) (path : List (List ℕ)) (parent : Meta) (entry : Entry) : Type 0 where
   pub at : (q : List (List ℕ)) → get new q ≡ planted old path parent entry q
@@ -200,13 +205,15 @@ filled old below [] (c ∷ cs) = get below (c ∷ cs)
 filled old below (d ∷ ds) [] = old []
 filled old below (d ∷ ds) (c ∷ cs) = cond (eq_by_cmp name_cmp c d) (filled (λ q. old (c ∷ q)) below ds cs) (old (c ∷ cs))
 
--- what stood at each path, with other things below one at which something stood
+-- what stood at each path, with other things below one at which something stood; where nothing stood there, nothing has changed
 pub record IsFilled (old new : List (List ℕ) → Option Entry) (path : List (List ℕ)) (below : TreeMap) : Type 0 where
   pub at : is_some (old path) ≡ true → (q : List (List ℕ)) → new q ≡ filled old below path q
+  pub kept : is_some (old path) ≡ false → (q : List (List ℕ)) → new q ≡ old q
 
 -- the same below a node, where the path goes on from a name
 pub record AreFilled (old new : TreeMap) (name : List ℕ) (rest : List (List ℕ)) (below : TreeMap) : Type 0 where
   pub at : is_some (get old (name ∷ rest)) ≡ true → (d : List ℕ) (ds : List (List ℕ)) → get new (d ∷ ds) ≡ filled (get old) below (name ∷ rest) (d ∷ ds)
+  pub kept : is_some (get old (name ∷ rest)) ≡ false → (d : List ℕ) (ds : List (List ℕ)) → get new (d ∷ ds) ≡ get old (d ∷ ds)
 
 -- rows as they are seen from further up: each path below this one
 abbrev pub rows_under : List (List ℕ) → List (List (List ℕ) × Entry) → List (List (List ℕ) × Entry)

@@ -10,13 +10,13 @@ ghost use Rattle.paths.specs.Order.{name_cmp};
 ghost use Rattle.trees.specs.declared.children.Absent.{Absent};
 ghost use Rattle.trees.specs.Rows.{lent_rows};
 ghost use Rattle.trees.specs.Copy.{placements};
-ghost use Rattle.trees.specs.PrivateNode.{joined, rows_under, AreKids, ArePlanted, AreCut, AreFilled, AreLaid};
+ghost use Rattle.trees.specs.PrivateNode.{joined, IsDepth, rows_under, AreKids, ArePlanted, AreCut, AreFilled, AreLaid};
 ghost use Rattle.trees.specs.PrivateLent.{LendsKid};
 ghost use Rattle.trees.specs.PrivateCopy.{ArePlacedKids, MeetInDirectories};
 
 use crate::copy::Change;
 use crate::kids::Kids;
-use crate::node::Node;
+use crate::node::{Node, lifted};
 use crate::part::{
     Part, has_room, make_room, own, part_of_one, place, placed_parts, put, put_into, share,
     take_away,
@@ -107,6 +107,23 @@ impl Children {
         ensures ordered { IsStrictlySortedBy name_cmp (keys_of self.now) }
     {
         Kids::of(self.parts.as_slice())
+    }
+
+    /// How many names the longest path among these children and below them has, if they are no deeper than `most`. It goes through them
+    /// until one of them is as deep as that.
+    pub(crate) fn depth(&self, most: usize) -> usize
+        requires { IsDepth most (joined self.now) }
+        ensures { IsDepth result (joined self.now) }
+    {
+        let mut depth: usize = 0;
+        let mut kids = self.iter();
+        while let Some((_, kid)) = kids.next() {
+            depth = depth.max(lifted(kid.depth(), 1));
+            if depth >= most {
+                return most;
+            }
+        }
+        depth
     }
 
     /// Whether there are none.
@@ -252,24 +269,30 @@ impl Children {
         Ok(Children { parts })
     }
 
-    /// Lays other children over these. Where there is no memory, these are left half done.
+    /// Lays other children over these, and answers whether one of these is less deep than before. Where there is no memory, they are
+    /// left half done.
     #[cycle(laying)]
-    pub(crate) fn lay_over(&mut self, alloc: Global, upper: &Children) -> Result<(), Memory>
+    pub(crate) fn lay_over(&mut self, alloc: Global, upper: &Children) -> Result<bool, Memory>
         ensures { OnOk result (AreLaid self.old upper.now self.new) }
     {
         if self.is_none() {
             *self = upper.copy(alloc)?;
-            return Ok(());
+            return Ok(false);
         }
+        let mut is_less = false;
         let mut uppers = upper.iter();
         while let Some((name, kid)) = uppers.next() {
             match self.own_mut(alloc, name) {
-                Ok(below) => below.lay_over(alloc, kid)?,
+                Ok(below) => {
+                    if below.lay_over(alloc, kid)? {
+                        is_less = true;
+                    }
+                }
                 Err(Fault::Because(_)) => self.insert(alloc, name, kid.copy(alloc)?)?,
                 Err(Fault::Memory) => return Err(Memory),
             }
         }
-        Ok(())
+        Ok(is_less)
     }
 }
 

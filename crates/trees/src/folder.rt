@@ -13,7 +13,7 @@ ghost use Rattle.trees.specs.PrivateNode.{map_of};
 use crate::apply::{apply_all, make};
 use crate::changes::{changes_of, goes_into};
 use crate::node::Node;
-use crate::{CopyOptions, CopySource, Entry, Meta, Tree, TreeFault, Walk};
+use crate::{CopyOptions, CopySource, Entry, Meta, Tree, TreeFault};
 use paths::Path;
 use plain::Memory;
 use plain::limits::MOST_COMPONENTS;
@@ -130,7 +130,7 @@ fn join_paths(
     Ok(true)
 }
 
-/// Does the same with one match. Whether a path gets too deep is asked late, since the folder may have to be gone through for it.
+/// Does the same with one match.
 fn join_match(
     alloc: Global,
     joined: &mut Node,
@@ -145,7 +145,7 @@ fn join_match(
     let Some(folder) = from.node_at(path) else {
         return Ok(false);
     };
-    if !folder.is_directory() || joined.meets(folder) || !fits(alloc, folder, path, dest) {
+    if !folder.is_directory() || !fits(folder, dest) || joined.meets(folder) {
         return Ok(false);
     }
     lay_placed(alloc, joined, options, folder)?;
@@ -162,10 +162,12 @@ fn lay_placed(
     ensures { OnOk result (IsLaidPlaced options.now (map_of joined.old) folder.now (map_of joined.new)) }
 {
     if is_keeping(options) {
-        return joined.lay_over(alloc, folder);
+        joined.lay_over(alloc, folder)?;
+        return Ok(());
     }
     let placed = folder.placed(alloc, options)?;
-    joined.lay_over(alloc, &placed)
+    joined.lay_over(alloc, &placed)?;
+    Ok(())
 }
 
 /// Whether entries are placed with their own modes and owners.
@@ -187,32 +189,12 @@ fn is_free_below(root: &Node, path: &Path) -> bool
     }
 }
 
-/// Whether no path of a folder gets too deep below a destination. None does where that is no deeper than the path that the folder
-/// stands at; else the folder is gone through.
-fn fits(alloc: Global, folder: &Node, path: &Path, dest: &Path) -> bool
-    requires tree { IsTree (map_of folder.now) }
-    requires clean { IsClean dest.now }
-    requires few { (rest : List (List ℕ)) → is_some (get (map_of folder.now) rest) ≡ true → length (path.now ++ rest) ≤ 64 }
+/// Whether no path of a folder gets too deep below a destination.
+fn fits(folder: &Node, dest: &Path) -> bool
+    requires { IsClean dest.now }
     ensures { IsTrue result → (rest : List (List ℕ)) → is_some (get (map_of folder.now) rest) ≡ true → length (dest.now ++ rest) ≤ 64 }
 {
-    dest.depth() <= path.depth() || is_within(alloc, folder, MOST_COMPONENTS - dest.depth())
-}
-
-/// Whether no path of a folder has more names than these. Where there is no memory for the walk through it the answer is no, and
-/// the COPY goes entry by entry, which tells the want of memory itself.
-fn is_within(alloc: Global, folder: &Node, most: usize) -> bool
-    requires { IsTree (map_of folder.now) }
-    ensures { IsTrue result → (path : List (List ℕ)) → is_some (get (map_of folder.now) path) ≡ true → length path ≤ most }
-{
-    let Ok(mut walk) = Walk::of(alloc, folder) else {
-        return false;
-    };
-    while walk.next().is_some() {
-        if walk.names().len() > most {
-            return false;
-        }
-    }
-    true
+    folder.depth() <= MOST_COMPONENTS - dest.depth()
 }
 
 /// Makes the destination, and shares what is below a folder below it, in place of what was there. After a fault the root is left half done.

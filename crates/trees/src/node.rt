@@ -1,11 +1,12 @@
-ghost use Rattle.std.specs.Prelude.{◌≡◌, ◌↔◌, ◌<◌, ℕ, true, false, Some, None, List, [], ◌∷◌, ◌++◌, is_some, drop, length, IsTrue, IfOk, OnOk, OnErr, MatchOption, option_copied, option_and_then};
+ghost use Rattle.std.specs.Prelude.{◌≡◌, ◌↔◌, ◌<◌, ◌≤◌, ◌+◌, ℕ, true, false, Some, None, List, [], ◌∷◌, ◌++◌, is_some, drop, length, IsTrue, IfOk, OnOk, OnErr, MatchOption, option_copied, option_and_then};
 ghost use Rattle.std.specs.FinMap.{get, empty, entries};
 ghost use Rattle.paths.specs.Path.{IsClean};
 ghost use Rattle.trees.specs.TreeMap.{is_blocked, is_directory, meta_of};
 ghost use Rattle.trees.specs.Rows.{lent_rows};
 ghost use Rattle.trees.specs.Over.{over};
 ghost use Rattle.trees.specs.Copy.{placements, kind_of};
-ghost use Rattle.trees.specs.PrivateNode.{map_of, IsPlanted, IsBelow, IsCut, IsFilled, rows_under};
+ghost use Rattle.plain.specs.Limits.{most_components};
+ghost use Rattle.trees.specs.PrivateNode.{map_of, joined, IsDepth, IsPlanted, IsBelow, IsCut, IsFilled, rows_under};
 ghost use Rattle.trees.specs.PrivateWalk.{rows_of};
 ghost use Rattle.trees.specs.PrivateCopy.{IsPlacedNode, MeetInDirectories};
 
@@ -14,23 +15,30 @@ use crate::copy::Change;
 use crate::kids::Kids;
 use crate::{CopyOptions, Entry, Meta};
 use paths::{LongPath, Path};
+use plain::limits::MOST_COMPONENTS;
 use plain::{Exact, Memory, Text};
 use std::alloc::Global;
 use std::marker::Model;
 
+/// A depth that says nothing: no path of a tree has so many names.
+const UNKNOWN: usize = MOST_COMPONENTS + 1;
+
 /// An entry, with all that stands below it by the names of its directory. A file has no children.
 ///
-/// A copy of a node has the same entry and shares what is below it.
+/// A copy of a node has the same entry and shares what is below it. So a small tree may stand for more paths than can be gone through, and
+/// a node knows how deep it is.
 #[derive(Drop)]
 #[cycle(nodes)]
 pub(crate) struct Node {
     entry: Entry,
     kids: Children,
+    /// How many names the longest path below this node has.
+    depth: usize,
 }
 
 impl Model for Node {
     ghost use Rattle.std.specs.Prelude.{◌+◌};
-    ghost use Rattle.trees.specs.PrivateNode.{NodeValue, node_code, joined, height_of};
+    ghost use Rattle.trees.specs.PrivateNode.{NodeValue, node_code, joined, height_of, IsDepth};
     ghost use Rattle.std.proofs.Common.{arith};
 
     ghost Value = { NodeValue };
@@ -38,6 +46,8 @@ impl Model for Node {
     ghost coded = { node_code };
 
     ghost view = { λ n. record { top = n.entry; below = joined n.kids; height = height_of n.kids + 1 } };
+
+    ghost invariant = { λ n. IsDepth n.depth (joined n.kids) };
 
     ghost size = { λ v. v.height };
 
@@ -53,7 +63,15 @@ impl Node {
         Node {
             entry,
             kids: Children::none(alloc),
+            depth: 0,
         }
+    }
+
+    /// How many names the longest path below this node has. More than a path may have say nothing.
+    pub(crate) fn depth(&self) -> usize
+        ensures { IsDepth result self.now.below }
+    {
+        self.depth
     }
 
     /// The mode and owner of this node's entry.
@@ -156,6 +174,7 @@ impl Node {
                 Ok(Node {
                     entry: Entry::Directory(parent),
                     kids: Children::one(alloc, name, kid)?,
+                    depth: path.len(),
                 })
             }
         }
@@ -179,7 +198,10 @@ impl Node {
                 self.entry = entry;
                 Ok(())
             }
-            [name, rest @ ..] => self.kids.plant(alloc, name, rest, parent, entry),
+            [name, rest @ ..] => {
+                self.depth = self.depth.max(path.len());
+                self.kids.plant(alloc, name, rest, parent, entry)
+            }
         }
     }
 }
@@ -199,7 +221,11 @@ impl Node {
     {
         let entry = self.entry.copy(alloc)?;
         let kids = self.kids.copy(alloc)?;
-        Ok(Node { entry, kids })
+        Ok(Node {
+            entry,
+            kids,
+            depth: self.depth,
+        })
     }
 
     /// Adds a row for each entry, in path order, this node's own path being `at`.
@@ -239,20 +265,30 @@ impl Node {
     {
         let entry = options.placed_entry(alloc, &self.entry)?;
         let kids = self.kids.placed(alloc, options)?;
-        Ok(Node { entry, kids })
+        Ok(Node {
+            entry,
+            kids,
+            depth: self.depth,
+        })
     }
 
-    /// Lays another node over this one. Where there is no memory, this one is left half done.
+    /// Lays another node over this one, and answers whether this one is less deep than before. Where there is no memory, it is left
+    /// half done.
     #[cycle(laying)]
-    pub(crate) fn lay_over(&mut self, alloc: Global, upper: &Node) -> Result<(), Memory>
+    pub(crate) fn lay_over(&mut self, alloc: Global, upper: &Node) -> Result<bool, Memory>
         ensures { OnOk result (map_of self.new ≡ over (map_of self.old) (map_of upper.now)) }
     {
+        let before = self.depth;
         if !upper.entry.is_directory() {
             *self = upper.copy(alloc)?;
-            return Ok(());
+            return Ok(before > 0);
         }
         self.entry = upper.entry.copy(alloc)?;
-        self.kids.lay_over(alloc, &upper.kids)
+        let deepest = before.max(upper.depth);
+        self.depth = UNKNOWN;
+        let is_less = self.kids.lay_over(alloc, &upper.kids)?;
+        self.depth = depth_of(&self.kids, deepest, is_less);
+        Ok(self.depth < before)
     }
 
     /// Puts what is below a folder below the node at a path, if there is one, in place of what was below that. All of it is shared.
@@ -263,9 +299,16 @@ impl Node {
         match path {
             [] => {
                 self.kids = folder.kids.copy(alloc)?;
+                self.depth = folder.depth;
                 Ok(())
             }
-            [name, rest @ ..] => self.kids.fill(alloc, name, rest, folder),
+            [name, rest @ ..] => {
+                let deepest = self.depth.max(lifted(folder.depth, path.len()));
+                self.depth = UNKNOWN;
+                self.kids.fill(alloc, name, rest, folder)?;
+                self.depth = deepest;
+                Ok(())
+            }
         }
     }
 
@@ -295,7 +338,42 @@ impl Node {
     {
         match path {
             [] => Ok(()),
-            [name, rest @ ..] => self.kids.cut(alloc, name, rest),
+            [name, rest @ ..] => {
+                let is_deepest = self.is_deepest(name);
+                self.kids.cut(alloc, name, rest)?;
+                self.depth = depth_of(&self.kids, self.depth, is_deepest);
+                Ok(())
+            }
         }
     }
+
+    /// Whether no child is deeper than the one of a name. It is asked only to save going through all of them.
+    fn is_deepest(&self, name: &Text) -> bool {
+        match self.kids.get(name) {
+            Some(kid) => lifted(kid.depth, 1) >= self.depth,
+            None => false,
+        }
+    }
+}
+
+/// How deep children are that are no deeper than `deepest`, and as deep as that unless one of them is less deep than before.
+fn depth_of(kids: &Children, deepest: usize, is_less: bool) -> usize
+    requires { IsDepth deepest (joined kids.now) }
+    ensures { IsDepth result (joined kids.now) }
+{
+    if is_less {
+        kids.depth(deepest)
+    } else {
+        deepest
+    }
+}
+
+/// How deep it is below a node where it is so deep so many names further down.
+pub(crate) fn lifted(depth: usize, names: usize) -> usize
+    ensures { result ≤ most_components → depth + names ≤ result }
+{
+    if depth > MOST_COMPONENTS || names > MOST_COMPONENTS {
+        return UNKNOWN;
+    }
+    depth + names
 }

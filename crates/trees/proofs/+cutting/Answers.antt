@@ -3,15 +3,20 @@ use Rattle.std.proofs.lemmas.Result.{on_ok_weaker, on_err_weaker}
 use Rattle.trees.proofs.NodeSteps.{keep-kid}
 use Rattle.trees.proofs.CutSteps.{cut-kid, cut-step, cut-empty, cut-none, kids-kept}
 use Rattle.std.proofs.Common.{◌≡◌, ◌+◌, ◌<◌, arith}
-use Rattle.trees.specs.PrivateNode.{height_of}
+use Rattle.trees.specs.PrivateNode.{height_of, joined}
 use Rattle.trees.proofs.CutSteps.{long-path}
 use Rattle.std.specs.Prelude.{is_ok}
 use Rattle.trees.proofs.NodeSteps.{is-kid, at-err, there, found-lower}
+use Rattle.trees.proofs.DepthSteps.{depth-cut}
 use Rattle.trees.proofs.+cutting.Goals as goal
 
-pub node::Node::cut-returns-in-len1-up-clause-ok : goal.node::Node::cut-returns-in-len1-up-clause-ok
-node::Node::cut-returns-in-len1-up-clause-ok t c =
-    on_ok_weaker _ (cut-step _ _ c.self.inside.kids c.cut.new.self _ c.name-item.result c.self.view_is c.in-len1-up.len_at_least c.name-item.is) c.cut.ensures.ok
+pub node::Node::cut-returns-in_ok-cut-in-len1-up-clause-ok : goal.node::Node::cut-returns-in_ok-cut-in-len1-up-clause-ok
+node::Node::cut-returns-in_ok-cut-in-len1-up-clause-ok t c =
+    cut-step _ _ c.self.inside.kids c.cut.new.self _ c.name-item.result c.self.view_is c.in-len1-up.len_at_least c.name-item.is c.in_ok-cut-in-len1-up.ensures.ok
+
+pub node::Node::cut-depth_of-self-inside-requires : goal.node::Node::cut-depth_of-self-inside-requires
+node::Node::cut-depth_of-self-inside-requires t c =
+    depth-cut c.self.inside.depth (joined c.self.inside.kids) (joined c.cut.new.self) c.name-item.result _ c.in_ok-cut-in-len1-up.ensures.ok c.self.invariant
 
 pub children::Children::cut-cut-requires : goal.children::Children::cut-cut-requires
 children::Children::cut-cut-requires t c =

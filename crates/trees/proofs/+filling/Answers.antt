@@ -1,16 +1,25 @@
-use Rattle.std.proofs.Common.{◌∙◌, ap}
+use Rattle.std.proofs.Common.{◌∙◌, ap, subst}
 use Rattle.std.proofs.lemmas.Result.{on_ok_weaker}
-use Rattle.trees.specs.PrivateNode.{NodeValue, joined}
+use Rattle.trees.specs.PrivateNode.{NodeValue, joined, IsDepth}
 use Rattle.trees.proofs.FillSteps.{fill-kid, fill-none, fill-step, fill-own}
 use Rattle.std.proofs.Common.{◌≡◌, ◌+◌, ◌<◌, Some, None, arith}
 use Rattle.trees.specs.PrivateNode.{height_of}
 use Rattle.std.specs.Prelude.{is_ok}
-use Rattle.trees.proofs.NodeSteps.{is-kid, there, found-lower}
+use Rattle.trees.proofs.NodeSteps.{is-kid, at-err, there, found-lower}
+use Rattle.trees.proofs.DepthSteps.{depth-filled, max-left, max-right}
 use Rattle.trees.proofs.+filling.Goals as goal
 
-pub node::Node::fill-returns-in-len1-up : goal.node::Node::fill-returns-in-len1-up
-node::Node::fill-returns-in-len1-up t c =
-    on_ok_weaker _ (fill-step _ _ c.self.inside.kids c.fill.new.self _ c.name-item.result _ c.self.view_is c.in-len1-up.len_at_least c.name-item.is) c.fill.ensures
+pub node::Node::fill-returns-in_ok-fill-in-len1-up : goal.node::Node::fill-returns-in_ok-fill-in-len1-up
+node::Node::fill-returns-in_ok-fill-in-len1-up t c =
+    fill-step _ _ c.self.inside.kids c.fill.new.self _ c.name-item.result _ c.self.view_is c.in-len1-up.len_at_least c.name-item.is c.in_ok-fill-in-len1-up.ensures
+
+pub node::Node::fill-invariant_of-self-in-len1-up : goal.node::Node::fill-invariant_of-self-in-len1-up
+node::Node::fill-invariant_of-self-in-len1-up t c =
+    let d = c.self.inside.depth in
+    let l = c.lifted.result in
+    let e = c.max-deepest.result in
+    depth-filled d c.folder.inside.depth l e (joined c.self.inside.kids) (joined c.fill.new.self) c.args.path.now c.name-item.result _ c.in-len1-up.len_at_least c.name-item.is (max-left d l e c.max-deepest.ensures) (max-right d l e c.max-deepest.ensures) c.lifted.ensures c.in_ok-fill-in-len1-up.ensures c.self.invariant
+    (subst (λ (n : NodeValue). IsDepth c.folder.inside.depth n.below) c.folder.view_is c.folder.invariant)
 
 pub node::Node::fill-returns-in_ok-self-inside-in-empty : goal.node::Node::fill-returns-in_ok-self-inside-in-empty
 node::Node::fill-returns-in_ok-self-inside-in-empty t c =
@@ -38,3 +47,4 @@ children::Children::fill-returns-in-Ok t c =
 pub children::Children::fill-returns-in-Err-Because : goal.children::Children::fill-returns-in-Err-Because
 children::Children::fill-returns-in-Err-Because t c =
     fill-none c.args.self.now c.own_mut.follows.lender-at-none c.args.name.now _ _ (there c.args.self.now c.args.name.now None (c.in-Err-Because.ensures.absent c.in-Err-Because.field-0-0 c.in-Err-Because.field-0-is))
+    (at-err c.own_mut.result c.in-Err-Because.field-0 c.in-Err-Because.is c.own_mut.follows.holds-at-none)

@@ -1,10 +1,10 @@
 use Rattle.std.proofs.Common.{ap, sym, ◌∙◌, [], ◌∷◌, ◌++◌, ◌≡◌, ◌<◌, ◌+◌, Some, None, arith}
-use Rattle.std.proofs.lemmas.Result.{on_ok_weaker}
 use Rattle.trees.specs.PrivateNode.{map_of, height_of}
 use Rattle.std.specs.Prelude.{is_ok}
 use Rattle.trees.proofs.NodeSteps.{is-kid, at-err, kids-from, there, kid-lower}
 use Rattle.trees.proofs.KidLists.{found-among, passed-more}
 use Rattle.trees.proofs.OverSteps.{over-file, told_file, laid-end, laid-start, laid-done, changed_tree-more}
+use Rattle.trees.proofs.DepthSteps.{depth-laid, max-left, max-right}
 use Rattle.trees.proofs.+laying.Goals as goal
 
 pub node::Node::lay_over-returns-then-not-is_directory : goal.node::Node::lay_over-returns-then-not-is_directory
@@ -14,7 +14,14 @@ node::Node::lay_over-returns-then-not-is_directory t c =
 
 pub node::Node::lay_over-returns : goal.node::Node::lay_over-returns
 node::Node::lay_over-returns t c =
-    on_ok_weaker _ (laid-end _ _ c.self.inside.entry _ c.upper.inside.entry c.self.inside.kids c.upper.inside.kids c.lay_over.new.self _ c.self.view_is c.upper.view_is c.is_directory.ensures c.if-not-is_directory.false c.in_ok-self-inside-2.ensures) c.lay_over.ensures
+    laid-end _ _ c.self.inside.entry _ c.upper.inside.entry c.self.inside.kids c.upper.inside.kids c.lay_over.new.self _ c.self.view_is c.upper.view_is c.is_directory.ensures c.if-not-is_directory.false c.in_ok-self-inside-2.ensures c.in_ok-is_less.ensures
+
+pub node::Node::lay_over-depth_of-self-inside-requires : goal.node::Node::lay_over-depth_of-self-inside-requires
+node::Node::lay_over-depth_of-self-inside-requires t c =
+    let d = c.self.inside.depth in
+    let f = c.upper.inside.depth in
+    let e = c.max-deepest.result in
+    depth-laid d f e c.self.inside.kids c.upper.inside.kids c.lay_over.new.self c.in_ok-is_less.ensures (max-left d f e c.max-deepest.ensures) (max-right d f e c.max-deepest.ensures) c.self.invariant c.upper.invariant
 
 pub children::Children::lay_over-loop-name-init : goal.children::Children::lay_over-loop-name-init
 children::Children::lay_over-loop-name-init t c = (laid-start c.args.self.now c.args.upper.now c.iter-uppers.result c.iter-uppers.ensures.all c.iter-uppers.ensures.ordered, ([], c.iter-uppers.ensures.all))
@@ -27,8 +34,15 @@ children::Children::lay_over-lay_over-requires t c =
     let g : c.in-Some.kid.now.height + c.in-Some.kid.now.height < t = omega arith in
     (g, tt)
 
-pub children::Children::lay_over-loop-name-preserved-in_ok-lay_over-in-Ok : goal.children::Children::lay_over-loop-name-preserved-in_ok-lay_over-in-Ok
-children::Children::lay_over-loop-name-preserved-in_ok-lay_over-in-Ok t c =
+pub children::Children::lay_over-loop-name-preserved-then-branch : goal.children::Children::lay_over-loop-name-preserved-then-branch
+children::Children::lay_over-loop-name-preserved-then-branch t c =
+    let new = c.own_mut.follows.lender c.lay_over.new.self in (
+      changed_tree-more _ _ _ _ _ new c.in-Some.name.now c.in-Some.kid.now c.lay_over.new.self (Some c.in-Ok.below.now) c.loop-name.invariant.0 c.in-Some.ensures (there c.loop-name.self c.in-Some.name.now (Some c.in-Ok.below.now) c.in-Ok.ensures.kid) (is-kid c.loop-name.self new c.in-Some.name.now c.lay_over.new.self (c.own_mut.follows.holds c.lay_over.new.self (ap is_ok c.in-Ok.is))) (ap Some c.in_ok-lay_over-in-Ok.ensures),
+      (c.loop-name.invariant.1.0 ++ (c.in-Some.name.now, c.in-Some.kid.now) ∷ [], passed-more c.args.upper.now c.loop-name.invariant.1.0 c.next.new.self c.loop-name.uppers c.in-Some.name.now c.in-Some.kid.now c.loop-name.invariant.1.1 c.in-Some.ensures),
+    )
+
+pub children::Children::lay_over-loop-name-preserved-else-branch : goal.children::Children::lay_over-loop-name-preserved-else-branch
+children::Children::lay_over-loop-name-preserved-else-branch t c =
     let new = c.own_mut.follows.lender c.lay_over.new.self in (
       changed_tree-more _ _ _ _ _ new c.in-Some.name.now c.in-Some.kid.now c.lay_over.new.self (Some c.in-Ok.below.now) c.loop-name.invariant.0 c.in-Some.ensures (there c.loop-name.self c.in-Some.name.now (Some c.in-Ok.below.now) c.in-Ok.ensures.kid) (is-kid c.loop-name.self new c.in-Some.name.now c.lay_over.new.self (c.own_mut.follows.holds c.lay_over.new.self (ap is_ok c.in-Ok.is))) (ap Some c.in_ok-lay_over-in-Ok.ensures),
       (c.loop-name.invariant.1.0 ++ (c.in-Some.name.now, c.in-Some.kid.now) ∷ [], passed-more c.args.upper.now c.loop-name.invariant.1.0 c.next.new.self c.loop-name.uppers c.in-Some.name.now c.in-Some.kid.now c.loop-name.invariant.1.1 c.in-Some.ensures),

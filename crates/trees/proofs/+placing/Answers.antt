@@ -7,6 +7,7 @@ use Rattle.paths.proofs.FrontLaws.{both_first, both_second}
 use Rattle.trees.specs.PrivateNode.{NodeValue, height_of, lists_of, flat, are_full}
 use Rattle.trees.proofs.KidLists.{keys-from_sorted}
 use Rattle.trees.proofs.PlacedSteps.{part-step, parts-step, parts-done, part-low, none-left, node-placed}
+use Rattle.trees.proofs.DepthSteps.{depth-placed}
 use Rattle.trees.proofs.+placing.Goals as goal
 
 pub node::Node::placed-placed-requires : goal.node::Node::placed-placed-requires
@@ -17,6 +18,12 @@ node::Node::placed-placed-requires t c =
     let d : h + h + h + h ≡ t = c.decreases in
     let g : k + k + k + k + 3 < t = omega arith in
     (g, tt)
+
+pub node::Node::placed-invariant_of-result : goal.node::Node::placed-invariant_of-result
+node::Node::placed-invariant_of-result t c =
+    depth-placed c.self.inside.depth c.args.options.now c.args.self.now c.self.inside.entry c.in_ok-entry.entry c.self.inside.kids c.in_ok-kids.kids c.self.view_is
+    (node-placed c.args.options.now c.args.self.now c.self.inside.entry c.in_ok-entry.entry c.self.inside.kids c.in_ok-kids.kids c.self.view_is c.in_ok-entry.ensures c.in_ok-kids.ensures.ordered c.in_ok-kids.ensures.placed)
+    c.self.invariant
 
 pub node::Node::placed-returns : goal.node::Node::placed-returns
 node::Node::placed-returns t c =

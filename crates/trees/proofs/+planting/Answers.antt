@@ -1,16 +1,18 @@
 use Rattle.std.proofs.Common.{ap, ◌∙◌, sym, refl, subst, cond, IsSome, Option}
 use Rattle.std.proofs.lemmas.Result.{on_ok_weaker, on_err_weaker}
 use Rattle.trees.proofs.NodeSteps.{own-planted, plant-kid, plant-step, keep-kid}
-use Rattle.std.proofs.Common.{◌≡◌, ◌+◌, ◌<◌, Some, None, arith}
+use Rattle.std.proofs.Common.{◌≡◌, ◌+◌, ◌<◌, ◌≤◌, Some, None, arith, length}
 use Rattle.std.specs.Map.{lookup, keys_of}
 use Rattle.std.specs.Arc.{arc_with_value}
 use Rattle.std.specs.BTreeMap.{is_at}
 use Rattle.std.specs.FinMap.{find}
 use Rattle.paths.specs.Order.{name_cmp}
-use Rattle.trees.specs.PrivateNode.{NodeValue, height_of, flat, joined}
+use Rattle.trees.specs.TreeMap.{TreeMap}
+use Rattle.trees.specs.PrivateNode.{NodeValue, height_of, flat, joined, IsDepth}
 use Rattle.trees.proofs.NodeLaws.{lookup-find}
 use Rattle.trees.proofs.NodeSteps.{is-kid, kids-from, there}
 use Rattle.trees.proofs.PartSteps.{none-found, place-of, item-same, item-same_parts, item-keys, item-found, item-changed, found-changed, put-parts, put-kids, put-from, either-way, anyway}
+use Rattle.trees.proofs.DepthSteps.{depth-planted, depth-more, max-left, max-right}
 use Rattle.trees.proofs.+planting.Goals as goal
 
 pub node::Node::plant-returns-in-empty-clause-ok : goal.node::Node::plant-returns-in-empty-clause-ok
@@ -19,6 +21,15 @@ node::Node::plant-returns-in-empty-clause-ok t c = own-planted _ _ _ _ _ _ c.sel
 pub node::Node::plant-returns-in-len1-up-clause-ok : goal.node::Node::plant-returns-in-len1-up-clause-ok
 node::Node::plant-returns-in-len1-up-clause-ok t c =
     on_ok_weaker _ (plant-step _ _ c.self.inside.kids c.plant.new.self _ c.name-item.result _ _ c.self.view_is c.in-len1-up.len_at_least c.name-item.is) c.plant.ensures.ok
+
+pub node::Node::plant-invariant_of-self-in-len1-up : goal.node::Node::plant-invariant_of-self-in-len1-up
+node::Node::plant-invariant_of-self-in-len1-up t c =
+    let d = c.self.inside.depth in
+    let e = c.max-self-inside.result in
+    let less : d ≤ e = max-left d (length c.args.path.now) e c.max-self-inside.ensures in
+    either-way c.plant.result c.plant.ensures.ok c.plant.ensures.err
+    (λ done. depth-planted d e (joined c.self.inside.kids) (joined c.plant.new.self) c.args.path.now c.name-item.result _ _ c.in-len1-up.len_at_least c.name-item.is less (max-right d (length c.args.path.now) e c.max-self-inside.ensures) done c.self.invariant)
+    (λ kept. subst (λ (m : TreeMap). IsDepth e m) (sym kept) (depth-more d e (joined c.self.inside.kids) less c.self.invariant))
 
 pub node::Node::plant-plant-requires : goal.node::Node::plant-plant-requires
 node::Node::plant-plant-requires t c =

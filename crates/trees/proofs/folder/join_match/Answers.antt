@@ -1,13 +1,5 @@
-use Rattle.trees.specs.PrivateNode.{map_of}
-use Rattle.trees.proofs.FolderDone.{few-here, match-joined, match-tree}
+use Rattle.trees.proofs.FolderDone.{match-joined}
 use Rattle.trees.proofs.folder.join_match.Goals as goal
-
-pub fits-requires : goal.fits-requires
-fits-requires c = record {
-  tree = match-tree c.args.from.now c.args.path.now c.in-Some.folder.now c.is_directory.result c.in-Some.ensures.tree c.in-Some.ensures.at c.is_directory.ensures c.if-not-is_directory.false;
-  clean = c.requires;
-  few = few-here c.args.from.now (map_of c.in-Some.folder.now) c.args.path.now c.in-Some.ensures.tree c.in-Some.ensures.at;
-}
 
 pub returns : goal.returns
 returns c = λ t.
