@@ -3,6 +3,8 @@ use Rattle.std.specs.Prelude.{◌≡◌, ℕ, max, ◌+◌, ◌-◌, ◌<◌, �
 use Rattle.std.proofs.Common.{sym, ap, refl, ◌∙◌, subst, true≢false, arith, length-append}
 use Rattle.std.specs.Option.{option_or}
 use Rattle.std.specs.Ordering.{eq_by_cmp}
+use Rattle.std.specs.List.Sorted.{IsStrictlySortedBy}
+use Rattle.std.specs.Map.{keys_of}
 use Rattle.std.specs.FinMap.{get, find, get-empty}
 use Rattle.plain.specs.Limits.{most_components}
 use Rattle.paths.specs.Path.{is_at_or_under}
@@ -15,10 +17,11 @@ use Rattle.trees.specs.declared.entry.Entry.TheVariants.{Directory}
 use Rattle.trees.specs.declared.copy.CopyOptions.{CopyOptions}
 use Rattle.trees.specs.TreeMap.{TreeMap}
 use Rattle.trees.specs.Put.{planted}
-use Rattle.trees.specs.PrivateNode.{NodeValue, map_of, joined, filled, IsDepth, IsPlanted, ArePlanted, AreCut, AreFilled, AreLaid}
+use Rattle.trees.specs.PrivateNode.{NodeValue, map_of, joined, filled, IsDepth, IsDeeper, IsPlanted, ArePlanted, AreCut, AreFilled, AreLaid}
 use Rattle.trees.specs.PrivateCopy.{IsPlacedNode}
-use Rattle.trees.proofs.NodeLaws.{get-map_of_cons, get-joined}
-use Rattle.trees.proofs.NodeSteps.{node_of, path-parts, blocked_in}
+use Rattle.trees.proofs.NodeLaws.{get-map_of_root, get-map_of_cons, get-joined, lookup-find}
+use Rattle.trees.proofs.NodeSteps.{node_of, path-parts, blocked_in, at_kid}
+use Rattle.trees.proofs.KidLists.{found-among}
 use Rattle.trees.proofs.OverSteps.{laid-get}
 use Rattle.trees.proofs.PlacedSteps.{placed-some}
 
@@ -188,3 +191,21 @@ depth-fits d folder dest few less h (c ∷ cs) some =
     let l = length-append dest (c ∷ cs) in
     let k : length (c ∷ cs) ≤ d = h.few (omega arith) (c ∷ cs) (sym (ap is_some (get-map_of_cons folder c cs)) ∙ some) in
     omega arith
+
+-- ---- a path that is too long is found
+
+module _ (all before rest its : Kids) (name : List ℕ) (kid : NodeValue) (ordered : IsStrictlySortedBy name_cmp (keys_of all)) (so_far : before ++ its ≡ all) (next : its ≡ (name, kid) ∷ rest) where
+  in-kid : (cs : Path) → get (joined all) (name ∷ cs) ≡ get (map_of kid) cs
+  in-kid cs = get-joined all name cs ∙ ap (λ o. at_kid o cs) (sym (lookup-find name all) ∙ found-among all before rest its name kid ordered so_far next)
+
+  -- the name itself is longer than nothing
+  pub deeper-name : (most : ℕ) → most ≡ 0 → IsDeeper most (joined all)
+  deeper-name most none = record { path = name ∷ []; stands = ap is_some (in-kid [] ∙ get-map_of_root kid); long = omega arith }
+
+  -- and with its name a path below the child is longer by one
+  pub deeper-kid : (most : ℕ) → 0 < most → IsDeeper (most - 1) kid.below → IsDeeper most (joined all)
+  deeper-kid most some deeper = by deeper.path deeper.stands deeper.long
+    where
+      by : (r : Path) → is_some (get kid.below r) ≡ true → most - 1 < length r → IsDeeper most (joined all)
+      by [] stands long = absurd (omega arith)
+      by (c ∷ cs) stands long = record { path = name ∷ c ∷ cs; stands = ap is_some (in-kid (c ∷ cs) ∙ get-map_of_cons kid c cs) ∙ stands; long = omega arith }

@@ -1,6 +1,7 @@
 -- From the steps of a COPY of folders to what its calls promise.
-use Rattle.std.specs.Prelude.{◌≡◌, ℕ, ◌+◌, ◌<◌, ◌≤◌, get_or, IfSome, Bool, true, false, ◌||◌, ◌⊎◌, cond, T, Option, Some, None, Result, Ok, Err, List, [], ◌∷◌, ◌++◌, length, is_some, drop}
-use Rattle.std.proofs.Common.{sym, ap, refl, ◌∙◌, subst, true≢false, append-nil, append_assoc, inl, inr, zero, suc, arith}
+use Rattle.std.specs.Prelude.{◌≡◌, ℕ, ◌+◌, ◌-◌, ◌<◌, ◌≤◌, get_or, Bool, true, false, ◌||◌, ◌⊎◌, cond, T, Option, Some, None, Result, Ok, Err, List, [], ◌∷◌, ◌++◌, length, is_some, drop}
+use Rattle.std.proofs.Common.{sym, ap, refl, ◌∙◌, subst, true≢false, append-nil, append_assoc, length-append, inl, inr, zero, suc, arith}
+use Rattle.std.proofs.lemmas.Bool.{le-ltb, lt-ltb}
 use Rattle.std.proofs.lemmas.List.{drop_more}
 use Rattle.std.specs.List.{AllByRecursion}
 use Rattle.std.specs.Option.{option_or}
@@ -19,6 +20,9 @@ use Rattle.trees.specs.declared.copy.CopyOptions.{CopyOptions}
 use Rattle.trees.specs.declared.copy.Change.{Change}
 use Rattle.trees.specs.declared.copy.Change.TheVariants.{Make}
 use Rattle.trees.specs.declared.cause.Cause.{Cause}
+use Rattle.trees.specs.declared.cause.Cause.TheVariants.{F5}
+use Rattle.trees.specs.declared.folder.Joined.{Joined}
+use Rattle.trees.specs.declared.folder.Joined.TheVariants.{All, TooDeep, Other}
 use Rattle.trees.specs.TreeMap.{TreeMap, IsTree, is_directory, is_file, is_blocked, directory_meta}
 use Rattle.trees.specs.Over.{over}
 use Rattle.trees.specs.Cause.{ChangesTree}
@@ -26,8 +30,8 @@ use Rattle.trees.specs.Make.{make_cause, with_directory, made_with}
 use Rattle.trees.specs.Subtree.{map_below}
 use Rattle.trees.specs.declared.copy.CopySource.{CopySource}
 use Rattle.trees.specs.Copy.{changes_of, source_changes, paths_changes, path_changes, match_changes, placed_entry, placements, last_placed, needs_directory, changed_tree, first_cause}
-use Rattle.trees.specs.PrivateCopy.{AppliesChanges, TellsCause, IsUnder, is_way, IsFreeBelow, MeetInDirectories, IsPlacedNode, IsLaidPlaced, IsNamed, Begins, IsJoined, Joins, IsWhole, IsHung, HangsIn, keeping}
-use Rattle.trees.specs.PrivateNode.{NodeValue, map_of, IsBelow, IsFilled, filled}
+use Rattle.trees.specs.PrivateCopy.{AppliesChanges, TellsCause, IsUnder, is_way, IsFreeBelow, MeetInDirectories, IsPlacedNode, IsLaidPlaced, IsNamed, Begins, IsJoined, Joins, IsSunk, Sinks, Comes, IsWhole, IsHung, HangsIn, keeping}
+use Rattle.trees.specs.PrivateNode.{NodeValue, map_of, IsBelow, IsDeeper, IsFilled, filled}
 use Rattle.paths.proofs.FrontLaws.{path_same, path_itself, both_first, both_second, front-irrefl, front-of, front-parts}
 use Rattle.trees.proofs.CauseLaws.{tree_or-ok, tree_or-err}
 use Rattle.trees.proofs.CopyLaws.{get-changed_tree, get-with_directory, any-append, way-either}
@@ -39,8 +43,8 @@ use Rattle.trees.proofs.TreeLaws.{same_tree, get-over, over-IsTree, empty-IsTree
 use Rattle.trees.proofs.TreeSteps.{own-entry, leaf-empty}
 use Rattle.trees.proofs.WayLaws.{open-from_fronts}
 use Rattle.trees.proofs.FillSteps.{filled-under, filled-apart}
-use Rattle.trees.proofs.PlacedSteps.{placed-tree, placed-some, placed-kind, placements-placed}
-use Rattle.trees.proofs.FolderSteps.{Path, cancel, below-way, never, last_placed-append, first_cause-append, IsRow, IsHanging, IsFresh, AreFresh, hang-make, hang-all, make-free, no-causes, none-found, last-found}
+use Rattle.trees.proofs.PlacedSteps.{placed-tree, placed-some, placed-kind, placements-placed, placed-plain}
+use Rattle.trees.proofs.FolderSteps.{Path, cancel, below-way, never, last_placed-append, first_cause-append, IsShallow, IsRow, IsHanging, IsFresh, AreFresh, found-deep, hang-make, hang-all, make-free, no-causes, deep-causes, none-found, last-found}
 
 abbrev Rows : Type 0
 Rows = List (Path × Entry)
@@ -113,7 +117,7 @@ module _ (low up : TreeMap) (low_is : IsTree low) (up_is : IsTree up) (meets : M
 -- ---- one folder more is joined
 
 module _ (dest : Path) (before : List Change) (low up : TreeMap) (top : Entry) (j : IsJoined dest before low) (up_is : IsTree up) (own : get up [] ≡ Some top) (meets : MeetInDirectories low up)
-    (few : (r : Path) → is_some (get up r) ≡ true → length (dest ++ r) ≤ 64) (named : AllByRecursion IsNamed (Make dest ∷ placements keeping dest (drop 1 (entries up)))) where
+    (named : AllByRecursion IsNamed (Make dest ∷ placements keeping dest (drop 1 (entries up)))) where
   abbrev whole : TreeMap
   whole = over low up
 
@@ -149,7 +153,6 @@ module _ (dest : Path) (before : List Change) (low up : TreeMap) (top : Entry) (
       named = h.0.0;
       there = ap is_some stands;
       kind = ap is_directory stands;
-      few = few x.0 (ap is_some h.0.1);
     },
     as-rows xs h.1,
   )
@@ -205,11 +208,15 @@ module _ (dest : Path) (before : List Change) (low up : TreeMap) (top : Entry) (
   end : IsHanging dest whole whole_is (before ++ more)
   end = subst (IsHanging dest whole whole_is) (sym joined-whole) (hang-all dest whole whole_is making rows (hang-make dest whole whole_is before start) (as-rows rows of-upper))
 
-  no-cause : (meta : Meta) (tree : TreeMap) → make_cause (get tree) dest ≡ None → IsFreeBelow tree dest → first_cause meta tree [] (before ++ more) ≡ None
-  no-cause meta tree free none =
+  shallow : ((r : Path) → is_some (get up r) ≡ true → length (dest ++ r) ≤ 64) → (xs : Rows) → AllByRecursion IsOfUpper xs → AllByRecursion (IsShallow dest) xs
+  shallow few [] h = tt
+  shallow few (x ∷ xs) h = (le-ltb 64 (length (dest ++ x.0)) (few x.0 (ap is_some h.0.1)), shallow few xs h.1)
+
+  no-cause : ((r : Path) → is_some (get up r) ≡ true → length (dest ++ r) ≤ 64) → (meta : Meta) (tree : TreeMap) → make_cause (get tree) dest ≡ None → IsFreeBelow tree dest → first_cause meta tree [] (before ++ more) ≡ None
+  no-cause few meta tree free none =
       first_cause-append meta tree [] before more
       ∙ (λ i. option_or (j.fine meta tree free none i) (option_or (make-free dest whole whole_is meta tree free none before start i) (first_cause meta tree making (placements keeping dest rows))))
-      ∙ no-causes dest whole whole_is meta tree free none making rows (hang-make dest whole whole_is before start) (as-rows rows of-upper) order (fresh rows of-upper)
+      ∙ no-causes dest whole whole_is meta tree free none making rows (hang-make dest whole whole_is before start) (as-rows rows of-upper) order (fresh rows of-upper) (shallow few rows of-upper)
 
   begun : (before ≡ []) ⊎ Begins dest before → Begins dest (before ++ more)
   begun (inl none) = (placements keeping dest rows, ap (λ (cs : List Change). cs ++ more) none)
@@ -227,15 +234,26 @@ module _ (dest : Path) (before : List Change) (low up : TreeMap) (top : Entry) (
       or_none None = refl
       or_none (Some e) = refl
 
-  pub joined-more : IsJoined dest (before ++ more) whole
-  joined-more = record {
+  pub joined-more : ((r : Path) → is_some (get up r) ≡ true → length (dest ++ r) ≤ 64) → IsJoined dest (before ++ more) whole
+  joined-more few = record {
     tree = whole_is;
     named = all-join before more j.named named;
     last = last-whole;
     under = λ q e l. (end.placed q e l).0;
     needs = end.needs;
-    fine = no-cause;
+    fine = no-cause few;
     begins = inr (begun j.begins);
+  }
+
+  -- and one that goes too deep
+  pub sunk-more : (c : List ℕ) (cs : Path) → is_some (get up (c ∷ cs)) ≡ true → 64 < length (dest ++ c ∷ cs) → IsSunk dest (before ++ more)
+  sunk-more c cs some long = record {
+    begins = begun j.begins;
+    deep = λ meta tree free none.
+        first_cause-append meta tree [] before more
+        ∙ (λ i. option_or (j.fine meta tree free none i) (option_or (make-free dest whole whole_is meta tree free none before start i) (first_cause meta tree making (placements keeping dest rows))))
+        ∙ deep-causes dest whole whole_is meta tree free none making rows (hang-make dest whole whole_is before start) (as-rows rows of-upper) order (fresh rows of-upper)
+        (found-deep dest (c ∷ cs) rows (lt-ltb 64 (length (dest ++ c ∷ cs)) long) (ap is_some (sym (holds c cs)) ∙ some));
   }
 
 -- nothing is joined yet
@@ -256,37 +274,51 @@ joined-none dest leaf top below = subst (IsJoined dest []) (sym (leaf-empty leaf
 match-tree : (from : TreeMap) (path : Path) (folder : NodeValue) (told : Bool) → IsTree from → IsBelow from path (map_of folder) → told ≡ is_directory (Some folder.top) → told ≡ true → IsTree (map_of folder)
 match-tree from path folder told from_is lies is t = below-IsTree from path (map_of folder) from_is (ap is_directory (own-entry from path folder lies) ∙ sym is ∙ t) lies
 
-pub match-joined : (o : CopyOptions) (from : TreeMap) (dest path : Path) (folder : NodeValue) (told : Bool) (joined : NodeValue) (new : TreeMap) → IsTree from → IsClean dest → IsBelow from path (map_of folder) → told ≡ is_directory (Some folder.top) → told ≡ true
-    → ((r : Path) → is_some (get (map_of folder) r) ≡ true → length (dest ++ r) ≤ 64) → MeetInDirectories joined.below folder.below → IsLaidPlaced o (map_of joined) folder new → (into : Bool) → Joins dest (path_changes o into from dest path) (map_of joined) new
-match-joined o from dest path folder told joined new from_is clean lies is t few meets laid into before j =
-    subst (λ (cs : List Change). IsJoined dest (before ++ cs) new) (sym changes-are)
-    (subst (λ (m : TreeMap). IsJoined dest (before ++ Make dest ∷ placements keeping dest (drop 1 (entries (map_of laid.upper)))) m) (sym laid.laid)
-    (joined-more dest before (map_of joined) (map_of laid.upper) laid.upper.top j (placed-tree o folder laid.upper laid.placed folder_is) (get-map_of_root laid.upper) (record { at = meet })
-    (λ r some. few r (placed-some o folder laid.upper laid.placed r some)) (subst (λ (cs : List Change). AllByRecursion IsNamed cs) changes-are named)))
-  where
-    directory : is_directory (Some folder.top) ≡ true
-    directory = sym is ∙ t
+module _ (o : CopyOptions) (from : TreeMap) (dest path : Path) (folder : NodeValue) (told : Bool) (joined : NodeValue) (from_is : IsTree from) (clean : IsClean dest) (lies : IsBelow from path (map_of folder)) (is : told ≡ is_directory (Some folder.top)) (t : told ≡ true)
+    (meets : MeetInDirectories joined.below folder.below) where
+  folder_is : IsTree (map_of folder)
+  folder_is = match-tree from path folder told from_is lies is t
 
-    folder_is : IsTree (map_of folder)
-    folder_is = match-tree from path folder told from_is lies is t
+  of-match : (into : Bool) → path_changes o into from dest path ≡ Make dest ∷ placements o dest (drop 1 (entries (map_of folder)))
+  of-match into =
+      (λ i. match_changes o into dest path (get from path) (entries (same-below from path (map_below from path) (map_of folder) (entries_below-IsBelow from path) lies i)))
+      ∙ of_directory o into dest path (get from path) (entries (map_of folder)) (ap is_directory (own-entry from path folder lies) ∙ sym is ∙ t)
 
-    of-match : path_changes o into from dest path ≡ Make dest ∷ placements o dest (drop 1 (entries (map_of folder)))
-    of-match =
-        (λ i. match_changes o into dest path (get from path) (entries (same-below from path (map_below from path) (map_of folder) (entries_below-IsBelow from path) lies i)))
-        ∙ of_directory o into dest path (get from path) (entries (map_of folder)) (ap is_directory (own-entry from path folder lies) ∙ directory)
+  named : (into : Bool) → AllByRecursion IsNamed (path_changes o into from dest path)
+  named into = named-match o into from dest from_is clean path (get from path) refl
 
-    changes-are : path_changes o into from dest path ≡ Make dest ∷ placements keeping dest (drop 1 (entries (map_of laid.upper)))
-    changes-are = of-match ∙ ap (λ (cs : List Change). Make dest ∷ cs) (sym (placements-placed o dest folder laid.upper laid.placed))
+  -- upper is the folder as it is placed
+  module _ (upper : NodeValue) (placed : IsPlacedNode o folder upper) where
+    changes-are : (into : Bool) → path_changes o into from dest path ≡ Make dest ∷ placements keeping dest (drop 1 (entries (map_of upper)))
+    changes-are into = of-match into ∙ ap (λ (cs : List Change). Make dest ∷ cs) (sym (placements-placed o dest folder upper placed))
 
-    named : AllByRecursion IsNamed (path_changes o into from dest path)
-    named = named-match o into from dest from_is clean path (get from path) refl
-
-    meet : (c : List ℕ) (cs : Path) → is_some (get (map_of joined) (c ∷ cs)) ≡ true → is_some (get (map_of laid.upper) (c ∷ cs)) ≡ true → (is_directory (get (map_of joined) (c ∷ cs)) ≡ true) × (is_directory (get (map_of laid.upper) (c ∷ cs)) ≡ true)
+    meet : (c : List ℕ) (cs : Path) → is_some (get (map_of joined) (c ∷ cs)) ≡ true → is_some (get (map_of upper) (c ∷ cs)) ≡ true → (is_directory (get (map_of joined) (c ∷ cs)) ≡ true) × (is_directory (get (map_of upper) (c ∷ cs)) ≡ true)
     meet c cs s u =
         let below-old = get-map_of_cons joined c cs in
-        let in-folder = placed-some o folder laid.upper laid.placed (c ∷ cs) u in
+        let in-folder = placed-some o folder upper placed (c ∷ cs) u in
         let both = meets.at c cs (ap is_some (sym below-old) ∙ s) (ap is_some (sym (get-map_of_cons folder c cs)) ∙ in-folder) in
-        (ap is_directory below-old ∙ both.0, placed-kind o folder laid.upper laid.placed (c ∷ cs) ∙ ap is_directory (get-map_of_cons folder c cs) ∙ both.1)
+        (ap is_directory below-old ∙ both.0, placed-kind o folder upper placed (c ∷ cs) ∙ ap is_directory (get-map_of_cons folder c cs) ∙ both.1)
+
+  pub match-joined : (new : TreeMap) → ((r : Path) → is_some (get (map_of folder) r) ≡ true → length (dest ++ r) ≤ 64) → IsLaidPlaced o (map_of joined) folder new → (into : Bool) → Joins dest (path_changes o into from dest path) (map_of joined) new
+  match-joined new few laid into before j =
+      subst (λ (cs : List Change). IsJoined dest (before ++ cs) new) (sym (changes-are laid.upper laid.placed into))
+      (subst (λ (m : TreeMap). IsJoined dest (before ++ Make dest ∷ placements keeping dest (drop 1 (entries (map_of laid.upper)))) m) (sym laid.laid)
+      (joined-more dest before (map_of joined) (map_of laid.upper) laid.upper.top j (placed-tree o folder laid.upper laid.placed folder_is) (get-map_of_root laid.upper) (record { at = meet laid.upper laid.placed })
+      (subst (λ (cs : List Change). AllByRecursion IsNamed cs) (changes-are laid.upper laid.placed into) (named into)) (λ r some. few r (placed-some o folder laid.upper laid.placed r some))))
+
+  pub match-sinks : ((e : Entry) → placed_entry o e ≡ e) → length dest ≤ 64 → IsDeeper (64 - length dest) folder.below → (into : Bool) → Sinks dest (path_changes o into from dest path) (map_of joined)
+  match-sinks plain short deeper into before j =
+      subst (λ (cs : List Change). IsSunk dest (before ++ cs)) (sym (changes-are folder as-it-is into)) (by deeper.path deeper.stands deeper.long)
+    where
+      as-it-is : IsPlacedNode o folder folder
+      as-it-is = placed-plain o folder plain
+
+      by : (r : Path) → is_some (get folder.below r) ≡ true → 64 - length dest < length r → IsSunk dest (before ++ Make dest ∷ placements keeping dest (drop 1 (entries (map_of folder))))
+      by [] stands long = absurd (omega arith)
+      by (c ∷ cs) stands long =
+          let l = length-append dest (c ∷ cs) in
+          sunk-more dest before (map_of joined) (map_of folder) folder.top j folder_is (get-map_of_root folder) (record { at = meet folder as-it-is })
+          (subst (λ (cs : List Change). AllByRecursion IsNamed cs) (changes-are folder as-it-is into) (named into)) c cs (ap is_some (get-map_of_cons folder c cs) ∙ stands) (omega arith)
 
 -- ---- one after the other
 
@@ -302,20 +334,46 @@ joins-none dest m before j = subst (λ (cs : List Change). IsJoined dest cs m) (
 pub joins-more : (dest : Path) (xs ys : List Change) (a b c : TreeMap) → Joins dest xs a b → Joins dest ys b c → Joins dest (xs ++ ys) a c
 joins-more dest xs ys a b c h g before j = subst (λ (cs : List Change). IsJoined dest cs c) (append_assoc before xs ys) (g (before ++ xs) (h before j))
 
-pub paths-more : (o : CopyOptions) (into : Bool) (from : TreeMap) (dest : Path) (paths : List Path) (index : ℕ) (path : Path) (a b c : TreeMap) → index < length paths → path ≡ get_or paths index path → Joins dest (path_changes o into from dest path) a b
-    → Joins dest (paths_changes o into from dest (drop (index + 1) paths)) b c → Joins dest (paths_changes o into from dest (drop index paths)) a c
-paths-more o into from dest paths index path a b c less is h g =
-    subst (λ (ps : List Path). Joins dest (paths_changes o into from dest ps) a c) (sym (drop_more paths index path less ∙ ap (λ (q : Path). q ∷ drop (index + 1) paths) (sym is)))
-    (joins-more dest (path_changes o into from dest path) (paths_changes o into from dest (drop (index + 1) paths)) a b c h g)
+-- where the first of them go too deep, all do
+pub sinks-before : (dest : Path) (xs ys : List Change) (a : TreeMap) → Sinks dest xs a → Sinks dest (xs ++ ys) a
+sinks-before dest xs ys a h before j = subst (IsSunk dest) (append_assoc before xs ys) (record {
+  begins = (sunk.begins.0 ++ ys, ap (λ (cs : List Change). cs ++ ys) sunk.begins.1);
+  deep = λ meta tree free none. first_cause-append meta tree [] (before ++ xs) ys ∙ ap (λ c. option_or c (first_cause meta tree (before ++ xs) ys)) (sunk.deep meta tree free none);
+})
+  where
+    sunk : IsSunk dest (before ++ xs)
+    sunk = h before j
+
+-- what becomes of those after them becomes of all
+pub comes-after : (dest : Path) (xs ys : List Change) (a b c : TreeMap) (came : Joined) → Joins dest xs a b → Comes dest ys b c came → Comes dest (xs ++ ys) a c came
+comes-after dest xs ys a b c All h g = joins-more dest xs ys a b c h g
+comes-after dest xs ys a b c TooDeep h g = λ before j. subst (IsSunk dest) (append_assoc before xs ys) (g (before ++ xs) (h before j))
+comes-after dest xs ys a b c Other h g = tt
+
+pub paths-more : (o : CopyOptions) (into : Bool) (from : TreeMap) (dest : Path) (paths : List Path) (index : ℕ) (path : Path) (a b c : TreeMap) (came : Joined) → index < length paths → path ≡ get_or paths index path → Joins dest (path_changes o into from dest path) a b
+    → Comes dest (paths_changes o into from dest (drop (index + 1) paths)) b c came → Comes dest (paths_changes o into from dest (drop index paths)) a c came
+paths-more o into from dest paths index path a b c came less is h g =
+    subst (λ (ps : List Path). Comes dest (paths_changes o into from dest ps) a c came) (sym (drop_more paths index path less ∙ ap (λ (q : Path). q ∷ drop (index + 1) paths) (sym is)))
+    (comes-after dest (path_changes o into from dest path) (paths_changes o into from dest (drop (index + 1) paths)) a b c came h g)
+
+pub paths-sink : (o : CopyOptions) (into : Bool) (from : TreeMap) (dest : Path) (paths : List Path) (index : ℕ) (path : Path) (a : TreeMap) → index < length paths → path ≡ get_or paths index path → Sinks dest (path_changes o into from dest path) a → Sinks dest (paths_changes o into from dest (drop index paths)) a
+paths-sink o into from dest paths index path a less is h =
+    subst (λ (ps : List Path). Sinks dest (paths_changes o into from dest ps) a) (sym (drop_more paths index path less ∙ ap (λ (q : Path). q ∷ drop (index + 1) paths) (sym is)))
+    (sinks-before dest (path_changes o into from dest path) (paths_changes o into from dest (drop (index + 1) paths)) a h)
 
 pub paths-none : (o : CopyOptions) (into : Bool) (from : TreeMap) (dest : Path) (paths : List Path) (index : ℕ) (a : TreeMap) → length paths ≤ index → Joins dest (paths_changes o into from dest (drop index paths)) a a
 paths-none o into from dest paths index a less = subst (λ (ps : List Path). Joins dest (paths_changes o into from dest ps) a a) (sym (drop-all paths index less)) (joins-none dest a)
 
-pub sources-more : (o : CopyOptions) (into : Bool) (from : TreeMap) (dest : Path) (sources : List CopySource) (index : ℕ) (source : CopySource) (a b c : TreeMap) → index < length sources → source ≡ get_or sources index source → Joins dest (source_changes o into from dest source) a b
-    → Joins dest (changes_of o into from dest (drop (index + 1) sources)) b c → Joins dest (changes_of o into from dest (drop index sources)) a c
-sources-more o into from dest sources index source a b c less is h g =
-    subst (λ (ss : List CopySource). Joins dest (changes_of o into from dest ss) a c) (sym (drop_more sources index source less ∙ ap (λ (q : CopySource). q ∷ drop (index + 1) sources) (sym is)))
-    (joins-more dest (source_changes o into from dest source) (changes_of o into from dest (drop (index + 1) sources)) a b c h g)
+pub sources-more : (o : CopyOptions) (into : Bool) (from : TreeMap) (dest : Path) (sources : List CopySource) (index : ℕ) (source : CopySource) (a b c : TreeMap) (came : Joined) → index < length sources → source ≡ get_or sources index source → Joins dest (source_changes o into from dest source) a b
+    → Comes dest (changes_of o into from dest (drop (index + 1) sources)) b c came → Comes dest (changes_of o into from dest (drop index sources)) a c came
+sources-more o into from dest sources index source a b c came less is h g =
+    subst (λ (ss : List CopySource). Comes dest (changes_of o into from dest ss) a c came) (sym (drop_more sources index source less ∙ ap (λ (q : CopySource). q ∷ drop (index + 1) sources) (sym is)))
+    (comes-after dest (source_changes o into from dest source) (changes_of o into from dest (drop (index + 1) sources)) a b c came h g)
+
+pub sources-sink : (o : CopyOptions) (into : Bool) (from : TreeMap) (dest : Path) (sources : List CopySource) (index : ℕ) (source : CopySource) (a : TreeMap) → index < length sources → source ≡ get_or sources index source → Sinks dest (source_changes o into from dest source) a → Sinks dest (changes_of o into from dest (drop index sources)) a
+sources-sink o into from dest sources index source a less is h =
+    subst (λ (ss : List CopySource). Sinks dest (changes_of o into from dest ss) a) (sym (drop_more sources index source less ∙ ap (λ (q : CopySource). q ∷ drop (index + 1) sources) (sym is)))
+    (sinks-before dest (source_changes o into from dest source) (changes_of o into from dest (drop (index + 1) sources)) a h)
 
 pub sources-none : (o : CopyOptions) (into : Bool) (from : TreeMap) (dest : Path) (sources : List CopySource) (index : ℕ) (a : TreeMap) → length sources ≤ index → Joins dest (changes_of o into from dest (drop index sources)) a a
 sources-none o into from dest sources index a less = subst (λ (ss : List CopySource). Joins dest (changes_of o into from dest ss) a a) (sym (drop-all sources index less)) (joins-none dest a)
@@ -382,10 +440,17 @@ is-whole tree dest changes leaf folder top below free full joins = record { join
     by (inl none) =
         absurd (true≢false (sym full.1 ∙ ap is_some (sym (get-map_of_cons folder full.0 [])) ∙ ap is_some (sym (j.last full.0 [])) ∙ (λ i. is_some (last_placed (none i) (dest ++ full.0 ∷ [])))))
 
--- what was found is whole
-pub found-whole : (tree : TreeMap) (o : CopyOptions) (from : TreeMap) (dest : Path) (sources : List CopySource) (found : Option NodeValue) (folder : NodeValue) → IfSome found (λ folder. (into : Bool) → IsWhole tree dest (changes_of o into from dest sources) (map_of folder)) → found ≡ Some folder
-    → (into : Bool) → IsWhole tree dest (changes_of o into from dest sources) (map_of folder)
-found-whole tree o from dest sources found folder h is = subst (λ (x : Option NodeValue). IfSome x (λ folder. (into : Bool) → IsWhole tree dest (changes_of o into from dest sources) (map_of folder))) is h
+-- what goes too deep with nothing before it
+pub is-deep : (tree : TreeMap) (dest : Path) (changes : List Change) (leaf : NodeValue) → leaf.top ≡ Directory directory_meta → leaf.below ≡ empty → IsFreeBelow tree dest → Sinks dest changes (map_of leaf) → IsSunk dest changes × IsFreeBelow tree dest
+is-deep tree dest changes leaf top below free sinks = (sinks [] (joined-none dest leaf top below), free)
+
+-- why it fails
+pub deep-told : (meta : Meta) (tree : TreeMap) (dest a : Path) (changes : List Change) (told : Option Cause) → told ≡ make_cause (get tree) a → a ≡ dest → IsSunk dest changes → IsFreeBelow tree dest → first_cause meta tree [] changes ≡ option_or told (Some F5)
+deep-told meta tree dest a changes told is same sunk free = by told (is ∙ ap (make_cause (get tree)) same)
+  where
+    by : (x : Option Cause) → x ≡ make_cause (get tree) dest → first_cause meta tree [] changes ≡ option_or x (Some F5)
+    by None none = sunk.deep meta tree (sym none) free
+    by (Some cause) because = ap (first_cause meta tree []) sunk.begins.1 ∙ ap (λ c. option_or c (first_cause meta tree (Make dest ∷ []) sunk.begins.0)) (sym because)
 
 -- ---- what is hung in is what the changes come to
 

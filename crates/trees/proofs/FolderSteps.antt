@@ -1,8 +1,7 @@
 -- Folders that a COPY places where nothing lies below its destination, and that meet in directories: none of their changes fails, and
 -- what is placed last at each path.
-use Rattle.std.specs.Prelude.{◌≡◌, ℕ, ◌≤◌, Bool, true, false, ◌||◌, ◌&&◌, not, cond, Option, Some, None, List, [], ◌∷◌, ◌++◌, length, is_some, drop, nat_lt, ◌⊎◌}
+use Rattle.std.specs.Prelude.{◌≡◌, ℕ, Bool, true, false, ◌||◌, ◌&&◌, not, cond, Option, Some, None, List, [], ◌∷◌, ◌++◌, length, is_some, drop, nat_lt, ◌⊎◌}
 use Rattle.std.proofs.Common.{sym, ap, refl, ◌∙◌, subst, true≢false, append-nil, append_assoc, inl, inr}
-use Rattle.std.proofs.lemmas.Bool.{le-ltb}
 use Rattle.std.specs.List.{AllByRecursion}
 use Rattle.std.specs.Option.{option_or}
 use Rattle.std.specs.Ordering.{eq_by_cmp, is_lt, is_eq}
@@ -19,7 +18,7 @@ use Rattle.trees.specs.declared.copy.Change.{Change}
 use Rattle.trees.specs.declared.copy.Change.TheVariants.{Place, Make}
 use Rattle.trees.specs.declared.cause.Cause.TheVariants.{F2, F3, F5}
 use Rattle.trees.specs.TreeMap.{TreeMap, IsTree, is_directory, is_file, is_blocked}
-use Rattle.trees.specs.Put.{clash_of}
+use Rattle.trees.specs.Put.{clash_of, cause_at}
 use Rattle.trees.specs.Make.{make_cause}
 use Rattle.trees.specs.Copy.{placed_entry, placements, placed_by, last_placed, needs_directory, changed_tree, kind_of, kind_placed, is_repeated, change_cause, first_cause}
 use Rattle.trees.specs.PrivateCopy.{IsUnder, is_way, IsFreeBelow, keeping}
@@ -115,6 +114,23 @@ first_cause-append meta tree before (x ∷ xs) ys =
     ∙ (λ i. option_or c (option_or (first_cause meta tree (before ++ x ∷ []) xs) (first_cause meta tree (append_assoc before (x ∷ []) xs i) ys)))
     ∙ sym (or_assoc c (first_cause meta tree (before ++ x ∷ []) xs) (first_cause meta tree (before ++ x ∷ xs) ys))
 
+-- a row doesn't go too deep below d
+abbrev pub IsShallow : Path → Path × Entry → Type 0
+IsShallow d row = nat_lt 64 (length (d ++ row.0)) ≡ false
+
+-- one of these rows does
+abbrev pub HasDeep : Path → List (Path × Entry) → Type 0
+HasDeep d [] = ⊥
+HasDeep d (row ∷ rest) = (nat_lt 64 (length (d ++ row.0)) ≡ true) ⊎ HasDeep d rest
+
+pub found-deep : (d q : Path) (rows : List (Path × Entry)) → nat_lt 64 (length (d ++ q)) ≡ true → is_some (find path_cmp q rows) ≡ true → HasDeep d rows
+found-deep d q [] deep some = absurd (true≢false (sym some))
+found-deep d q (row ∷ rows) deep some = by (eq_by_cmp path_cmp q row.0) refl some (found-deep d q rows deep)
+  where
+    by : (tie : Bool) → eq_by_cmp path_cmp q row.0 ≡ tie → is_some (cond tie (Some row.1) (find path_cmp q rows)) ≡ true → (is_some (find path_cmp q rows) ≡ true → HasDeep d rows) → (nat_lt 64 (length (d ++ row.0)) ≡ true) ⊎ HasDeep d rows
+    by true t there later = inl (ap (λ p. nat_lt 64 (length (d ++ p))) (sym (path_same q row.0 t)) ∙ deep)
+    by false t there later = inr (later there)
+
 -- ---- the changes of a folder, where `whole` is a tree of all that is placed in the end
 
 module _ (dest : Path) (whole : TreeMap) (whole_is : IsTree whole) where
@@ -123,7 +139,6 @@ module _ (dest : Path) (whole : TreeMap) (whole_is : IsTree whole) where
     pub named : IsUnder [] row.0
     pub there : is_some (get whole row.0) ≡ true
     pub kind : is_directory (get whole row.0) ≡ is_directory (Some row.1)
-    pub few : length (dest ++ row.0) ≤ 64
 
   -- what changes do that were made so far
   pub record IsHanging (before : List Change) : Type 0 where
@@ -233,10 +248,7 @@ module _ (dest : Path) (whole : TreeMap) (whole_is : IsTree whole) where
         own : is_way dest dest ≡ true
         own = λ i. front-irrefl dest i || path_itself dest i
 
-    module _ (before : List Change) (row : Path × Entry) (h : IsHanging before) (is : IsRow row) (fresh : IsFresh before row) where
-      shallow : nat_lt 64 (length (dest ++ row.0)) ≡ false
-      shallow = le-ltb 64 (length (dest ++ row.0)) is.few
-
+    module _ (before : List Change) (row : Path × Entry) (h : IsHanging before) (is : IsRow row) (fresh : IsFresh before row) (shallow : nat_lt 64 (length (dest ++ row.0)) ≡ false) where
       front_free : (f : Path) → is_front f (dest ++ row.0) ≡ true → (x : Option Entry) → last_placed before f ≡ x → is_file (option_or x (option_or (get tree f) (cond (needs_directory before f) (Some (Directory meta)) None))) ≡ false
       front_free f g None l = no_file (get tree f) (needs_directory before f) (way-free f (front-split f dest row.0 g))
       front_free f g (Some e) l =
@@ -284,11 +296,24 @@ module _ (dest : Path) (whole : TreeMap) (whole_is : IsTree whole) where
           ∙ (λ i. cond (shallow i) (Some F5) (cond (once (last_placed before (dest ++ row.0)) refl i) (Some F3) (cond (shallow i) (Some F5) (cond (open_way i) (Some F2) (clash_of (get-changed_tree meta tree before (dest ++ row.0) i) row.1)))))
           ∙ no_clash (last_placed before (dest ++ row.0)) refl
 
-    pub no-causes : (before : List Change) (rest : List (Path × Entry)) → IsHanging before → AllByRecursion IsRow rest → is_sorted path_cmp rest ≡ true → AreFresh before rest → first_cause meta tree before (placements keeping dest rest) ≡ None
-    no-causes before [] h rows s f = refl
-    no-causes before (row ∷ rest) h rows s f =
-        ap (λ x. option_or x (first_cause meta tree (before ++ place row ∷ []) (placements keeping dest rest))) (no_cause before row h rows.0 f.0)
-        ∙ no-causes (before ++ place row ∷ []) rest (hang-more before row h rows.0) rows.1 (both_second (below_all path_cmp row.0 rest) _ s) (still-fresh before row rest (both_first _ _ s) f.1)
+    pub no-causes : (before : List Change) (rest : List (Path × Entry)) → IsHanging before → AllByRecursion IsRow rest → is_sorted path_cmp rest ≡ true → AreFresh before rest → AllByRecursion (IsShallow dest) rest → first_cause meta tree before (placements keeping dest rest) ≡ None
+    no-causes before [] h rows s f few = refl
+    no-causes before (row ∷ rest) h rows s f few =
+        ap (λ x. option_or x (first_cause meta tree (before ++ place row ∷ []) (placements keeping dest rest))) (no_cause before row h rows.0 f.0 few.0)
+        ∙ no-causes (before ++ place row ∷ []) rest (hang-more before row h rows.0) rows.1 (both_second (below_all path_cmp row.0 rest) _ s) (still-fresh before row rest (both_first _ _ s) f.1) few.1
+
+    -- and where one goes too deep, the first that does is the first that fails
+    pub deep-causes : (before : List Change) (rest : List (Path × Entry)) → IsHanging before → AllByRecursion IsRow rest → is_sorted path_cmp rest ≡ true → AreFresh before rest → HasDeep dest rest → first_cause meta tree before (placements keeping dest rest) ≡ Some F5
+    deep-causes before [] h rows s f deep = absurd deep
+    deep-causes before (row ∷ rest) h rows s f deep =
+        by (nat_lt 64 (length (dest ++ row.0))) refl deep (deep-causes (before ++ place row ∷ []) rest (hang-more before row h rows.0) rows.1 (both_second (below_all path_cmp row.0 rest) _ s) (still-fresh before row rest (both_first _ _ s) f.1))
+      where
+        by : (b : Bool) → nat_lt 64 (length (dest ++ row.0)) ≡ b → (b ≡ true) ⊎ HasDeep dest rest → (HasDeep dest rest → first_cause meta tree (before ++ place row ∷ []) (placements keeping dest rest) ≡ Some F5) → first_cause meta tree before (placements keeping dest (row ∷ rest)) ≡ Some F5
+        by true d any later =
+            ap (λ x. option_or x (first_cause meta tree (before ++ place row ∷ []) (placements keeping dest rest)))
+            (ap (λ b. cond b (Some F5) (cond (is_repeated (kind_placed before (dest ++ row.0)) (placed_entry keeping row.1)) (Some F3) (cause_at (get (changed_tree meta tree before)) (dest ++ row.0) (placed_entry keeping row.1)))) d)
+        by false d (inl t) later = absurd (true≢false (sym t))
+        by false d (inr more) later = ap (λ x. option_or x (first_cause meta tree (before ++ place row ∷ []) (placements keeping dest rest))) (no_cause before row h rows.0 f.0 d) ∙ later more
 
 -- ---- what is placed last
 

@@ -15,6 +15,11 @@ use Rattle.trees.specs.declared.meta.Meta.{Meta}
 use Rattle.trees.specs.declared.copy.Change.{Change}
 use Rattle.trees.specs.declared.copy.Change.TheVariants.{Place, Make}
 use Rattle.trees.specs.declared.cause.Cause.{Cause}
+use Rattle.trees.specs.declared.cause.Cause.TheVariants.{F5}
+use Rattle.trees.specs.declared.folder.Joined.{Joined}
+use Rattle.trees.specs.declared.folder.Joined.TheVariants.{All, TooDeep, Other}
+use Rattle.trees.specs.declared.folder.Whole.{Whole}
+use Rattle.trees.specs.declared.folder.Whole.TheVariants.{Folder, Deep, Neither}
 use Rattle.trees.specs.declared.entry.Entry.{Entry}
 use Rattle.trees.specs.declared.copy.CopyOptions.{CopyOptions}
 use Rattle.trees.specs.PrivateNode.{NodeValue, map_of, flat, are_parts}
@@ -126,11 +131,33 @@ pub record IsJoined (dest : List (List ℕ)) (changes : List Change) (joined : T
 abbrev pub Joins : List (List ℕ) → List Change → TreeMap → TreeMap → Type 0
 Joins dest changes old new = (before : List Change) → IsJoined dest before old → IsJoined dest (before ++ changes) new
 
+-- Changes of a COPY that begin by making the destination, of which one goes too deep: where the destination can be made and nothing lies
+-- below it, that is why they fail.
+pub record IsSunk (dest : List (List ℕ)) (changes : List Change) : Type 0 where
+  pub begins : Begins dest changes
+  pub deep : (meta : Meta) (tree : TreeMap) → make_cause (get tree) dest ≡ None → IsFreeBelow tree dest → first_cause meta tree [] changes ≡ Some F5
+
+-- after those that were joined before, these go too deep
+abbrev pub Sinks : List (List ℕ) → List Change → TreeMap → Type 0
+Sinks dest changes old = (before : List Change) → IsJoined dest before old → IsSunk dest (before ++ changes)
+
+-- what becomes of changes: they are joined, or go too deep; else nothing is said
+abbrev pub Comes : List (List ℕ) → List Change → TreeMap → TreeMap → Joined → Type 0
+Comes dest changes old new All = Joins dest changes old new
+Comes dest changes old new TooDeep = Sinks dest changes old
+Comes dest changes old new Other = Unit {0}
+
 -- the folder that a COPY's changes come to, where nothing lies below the destination
 pub record IsWhole (tree : TreeMap) (dest : List (List ℕ)) (changes : List Change) (folder : TreeMap) : Type 0 where
   pub joined : IsJoined dest changes folder
   pub begins : Begins dest changes
   pub free : IsFreeBelow tree dest
+
+-- what is found of a COPY as a whole: its folder, or that it goes too deep; else nothing is said
+abbrev pub IsFoundOf : TreeMap → List (List ℕ) → List Change → Whole → Type 0
+IsFoundOf tree dest changes (Folder folder) = IsWhole tree dest changes (map_of folder)
+IsFoundOf tree dest changes Deep = IsSunk dest changes × IsFreeBelow tree dest
+IsFoundOf tree dest changes Neither = Unit {0}
 
 -- a map with a folder below the destination, and elsewhere what stands once the destination is made
 pub record IsHung (meta : Meta) (tree : TreeMap) (dest : List (List ℕ)) (folder : TreeMap) (new : TreeMap) : Type 0 where

@@ -167,6 +167,12 @@ height_falls (part ∷ parts) =
 pub record IsDepth (depth : ℕ) (below : TreeMap) : Type 0 where
   pub few : depth ≤ most_components → (path : List (List ℕ)) → is_some (get below path) ≡ true → length path ≤ depth
 
+-- a path below a node has more names than this
+pub record IsDeeper (most : ℕ) (below : TreeMap) : Type 0 where
+  pub path : List (List ℕ)
+  pub stands : is_some (get below path) ≡ true
+  pub long : most < length path
+
 -- the map of a node in which an entry stands at a path, `old` being what stood before
 pub record IsPlanted (old : List (List ℕ) → Option Entry) (new : TreeMap) (path : List (List ℕ)) (parent : Meta) (entry : Entry) : Type 0 where
   pub at : (q : List (List ℕ)) → get new q ≡ planted old path parent entry q

@@ -133,7 +133,7 @@ pub(crate) fn make(
 }
 
 /// Why a directory can't be made, if it can't.
-fn make_cause(root: &Node, path: &[Text]) -> Option<Cause>
+pub(crate) fn make_cause(root: &Node, path: &[Text]) -> Option<Cause>
     ensures { result ≡ make_cause (get (map_of root.now)) path.now }
 {
     if root.is_blocked(path) {

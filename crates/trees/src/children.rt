@@ -10,7 +10,7 @@ ghost use Rattle.paths.specs.Order.{name_cmp};
 ghost use Rattle.trees.specs.declared.children.Absent.{Absent};
 ghost use Rattle.trees.specs.Rows.{lent_rows};
 ghost use Rattle.trees.specs.Copy.{placements};
-ghost use Rattle.trees.specs.PrivateNode.{joined, IsDepth, rows_under, AreKids, ArePlanted, AreCut, AreFilled, AreLaid};
+ghost use Rattle.trees.specs.PrivateNode.{joined, IsDepth, IsDeeper, rows_under, AreKids, ArePlanted, AreCut, AreFilled, AreLaid};
 ghost use Rattle.trees.specs.PrivateLent.{LendsKid};
 ghost use Rattle.trees.specs.PrivateCopy.{ArePlacedKids, MeetInDirectories};
 
@@ -318,6 +318,23 @@ impl Children {
             }
         }
         others.next().is_none()
+    }
+
+    /// Whether a path of these children or below them has more names than so many.
+    #[cycle(sounding)]
+    pub(crate) fn is_deeper(&self, most: usize) -> bool
+        ensures { IsTrue result → IsDeeper most (joined self.now) }
+    {
+        let mut kids = self.iter();
+        while let Some((name, kid)) = kids.next() {
+            if most == 0 {
+                return true;
+            }
+            if kid.is_deeper(most - 1) {
+                return true;
+            }
+        }
+        false
     }
 
     /// Whether something stands at one path in or below both, unless it is a directory in both.

@@ -1,23 +1,48 @@
 // A COPY of folders to where nothing lies: what is below them is laid over each other and hung in as a whole, and not placed entry by entry.
 // Where entries keep modes and owners, it is shared.
 
-ghost use Rattle.std.specs.Prelude.{◌≡◌, ◌≤◌, ℕ, Bool, true, None, List, ◌∷◌, ◌++◌, length, is_some, IsTrue, IfOk, OnOk, IfSome};
+ghost use Rattle.std.specs.Prelude.{◌≡◌, ◌≤◌, ℕ, Bool, true, Some, List, [], ◌∷◌, ◌++◌, length, is_some, IsTrue, IfOk, OnOk};
 ghost use Rattle.std.specs.FinMap.{get};
 ghost use Rattle.paths.specs.Path.{IsClean};
 ghost use Rattle.trees.specs.declared.entry.Entry.{Entry};
+ghost use Rattle.trees.specs.declared.meta.Meta.{Meta as MetaValue};
+ghost use Rattle.trees.specs.declared.copy.Change.{Change};
 ghost use Rattle.trees.specs.TreeMap.{IsTree};
-ghost use Rattle.trees.specs.Copy.{placed_entry, parent_meta, changes_of, source_changes, paths_changes, path_changes, goes_into};
-ghost use Rattle.trees.specs.PrivateCopy.{AppliesChanges, IsFreeBelow, IsLaidPlaced, Joins, IsWhole, HangsIn};
+ghost use Rattle.trees.specs.Copy.{placed_entry, parent_meta, changes_of, source_changes, paths_changes, path_changes, goes_into, first_cause};
+ghost use Rattle.trees.specs.PrivateCopy.{AppliesChanges, IsFreeBelow, IsLaidPlaced, IsSunk, Comes, IsFoundOf, HangsIn};
 ghost use Rattle.trees.specs.PrivateNode.{map_of};
 
-use crate::apply::{apply_all, make};
+use crate::apply::{apply_all, make, make_cause};
 use crate::changes::{changes_of, goes_into};
 use crate::node::Node;
-use crate::{CopyOptions, CopySource, Entry, Meta, Tree, TreeFault};
+use crate::{Cause, CopyOptions, CopySource, Entry, Meta, Tree, TreeFault};
 use paths::Path;
-use plain::Memory;
 use plain::limits::MOST_COMPONENTS;
+use plain::{Fault, Memory};
 use std::alloc::Global;
+
+/// What becomes of matches that are joined, so that they can be hung in as one folder.
+#[derive(Clone, Copy)]
+enum Joined {
+    /// All of them are.
+    All,
+    /// A path gets too deep, and nothing before it is a reason to fail.
+    TooDeep,
+    /// Entries have to be placed one by one.
+    Other,
+}
+
+/// What is found of a COPY as a whole.
+#[derive(Drop)]
+enum Whole {
+    /// The folder that it hangs in: its matches are directories, nothing lies below its destination, none of their paths gets too deep
+    /// there, and where two of them meet, they meet in directories.
+    Folder(Node),
+    /// All this, but that a path gets too deep.
+    Deep,
+    /// Entries have to be placed one by one.
+    Neither,
+}
 
 /// Places what a COPY places. After a fault the root is left half done.
 pub(crate) fn place_sources(
@@ -33,8 +58,9 @@ pub(crate) fn place_sources(
 {
     let parent = options.parent_meta();
     match whole_folder(alloc, root, options, from, dest, sources)? {
-        Some(folder) => hang_in(alloc, root, &parent, dest, &folder),
-        None => {
+        Whole::Folder(folder) => hang_in(alloc, root, &parent, dest, &folder),
+        Whole::Deep => Err(Fault::Because(deep_cause(root, dest))),
+        Whole::Neither => {
             let into = goes_into(root, dest, options);
             let changes = changes_of(alloc, options, into, from, dest, sources)?;
             apply_all(alloc, root, &parent, changes)
@@ -42,8 +68,17 @@ pub(crate) fn place_sources(
     }
 }
 
-/// The folder that a COPY hangs in as a whole: its matches are directories, nothing lies below its destination, none of their paths gets
-/// too deep there, and where two of them meet, they meet in directories.
+/// Why a COPY fails that goes too deep and whose destination nothing lies below.
+fn deep_cause(root: &Node, dest: &Path) -> Cause
+    ensures { (meta : MetaValue) (changes : List Change) → IsSunk dest.now changes → IsFreeBelow (map_of root.now) dest.now → first_cause meta (map_of root.now) [] changes ≡ Some result }
+{
+    match make_cause(root, dest.components()) {
+        Some(cause) => cause,
+        None => Cause::F5,
+    }
+}
+
+/// What a COPY is as a whole.
 fn whole_folder(
     alloc: Global,
     root: &Node,
@@ -51,26 +86,28 @@ fn whole_folder(
     from: &Tree,
     dest: &Path,
     sources: &[CopySource],
-) -> Result<Option<Node>, Memory>
+) -> Result<Whole, Memory>
     requires { IsTree (map_of root.now) }
-    ensures { IfOk result (λ found. IfSome found (λ folder. (into : Bool) → IsWhole (map_of root.now) dest.now (changes_of options.now into from.now dest.now sources.now) (map_of folder))) }
+    ensures { IfOk result (λ found. (into : Bool) → IsFoundOf (map_of root.now) dest.now (changes_of options.now into from.now dest.now sources.now) found) }
 {
     if !is_free_below(root, dest) {
-        return Ok(None);
+        return Ok(Whole::Neither);
     }
     let mut joined = Node::leaf(alloc, Entry::Directory(Meta::directory()));
-    if !join_sources(alloc, &mut joined, options, from, dest, sources)? {
-        return Ok(None);
+    match join_sources(alloc, &mut joined, options, from, dest, sources)? {
+        Joined::All => {}
+        Joined::TooDeep => return Ok(Whole::Deep),
+        Joined::Other => return Ok(Whole::Neither),
     }
     // Where no source has a match, a COPY doesn't even make its destination.
     if joined.is_bare() {
-        return Ok(None);
+        return Ok(Whole::Neither);
     }
-    Ok(Some(joined))
+    Ok(Whole::Folder(joined))
 }
 
-/// Lays the matches of all sources over what is joined so far, and answers whether it could. Where it couldn't, what is joined is
-/// half done.
+/// Lays the matches of all sources over what is joined so far, and answers what becomes of them. Where they aren't all joined, what is
+/// joined is half done.
 fn join_sources(
     alloc: Global,
     joined: &mut Node,
@@ -78,16 +115,18 @@ fn join_sources(
     from: &Tree,
     dest: &Path,
     sources: &[CopySource],
-) -> Result<bool, Memory>
+) -> Result<Joined, Memory>
     requires { IsClean dest.now }
-    ensures { IfOk result (λ all. IsTrue all → (into : Bool) → Joins dest.now (changes_of options.now into from.now dest.now sources.now) (map_of joined.old) (map_of joined.new)) }
+    ensures { IfOk result (λ came. (into : Bool) → Comes dest.now (changes_of options.now into from.now dest.now sources.now) (map_of joined.old) (map_of joined.new) came) }
 {
     for source in sources {
-        if !join_source(alloc, joined, options, from, dest, source)? {
-            return Ok(false);
+        match join_source(alloc, joined, options, from, dest, source)? {
+            Joined::All => {}
+            Joined::TooDeep => return Ok(Joined::TooDeep),
+            Joined::Other => return Ok(Joined::Other),
         }
     }
-    Ok(true)
+    Ok(Joined::All)
 }
 
 /// Does the same with one source.
@@ -98,15 +137,15 @@ fn join_source(
     from: &Tree,
     dest: &Path,
     source: &CopySource,
-) -> Result<bool, Memory>
+) -> Result<Joined, Memory>
     requires { IsClean dest.now }
-    ensures { IfOk result (λ all. IsTrue all → (into : Bool) → Joins dest.now (source_changes options.now into from.now dest.now source.now) (map_of joined.old) (map_of joined.new)) }
+    ensures { IfOk result (λ came. (into : Bool) → Comes dest.now (source_changes options.now into from.now dest.now source.now) (map_of joined.old) (map_of joined.new) came) }
 {
     match source {
         CopySource::Found(paths) => {
             join_paths(alloc, joined, options, from, dest, paths.as_slice())
         }
-        CopySource::Data(_, _) => Ok(false),
+        CopySource::Data(_, _) => Ok(Joined::Other),
     }
 }
 
@@ -118,16 +157,18 @@ fn join_paths(
     from: &Tree,
     dest: &Path,
     paths: &[Path],
-) -> Result<bool, Memory>
+) -> Result<Joined, Memory>
     requires { IsClean dest.now }
-    ensures { IfOk result (λ all. IsTrue all → (into : Bool) → Joins dest.now (paths_changes options.now into from.now dest.now paths.now) (map_of joined.old) (map_of joined.new)) }
+    ensures { IfOk result (λ came. (into : Bool) → Comes dest.now (paths_changes options.now into from.now dest.now paths.now) (map_of joined.old) (map_of joined.new) came) }
 {
     for path in paths {
-        if !join_match(alloc, joined, options, from, dest, path)? {
-            return Ok(false);
+        match join_match(alloc, joined, options, from, dest, path)? {
+            Joined::All => {}
+            Joined::TooDeep => return Ok(Joined::TooDeep),
+            Joined::Other => return Ok(Joined::Other),
         }
     }
-    Ok(true)
+    Ok(Joined::All)
 }
 
 /// Does the same with one match.
@@ -138,18 +179,24 @@ fn join_match(
     from: &Tree,
     dest: &Path,
     path: &Path,
-) -> Result<bool, Memory>
+) -> Result<Joined, Memory>
     requires { IsClean dest.now }
-    ensures { IfOk result (λ all. IsTrue all → (into : Bool) → Joins dest.now (path_changes options.now into from.now dest.now path.now) (map_of joined.old) (map_of joined.new)) }
+    ensures { IfOk result (λ came. (into : Bool) → Comes dest.now (path_changes options.now into from.now dest.now path.now) (map_of joined.old) (map_of joined.new) came) }
 {
     let Some(folder) = from.node_at(path) else {
-        return Ok(false);
+        return Ok(Joined::Other);
     };
-    if !folder.is_directory() || !fits(folder, dest) || joined.meets(folder) {
-        return Ok(false);
+    if !folder.is_directory() || joined.meets(folder) {
+        return Ok(Joined::Other);
     }
-    lay_placed(alloc, joined, options, folder)?;
-    Ok(true)
+    if fits(folder, dest) {
+        lay_placed(alloc, joined, options, folder)?;
+        return Ok(Joined::All);
+    }
+    if is_keeping(options) && folder.is_deeper(MOST_COMPONENTS - dest.depth()) {
+        return Ok(Joined::TooDeep);
+    }
+    Ok(Joined::Other)
 }
 
 /// Lays a folder over what is joined so far, with the modes and owners of a COPY.

@@ -6,7 +6,7 @@ ghost use Rattle.trees.specs.Rows.{lent_rows};
 ghost use Rattle.trees.specs.Over.{over};
 ghost use Rattle.trees.specs.Copy.{placements, kind_of};
 ghost use Rattle.plain.specs.Limits.{most_components};
-ghost use Rattle.trees.specs.PrivateNode.{map_of, joined, IsDepth, IsPlanted, IsBelow, IsCut, IsFilled, rows_under};
+ghost use Rattle.trees.specs.PrivateNode.{map_of, joined, IsDepth, IsDeeper, IsPlanted, IsBelow, IsCut, IsFilled, rows_under};
 ghost use Rattle.trees.specs.PrivateWalk.{rows_of};
 ghost use Rattle.trees.specs.PrivateCopy.{IsPlacedNode, MeetInDirectories};
 
@@ -86,6 +86,14 @@ impl Node {
         ensures { result.now ≡ self.now.top }
     {
         &self.entry
+    }
+
+    /// Whether a path below this node has more names than so many. It goes down where it is deep enough.
+    #[cycle(sounding)]
+    pub(crate) fn is_deeper(&self, most: usize) -> bool
+        ensures { IsTrue result → IsDeeper most self.now.below }
+    {
+        self.depth > most && self.kids.is_deeper(most)
     }
 
     /// What stands right below this node, in the order of the names.

@@ -1,7 +1,14 @@
-use Rattle.trees.proofs.FolderDone.{match-joined}
+use Rattle.std.proofs.Common.{◌-◌, ℕ, subst}
+use Rattle.trees.specs.PrivateNode.{IsDeeper}
+use Rattle.trees.proofs.FolderDone.{match-joined, match-sinks}
 use Rattle.trees.proofs.folder.join_match.Goals as goal
 
-pub returns : goal.returns
-returns c = λ t.
-    match-joined c.args.options.now c.args.from.now c.args.dest.now c.args.path.now c.in-Some.folder.now c.is_directory.result c.args.joined.now _ c.in-Some.ensures.tree c.requires c.in-Some.ensures.at c.is_directory.ensures c.if-not-is_directory.false
-    (c.fits.ensures c.if-not-fits.false) (c.meets.ensures c.if-meets.false) c.in_ok-lay_placed.ensures
+pub returns-then-fits : goal.returns-then-fits
+returns-then-fits c =
+    match-joined c.args.options.now c.args.from.now c.args.dest.now c.args.path.now c.in-Some.folder.now c.is_directory.result c.args.joined.now c.in-Some.ensures.tree c.requires c.in-Some.ensures.at c.is_directory.ensures c.if-not-is_directory.false
+    (c.meets.ensures c.if-meets.false) _ (c.fits.ensures c.if-fits.true) c.in_ok-lay_placed.ensures
+
+pub returns-then-is_deeper : goal.returns-then-is_deeper
+returns-then-is_deeper c =
+    match-sinks c.args.options.now c.args.from.now c.args.dest.now c.args.path.now c.in-Some.folder.now c.is_directory.result c.args.joined.now c.in-Some.ensures.tree c.requires c.in-Some.ensures.at c.is_directory.ensures c.if-not-is_directory.false
+    (c.meets.ensures c.if-meets.false) (c.is_keeping.ensures c.if-is_keeping.true) c.requires.few (subst (λ (n : ℕ). IsDeeper (64 - n) c.in-Some.folder.now.below) c.depth.ensures (c.is_deeper.ensures c.if-is_deeper.true))
