@@ -206,7 +206,7 @@ KINDS = {
     values_kept: (16, 64), values_answered: (8, 32), values_replaced: (50, 200), values_drawn: (4, 16),
     stars: (30, 120), patterns_and_names: (500, 2000), ignore_lines: (100, 400), ignore_stars: (8, 32),
     images: (2000, 8000), nests: (1500, 6000), nest_too_deep: (1 << 20, 4 << 20), numbers: (60000, 240000), environments: (200, 800),
-    doubled_trees: (14, 20), deep_paths: (250, 1000), words_in_words: (500, 2000), continued: (20000, 80000), heredocs: (1500, 6000),
+    doubled_trees: (20, 60), deep_paths: (250, 1000), words_in_words: (500, 2000), continued: (20000, 80000), heredocs: (1500, 6000),
     bumps: (10000, 40000), cats: (8, 32),
 }
 DRAWN = {values_drawn, environments}
