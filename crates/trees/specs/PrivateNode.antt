@@ -163,7 +163,7 @@ height_falls (part ∷ parts) =
     let e = height_of-append (arc_value part).entries (flat (lists_of parts)) in
     omega arith
 
--- No path below a node has more names than this. A number greater than that of a tree's longest path says nothing.
+-- No path below a node has more names than this. A number above 64, the most names of a path of a tree, says nothing.
 pub record IsDepth (depth : ℕ) (below : TreeMap) : Type 0 where
   pub few : depth ≤ most_components → (path : List (List ℕ)) → is_some (get below path) ≡ true → length path ≤ depth
 

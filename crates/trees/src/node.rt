@@ -67,7 +67,7 @@ impl Node {
         }
     }
 
-    /// How many names the longest path below this node has. More than a path may have say nothing.
+    /// How many names the longest path below this node has. A number greater than that of any path of a tree says nothing.
     pub(crate) fn depth(&self) -> usize
         ensures { IsDepth result self.now.below }
     {
@@ -293,6 +293,7 @@ impl Node {
         }
         self.entry = upper.entry.copy(alloc)?;
         let deepest = before.max(upper.depth);
+        // Where there is no memory, what is half done may be anything.
         self.depth = UNKNOWN;
         let is_less = self.kids.lay_over(alloc, &upper.kids)?;
         self.depth = depth_of(&self.kids, deepest, is_less);
@@ -312,6 +313,7 @@ impl Node {
             }
             [name, rest @ ..] => {
                 let deepest = self.depth.max(lifted(folder.depth, path.len()));
+                // Where there is no memory, what is half done may be anything.
                 self.depth = UNKNOWN;
                 self.kids.fill(alloc, name, rest, folder)?;
                 self.depth = deepest;
