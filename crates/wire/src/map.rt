@@ -6,6 +6,7 @@ use crate::{EntryValue, Message};
 use plain::{Fault, Memory, Text};
 use std::alloc::Global;
 use std::cmp::Ordering;
+use std::collections::BTreeMap;
 use std::marker::Model;
 
 /// A key isn't after the keys of a map.
@@ -52,6 +53,17 @@ impl<V> Map<V> {
 }
 
 impl<V: Drop> Map<V> {
+    /// The map of these entries, whose keys are sorted as they are here.
+    pub fn from_sorted(alloc: Global, sorted: BTreeMap<Text, V>) -> Result<Map<V>, Memory>
+        ensures { IfOk result (λ map. map ≡ sorted.entries) }
+    {
+        let mut entries = Vec::new(alloc);
+        for entry in sorted {
+            entries.push(entry)?;
+        }
+        Ok(Map { entries })
+    }
+
     /// Adds an entry at the end. It is `Unordered` only if its key isn't after all those that are there. After an error the map is as
     /// it was.
     pub fn push(&mut self, key: Text, value: V) -> Result<(), Fault<Unordered>>
