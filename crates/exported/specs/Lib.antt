@@ -1,8 +1,10 @@
+pub mod Capabilities
 pub mod Commands
 pub mod Exporting
 pub mod Files
 pub mod Making
 pub mod Merges
+pub mod Metadata
 pub mod Names
 pub mod Operations
 pub mod Order

@@ -1,85 +1,117 @@
 // A plan as a definition.
 
-ghost use Rattle.std.specs.Prelude.{◌≡◌, ◌++◌, ◌∷◌, [], None, Some, false, IfOk};
-ghost use Rattle.exported.specs.Places.{digest_of};
-ghost use Rattle.exported.specs.Exporting.{is_carried, is_carried_escape, are_carried, can_exclude, is_speakable, placed, vertex_placed, all_placed, root_op, ended_at, ended, exported, IsExported};
+ghost use Rattle.std.specs.Prelude.{◌≡◌, [], None, false, IfOk, slice_index_or};
+ghost use Rattle.llb.specs.Places.{least_line};
+ghost use Rattle.exported.specs.Exporting.{is_carried, is_carried_escape, are_carried, can_exclude, is_speakable, placed, vertex_placed, root_op, ended, exported, IsExported};
 ghost use Rattle.exported.specs.PrivateExporting.{Gives, Tells};
 
+use crate::draft::Draft;
 use crate::files::make_dir_op;
 use crate::making::{Made, Options, vertex_made};
-use crate::operations::end_op;
-use crate::ops::Ops;
+use crate::metadata::vertex_name;
 use crate::{ExportFault, Obstacle};
-use llb::{Op as Work, Source, Vertex, VertexId};
+use llb::{Graph, Op as Work, Source, Vertex, VertexId};
 use llbmessages::{Definition, Op};
 use paths::Path;
 use plain::{Bytes, Exact, Fault, Items, Memory, Text};
 use plans::Plan;
 use std::alloc::Global;
-use wire::Map;
 
-/// A plan as a definition of BuildKit's LLB: the bytes of just its operations, each once and after its inputs, and of an end that names the
-/// target's tree. They are read as that definition and nothing else.
+/// A plan as a definition of BuildKit's LLB: the bytes of just its operations, each once and after its inputs, of an end that names the
+/// target's tree, and of what is said of each: what an engine has to be capable of, and what progress calls it. They are read as that
+/// definition and nothing else.
+///
+/// `names` has at the number of a line what progress calls the instruction of that line, if it has a name; a vertex is called as the
+/// instruction of the least of its lines.
 ///
 /// `Unspeakable` or `Clash` at the first vertex of which BuildKit can't be told, or whose operation has the digest of a different one.
-pub fn export<C>(alloc: Global, plan: &Plan<C>, options: &Options) -> Result<Bytes, ExportFault>
-    ensures { IsExported (exported options.now plan.now.graph.vertices plan.now.target) result }
+pub fn export<C>(
+    alloc: Global,
+    plan: &Plan<C>,
+    options: &Options,
+    names: &[Option<Text>],
+) -> Result<Bytes, ExportFault>
+    ensures { IsExported (exported options.now names.now plan.now.graph plan.now.target) result }
 {
-    let definition = definition_of(alloc, options, plan.graph().vertices(), plan.target())?;
+    let definition = definition_of(alloc, options, names, plan.graph(), plan.target())?;
     Ok(definition.to_bytes(alloc)?)
 }
 
-/// The definition of vertices and their result.
+/// The definition of a graph and its result.
 fn definition_of(
     alloc: Global,
     options: &Options,
-    vertices: &[Vertex],
+    names: &[Option<Text>],
+    graph: &Graph,
     wanted: VertexId,
 ) -> Result<Definition, ExportFault>
-    ensures { Tells (exported options.now vertices.now wanted) result }
+    ensures { Tells (exported options.now names.now graph.now wanted) result }
 {
     let mut places = Items::new(alloc);
-    let mut ops = Ops::new(alloc);
-    for vertex in vertices {
-        let place = add_vertex(alloc, options, places.as_slice(), &mut ops, vertex)?;
+    let mut draft = Draft::new(alloc);
+    for vertex in graph.vertices() {
+        let line = line_of(graph, places.len())?;
+        let place = add_vertex(
+            alloc,
+            options,
+            names,
+            line,
+            places.as_slice(),
+            &mut draft,
+            vertex,
+        )?;
         places.push(place)?;
     }
     match places.as_slice().get(wanted.index()) {
-        Some(Some(digest)) => Ok(ended_at(alloc, ops, digest)?),
-        Some(None) | None => ended_empty(alloc, options, vertices.len(), ops),
+        Some(Some(digest)) => Ok(draft.end(alloc, digest)?),
+        Some(None) | None => ended_empty(alloc, options, graph.len(), draft),
     }
 }
 
-/// Adds a vertex' operation, and answers its place.
+/// The least line behind the vertex of this number.
+fn line_of(graph: &Graph, number: usize) -> Result<u32, Memory>
+    ensures { IfOk result (λ line. line ≡ least_line (slice_index_or graph.now.places number [])) }
+{
+    match u32::try_from(number) {
+        Ok(number) => Ok(graph.least_place(VertexId::new(number))),
+        Err(_) => Err(Memory),
+    }
+}
+
+/// Adds the operation of a vertex, whose least line this is, and answers its place.
 #[tactic(auto, unfolding(crate::specs::Exporting::vertex_placed))]
 fn add_vertex(
     alloc: Global,
     options: &Options,
+    names: &[Option<Text>],
+    line: u32,
     places: &[Option<Text>],
-    ops: &mut Ops,
+    draft: &mut Draft,
     vertex: &Vertex,
 ) -> Result<Option<Text>, ExportFault>
-    ensures { Gives (vertex_placed options.now places.now ops.old vertex.now) ops.new result }
+    ensures { Gives (vertex_placed options.now names.now line places.now draft.old vertex.now) draft.new result }
 {
     if !is_speakable(options, &vertex.op) {
         return Err(Fault::Because(Obstacle::Unspeakable(places.len())));
     }
     let made = vertex_made(alloc, options, places, vertex)?;
-    add_made(alloc, places.len(), ops, &made)
+    let name = vertex_name(alloc, names, line, &vertex.op)?;
+    add_made(alloc, places.len(), draft, &made, &name)
 }
 
-/// Adds the operation that a vertex of this number is, and answers its place.
+/// Adds the operation that a vertex of this number and name is, and answers its place.
 fn add_made(
     alloc: Global,
     number: usize,
-    ops: &mut Ops,
+    draft: &mut Draft,
     made: &Made,
+    name: &Option<Text>,
 ) -> Result<Option<Text>, ExportFault>
-    ensures { Gives (placed number ops.old made.now) ops.new result }
+    ensures { Gives (placed number draft.old name.now made.now) draft.new result }
 {
     match made {
         Made::Same(place) => Ok(place.copy(alloc)?),
-        Made::By(op) => ops.add(alloc, number, op),
+        Made::By(op) => draft.add(alloc, number, op, name),
     }
 }
 
@@ -138,18 +170,6 @@ fn are_carried(bytes: &[u8]) -> bool
     true
 }
 
-/// The definition of these operations, of which the one of this digest has the result.
-#[tactic(auto, unfolding(crate::specs::Exporting::ended_at))]
-fn ended_at(alloc: Global, ops: Ops, digest: &Text) -> Result<Definition, Memory>
-    ensures { IfOk result (λ definition. definition ≡ ended_at ops digest.now) }
-{
-    let end = end_op(alloc, digest)?.to_bytes(alloc)?;
-    let mut ops = ops.into_items();
-    ops.push(end)?;
-    let metadata = Map::new(alloc);
-    Ok(Definition { ops, metadata })
-}
-
 /// The operation that makes the root of an empty tree.
 #[tactic(auto, unfolding(crate::specs::Exporting::root_op))]
 fn root_op(alloc: Global, options: &Options) -> Result<Op, Memory>
@@ -158,19 +178,19 @@ fn root_op(alloc: Global, options: &Options) -> Result<Op, Memory>
     make_dir_op(alloc, &options.platform, &[], &Path::root(alloc))
 }
 
-/// The definition of these operations, whose result is the empty tree; `number` is how many vertices there are.
+/// A definition with its end, whose result is the empty tree; `number` is how many vertices there are.
 fn ended_empty(
     alloc: Global,
     options: &Options,
     number: usize,
-    ops: Ops,
+    draft: Draft,
 ) -> Result<Definition, ExportFault>
-    ensures { Tells (ended options.now number ops None) result }
+    ensures { Tells (ended options.now number draft None) result }
 {
-    let mut ops = ops;
+    let mut draft = draft;
     let root = root_op(alloc, options)?;
-    match ops.add(alloc, number, &root)? {
-        Some(digest) => Ok(ended_at(alloc, ops, &digest)?),
+    match draft.add(alloc, number, &root, &None)? {
+        Some(digest) => Ok(draft.end(alloc, &digest)?),
         None => unreachable!(),
     }
 }

@@ -3,25 +3,31 @@
 // Each vertex of a graph is an operation here, or the tree of another vertex: a source, a folder that is made, a COPY, a command with its mounts,
 // a merge; and there is the end, which names the result. A call for one operation is given what the vertex holds and where the trees of its
 // inputs are: the digest of an operation, or none for the empty tree, which no operation makes. `export` goes over a whole plan: it gives each
-// operation once, and the end. What is said beside each operation, as what an engine has to know for it, isn't here; nothing uses the crate yet.
+// operation once, and the end, and says of each what an engine has to be capable of, and what progress is to call it. Where in a file it stands
+// isn't said. Nothing uses the crate yet.
 //
 // The central definition is `exported` in specs/Exporting.antt, over `vertex_made` in specs/Making.antt and those of each kind: `copied` in
-// specs/Files.antt, `exec_of` in specs/Commands.antt. They speak of inputs by the numbers of specs/Places.antt. What BuildKit is told of a
-// pattern is `source_path` in specs/Patterns.antt, and of an image `whole_name` in specs/Names.antt. Bytes are the matter of `llbmessages`.
+// specs/Files.antt, `exec_of` in specs/Commands.antt. They speak of inputs by the numbers of specs/Places.antt. What is said of an operation is
+// `metadata_of` in specs/Metadata.antt, over `kind_caps` in specs/Capabilities.antt. What BuildKit is told of a pattern is `source_path` in
+// specs/Patterns.antt, and of an image `whole_name` in specs/Names.antt. Bytes are the matter of `llbmessages`.
 //
 // ```
 // let op = make_dir_op(alloc, &platform, &places, &path)?;      // FROM a, WORKDIR /app: mkdir on the one input
-// let bytes = export(alloc, &plan, &options)?;                  // or Clash(7): vertex 7 has the digest of another operation
+// let names = [None, None, Some("[build 2/2] RUN make")];       // of lines 0, 1 and 2
+// let bytes = export(alloc, &plan, &options, &names)?;          // or Clash(7): vertex 7 has the digest of another operation
 // ```
 #![tactic(auto)]
 
+mod capabilities;
 mod commands;
+mod draft;
 mod exporting;
 mod fault;
 mod files;
 pub mod laws;
 mod making;
 mod merges;
+mod metadata;
 mod names;
 mod operations;
 mod ops;

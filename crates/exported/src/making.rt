@@ -47,12 +47,16 @@ impl Drop for Made {
     }
 }
 
-/// A copy of the place of this number; that of the empty tree where there is none.
-fn place_at(alloc: Global, places: &[Option<Text>], number: usize) -> Result<Option<Text>, Memory>
-    ensures { IfOk result (λ place. place ≡ slice_index_or places.now number None) }
+/// A copy of the text of this number, as the digest of a place; `None` where there is none.
+pub(crate) fn text_at(
+    alloc: Global,
+    texts: &[Option<Text>],
+    number: usize,
+) -> Result<Option<Text>, Memory>
+    ensures { IfOk result (λ text. text ≡ slice_index_or texts.now number None) }
 {
-    match places.get(number) {
-        Some(Some(digest)) => Ok(Some(digest.copy(alloc)?)),
+    match texts.get(number) {
+        Some(Some(text)) => Ok(Some(text.copy(alloc)?)),
         Some(None) | None => Ok(None),
     }
 }
@@ -67,7 +71,7 @@ fn places_at(
 {
     let mut places = Items::new(alloc);
     for id in ids {
-        places.push(place_at(alloc, known, id.index())?)?;
+        places.push(text_at(alloc, known, id.index())?)?;
     }
     Ok(places)
 }
@@ -100,7 +104,7 @@ fn dir_made(
     ensures { IfOk result (λ made. made ≡ made_on options.now places.now (MakeDirs path.now)) }
 {
     if path.is_root() {
-        return Ok(Made::Same(place_at(alloc, places, 0)?));
+        return Ok(Made::Same(text_at(alloc, places, 0)?));
     }
     Ok(Made::By(make_dir_op(alloc, &options.platform, places, path)?))
 }

@@ -2,16 +2,11 @@
 
 ghost use Rattle.std.specs.Prelude.{◌≡◌, ◌++◌, ◌∷◌, [], None, Some, IfOk, OnOk, OnErr, bytes_eq, option_copied};
 ghost use Rattle.std.specs.Option.{option_map};
-ghost use Rattle.llbmessages.specs.Op.{op_bytes};
 ghost use Rattle.exported.specs.Places.{digest_of};
-ghost use Rattle.exported.specs.Exporting.{op_at, with_op, placed};
-ghost use Rattle.exported.specs.PrivateExporting.{number_at, Changes, Gives};
-ghost use Rattle.exported.specs.declared.making.Made.TheVariants.{By as MadeBy};
+ghost use Rattle.exported.specs.Exporting.{op_at};
+ghost use Rattle.exported.specs.PrivateExporting.{number_at};
 
-use crate::places::digest_of;
-use crate::{ExportFault, Obstacle};
-use llbmessages::Op;
-use plain::{Bytes, Exact, Fault, Items, Memory, Text};
+use plain::{Bytes, Exact, Items, Memory, Text};
 use std::alloc::Global;
 use std::collections::BTreeMap;
 use std::marker::Model;
@@ -57,7 +52,7 @@ impl Ops {
 
     /// Whether the operation that has this digest has these bytes; none where no operation has it.
     #[tactic(auto, using(crate::proofs::OpsFacts::op_numbered))]
-    fn is_same(&self, digest: &Text, bytes: &Bytes) -> Option<bool>
+    pub(crate) fn is_same(&self, digest: &Text, bytes: &Bytes) -> Option<bool>
         ensures { result ≡ option_map (λ other. bytes_eq other bytes.now) (op_at self.now digest.now) }
     {
         match self.number(digest) {
@@ -70,7 +65,7 @@ impl Ops {
     }
 
     /// Adds an operation whose digest none has. After `Memory` the operations are as they were.
-    fn push(&mut self, alloc: Global, digest: &Text, bytes: Bytes) -> Result<(), Memory>
+    pub(crate) fn push(&mut self, alloc: Global, digest: &Text, bytes: Bytes) -> Result<(), Memory>
         requires digest { digest.now ≡ digest_of bytes }
         requires fresh { op_at self.old digest.now ≡ None }
         ensures ok { OnOk result (self.new ≡ self.old ++ bytes ∷ []) }
@@ -81,39 +76,6 @@ impl Ops {
         self.numbers.insert(digest.copy(alloc)?, number)?;
         self.bytes.push(bytes).unwrap();
         Ok(())
-    }
-
-    /// Adds an operation by its bytes, if it isn't there; `number` is that of its vertex.
-    fn add_bytes(
-        &mut self,
-        alloc: Global,
-        number: usize,
-        digest: &Text,
-        bytes: Bytes,
-    ) -> Result<(), ExportFault>
-        requires { digest.now ≡ digest_of bytes }
-        ensures { Changes (with_op number self.old bytes) self.new result }
-    {
-        match self.is_same(digest, &bytes) {
-            None => Ok(self.push(alloc, digest, bytes)?),
-            Some(true) => Ok(()),
-            Some(false) => Err(Fault::Because(Obstacle::Clash(number))),
-        }
-    }
-
-    /// Adds an operation, if it isn't there, and answers its place; `number` is that of its vertex.
-    pub(crate) fn add(
-        &mut self,
-        alloc: Global,
-        number: usize,
-        op: &Op,
-    ) -> Result<Option<Text>, ExportFault>
-        ensures { Gives (placed number self.old (MadeBy op.now)) self.new result }
-    {
-        let bytes = op.to_bytes(alloc)?;
-        let digest = digest_of(alloc, bytes.as_slice())?;
-        self.add_bytes(alloc, number, &digest, bytes)?;
-        Ok(Some(digest))
     }
 
     /// The bytes of the operations.
