@@ -1,5 +1,5 @@
--- What an engine has to be capable of to run an operation (BuildKit, `MarshalConstraints` and `addCap` in client/llb; the names are those of
--- solver/pb/caps.go). One that isn't refuses the definition, and names what it isn't capable of.
+-- What an engine has to be capable of to run an operation (BuildKit's LLB, `OpMetadata`; BuildKit, `addCap` in client/llb; the names are those
+-- of solver/pb/caps.go). One that isn't refuses the definition, and names what it isn't capable of.
 use Rattle.std.specs.Prelude.{ℕ, pos, Bool, true, false, not, ◌&&◌, ◌==◌, List, [], ◌∷◌, ◌++◌, codes, length, nat_eq, int_le, if◌then◌else◌}
 use Rattle.std.specs.List.{starts_with}
 use Rattle.std.specs.BTreeMap.{insert_entry}
