@@ -3,8 +3,9 @@
 //
 // What it has to print stands in `stdout`, which another program made: `protoc --deterministic_output --encode=pb.Op ops.proto` of Debian's
 // protobuf-compiler 3.21.12 in the folder `protoc`, from the texts there, in their order (`definition` is a `pb.Definition`); `xxd -p` made the
-// digits. `plans.sh` there made the definitions of plans, with digests by `sha256sum`. So a field's number or type that isn't that of `ops.proto`, a default that is written, or an empty message that isn't, shows here.
-// Whether `ops.proto` is BuildKit's own schema doesn't.
+// digits. `plans.sh` there made the definitions of plans, with digests by `sha256sum` and what is said of each operation as the `.ops` files have
+// it. So a field's number or type that isn't that of `ops.proto`, a default that is written, an empty message that isn't, or a map out of order,
+// shows here. Whether `ops.proto` is BuildKit's own schema doesn't.
 #![tactic(auto)]
 
 mod commands;

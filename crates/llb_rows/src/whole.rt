@@ -3,44 +3,68 @@
 use crate::rows::{platform, text};
 use exported::{Options, export};
 use llbmessages::{Network, Platform};
-use plain::{Bytes, Fault, Memory, Text};
+use plain::{Bytes, Fault, Items, Memory, Text};
 use plans::Plan;
 use samples::{Row, plan_of_rows};
 use std::alloc::Global;
 
-/// A plan with two copies of which BuildKit is told alike, and a command on each: one copy and one command there.
+/// A plan with two copies of which BuildKit is told alike, and a command on each: one copy and one command there, which are called as the first
+/// ones are. The merge stands for no line, so it has no name.
 pub(crate) fn plan(alloc: Global) -> Result<Bytes, Memory> {
     let rows: [Row; 8] = [
-        ("scratch", &[], 0),
-        ("context", &[], 0),
-        ("dirs /srv", &[0], 0),
-        ("copy ./a.txt /srv/", &[2, 1], 0),
-        ("copy a.txt /srv/", &[2, 1], 0),
-        ("run put /b x", &[3], 0),
-        ("run put /b x", &[4], 0),
+        ("scratch", &[], 1),
+        ("context", &[], 3),
+        ("dirs /srv", &[0], 2),
+        ("copy ./a.txt /srv/", &[2, 1], 3),
+        ("copy a.txt /srv/", &[2, 1], 5),
+        ("locked put /b x", &[3], 4),
+        ("locked put /b x", &[4], 6),
         ("merge", &[6, 2], 0),
     ];
-    exported(alloc, &rows, 7)
+    let names = [
+        "",
+        "[a] FROM scratch",
+        "[a 1/3] WORKDIR /srv",
+        "[a 2/3] COPY ./a.txt .",
+        "[a 3/3] RUN put /b x",
+        "[b 2/3] COPY a.txt .",
+        "[b 3/3] RUN put /b x",
+    ];
+    exported(alloc, &rows, 7, &names)
 }
 
 /// A plan whose result is the empty tree.
 pub(crate) fn empty_plan(alloc: Global) -> Result<Bytes, Memory> {
     let rows: [Row; 2] = [("scratch", &[], 0), ("dirs /", &[0], 0)];
-    exported(alloc, &rows, 1)
+    exported(alloc, &rows, 1, &[])
 }
 
-/// The definition of the plan of these rows.
-fn exported(alloc: Global, rows: &[Row], target: u32) -> Result<Bytes, Memory> {
+/// The definition of the plan of these rows, whose lines have these names.
+fn exported(alloc: Global, rows: &[Row], target: u32, names: &[&str]) -> Result<Bytes, Memory> {
+    let names = names_of(alloc, names)?;
     let plan = plan_of_rows(alloc, rows, target, &[])?;
-    let bytes = bytes_of(alloc, &plan);
+    let bytes = bytes_of(alloc, &plan, names.as_slice());
     drop(plan);
     bytes
 }
 
+/// Names of lines; the empty one is none.
+fn names_of(alloc: Global, texts: &[&str]) -> Result<Items<Option<Text>>, Memory> {
+    let mut names = Items::new(alloc);
+    for name in texts {
+        let name = match name.is_empty() {
+            true => None,
+            false => Some(text(alloc, name)?),
+        };
+        names.push(name)?;
+    }
+    Ok(names)
+}
+
 /// The definition of a plan; where there is none, nothing is shown.
-fn bytes_of(alloc: Global, plan: &Plan<u8>) -> Result<Bytes, Memory> {
+fn bytes_of(alloc: Global, plan: &Plan<u8>, names: &[Option<Text>]) -> Result<Bytes, Memory> {
     let options = options(alloc)?;
-    match export(alloc, plan, &options) {
+    match export(alloc, plan, &options, names) {
         Ok(bytes) => Ok(bytes),
         Err(Fault::Because(_)) | Err(Fault::Memory) => Err(Memory),
     }
