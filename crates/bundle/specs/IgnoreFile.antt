@@ -1,5 +1,6 @@
 -- What the bytes of a bundle say of its ignore file (own).
 use Rattle.std.specs.Prelude.{◌≡◌, ℕ, Option, Some, Result, Ok, Err, List}
+use Rattle.std.specs.Option.{option_map}
 use Rattle.serde_json.specs.Data.{Data}
 use Rattle.plain.specs.declared.fault.Fault.{Fault}
 use Rattle.plain.specs.declared.fault.Fault.TheVariants.{Because, Memory}
@@ -27,3 +28,7 @@ abbrev pub ReadsIgnoreFile : {C : Type 0} → (Data → Option C) → List ℕ �
 ReadsIgnoreFile {C} config bytes (Ok file) = HasIgnoreFile config bytes file
 ReadsIgnoreFile {C} config bytes (Err (Because refusal)) = ReadsBundle config bytes (Err (Because refusal))
 ReadsIgnoreFile {C} config bytes (Err Memory) = Unit {0}
+
+-- the bytes of the ignore file of the bundle that bytes are, whether or not a line of it is bad
+abbrev pub ignore_bytes_of : {C : Type 0} → (Data → Option C) → List ℕ → Option (List ℕ)
+ignore_bytes_of {C} config bytes = option_map (λ (parts : Parts C). ignore_bytes parts.files.context) (parts_of config bytes)

@@ -18,4 +18,4 @@ mod parts;
 mod whole;
 
 pub use answering::{failed_answer, put_built, refused_answer};
-pub use whole::{Bundle, IgnoreFile, read_bundle, read_ignore_file};
+pub use whole::{Bundle, IgnoreFile, read_bundle, read_ignore_bytes, read_ignore_file};

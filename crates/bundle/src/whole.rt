@@ -1,12 +1,12 @@
 ghost use Rattle.std.specs.Prelude.{◌≡◌, IfOk};
 ghost use Rattle.std.specs.Option.{option_and_then};
 ghost use Rattle.contexts.specs.Context.{IsListing, IsContext};
-ghost use Rattle.plain.specs.declared.refusal.Code.TheVariants.{R19};
+ghost use Rattle.plain.specs.declared.refusal.Code.TheVariants.{R19, R20};
 ghost use Rattle.serde_json.specs.Read.{read};
 ghost use Rattle.strict.specs.Gives.{Gives};
 ghost use Rattle.bundle.specs.Parts.{parts_in, parts_within, parts_of};
 ghost use Rattle.bundle.specs.Reading.{is_ignore_path, bytes_in, ignore_bytes, told_line, IsBundle, Completes, ReadsBundle};
-ghost use Rattle.bundle.specs.IgnoreFile.{ReadsIgnoreFile};
+ghost use Rattle.bundle.specs.IgnoreFile.{ReadsIgnoreFile, ignore_bytes_of};
 ghost use Rattle.bundle.specs.PrivateIgnore.{FindsIgnore};
 
 use crate::parts::{Files, Named, Parts, read_parts};
@@ -234,6 +234,16 @@ fn parts_of<C: FromJson>(alloc: Global, bytes: &[u8]) -> Result<Parts<C>, ReadFa
     parts_within(alloc, MOST_BUNDLE_BYTES, bytes)
 }
 
+/// The refusal of bytes that are no bundle.
+fn no_bundle() -> Refusal
+    ensures { result ≡ record { code = R20; line = 0 } }
+{
+    Refusal {
+        code: Code::R20,
+        line: 0,
+    }
+}
+
 /// Reads a bundle: JSON in any spelling, of at most 67,108,864 bytes. The context is filtered by its own file `/.dockerignore`, in several
 /// threads.
 ///
@@ -248,10 +258,7 @@ pub fn read_bundle<C: FromJson>(
 {
     match parts_of(alloc, bytes) {
         Ok(parts) => complete(alloc, rt, parts),
-        Err(Fault::Because(_)) => Err(Fault::Because(Refusal {
-            code: Code::R20,
-            line: 0,
-        })),
+        Err(Fault::Because(_)) => Err(Fault::Because(no_bundle())),
         Err(Fault::Memory) => Err(Fault::Memory),
     }
 }
@@ -270,10 +277,23 @@ pub fn read_ignore_file<C: FromJson>(
             drop(parts);
             found
         }
-        Err(Fault::Because(_)) => Err(Fault::Because(Refusal {
-            code: Code::R20,
-            line: 0,
-        })),
+        Err(Fault::Because(_)) => Err(Fault::Because(no_bundle())),
         Err(Fault::Memory) => Err(Fault::Memory),
+    }
+}
+
+/// Reads the bytes of the ignore file of a bundle, none where it has none. Unlike for `read_ignore_file`, its lines may be bad: they are not
+/// looked at, so the line that a refusal with R19 is about can be shown. `NotRead` where the bytes are no bundle.
+pub fn read_ignore_bytes<C: FromJson>(alloc: Global, bytes: &[u8]) -> Result<Bytes, ReadFault>
+    ensures { Gives result (ignore_bytes_of C.reading bytes.now) }
+{
+    let parts: Result<Parts<C>, ReadFault> = parts_of(alloc, bytes);
+    match parts {
+        Ok(parts) => {
+            let found = Bytes::from_slice(alloc, ignore_bytes(parts.files.context.rows()));
+            drop(parts);
+            Ok(found?)
+        }
+        Err(fault) => Err(fault),
     }
 }
