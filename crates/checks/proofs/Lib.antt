@@ -1,1 +1,4 @@
+mod CheckFacts
 mod LineFacts
+mod ListFacts
+mod TextFacts

@@ -1,5 +1,7 @@
 -- What a person reads of faults, with the lines that they are about (own).
-use Rattle.std.specs.Prelude.{◌-◌, ℕ, List, [], codes, slice_get, unwrap_or}
+use Rattle.std.specs.Prelude.{◌++◌, ◌-◌, ◌/◌, ◌%◌, ◌==◌, ◌&&◌, not, ℕ, Bool, false, List, [], ◌∷◌, chars, codes, encode_utf8, slice_get, unwrap_or, if◌then◌else◌}
+use Rattle.std.specs.Char.{is_control}
+use Rattle.std.specs.Fmt.{digit_glyph}
 use Rattle.std.specs.List.{flat_map}
 use Rattle.std.specs.Str.Lossy.{utf8_lossy}
 use Rattle.plain.specs.declared.refusal.Code.{Code}
@@ -22,9 +24,29 @@ readable_lines text = text_lines (utf8_lossy text)
 abbrev pub line_at : List (List ℕ) → ℕ → List ℕ
 line_at lines number = unwrap_or (slice_get lines (number - 1)) []
 
+-- a character that a terminal may obey: a control character, which is one below U+0020 or from U+007F to U+009F (Unicode, general category
+-- Cc); but a tab is none
+abbrev pub is_obeyed : ℕ → Bool
+is_obeyed c = is_control c && not (c == 9)
+
+-- the number of a character below U+0100, with two hexadecimal digits, as `\x1b`
+abbrev pub escaped : ℕ → List ℕ
+escaped c = codes "\\x" ++ (digit_glyph false (c / 16) ∷ (digit_glyph false (c % 16) ∷ []))
+
+-- what is shown of a character: its number if a terminal may obey it, and else the character
+abbrev pub visible_char : ℕ → List ℕ
+visible_char c = if is_obeyed c then escaped c else encode_utf8 c
+
+-- A line as it is shown, so that no text can give orders to a terminal. It is UTF-8 here, so of its bytes above 127 only the two of a character
+-- from U+0080 to U+009F are such orders. All others are shown as they are: a name or a comment in another script than English stays readable,
+-- also beside characters that have no width or turn the order of writing, which no terminal takes for an order. What is shown can't always be
+-- read back, as a line may hold `\x1b` itself.
+abbrev pub visible : List ℕ → List ℕ
+visible line = flat_map visible_char (chars line)
+
 -- what is shown of a fault of a text with these lines
 abbrev pub shown_fault : List (List ℕ) → Refusal → List ℕ
-shown_fault lines refusal = shown (place_of refusal.code) refusal (line_at lines refusal.line)
+shown_fault lines refusal = shown (place_of refusal.code) refusal (visible (line_at lines refusal.line))
 
 -- what is shown of faults, one after another
 abbrev pub shown_faults : List (List ℕ) → List Refusal → List ℕ

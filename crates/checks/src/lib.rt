@@ -1,18 +1,28 @@
-// Faults of a Dockerfile, or of its ignore file, as a person reads them: each with the line that it is about.
+// All faults of a bundle, and how a person reads them.
 //
-// It is given the faults and the text, and finds none itself: which faults a text has, and a bundle, the crates say that read them. One fault is
-// shown in one walk through the text. Where there are several, the lines are listed first, so each is found at once.
+// A build answers one refusal. `check_bundle` lists all of the first phase that has one: the bundle and its ignore file, the Dockerfile's text
+// and lines, its instructions, its stages, and the evaluation of those that the target needs. Of the evaluation it lists the first fault alone, since
+// the lines after one that is refused have no values to be judged by. It runs nothing, so it doesn't tell whether a build would fail.
 //
-// The central definition is `shown_faults` in specs/Shown.antt.
+// `shown_faults` shows faults, each with the line that it is about. It is given the faults and their text. One fault is shown in one walk through
+// the text. Where there are several, the lines are listed first, so each is found at once. `check` does both.
+//
+// The central definitions are `AreFaultsOf` in specs/Checks.antt, `shown_faults` in specs/Shown.antt, and `IsCheckOf` in specs/Checked.antt.
 //
 // ```
-// let shown = shown_faults(alloc, faults.as_slice(), b"FROM scratch\nRUNN make\n")?;
+// let checked = check(alloc, &rt, bytes)?; // of a bundle with the Dockerfile FROM scratch\nRUNN make
 // // Dockerfile:2: R04: there is no such instruction here
 // //     2 | RUNN make
 // //       | use FROM, ARG, ENV, ..
 // ```
 #![tactic(auto)]
 
+mod checked;
+mod checking;
+pub mod laws;
 mod showing;
+mod visible;
 
+pub use checked::{Checked, check};
+pub use checking::{Findings, check_bundle};
 pub use showing::shown_faults;

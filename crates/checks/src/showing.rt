@@ -2,14 +2,16 @@ ghost use Rattle.std.specs.Prelude.{◌≡◌, ◌-◌, map, IfOk};
 ghost use Rattle.std.specs.String.{string_bytes};
 ghost use Rattle.lines.specs.Text.{without_byte_order_mark, text_lines};
 ghost use Rattle.sentences.specs.Showing.{shown};
-ghost use Rattle.checks.specs.Shown.{place_of, readable_lines, line_at, shown_faults};
+ghost use Rattle.checks.specs.Shown.{place_of, readable_lines, line_at, visible, shown_faults};
 
+use crate::visible::visible;
 use plain::{Code, Memory, Refusal, Text};
 use sentences::shown;
 use std::alloc::{AllocError, Global};
 
 /// What is shown of faults, in their order, each as `sentences::shown` gives it, whose lines are counted in this text: a Dockerfile's, or that
-/// of its ignore file. It need not be UTF-8: what isn't is shown as U+FFFD. The line of a number that the text hasn't is shown as an empty one.
+/// of its ignore file. It need not be UTF-8: what isn't is shown as U+FFFD. A control character of a line, other than a tab, is shown by its
+/// number, as `\x1b`, so no line gives orders to a terminal. The line of a number that the text hasn't is shown as an empty one.
 pub fn shown_faults(alloc: Global, faults: &[Refusal], text: &[u8]) -> Result<Text, Memory>
     ensures { IfOk result (λ shown. shown ≡ shown_faults (readable_lines text.now) faults.now) }
 {
@@ -46,9 +48,10 @@ fn shown_each(alloc: Global, faults: &[Refusal], lines: &[&str]) -> Result<Strin
 
 /// What is shown of a fault that is about this line.
 fn shown_fault(alloc: Global, fault: Refusal, line: &str) -> Result<String, Memory>
-    ensures { IfOk result (λ text. string_bytes text ≡ shown (place_of fault.code) fault line.now) }
+    ensures { IfOk result (λ text. string_bytes text ≡ shown (place_of fault.code) fault (visible line.now)) }
 {
-    shown(alloc, place_of(fault.code), fault, line)
+    let line = visible(alloc, line)?;
+    shown(alloc, place_of(fault.code), fault, line.as_str())
 }
 
 /// What a fault of this code is in.

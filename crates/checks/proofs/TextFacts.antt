@@ -1,0 +1,81 @@
+-- The text that a bundle's faults are in.
+use Rattle.std.proofs.Common.{◌≡◌, ◌==◌, ◌∙◌, inl, inr, ℕ, List, [], length, Option, Some, None, Result, Ok, Err, refl, sym, ap, subst, IfOk}
+use Rattle.std.specs.Prelude.{unwrap_or}
+use Rattle.plain.specs.declared.fault.Fault.TheVariants.{Because}
+use Rattle.plain.specs.declared.memory.Memory.{Memory}
+use Rattle.plain.specs.declared.refusal.Refusal.{Refusal}
+use Rattle.ignorefile.specs.File.{ignore_of}
+use Rattle.imageconfig.specs.Reading.{config_in}
+use Rattle.imageconfig.specs.declared.config.Config.{Config}
+use Rattle.std.specs.Option.{option_map}
+use Rattle.bundle.specs.IgnoreFile.{ignore_bytes_of}
+use Rattle.bundle.specs.Parts.{parts_of}
+use Rattle.bundle.specs.Reading.{ignore_bytes, ReadsBundle}
+use Rattle.bundle.specs.declared.parts.Parts.{Parts}
+use Rattle.bundle.specs.declared.whole.Bundle.{Bundle}
+use Rattle.checks.specs.Checks.{AreFaultsOf}
+use Rattle.checks.specs.Checked.{faulty_part, faulty_text_in, faulty_text, IsCheckOf}
+use Rattle.checks.specs.Shown.{readable_lines, shown_faults}
+use Rattle.checks.specs.declared.checked.Checked.{Checked}
+use Rattle.checks.specs.declared.checking.Findings.{Findings}
+
+-- the bytes of an ignore file, none where there is no bundle
+abbrev ignored : Option (Parts Config) → List ℕ
+ignored read = unwrap_or (option_map (λ (parts : Parts Config). ignore_bytes parts.files.context) read) []
+
+no_parts : (read : Option (Parts Config)) → read ≡ None → ignored read ≡ faulty_text_in read
+no_parts read none = subst (λ r. ignored r ≡ faulty_text_in r) (sym none) refl
+
+bad_line : (read : Option (Parts Config)) (parts : Parts Config) (number : ℕ) → read ≡ Some parts → ignore_of (ignore_bytes parts.files.context) ≡ Err number
+    → ignored read ≡ faulty_text_in read
+bad_line read parts number are bad = subst (λ r. ignored r ≡ faulty_text_in r) (sym are) (sym (ap (faulty_part parts) bad))
+
+-- that of a refused bundle is its ignore file
+pub refused_text : (bytes : List ℕ) (refusal : Refusal) → ReadsBundle config_in bytes (Err (Because refusal))
+    → unwrap_or (ignore_bytes_of config_in bytes) [] ≡ faulty_text bytes
+refused_text bytes refusal (inl none) = no_parts (parts_of config_in bytes) none.0
+refused_text bytes refusal (inr these) = bad_line (parts_of config_in bytes) these.0 these.1.1.0 these.1.0 these.1.1.1.0
+
+-- that of a bundle is its Dockerfile
+pub bundle_text : (bytes : List ℕ) (bundle : Bundle Config) → ReadsBundle config_in bytes (Ok bundle) → bundle.dockerfile ≡ faulty_text bytes
+bundle_text bytes bundle these =
+    these.1.1.1.1.dockerfile ∙ sym (ap faulty_text_in these.1.0 ∙ ap (faulty_part these.0) these.1.1.1.0)
+
+-- what is found has it
+pub found_text : (result : Result Findings Memory) (one other : List ℕ) → one ≡ other → IfOk result (λ found. found.text ≡ one) → IfOk result (λ found. found.text ≡ other)
+found_text (Ok found) one other same is = is ∙ same
+found_text (Err memory) one other same is = tt
+
+-- what is found and shown is what a check gives
+pub checked : (bytes : List ℕ) (found : Findings) (made : Checked) → AreFaultsOf bytes found.faults → found.text ≡ faulty_text bytes
+    → made.text ≡ shown_faults (readable_lines found.text) found.faults → made.is_sound ≡ (length found.faults == 0) → IsCheckOf bytes made
+checked bytes found made are text shown sound = record {
+  faults = found.faults;
+  are = are;
+  text = shown ∙ ap (λ t. shown_faults (readable_lines t) found.faults) text;
+  is_sound = sound;
+}
+
+-- a check gives one thing
+abbrev pub HaveFaults : Type 0
+HaveFaults = (bytes : List ℕ) → (faults : List Refusal) × AreFaultsOf bytes faults
+
+abbrev pub HaveOneList : Type 0
+HaveOneList = (bytes : List ℕ) (faults others : List Refusal) → AreFaultsOf bytes faults → AreFaultsOf bytes others → faults ≡ others
+
+pub some_check : HaveFaults → (bytes : List ℕ) → (made : Checked) × IsCheckOf bytes made
+some_check some bytes =
+    let found = some bytes in (
+      record { text = shown_faults (readable_lines (faulty_text bytes)) found.0; is_sound = length found.0 == 0 },
+      record { faults = found.0; are = found.1; text = refl; is_sound = refl },
+    )
+
+same_checked : (one other : Checked) → one.text ≡ other.text → one.is_sound ≡ other.is_sound → one ≡ other
+same_checked one other text sound = λ i. record { text = text i; is_sound = sound i }
+
+pub one_check : HaveOneList → (bytes : List ℕ) (one other : Checked) → IsCheckOf bytes one → IsCheckOf bytes other → one ≡ other
+one_check unique bytes one other these those =
+    let same = unique bytes these.faults those.faults these.are those.are in
+    same_checked one other
+    (these.text ∙ ap (shown_faults (readable_lines (faulty_text bytes))) same ∙ sym those.text)
+    (these.is_sound ∙ ap (λ (faults : List Refusal). length faults == 0) same ∙ sym those.is_sound)

@@ -1,0 +1,11 @@
+use Rattle.checks.proofs.CheckFacts.{text_faulty, text_sound}
+use Rattle.checks.proofs.checking.check_file.Goals as goal
+
+pub returns-in-Ok : goal.returns-in-Ok
+returns-in-Ok c = text_sound c.args.bundle c.as_slice.result.now c.in-Ok.file c.check_stages.result c.as_slice.ensures c.in-Ok.ensures c.check_stages.ensures
+
+pub returns-in-Err-Because : goal.returns-in-Err-Because
+returns-in-Err-Because c =
+    rw c.in-Err-Because.field-0-is
+    (text_faulty c.args.bundle c.as_slice.result.now c.in-Err-Because.field-0 c.in-Err-Because.faults c.as_slice.ensures c.in-Err-Because.field-0-is
+    c.in-Err-Because.ensures)

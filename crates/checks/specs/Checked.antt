@@ -1,0 +1,34 @@
+-- What checking a bundle gives: what a person reads of all its faults (own).
+use Rattle.std.specs.Prelude.{◌≡◌, ◌==◌, ℕ, List, [], Option, Some, None, Result, Ok, Err, length}
+use Rattle.plain.specs.declared.refusal.Refusal.{Refusal}
+use Rattle.ignorefile.specs.File.{ignore_of}
+use Rattle.ignorefile.specs.declared.line.Line.{Line}
+use Rattle.imageconfig.specs.Reading.{config_in}
+use Rattle.imageconfig.specs.declared.config.Config.{Config}
+use Rattle.bundle.specs.Parts.{parts_of}
+use Rattle.bundle.specs.Reading.{ignore_bytes}
+use Rattle.bundle.specs.declared.parts.Parts.{Parts}
+use Rattle.checks.specs.Checks.{AreFaultsOf}
+use Rattle.checks.specs.Shown.{readable_lines, shown_faults}
+use Rattle.checks.specs.declared.checked.Checked.{Checked}
+
+-- the text that the faults of a bundle with this ignore file are in: if a line of that is bad, it is the ignore file, and else the Dockerfile
+abbrev pub faulty_part : Parts Config → Result (List Line) ℕ → List ℕ
+faulty_part parts (Ok lines) = parts.files.dockerfile
+faulty_part parts (Err number) = ignore_bytes parts.files.context
+
+-- the same of what bytes are read as: those that are no bundle have no such text
+abbrev pub faulty_text_in : Option (Parts Config) → List ℕ
+faulty_text_in None = []
+faulty_text_in (Some parts) = faulty_part parts (ignore_of (ignore_bytes parts.files.context))
+
+-- the text whose lines the faults of a bundle's bytes count
+abbrev pub faulty_text : List ℕ → List ℕ
+faulty_text bytes = faulty_text_in (parts_of config_in bytes)
+
+-- what checking bytes gives: all their faults as a person reads them, with the lines that they are about, and whether there is none
+pub record IsCheckOf (bytes : List ℕ) (checked : Checked) : Type 0 where
+  pub faults : List Refusal
+  pub are : AreFaultsOf bytes faults
+  pub text : checked.text ≡ shown_faults (readable_lines (faulty_text bytes)) faults
+  pub is_sound : checked.is_sound ≡ (length faults == 0)

@@ -1,0 +1,213 @@
+ghost use Rattle.std.specs.Prelude.{◌≡◌, [], ◌∷◌, Err, IfOk, unwrap_or};
+ghost use Rattle.std.specs.FinMap.{get as arg_value};
+ghost use Rattle.stages.specs.Faults.{stage_refusals};
+ghost use Rattle.stages.specs.Naming.{names_in};
+ghost use Rattle.plain.specs.declared.fault.Fault.TheVariants.{Because};
+ghost use Rattle.imageconfig.specs.Reading.{config_in};
+ghost use Rattle.bundle.specs.IgnoreFile.{ignore_bytes_of};
+ghost use Rattle.bundle.specs.Reading.{ReadsBundle};
+ghost use Rattle.checks.specs.Checks.{AreTableFaults, AreStageFaults, AreFileFaults, AreFaultsOf};
+ghost use Rattle.checks.specs.Checked.{faulty_text};
+
+use bundle::{Bundle, read_bundle, read_ignore_bytes};
+use dockerfile::Dockerfile;
+use evaluation::evaluate;
+use imageconfig::Config;
+use plain::{Bytes, Fault, Items, Memory, Refusal};
+use stages::StageTable;
+use std::alloc::Global;
+use std::thread::Threads;
+
+/// The faults of a bundle, and the text that they are in.
+#[derive(Drop)]
+pub struct Findings {
+    /// The faults, in the order of their lines.
+    pub faults: Items<Refusal>,
+    /// The bytes of the file whose lines they count: those of the ignore file if a line of it is bad, and else of the Dockerfile. There are
+    /// none if there is no bundle.
+    pub text: Bytes,
+}
+
+/// All faults of the bytes of a bundle, of the first phase that has one, in the order of their lines (own).
+///
+/// There is one where the bytes are no bundle (R20), where the ignore file has a bad line (R19), and where the evaluation of the stages that the
+/// target needs is refused, which stops there. The faults of the Dockerfile's text are those of `Dockerfile::check`, and the faults of its stages
+/// are those of `StageTable::faults`. An accepted bundle has none.
+pub fn check_bundle(
+    alloc: Global,
+    rt: &(impl Threads + Sync),
+    bytes: &[u8],
+) -> Result<Findings, Memory>
+    ensures faults { IfOk result (λ found. AreFaultsOf bytes.now found.faults) }
+    ensures text { IfOk result (λ found. found.text ≡ faulty_text bytes.now) }
+{
+    match read_bundle(alloc, rt, bytes) {
+        Ok(bundle) => check_whole(alloc, bundle),
+        Err(Fault::Because(refusal)) => refused(alloc, bytes, refusal),
+        Err(Fault::Memory) => Err(Memory),
+    }
+}
+
+/// The fault of bytes that are refused before their Dockerfile is read.
+fn refused(alloc: Global, bytes: &[u8], refusal: Refusal) -> Result<Findings, Memory>
+    requires { ReadsBundle config_in bytes.now (Err (Because refusal)) }
+    ensures faults { IfOk result (λ found. found.faults ≡ refusal ∷ []) }
+    ensures text { IfOk result (λ found. found.text ≡ faulty_text bytes.now) }
+{
+    let text = ignore_file_or_none(alloc, bytes)?;
+    let faults = alone(alloc, refusal)?;
+    Ok(Findings { faults, text })
+}
+
+/// The bytes of a bundle's ignore file; there are none if there is no bundle.
+fn ignore_file_or_none(alloc: Global, bytes: &[u8]) -> Result<Bytes, Memory>
+    ensures { IfOk result (λ text. text ≡ unwrap_or (ignore_bytes_of config_in bytes.now) []) }
+{
+    match read_ignore_bytes::<Config>(alloc, bytes) {
+        Ok(text) => Ok(text),
+        Err(Fault::Because(_)) => Ok(Bytes::from_vec(Vec::new(alloc))),
+        Err(Fault::Memory) => Err(Memory),
+    }
+}
+
+/// The faults of a bundle's Dockerfile, and its text.
+fn check_whole(alloc: Global, bundle: Bundle<Config>) -> Result<Findings, Memory>
+    ensures faults { IfOk result (λ found. AreFileFaults bundle.images (arg_value bundle.args) bundle.target bundle.dockerfile found.faults) }
+    ensures text { IfOk result (λ found. found.text ≡ bundle.dockerfile) }
+{
+    match Bytes::from_slice(alloc, bundle.dockerfile.as_slice()) {
+        Ok(text) => {
+            let faults = check_file(alloc, bundle)?;
+            Ok(Findings { faults, text })
+        }
+        Err(memory) => {
+            drop(bundle);
+            Err(memory)
+        }
+    }
+}
+
+/// A list of one fault.
+fn alone(alloc: Global, refusal: Refusal) -> Result<Items<Refusal>, Memory>
+    ensures { IfOk result (λ faults. faults ≡ refusal ∷ []) }
+{
+    let mut faults = Items::new(alloc);
+    faults.push(refusal)?;
+    Ok(faults)
+}
+
+/// The faults of a bundle's Dockerfile.
+fn check_file(alloc: Global, bundle: Bundle<Config>) -> Result<Items<Refusal>, Memory>
+    ensures { IfOk result (λ faults. AreFileFaults bundle.images (arg_value bundle.args) bundle.target bundle.dockerfile faults) }
+{
+    match Dockerfile::check(alloc, bundle.dockerfile.as_slice()) {
+        Ok(file) => check_stages(alloc, bundle, file),
+        Err(Fault::Because(faults)) => {
+            drop(bundle);
+            Ok(faults)
+        }
+        Err(Fault::Memory) => {
+            drop(bundle);
+            Err(Memory)
+        }
+    }
+}
+
+/// The faults of the stages of a bundle's Dockerfile.
+fn check_stages(
+    alloc: Global,
+    bundle: Bundle<Config>,
+    file: Dockerfile,
+) -> Result<Items<Refusal>, Memory>
+    ensures { IfOk result (λ faults. AreStageFaults bundle.images (arg_value bundle.args) bundle.target file faults) }
+{
+    match StageTable::faults(
+        alloc,
+        &file,
+        &bundle.images,
+        &bundle.args,
+        bundle.target.as_ref(),
+    ) {
+        Ok(faults) => check_names(alloc, bundle, file, faults),
+        Err(Memory) => {
+            drop(bundle);
+            drop(file);
+            Err(Memory)
+        }
+    }
+}
+
+/// The faults of the stages of a file with these refusals of its names.
+fn check_names(
+    alloc: Global,
+    bundle: Bundle<Config>,
+    file: Dockerfile,
+    faults: Items<Refusal>,
+) -> Result<Items<Refusal>, Memory>
+    requires { faults ≡ stage_refusals (names_in bundle.images) (arg_value bundle.args) bundle.target file }
+    ensures { IfOk result (λ found. AreStageFaults bundle.images (arg_value bundle.args) bundle.target file found) }
+{
+    if faults.is_empty() {
+        drop(faults);
+        check_named(alloc, bundle, file)
+    } else {
+        drop(bundle);
+        drop(file);
+        Ok(faults)
+    }
+}
+
+/// The faults of stages whose names all lead somewhere.
+fn check_named(
+    alloc: Global,
+    bundle: Bundle<Config>,
+    file: Dockerfile,
+) -> Result<Items<Refusal>, Memory>
+    requires { stage_refusals (names_in bundle.images) (arg_value bundle.args) bundle.target file ≡ [] }
+    ensures { IfOk result (λ faults. AreStageFaults bundle.images (arg_value bundle.args) bundle.target file faults) }
+{
+    stages::laws::the_first_fault_is_the_refusal();
+    match StageTable::resolve(
+        alloc,
+        file,
+        &bundle.images,
+        &bundle.args,
+        bundle.target.as_ref(),
+    ) {
+        Ok(table) => check_table(alloc, bundle, table),
+        Err(Fault::Because(_)) => unreachable!(),
+        Err(Fault::Memory) => {
+            drop(bundle);
+            Err(Memory)
+        }
+    }
+}
+
+/// The fault that the evaluation of the needed stages ends with, if it does.
+fn check_table(
+    alloc: Global,
+    bundle: Bundle<Config>,
+    table: StageTable,
+) -> Result<Items<Refusal>, Memory>
+    ensures { IfOk result (λ faults. AreTableFaults bundle.images (arg_value bundle.args) table faults) }
+{
+    let Bundle {
+        dockerfile,
+        context,
+        images,
+        args,
+        caches,
+        target,
+    } = bundle;
+    drop(dockerfile);
+    drop(caches);
+    drop(target);
+    match evaluate(alloc, table, images, context, &args) {
+        Ok(evaluated) => {
+            drop(evaluated);
+            Ok(Items::new(alloc))
+        }
+        Err(Fault::Because(refusal)) => alone(alloc, refusal),
+        Err(Fault::Memory) => Err(Memory),
+    }
+}
