@@ -10,7 +10,7 @@ use Rattle.clap.specs.Kinds.{HasKind, Kinds, or_else}
 use Rattle.clap.specs.declared.error.Error.{Error}
 use Rattle.clap.specs.Faults.{check_fault, defaults_fault, entered_fault, level_fault, settle_fault, walk_fault}
 use Rattle.std.specs.Option.{option_map_or}
-use Rattle.std.specs.Prelude.{option_and_then, option_map, unwrap_or, slice_index_or, bytes_eq, not, ◌&&◌, ◌||◌, ◌==◌}
+use Rattle.std.specs.Prelude.{option_and_then, option_map, unwrap_or, slice_index_or, not, ◌||◌, ◌==◌}
 use Rattle.clap.specs.Lexer.{without_minus}
 use Rattle.clap.specs.Values.{IsSignedIn}
 use Rattle.clap.specs.Walk.{answers_to, finished, nothing_held, settled, walk, walk_from}
@@ -19,10 +19,12 @@ use Rattle.clap.specs.declared.error.kind.ErrorKind.TheVariants.{ValueValidation
 use Rattle.clap.proofs.ValueTestLemmas.{accepts-Accepts}
 use Rattle.plain.specs.Limits.{most_workers}
 use Rattle.command.specs.CommandLine.{least_workers, whole_command}
-use Rattle.command.specs.Tasks.{IsBuild, IsTaskOf, IsWorkers, argument_faults, arguments_of, bundle_file, faults_of, pack_of, pack_with}
+use Rattle.command.specs.Tasks.{IsTaskOf, IsWorkers, argument_faults, arguments_of, bundle_file, faults_of, has_bare_argument, has_wrong_choice, pack_of, pack_with, why_of}
+use Rattle.command.specs.Llb.{llb_of}
+use Rattle.command.specs.declared.task.LlbOptions.{LlbOptions}
 use Rattle.command.specs.declared.task.PackOptions.{PackOptions}
 use Rattle.command.specs.declared.task.Task.{Task}
-use Rattle.command.specs.declared.task.Task.TheVariants.{Build, Graph, Pack}
+use Rattle.command.specs.declared.task.Task.TheVariants.{Build, Graph, Pack, Why, Llb, Config}
 use Rattle.command.proofs.BuildWalk.{leaf, leaf_ok}
 use Rattle.command.proofs.PackWalk.{folder_ok, leaf as pack_leaf}
 use Rattle.command.proofs.Kept.{or_else-left, or_else-right, some_kind}
@@ -70,44 +72,53 @@ workers_of rows has =
 -- a fault of build arguments is the one, or there is none
 one_fault : (found : Option (Text × List Row)) → (argument_faults found ≡ [] → ⊥) → argument_faults found ≡ ValueValidation ∷ []
 one_fault None some = absurd (some refl)
-one_fault (Some found) some = go (bytes_eq found.0 (codes "pack") && not (is_some (arguments_of found.1))) some
+one_fault (Some found) some = go (has_bare_argument found || has_wrong_choice found) some
   where
     go : (b : Bool) → (cond b (ValueValidation ∷ []) [] ≡ [] → ⊥) → cond b (ValueValidation ∷ []) [] ≡ ValueValidation ∷ []
     go true some = refl
     go false some = absurd (some refl)
-
-and_false : (b : Bool) → cond (b && false) (ValueValidation ∷ []) [] ≡ []
-and_false true = refl
-and_false false = refl
 
 -- there is none where there is a task
 task_args : (found : Option (Text × List Row)) (task : Task) → IsTaskOf found task → argument_faults found ≡ []
 task_args None task asked = absurd asked
 task_args (Some found) (Build n) asked = rw asked.0 refl
 task_args (Some found) (Graph file) asked = rw asked.0 refl
-task_args (Some found) (Pack words) asked = go (first_of (codes "DIR") found.1) (arguments_of found.1) asked.1
+task_args (Some found) (Pack words) asked = rw asked.0 (go (first_of (codes "DIR") found.1) (arguments_of found.1) asked.1)
   where
     go : (folder : Option Text) (args : Option (List (Text × Text)))
         → option_and_then (λ f. option_map (pack_with found.1 f) args) folder ≡ Some words
-        → cond (bytes_eq found.0 (codes "pack") && not (is_some args)) (ValueValidation ∷ []) [] ≡ []
+        → cond (not (is_some args) || false) (ValueValidation ∷ []) [] ≡ []
     go None args is = cc
     go (Some folder) None is = cc
-    go (Some folder) (Some args) is = and_false (bytes_eq found.0 (codes "pack"))
+    go (Some folder) (Some args) is = refl
+task_args (Some found) (Why options) asked = rw asked.0 refl
+task_args (Some found) (Llb options) asked = rw (asked.0, asked.1) refl
+task_args (Some found) (Config file) asked = rw asked.0 refl
 
--- `graph` and `help` as clap builds them
+-- the other commands as clap builds them
 abbrev graph_leaf : Shape
 graph_leaf = slice_index_or app.subs 1 (new_shape [])
 
+abbrev why_leaf : Shape
+why_leaf = slice_index_or app.subs 3 (new_shape [])
+
+abbrev llb_leaf : Shape
+llb_leaf = slice_index_or app.subs 4 (new_shape [])
+
+abbrev config_leaf : Shape
+config_leaf = slice_index_or app.subs 5 (new_shape [])
+
 abbrev help_leaf : Shape
-help_leaf = slice_index_or app.subs 3 (new_shape [])
+help_leaf = slice_index_or app.subs 6 (new_shape [])
 
 or_false : (b : Bool) → (b || false) ≡ true → b ≡ true
 or_false true e = refl
 or_false false e = e
 
 -- the command that a name leads to, by which it answers to
-abbrev leads : Bool → Bool → Bool → Bool → Option Shape
-leads x y p z = cond x (Some leaf) (cond y (Some graph_leaf) (cond p (Some pack_leaf) (cond z (Some help_leaf) None)))
+abbrev leads : Bool → Bool → Bool → Bool → Bool → Bool → Bool → Option Shape
+leads x y p w l c z =
+    cond x (Some leaf) (cond y (Some graph_leaf) (cond p (Some pack_leaf) (cond w (Some why_leaf) (cond l (Some llb_leaf) (cond c (Some config_leaf) (cond z (Some help_leaf) None))))))
 
 -- `pack` has a folder, and each build argument a `=`
 pack_at : (rows : List Row) (folder : Text) → first_of (codes "DIR") rows ≡ Some folder → argument_faults (Some (codes "pack", rows)) ≡ []
@@ -118,29 +129,43 @@ pack_at rows folder given e = go (arguments_of rows) refl
     go None is = absurd (some_kind _ _ (rw is at e))
     go (Some args) is = (pack_with rows folder args, rw (given, is) refl)
 
-met_at : (p : Text × List Text) (x y k z : Bool) → answers_to p.0 (label_of help_leaf) ≡ z → NotHelp (Some p)
-    → is_some (option_map (λ s. rows_at s p.1) (leads x y k z)) ≡ true
-    → option_map_or (λ s. level_fault s [] nothing_held p.1 false []) (leads x y k z) [] ≡ []
-    → argument_faults (option_map (λ s. rows_at s p.1) (leads x y k z)) ≡ []
-    → (task : Task) × IsTaskOf (option_map (λ s. rows_at s p.1) (leads x y k z)) task
-met_at p true y k z help not_help some e args =
+-- `llb` has all that it is asked for
+llb_at : (rows : List Row) → argument_faults (Some (codes "llb", rows)) ≡ [] → (options : LlbOptions) × (llb_of rows ≡ Some options)
+llb_at rows e = go (llb_of rows) refl
+  where
+    go : (found : Option LlbOptions) → llb_of rows ≡ found → (options : LlbOptions) × (llb_of rows ≡ Some options)
+    go None is = absurd (some_kind _ _ (rw is at e))
+    go (Some options) is = (options, is)
+
+met_at : (p : Text × List Text) (x y k w l c z : Bool) → answers_to p.0 (label_of help_leaf) ≡ z → NotHelp (Some p)
+    → is_some (option_map (λ s. rows_at s p.1) (leads x y k w l c z)) ≡ true
+    → option_map_or (λ s. level_fault s [] nothing_held p.1 false []) (leads x y k w l c z) [] ≡ []
+    → argument_faults (option_map (λ s. rows_at s p.1) (leads x y k w l c z)) ≡ []
+    → (task : Task) × IsTaskOf (option_map (λ s. rows_at s p.1) (leads x y k w l c z)) task
+met_at p true y k w l c z help not_help some e args =
     let found = workers_of _ (leaf_ok p.1 e) in
     (Build (record { workers = found.0; file = bundle_file (rows_at leaf p.1).1 }), (refl, record { workers = found.1; file = refl }))
-met_at p false true k z help not_help some e args = (Graph (bundle_file (rows_at graph_leaf p.1).1), (refl, refl))
-met_at p false false true z help not_help some e args =
+met_at p false true k w l c z help not_help some e args = (Graph (bundle_file (rows_at graph_leaf p.1).1), (refl, refl))
+met_at p false false true w l c z help not_help some e args =
     let folder = folder_ok p.1 e in
     let found = pack_at (finished pack_leaf.rules (walk pack_leaf.rules [] nothing_held p.1).held) folder.0 folder.1 args in
     (Pack found.0, (refl, found.1))
-met_at p false false false true help not_help some e args =
+met_at p false false false true l c z help not_help some e args = (Why (why_of (rows_at why_leaf p.1).1), (refl, refl))
+met_at p false false false false true c z help not_help some e args =
+    let found = llb_at (finished llb_leaf.rules (walk llb_leaf.rules [] nothing_held p.1).held) args in
+    (Llb found.0, (refl, found.1))
+met_at p false false false false false true z help not_help some e args = (Config (bundle_file (rows_at config_leaf p.1).1), (refl, refl))
+met_at p false false false false false false true help not_help some e args =
     let same = (bytes_eq-Decides (codes "help") p.0).0 (or_false _ help) in
     absurd (true≢false (sym ((bytes_eq-Decides p.0 (codes "help")).1 (sym same)) ∙ not_help))
-met_at p false false false false help not_help some e args = absurd (true≢false (sym some))
+met_at p false false false false false false false help not_help some e args = absurd (true≢false (sym some))
 
 stopped_at : (stop : Option (Text × List Text)) → NotHelp stop → is_some (entered app stop) ≡ true → entered_fault app stop ≡ []
     → argument_faults (entered app stop) ≡ [] → (task : Task) × IsTaskOf (entered app stop) task
 stopped_at None not_help some e args = absurd (true≢false (sym some))
 stopped_at (Some p) not_help some e args =
-    met_at p (answers_to p.0 (label_of leaf)) (answers_to p.0 (label_of graph_leaf)) (answers_to p.0 (label_of pack_leaf)) (answers_to p.0 (label_of help_leaf)) refl not_help some e args
+    met_at p (answers_to p.0 (label_of leaf)) (answers_to p.0 (label_of graph_leaf)) (answers_to p.0 (label_of pack_leaf)) (answers_to p.0 (label_of why_leaf))
+    (answers_to p.0 (label_of llb_leaf)) (answers_to p.0 (label_of config_leaf)) (answers_to p.0 (label_of help_leaf)) refl not_help some e args
 
 -- a subcommand is wanted
 has_command : (has : Bool) (rows : List Row) → check_fault app.top rows has ≡ [] → has ≡ true

@@ -8,10 +8,10 @@ use Rattle.clap.specs.declared.parser.matches.ArgMatches.TheViews.{out-SubComman
 use Rattle.clap.specs.declared.parser.matches.SubCommand.{SubCommand}
 use Rattle.plain.specs.Limits.{most_workers}
 use Rattle.command.specs.CommandLine.{least_workers}
-use Rattle.command.specs.Tasks.{IsBuild, IsTaskOf, IsWorkers, pack_of}
+use Rattle.command.specs.Tasks.{IsBuild, IsTaskOf, IsWorkers}
 use Rattle.command.specs.declared.task.BuildOptions.{BuildOptions}
 use Rattle.command.specs.declared.task.Task.{Task}
-use Rattle.command.specs.declared.task.Task.TheVariants.{Build, Graph, Pack}
+use Rattle.command.specs.declared.task.Task.TheVariants.{Build, Graph, Pack, Why, Llb, Config}
 
 pub if_none : {T : Type 0} (answer : Option T) (P : Type 0) → P → IfNone answer P
 if_none None P p = p
@@ -57,10 +57,6 @@ pub no_task : (o : Option (Text × List Row)) (name : Text) (rows : List Row) �
 no_task o name rows is build none (Build options) h = none options (subst (λ found. IsTaskOf found (Build options)) is h).1
 no_task o name rows is build none (Graph file) h = let graph : name ≡ codes "graph" = (subst (λ found. IsTaskOf found (Graph file)) is h).0 in absurd (true≢false (ap (λ t. bytes_eq t (codes "build")) (sym build ∙ graph)))
 no_task o name rows is build none (Pack words) h = let pack : name ≡ codes "pack" = (subst (λ found. IsTaskOf found (Pack words)) is h).0 in absurd (true≢false (ap (λ t. bytes_eq t (codes "build")) (sym build ∙ pack)))
-
--- nor without what `pack` is asked for
-pub no_pack : (o : Option (Text × List Row)) (name : Text) (rows : List Row) → o ≡ Some (name, rows) → name ≡ codes "pack"
-    → pack_of rows ≡ None → (task : Task) → IsTaskOf o task → ⊥
-no_pack o name rows is pack none (Build options) h = let build : name ≡ codes "build" = (subst (λ found. IsTaskOf found (Build options)) is h).0 in absurd (true≢false (ap (λ t. bytes_eq t (codes "pack")) (sym pack ∙ build)))
-no_pack o name rows is pack none (Graph file) h = let graph : name ≡ codes "graph" = (subst (λ found. IsTaskOf found (Graph file)) is h).0 in absurd (true≢false (ap (λ t. bytes_eq t (codes "pack")) (sym pack ∙ graph)))
-no_pack o name rows is pack none (Pack words) h = let some : pack_of rows ≡ Some words = (subst (λ found. IsTaskOf found (Pack words)) is h).1 in let bad : None ≡ Some words = sym none ∙ some in cc
+no_task o name rows is build none (Why options) h = let why : name ≡ codes "why" = (subst (λ found. IsTaskOf found (Why options)) is h).0 in absurd (true≢false (ap (λ t. bytes_eq t (codes "build")) (sym build ∙ why)))
+no_task o name rows is build none (Llb options) h = let llb : name ≡ codes "llb" = (subst (λ found. IsTaskOf found (Llb options)) is h).0 in absurd (true≢false (ap (λ t. bytes_eq t (codes "build")) (sym build ∙ llb)))
+no_task o name rows is build none (Config file) h = let config : name ≡ codes "config" = (subst (λ found. IsTaskOf found (Config file)) is h).0 in absurd (true≢false (ap (λ t. bytes_eq t (codes "build")) (sym build ∙ config)))

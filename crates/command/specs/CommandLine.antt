@@ -70,6 +70,30 @@ bundle_command =
     (with_subcommand (on_top (λ top. record top { subcommand_required = true; has_version = true }) (new_app (codes "dfsolve"))) build_command.top)
     graph_command.top
 
+-- PATH, once or more (own)
+abbrev pub paths_argument : Rule
+paths_argument = record (new_rule (codes "PATH")) { required = true; action = Some Append }
+
+-- `why [--bundle FILE] PATH..` (own)
+abbrev pub why_command : App
+why_command = with_rule (with_rule (new_app (codes "why")) (text_option (codes "bundle"))) paths_argument
+
+-- `dfsolve COMMAND` of the commands that have to do with no engine but the program's own (own)
+abbrev pub asking_command : App
+asking_command = with_subcommand (with_subcommand bundle_command pack_command.top) why_command.top
+
+-- `llb [--platform P] [--network N] --unique TEXT` (own)
+abbrev pub llb_options : App
+llb_options = with_rule (with_rule (with_rule (new_app (codes "llb")) (text_option (codes "platform"))) (text_option (codes "network"))) (text_option (codes "unique"))
+
+-- `llb [--platform P] [--network N] --unique TEXT [FILE]` (own)
+abbrev pub llb_command : App
+llb_command = with_rule llb_options bundle_argument
+
+-- `config [FILE]` (own)
+abbrev pub config_command : App
+config_command = with_rule (new_app (codes "config")) bundle_argument
+
 -- `dfsolve COMMAND` (own)
 abbrev pub whole_command : App
-whole_command = with_subcommand bundle_command pack_command.top
+whole_command = with_subcommand (with_subcommand asking_command llb_command.top) config_command.top

@@ -1,5 +1,5 @@
 -- What the words that were found ask for (own).
-use Rattle.std.specs.Prelude.{◌≡◌, ◌≤◌, ◌==◌, ◌&&◌, ℕ, Bool, false, not, List, [], ◌∷◌, Option, Some, None, map, length, codes, bytes_eq, is_some, unwrap_or, option_map, option_and_then, if◌then◌else◌}
+use Rattle.std.specs.Prelude.{◌≡◌, ◌≤◌, ◌==◌, ◌&&◌, ◌||◌, ℕ, Bool, false, not, List, [], ◌∷◌, Option, Some, None, map, length, codes, bytes_eq, is_some, unwrap_or, option_map, option_and_then, if◌then◌else◌}
 use Rattle.std.specs.Option.{option_map_or}
 use Rattle.std.specs.List.{list_all, position_or_len, before_first, after_first}
 use Rattle.std.specs.Str.Parse.{IsNumeral, digits_value, without_leading_plus}
@@ -9,10 +9,12 @@ use Rattle.clap.specs.Words.{Row, Text, fault_of, first_of, one_of, subcommand_o
 use Rattle.clap.specs.declared.error.kind.ErrorKind.TheVariants.{ValueValidation}
 use Rattle.plain.specs.Limits.{most_workers}
 use Rattle.command.specs.CommandLine.{least_workers, whole_command}
+use Rattle.command.specs.Llb.{llb_of}
 use Rattle.command.specs.declared.task.BuildOptions.{BuildOptions}
 use Rattle.command.specs.declared.task.PackOptions.{PackOptions}
+use Rattle.command.specs.declared.task.WhyOptions.{WhyOptions}
 use Rattle.command.specs.declared.task.Task.{Task}
-use Rattle.command.specs.declared.task.Task.TheVariants.{Build, Graph, Pack}
+use Rattle.command.specs.declared.task.Task.TheVariants.{Build, Graph, Pack, Why, Llb, Config}
 
 -- the number that the value of `--workers` says, within its range: decimal digits, of which a `+` may stand in front, which is how
 -- clap reads a number (own)
@@ -68,17 +70,36 @@ pack_with rows folder args = record {
 abbrev pub pack_of : List Row → Option PackOptions
 pack_of rows = option_and_then (λ folder. option_map (pack_with rows folder) (arguments_of rows)) (first_of (codes "DIR") rows)
 
+-- the paths of `why`, in the order of the words (own)
+abbrev pub paths_of : List Row → List Text
+paths_of rows = unwrap_or (all_of (codes "PATH") rows) []
+
+-- what `why` is asked for by its matches: its paths, and the bundle's file, if one is named (own)
+abbrev pub why_of : List Row → WhyOptions
+why_of rows = record { file = first_of (codes "bundle") rows; paths = paths_of rows }
+
 -- the task that a subcommand, by its name and its matches, asks for (own)
 abbrev pub IsTaskOf : Option (Text × List Row) → Task → Type 0
 IsTaskOf None task = ⊥
 IsTaskOf (Some found) (Build options) = (found.0 ≡ codes "build") × IsBuild found.1 options
 IsTaskOf (Some found) (Graph file) = (found.0 ≡ codes "graph") × (file ≡ bundle_file found.1)
 IsTaskOf (Some found) (Pack options) = (found.0 ≡ codes "pack") × (pack_of found.1 ≡ Some options)
+IsTaskOf (Some found) (Why options) = (found.0 ≡ codes "why") × (options ≡ why_of found.1)
+IsTaskOf (Some found) (Llb options) = (found.0 ≡ codes "llb") × (llb_of found.1 ≡ Some options)
+IsTaskOf (Some found) (Config file) = (found.0 ≡ codes "config") × (file ≡ bundle_file found.1)
 
--- what is wrong with words in which clap finds no fault: a build argument without a `=` (own)
+-- `pack` with a build argument without a `=` (own)
+abbrev pub has_bare_argument : Text × List Row → Bool
+has_bare_argument found = bytes_eq found.0 (codes "pack") && not (is_some (arguments_of found.1))
+
+-- `llb` without a text of `--unique`, or with a value that is no platform or no network (own)
+abbrev pub has_wrong_choice : Text × List Row → Bool
+has_wrong_choice found = bytes_eq found.0 (codes "llb") && not (is_some (llb_of found.1))
+
+-- what is wrong with words in which clap finds no fault (own)
 abbrev pub argument_faults : Option (Text × List Row) → Kinds
 argument_faults None = []
-argument_faults (Some found) = if bytes_eq found.0 (codes "pack") && not (is_some (arguments_of found.1)) then ValueValidation ∷ [] else []
+argument_faults (Some found) = if has_bare_argument found || has_wrong_choice found then ValueValidation ∷ [] else []
 
 -- what is wrong with the words: what clap finds in them, or else that (own)
 abbrev pub faults_of : List Text → Kinds

@@ -1,7 +1,7 @@
 ghost use Rattle.std.specs.Prelude.{◌≡◌, IfOk, false};
 ghost use Rattle.clap.specs.Words.{app_of, rule_of};
 ghost use Rattle.clap.specs.declared.builder.command.Command.TheViews.{out-Command};
-ghost use Rattle.command.specs.CommandLine.{argument_option, build_command, bundle_argument, bundle_command, folder_argument, graph_command, ignore_flag, pack_command, pack_from, pack_to, text_option, whole_command, workers_option};
+ghost use Rattle.command.specs.CommandLine.{argument_option, asking_command, build_command, bundle_argument, bundle_command, config_command, folder_argument, graph_command, ignore_flag, llb_command, llb_options, pack_command, pack_from, pack_to, paths_argument, text_option, whole_command, why_command, workers_option};
 
 use clap::{Arg, ArgAction, Command, value_parser};
 use plain::limits::MOST_WORKERS;
@@ -30,6 +30,44 @@ pub const OUTPUT: &str = "output";
 
 pub const APPLY_IGNORE: &str = "apply-ignore";
 
+/// The option of `why` that names the bundle's file.
+pub const BUNDLE_FILE: &str = "bundle";
+
+/// A path of `why`, as it is called in help.
+pub const PATH: &str = "PATH";
+
+/// The options of `llb`.
+pub const PLATFORM: &str = "platform";
+
+pub const NETWORK: &str = "network";
+
+pub const UNIQUE: &str = "unique";
+
+/// The platform of words that name none.
+pub const DEFAULT_PLATFORM: &str = "linux/amd64";
+
+/// The network of words that name none.
+pub const DEFAULT_NETWORK: &str = "default";
+
+/// What stands at the end of each command's help: its statuses and an example.
+const BUILD_HELP: &str =
+    "Status: 0 if a tree was built, 1 if an instruction failed, 2 if the bundle or the command line is refused, 3 if there was no memory or a device failed.\nExample: dfsolve pack . | dfsolve build";
+
+const GRAPH_HELP: &str =
+    "Status: 0 if the graph was printed, 2 if the bundle or the command line is refused, 3 if there was no memory, a device failed or two addresses are the same.\nExample: dfsolve pack . | dfsolve graph";
+
+const PACK_HELP: &str =
+    "Status: 0 if the folder was packed, 2 if it has no Dockerfile or the command line is refused, 3 if there was no memory, a device failed or the folder can't be packed.\nExample: dfsolve pack . --apply-ignore --output bundle.json";
+
+const WHY_HELP: &str =
+    "Status: 0 if the paths were explained, 2 if the bundle or the command line is refused, 3 if there was no memory or a device failed.\nExample: dfsolve why --bundle bundle.json src/main.c README.md";
+
+const LLB_HELP: &str =
+    "Status: 0 if the definition was written, 2 if the bundle or the command line is refused, 3 if there was no memory, a device failed or two addresses are the same.\nExample: dfsolve llb --unique $(uuidgen) bundle.json | buildctl build --local context=.";
+
+const CONFIG_HELP: &str =
+    "Status: 0 if the configuration was printed, 2 if the bundle or the command line is refused, 3 if there was no memory or a device failed.\nExample: dfsolve config bundle.json";
+
 /// The version of the program, which `--version` prints after its name.
 const VERSION: &str = "0.1.0";
 
@@ -37,9 +75,20 @@ const VERSION: &str = "0.1.0";
 pub fn whole_command<'a>(alloc: Global) -> Result<Command<'a>, AllocError>
     ensures { IfOk result (λ command. app_of command ≡ whole_command) }
 {
+    let asking = asking_command(alloc)?;
+    let llb = llb_command(alloc)?;
+    let config = config_command(alloc)?;
+    asking.subcommand(llb)?.subcommand(config)
+}
+
+/// `dfsolve COMMAND` with the commands that have to do with no engine but the program's own.
+fn asking_command<'a>(alloc: Global) -> Result<Command<'a>, AllocError>
+    ensures { IfOk result (λ command. app_of command ≡ asking_command) }
+{
     let bundle = bundle_command(alloc)?;
     let pack = pack_command(alloc)?;
-    bundle.subcommand(pack)
+    let why = why_command(alloc)?;
+    bundle.subcommand(pack)?.subcommand(why)
 }
 
 /// `dfsolve COMMAND` with the commands that read a bundle.
@@ -63,6 +112,7 @@ fn build_command<'a>(alloc: Global) -> Result<Command<'a>, AllocError>
 {
     Command::new(alloc, "build")
         .about("Solves the bundle of a file, or on standard input, and prints the answer")
+        .after_help(BUILD_HELP)
         .arg(workers_option(alloc))?
         .arg(bundle_argument(alloc))
 }
@@ -76,6 +126,7 @@ fn graph_command<'a>(alloc: Global) -> Result<Command<'a>, AllocError>
         .about(
             "Prints the graph of the bundle of a file, or on standard input, by content addresses",
         )
+        .after_help(GRAPH_HELP)
         .arg(bundle_argument(alloc))
 }
 
@@ -109,6 +160,7 @@ fn pack_from<'a>(alloc: Global) -> Result<Command<'a>, AllocError>
 {
     Command::new(alloc, "pack")
         .about("Prints the bundle of a folder")
+        .after_help(PACK_HELP)
         .arg(folder_argument(alloc))?
         .arg(text_option(
             alloc,
@@ -117,6 +169,71 @@ fn pack_from<'a>(alloc: Global) -> Result<Command<'a>, AllocError>
             "The Dockerfile, in place of DIR/Dockerfile",
         ))?
         .arg(text_option(alloc, TARGET, "STAGE", "The stage to build"))
+}
+
+/// `why [--bundle FILE] PATH..`.
+fn why_command<'a>(alloc: Global) -> Result<Command<'a>, AllocError>
+    ensures app { IfOk result (λ command. app_of command ≡ why_command) }
+    ensures local { IfOk result (λ command. (out-Command command).has_globals ≡ false) }
+{
+    Command::new(alloc, "why")
+        .about("Tells which paths of the context the ignore file keeps, and by which of its lines")
+        .after_help(WHY_HELP)
+        .arg(text_option(
+            alloc,
+            BUNDLE_FILE,
+            "FILE",
+            "The bundle, in place of standard input",
+        ))?
+        .arg(paths_argument(alloc))
+}
+
+/// `llb [--platform P] [--network N] --unique TEXT [FILE]`.
+fn llb_command<'a>(alloc: Global) -> Result<Command<'a>, AllocError>
+    ensures app { IfOk result (λ command. app_of command ≡ llb_command) }
+    ensures local { IfOk result (λ command. (out-Command command).has_globals ≡ false) }
+{
+    let command = llb_options(alloc)?;
+    command.arg(bundle_argument(alloc))
+}
+
+/// `llb [--platform P] [--network N] --unique TEXT`.
+fn llb_options<'a>(alloc: Global) -> Result<Command<'a>, AllocError>
+    ensures app { IfOk result (λ command. app_of command ≡ llb_options) }
+    ensures local { IfOk result (λ command. (out-Command command).has_globals ≡ false) }
+{
+    Command::new(alloc, "llb")
+        .about("Writes the graph of a bundle as a definition of BuildKit's LLB")
+        .after_help(LLB_HELP)
+        .arg(text_option(
+            alloc,
+            PLATFORM,
+            "OS/ARCH",
+            "What images are taken of and commands run on [default: linux/amd64]",
+        ))?
+        .arg(text_option(
+            alloc,
+            NETWORK,
+            "NAME",
+            "The network of all commands: default, none or host [default: default]",
+        ))?
+        .arg(text_option(
+            alloc,
+            UNIQUE,
+            "TEXT",
+            "A text that no other build with other files has which runs at the same time",
+        ))
+}
+
+/// `config [FILE]`.
+fn config_command<'a>(alloc: Global) -> Result<Command<'a>, AllocError>
+    ensures app { IfOk result (λ command. app_of command ≡ config_command) }
+    ensures local { IfOk result (λ command. (out-Command command).has_globals ≡ false) }
+{
+    Command::new(alloc, "config")
+        .about("Prints the configuration of the target of a bundle, without a build")
+        .after_help(CONFIG_HELP)
+        .arg(bundle_argument(alloc))
 }
 
 /// `FILE`.
@@ -135,6 +252,17 @@ fn folder_argument<'a>(alloc: Global) -> Arg<'a>
     Arg::new(alloc, FOLDER)
         .help("The folder, with a file Dockerfile in it unless --file names one")
         .required(true)
+}
+
+/// `PATH`, once or more.
+fn paths_argument<'a>(alloc: Global) -> Arg<'a>
+    ensures rule { rule_of result ≡ paths_argument }
+    ensures local { result.global ≡ false }
+{
+    Arg::new(alloc, PATH)
+        .help("A path of the context; more may follow")
+        .required(true)
+        .action(ArgAction::Append)
 }
 
 /// An option that takes a text.

@@ -16,8 +16,11 @@
 #![tactic(auto)]
 
 mod commands;
+mod llb;
 mod reading;
 mod task;
 
 pub use reading::read_command;
-pub use task::{BuildOptions, PackOptions, Task};
+pub use task::{
+    BuildOptions, LlbOptions, NetworkName, PackOptions, PlatformName, Task, WhyOptions,
+};

@@ -4,15 +4,16 @@ ghost use Rattle.clap.specs.Walk.{all_of};
 ghost use Rattle.clap.specs.Words.{FailsBy, first_of, found_of, rows_of, subcommand_of, subcommand_rows_of};
 ghost use Rattle.clap.specs.declared.error.kind.ErrorKind.TheVariants.{ValueValidation};
 ghost use Rattle.command.specs.CommandLine.{whole_command};
-ghost use Rattle.command.specs.Tasks.{IsBuild, IsTaskOf, IsWorkers, argument_of, arguments_of, bundle_file, faults_of, has_equals, is_set, pack_of};
+ghost use Rattle.command.specs.Tasks.{IsBuild, IsTaskOf, IsWorkers, argument_of, arguments_of, bundle_file, faults_of, has_equals, is_set, pack_of, paths_of, why_of};
 ghost use Rattle.command.specs.declared.task.BuildOptions.{BuildOptions};
 ghost use Rattle.command.specs.declared.task.Task.{Task};
 
 use crate::commands::{
-    APPLY_IGNORE, BUILD_ARGUMENT, BUNDLE, FILE, FOLDER, LEAST_WORKERS, OUTPUT, TARGET,
-    whole_command,
+    APPLY_IGNORE, BUILD_ARGUMENT, BUNDLE, BUNDLE_FILE, FILE, FOLDER, LEAST_WORKERS, OUTPUT, PATH,
+    TARGET, whole_command,
 };
-use crate::{BuildOptions, PackOptions, Task};
+use crate::llb::{llb_of, wrong_choice};
+use crate::{BuildOptions, PackOptions, Task, WhyOptions};
 use clap::error::ErrorKind;
 use clap::{ArgMatches, Error};
 use plain::limits::MOST_WORKERS;
@@ -25,11 +26,16 @@ use std::alloc::{AllocError, Global};
 /// `graph` is a command with a word FILE that may be left out, and `build` one with that word and `--workers N` or `--workers=N` once at most; N is
 /// decimal digits, of which a `+` may stand in front, and its value is 1 to 64; the default is 4. `pack` is one with a word DIR, with
 /// `--file F`, `--target T`, `--output FILE` and `--apply-ignore` once at most, and with `--build-arg N=V` any number of times, each of which has a `=`.
-/// `help`, `help build`, `help graph`, `help pack`, `--help` and `-h`, before a command or after it, ask for help, and `--version` or `-V`
+/// `why` is one with a word PATH once or more, and with `--bundle FILE` once at most.
+/// `llb` is one with a word FILE that may be left out, with `--unique TEXT` just once, and with `--platform P` and `--network N` once at most; P is
+/// `OS/ARCH` or `OS/ARCH/VARIANT`, and `linux/amd64` by default; N is `default`, `none` or `host`, and the first of these by default.
+/// `config` is a command with a word FILE that may be left out.
+/// `help` alone or before the name of a command, `--help` and `-h`, before a command or after it, ask for help, and `--version` or `-V`
 /// before it for the program's name and version.
 ///
 /// An error is clap's, and its kind tells what it is: help or the version that was asked for, which are no faults; a fault of the words;
-/// or want of memory. The text that it prints is clap's, except of a build argument without a `=`, which it names.
+/// or want of memory. The text that it prints is clap's, except of a build argument without a `=` and of the options of `llb`, of which it
+/// says what is wrong.
 pub fn read_command<'a>(alloc: Global, words: &'a [&'a str]) -> Result<Task, Error>
     ensures task { IfOk result
         (IsTaskOf (subcommand_of whole_command (map (λ word. word.now) words.entry.now))) }
@@ -46,14 +52,24 @@ pub fn read_command<'a>(alloc: Global, words: &'a [&'a str]) -> Result<Task, Err
     }
 }
 
-/// Refuses a build argument without a `=`, which the matches hold.
+/// Refuses matches that ask for no task.
 fn refuse_arguments(alloc: Global, matches: &ArgMatches) -> Result<Task, Error>
     ensures { FailsBy (ValueValidation ∷ []) result }
 {
     let mut command = whole_command(alloc)?;
-    let text = no_equals(alloc, bare_argument(matches))?;
+    let text = wrong_argument(alloc, matches)?;
     let error = command.error(ErrorKind::ValueValidation, text.as_str())?;
     Err(error)
+}
+
+/// What is said of matches that ask for no task.
+fn wrong_argument(alloc: Global, matches: &ArgMatches) -> Result<String, AllocError> {
+    if let Some((name, found)) = matches.subcommand() {
+        if name == "llb" {
+            return wrong_choice(alloc, found);
+        }
+    }
+    no_equals(alloc, bare_argument(matches))
 }
 
 /// What is said of a build argument without a `=`.
@@ -64,7 +80,7 @@ fn no_equals(alloc: Global, argument: &str) -> Result<String, AllocError> {
 /// The first build argument without a `=`.
 fn bare_argument<'m, 'a>(matches: &'m ArgMatches<'a>) -> &'a str {
     if let Some((_, found)) = matches.subcommand() {
-        if let Some(texts) = argument_texts(found) {
+        if let Some(texts) = texts_of(found, BUILD_ARGUMENT) {
             for text in texts {
                 if text.split_once('=').is_none() {
                     return text;
@@ -98,6 +114,20 @@ fn task_of(alloc: Global, matches: &ArgMatches) -> Result<Option<Task>, AllocErr
             return Ok(None);
         };
         return Ok(Some(Task::Pack(options)));
+    }
+    if name == "why" {
+        let options = why_of(alloc, found)?;
+        return Ok(Some(Task::Why(options)));
+    }
+    if name == "llb" {
+        let Some(options) = llb_of(alloc, found)? else {
+            return Ok(None);
+        };
+        return Ok(Some(Task::Llb(options)));
+    }
+    if name == "config" {
+        let file = text_of(alloc, found, BUNDLE)?;
+        return Ok(Some(Task::Config(file)));
     }
     Ok(None)
 }
@@ -135,8 +165,21 @@ fn pack_of(alloc: Global, matches: &ArgMatches) -> Result<Option<PackOptions>, A
     }))
 }
 
+/// What the matches of `why` ask for.
+fn why_of(alloc: Global, matches: &ArgMatches) -> Result<WhyOptions, AllocError>
+    ensures { IfOk result (λ options. options ≡ why_of (rows_of (found_of matches.now))) }
+{
+    let file = text_of(alloc, matches, BUNDLE_FILE)?;
+    let paths = paths_of(alloc, matches)?;
+    Ok(WhyOptions { file, paths })
+}
+
 /// The text that the matches hold for an id.
-fn text_of(alloc: Global, matches: &ArgMatches, id: &str) -> Result<Option<Text>, AllocError>
+pub(crate) fn text_of(
+    alloc: Global,
+    matches: &ArgMatches,
+    id: &str,
+) -> Result<Option<Text>, AllocError>
     ensures { IfOk result (λ text. text ≡ first_of id.now (rows_of (found_of matches.now))) }
 {
     match matches.get_str(id) {
@@ -155,11 +198,32 @@ fn is_set(matches: &ArgMatches, id: &str) -> bool
     }
 }
 
-/// The texts that the matches of `pack` hold for `--build-arg`.
-fn argument_texts<'m, 'a>(matches: &'m ArgMatches<'a>) -> Option<&'m [&'a str]>
-    ensures { option_map (λ texts. map (λ text. text.now) texts.now) result ≡ all_of (codes "build-arg") (rows_of (found_of matches.now)) }
+/// The texts that the matches hold for an id.
+fn texts_of<'m, 'a>(matches: &'m ArgMatches<'a>, id: &str) -> Option<&'m [&'a str]>
+    ensures { option_map (λ texts. map (λ text. text.now) texts.now) result ≡ all_of id.now (rows_of (found_of matches.now)) }
 {
-    matches.get_raw(BUILD_ARGUMENT)
+    matches.get_raw(id)
+}
+
+/// The paths that the matches of `why` hold.
+fn paths_of(alloc: Global, matches: &ArgMatches) -> Result<Items<Text>, AllocError>
+    ensures { IfOk result (λ paths. paths ≡ paths_of (rows_of (found_of matches.now))) }
+{
+    match texts_of(matches, PATH) {
+        Some(texts) => copy_texts(alloc, texts),
+        None => Ok(Items::new(alloc)),
+    }
+}
+
+/// A copy of each text.
+fn copy_texts(alloc: Global, texts: &[&str]) -> Result<Items<Text>, AllocError>
+    ensures { IfOk result (λ copies. copies ≡ map (λ text. text.now) texts.now) }
+{
+    let mut copies = Vec::new(alloc);
+    for text in texts {
+        copies.push(Text::from_string(String::from_str(alloc, text)?))?;
+    }
+    Ok(Items::from_vec(copies))
 }
 
 /// The build arguments that the matches of `pack` hold; `None` where one of them has no `=`.
@@ -169,7 +233,7 @@ fn arguments_of(
 ) -> Result<Option<Items<(Text, Text)>>, AllocError>
     ensures { IfOk result (λ args. args ≡ arguments_of (rows_of (found_of matches.now))) }
 {
-    let Some(texts) = argument_texts(matches) else {
+    let Some(texts) = texts_of(matches, BUILD_ARGUMENT) else {
         return Ok(Some(Items::new(alloc)));
     };
     if !have_equals(texts) {

@@ -9,6 +9,12 @@ pub enum Task {
     Graph(Option<Text>),
     /// `pack`: write the bundle of a folder.
     Pack(PackOptions),
+    /// `why`: tell why paths of a bundle's context are kept or left out.
+    Why(WhyOptions),
+    /// `llb`: write a bundle's graph as a definition of BuildKit's LLB.
+    Llb(LlbOptions),
+    /// `config`: write the configuration of a bundle's target, of the file that is named, or on standard input.
+    Config(Option<Text>),
 }
 
 /// What `build` is asked for.
@@ -59,4 +65,76 @@ impl Drop for PackOptions {
             apply_ignore: _,
         } = self;
     }
+}
+
+/// What `why` is asked for.
+#[derive(Debug)]
+pub struct WhyOptions {
+    /// The bundle's file, if one is named; else it is on standard input.
+    pub file: Option<Text>,
+    /// The paths that are asked about, in the order of the words.
+    pub paths: Items<Text>,
+}
+
+/// It ends by a call, as `PackOptions` does.
+impl Drop for WhyOptions {
+    fn drop(self) {
+        let WhyOptions { file: _, paths: _ } = self;
+    }
+}
+
+/// What `llb` is asked for.
+#[derive(Debug)]
+pub struct LlbOptions {
+    /// The bundle's file, if one is named; else it is on standard input.
+    pub file: Option<Text>,
+    /// What images are taken of, and what commands run on.
+    pub platform: PlatformName,
+    /// The network of every command.
+    pub network: NetworkName,
+    /// A text that no other build with other files has which runs at the same time.
+    pub unique: Text,
+}
+
+/// It ends by a call, as `PackOptions` does.
+impl Drop for LlbOptions {
+    fn drop(self) {
+        let LlbOptions {
+            file: _,
+            platform: _,
+            network: _,
+            unique: _,
+        } = self;
+    }
+}
+
+/// A platform by its names.
+#[derive(Debug)]
+pub struct PlatformName {
+    pub os: Text,
+    pub architecture: Text,
+    /// Empty where none is named.
+    pub variant: Text,
+}
+
+/// It ends by a call, as `PackOptions` does.
+impl Drop for PlatformName {
+    fn drop(self) {
+        let PlatformName {
+            os: _,
+            architecture: _,
+            variant: _,
+        } = self;
+    }
+}
+
+/// A network, by the name that the words give it.
+#[derive(Clone, Copy, Debug, PartialEq, Eq)]
+pub enum NetworkName {
+    /// `default`: what the engine chooses.
+    Usual,
+    /// `none`.
+    Absent,
+    /// `host`: that of the machine.
+    Host,
 }

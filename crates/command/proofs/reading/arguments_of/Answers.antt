@@ -9,13 +9,13 @@ use Rattle.command.proofs.reading.arguments_of.Goals as goal
 pub returns-then-not-have_equals : goal.returns-then-not-have_equals
 returns-then-not-have_equals c =
     let given : Some (map (λ text. text.now) c.in-Some.texts.now) ≡ all_of (codes "build-arg") (rows_of (found_of c.args.matches.now))
-    = ap (option_map (λ texts. map (λ text. text.now) texts.now)) (sym c.in-Some.is) ∙ c.argument_texts.ensures in
+    = ap (option_map (λ texts. map (λ text. text.now) texts.now)) (sym c.in-Some.is) ∙ c.texts_of.ensures in
     let bare : list_all (λ text. has_equals text.now) c.in-Some.texts.now ≡ false = search rules in
     bare_lent (rows_of (found_of c.args.matches.now)) c.in-Some.texts.now given bare
 
 pub returns : goal.returns
 returns c =
     let given : Some (map (λ text. text.now) c.in-Some.texts.now) ≡ all_of (codes "build-arg") (rows_of (found_of c.args.matches.now))
-    = ap (option_map (λ texts. map (λ text. text.now) texts.now)) (sym c.in-Some.is) ∙ c.argument_texts.ensures in
+    = ap (option_map (λ texts. map (λ text. text.now) texts.now)) (sym c.in-Some.is) ∙ c.texts_of.ensures in
     let every : list_all (λ text. has_equals text.now) c.in-Some.texts.now ≡ true = search rules in
     cut_lent (rows_of (found_of c.args.matches.now)) c.in-Some.texts.now _ given every c.in_ok-cut_arguments.ensures

@@ -1,0 +1,65 @@
+-- What the words of `llb` ask for (own; BuildKit, `--platform` of `buildctl` and `docker`).
+use Rattle.std.specs.Prelude.{◌==◌, ◌&&◌, Bool, not, List, Option, Some, None, length, codes, bytes_eq, unwrap_or, option_map, option_and_then, if◌then◌else◌}
+use Rattle.std.specs.List.{position_or_len, before_first, after_first}
+use Rattle.clap.specs.Words.{Row, Text, first_of}
+use Rattle.command.specs.declared.task.LlbOptions.{LlbOptions}
+use Rattle.command.specs.declared.task.NetworkName.{NetworkName}
+use Rattle.command.specs.declared.task.NetworkName.TheVariants.{Usual, Absent, Host}
+use Rattle.command.specs.declared.task.PlatformName.{PlatformName}
+
+-- the platform of words that name none
+abbrev pub default_platform : Text
+default_platform = codes "linux/amd64"
+
+-- the network of words that name none
+abbrev pub default_network : Text
+default_network = codes "default"
+
+-- what stands before the first `/` of a text, all of it where there is none, and what stands after that
+abbrev pub before_slash : Text → Text
+before_slash text = before_first (λ c. c == 47) text
+
+abbrev pub after_slash : Text → Text
+after_slash text = after_first (λ c. c == 47) text
+
+-- a text has no `/`
+abbrev pub has_no_slash : Text → Bool
+has_no_slash text = position_or_len (λ c. c == 47) text == length text
+
+-- the names of a platform: of its parts the variant alone may be empty, and none has a `/`
+abbrev pub are_names : Text → Text → Text → Bool
+are_names os architecture variant = not (length os == 0) && (not (length architecture == 0) && has_no_slash variant)
+
+abbrev pub platform_with : Text → Text → Text → PlatformName
+platform_with os architecture variant = record { os = os; architecture = architecture; variant = variant }
+
+-- the platform of these names
+abbrev pub platform_of_names : Text → Text → Text → Option PlatformName
+platform_of_names os architecture variant = if are_names os architecture variant then Some (platform_with os architecture variant) else None
+
+-- the platform of a text `OS/ARCH` or `OS/ARCH/VARIANT`
+abbrev pub platform_named : Text → Option PlatformName
+platform_named text = platform_of_names (before_slash text) (before_slash (after_slash text)) (after_slash (after_slash text))
+
+-- the platform that the matches hold, or the usual one
+abbrev pub platform_of : List Row → Option PlatformName
+platform_of rows = platform_named (unwrap_or (first_of (codes "platform") rows) default_platform)
+
+-- the network of a name
+abbrev pub network_named : Text → Option NetworkName
+network_named name =
+    if bytes_eq name (codes "default") then Some Usual
+    else (if bytes_eq name (codes "none") then Some Absent else (if bytes_eq name (codes "host") then Some Host else None))
+
+-- the network that the matches hold, or the usual one
+abbrev pub network_of : List Row → Option NetworkName
+network_of rows = network_named (unwrap_or (first_of (codes "network") rows) default_network)
+
+-- what `llb` is asked for by its matches, with this text that no other build has, this platform and this network
+abbrev pub llb_with : List Row → Text → PlatformName → NetworkName → LlbOptions
+llb_with rows unique platform network = record { file = first_of (codes "FILE") rows; platform = platform; network = network; unique = unique }
+
+-- the same, where there is such a text, a platform and a network
+abbrev pub llb_of : List Row → Option LlbOptions
+llb_of rows =
+    option_and_then (λ unique. option_and_then (λ platform. option_map (llb_with rows unique platform) (network_of rows)) (platform_of rows)) (first_of (codes "unique") rows)

@@ -1,0 +1,124 @@
+// What the matches of `llb` ask for.
+ghost use Rattle.std.specs.Prelude.{◌≡◌, IfOk, codes, unwrap_or};
+ghost use Rattle.clap.specs.Words.{first_of, found_of, rows_of};
+ghost use Rattle.command.specs.Llb.{after_slash, are_names, before_slash, llb_of, network_named, network_of, platform_named, platform_of};
+
+use crate::commands::{BUNDLE, DEFAULT_NETWORK, DEFAULT_PLATFORM, NETWORK, PLATFORM, UNIQUE};
+use crate::reading::text_of;
+use crate::{LlbOptions, NetworkName, PlatformName};
+use clap::ArgMatches;
+use plain::Text;
+use std::alloc::{AllocError, Global};
+
+/// What the matches of `llb` ask for; `None` where they hold no text of `--unique`, no platform, or no network.
+pub(crate) fn llb_of(alloc: Global, matches: &ArgMatches) -> Result<Option<LlbOptions>, AllocError>
+    ensures { IfOk result (λ options. options ≡ llb_of (rows_of (found_of matches.now))) }
+{
+    let Some(unique) = text_of(alloc, matches, UNIQUE)? else {
+        return Ok(None);
+    };
+    let Some(platform) = platform_of(alloc, matches)? else {
+        return Ok(None);
+    };
+    let Some(network) = network_of(matches) else {
+        return Ok(None);
+    };
+    Ok(Some(LlbOptions {
+        file: text_of(alloc, matches, BUNDLE)?,
+        platform,
+        network,
+        unique,
+    }))
+}
+
+/// What is wrong with the matches of `llb`, where they ask for nothing.
+pub(crate) fn wrong_choice(alloc: Global, matches: &ArgMatches) -> Result<String, AllocError> {
+    if matches.get_str(UNIQUE).is_none() {
+        return String::from_str(
+            alloc,
+            "--unique TEXT has to be given, a text that no other build with other files has which runs at the same time",
+        );
+    }
+    let network = chosen_text(matches, NETWORK, DEFAULT_NETWORK);
+    if network_named(network).is_none() {
+        return format!(in alloc;
+            "a value of --network is default, none or host, and not '{network}'"
+        );
+    }
+    let platform = chosen_text(matches, PLATFORM, DEFAULT_PLATFORM);
+    format!(in alloc; "a value of --platform is OS/ARCH or OS/ARCH/VARIANT, and not '{platform}'")
+}
+
+/// The platform that the matches hold, or the usual one; `None` where it is none.
+fn platform_of(alloc: Global, matches: &ArgMatches) -> Result<Option<PlatformName>, AllocError>
+    ensures { IfOk result (λ platform. platform ≡ platform_of (rows_of (found_of matches.now))) }
+{
+    platform_named(alloc, chosen_text(matches, PLATFORM, DEFAULT_PLATFORM))
+}
+
+/// The network that the matches hold, or the usual one; `None` where it is none.
+fn network_of(matches: &ArgMatches) -> Option<NetworkName>
+    ensures { result ≡ network_of (rows_of (found_of matches.now)) }
+{
+    network_named(chosen_text(matches, NETWORK, DEFAULT_NETWORK))
+}
+
+/// The text that the matches hold for an id, or another one.
+fn chosen_text<'a>(matches: &ArgMatches<'a>, id: &str, otherwise: &'a str) -> &'a str
+    ensures { result.now ≡ unwrap_or (first_of id.now (rows_of (found_of matches.now))) otherwise.now }
+{
+    match matches.get_str(id) {
+        Some(text) => text,
+        None => otherwise,
+    }
+}
+
+/// The platform of a text `OS/ARCH` or `OS/ARCH/VARIANT`.
+fn platform_named(alloc: Global, text: &str) -> Result<Option<PlatformName>, AllocError>
+    ensures { IfOk result (λ platform. platform ≡ platform_named text.now) }
+{
+    let (os, rest) = cut_at_slash(text);
+    let (architecture, variant) = cut_at_slash(rest);
+    if !are_names(os, architecture, variant) {
+        return Ok(None);
+    }
+    let os = String::from_str(alloc, os)?;
+    let architecture = String::from_str(alloc, architecture)?;
+    let variant = String::from_str(alloc, variant)?;
+    Ok(Some(PlatformName {
+        os: Text::from_string(os),
+        architecture: Text::from_string(architecture),
+        variant: Text::from_string(variant),
+    }))
+}
+
+/// Whether these are the names of a platform: of its parts the variant alone may be empty.
+fn are_names(os: &str, architecture: &str, variant: &str) -> bool
+    ensures { result ≡ are_names os.now architecture.now variant.now }
+{
+    !os.is_empty() && !architecture.is_empty() && variant.split_once('/').is_none()
+}
+
+/// A text, cut at its first `/`.
+fn cut_at_slash(text: &str) -> (&str, &str)
+    ensures before { result.0.now ≡ before_slash text.now }
+    ensures after { result.1.now ≡ after_slash text.now }
+{
+    text.split_once('/').unwrap_or((text, ""))
+}
+
+/// The network of a name.
+fn network_named(name: &str) -> Option<NetworkName>
+    ensures { result ≡ network_named name.now }
+{
+    if name == "default" {
+        return Some(NetworkName::Usual);
+    }
+    if name == "none" {
+        return Some(NetworkName::Absent);
+    }
+    if name == "host" {
+        return Some(NetworkName::Host);
+    }
+    None
+}
