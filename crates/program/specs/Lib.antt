@@ -1,4 +1,9 @@
+pub mod Config
+pub mod Llb
 pub mod PrivateFiles
+pub mod PrivateLlb
 pub mod PrivateRuns
 pub mod Runs
 pub mod Saying
+pub mod Telling
+pub mod Why

@@ -1,4 +1,5 @@
-// What is done with a bundle: it is built, or its graph is drawn. It is on the reader, or a file that is named holds it.
+// What is done with a bundle: it is built, its graph is drawn or written for BuildKit, its target's configuration is printed, or it is said why paths
+// of its context are kept or left out. It is on the reader, or a file that is named holds it.
 ghost use Rattle.std.specs.Prelude.{◌≡◌, ◌<◌, ◌≤◌, ◌+◌, ◌++◌, ℕ, List, IfOk};
 ghost use Rattle.counted.specs.Edges.{LosesBeginning, line_of};
 ghost use Rattle.plain.specs.Limits.{most_bundle_bytes, most_workers};
@@ -6,13 +7,19 @@ ghost use Rattle.build.specs.Ends.{Ends, GraphEnds, devices};
 ghost use Rattle.build.specs.Faults.{exit_status};
 ghost use Rattle.build.specs.Messages.{fault_text};
 ghost use Rattle.build.specs.declared.status.BuildFault.TheVariants.{Device};
+ghost use Rattle.program.specs.Config.{ConfigEnds};
+ghost use Rattle.program.specs.Llb.{LlbEnds};
 ghost use Rattle.program.specs.Runs.{CallsBy, CallsFile, IsOpenFault, IsTold, SaysEnd, SaysFileEnd, SaysNamed, streams};
 ghost use Rattle.program.specs.Saying.{stream};
+ghost use Rattle.program.specs.Why.{WhyEnds};
 
 use crate::bundle_file::{open_bundle, why_of};
+use crate::config::run_config;
+use crate::exporting::run_llb;
 use crate::saying::{NO_MEMORY_LINE, say};
+use crate::why::run_why;
 use build::{BuildFault, Status, run_build, run_graph, status_code};
-use command::BuildOptions;
+use command::{BuildOptions, LlbOptions, WhyOptions};
 use counted::{CountedRead, CountedWrite};
 use executor::Executor;
 use plain::Text;
@@ -92,6 +99,90 @@ pub(crate) fn draw_bundle<F: Files, R: CountedRead, W: CountedWrite, S: CountedW
     }
 }
 
+/// Prints why paths of a bundle's context are kept or left out, and gives the status to end with.
+pub(crate) fn explain_paths<F: Files, R: CountedRead, W: CountedWrite, S: CountedWrite>(
+    alloc: Global,
+    files: &F,
+    options: &WhyOptions,
+    input: &mut R,
+    output: &mut W,
+    errors: &mut S,
+) -> u8
+    requires reads { R.failures input.old < u64.MAX }
+    requires writes { W.failures output.old < u64.MAX }
+    requires says { S.failures errors.old < u64.MAX }
+    ensures calls { CallsBy options.now.file (WhyEnds options.now.paths)
+        (streams (devices (R.remaining input.old) (R.failures input.old) (W.contents output.old) (W.failures output.old)) (stream (S.contents errors.old) (S.failures errors.old)))
+        (streams (devices (R.remaining input.new) (R.failures input.new) (W.contents output.new) (W.failures output.new)) (stream (S.contents errors.new) (S.failures errors.new)))
+        result }
+    ensures taken { LosesBeginning (most_bundle_bytes + 1) (R.remaining input.old) (R.remaining input.new) }
+{
+    let paths = options.paths.as_slice();
+    match &options.file {
+        Some(name) => explain_file(alloc, files, name.as_str(), paths, output, errors),
+        None => {
+            let ended = run_why(alloc, paths, input, output);
+            finish(errors, ended)
+        }
+    }
+}
+
+/// Writes the graph of a bundle for BuildKit, and gives the status to end with.
+pub(crate) fn export_bundle<F: Files, R: CountedRead, W: CountedWrite, S: CountedWrite>(
+    alloc: Global,
+    rt: &(impl Threads + Wait + Sync),
+    files: &F,
+    options: &LlbOptions,
+    input: &mut R,
+    output: &mut W,
+    errors: &mut S,
+) -> u8
+    requires reads { R.failures input.old < u64.MAX }
+    requires writes { W.failures output.old < u64.MAX }
+    requires says { S.failures errors.old < u64.MAX }
+    ensures calls { CallsBy options.now.file (LlbEnds options.now)
+        (streams (devices (R.remaining input.old) (R.failures input.old) (W.contents output.old) (W.failures output.old)) (stream (S.contents errors.old) (S.failures errors.old)))
+        (streams (devices (R.remaining input.new) (R.failures input.new) (W.contents output.new) (W.failures output.new)) (stream (S.contents errors.new) (S.failures errors.new)))
+        result }
+    ensures taken { LosesBeginning (most_bundle_bytes + 1) (R.remaining input.old) (R.remaining input.new) }
+{
+    match &options.file {
+        Some(name) => llb_file(alloc, rt, files, name.as_str(), options, output, errors),
+        None => {
+            let ended = run_llb(alloc, rt, options, input, output);
+            finish(errors, ended)
+        }
+    }
+}
+
+/// Prints the configuration of a bundle's target, and gives the status to end with.
+pub(crate) fn tell_config<F: Files, R: CountedRead, W: CountedWrite, S: CountedWrite>(
+    alloc: Global,
+    rt: &(impl Threads + Wait + Sync),
+    files: &F,
+    file: &Option<Text>,
+    input: &mut R,
+    output: &mut W,
+    errors: &mut S,
+) -> u8
+    requires reads { R.failures input.old < u64.MAX }
+    requires writes { W.failures output.old < u64.MAX }
+    requires says { S.failures errors.old < u64.MAX }
+    ensures calls { CallsBy file.now ConfigEnds
+        (streams (devices (R.remaining input.old) (R.failures input.old) (W.contents output.old) (W.failures output.old)) (stream (S.contents errors.old) (S.failures errors.old)))
+        (streams (devices (R.remaining input.new) (R.failures input.new) (W.contents output.new) (W.failures output.new)) (stream (S.contents errors.new) (S.failures errors.new)))
+        result }
+    ensures taken { LosesBeginning (most_bundle_bytes + 1) (R.remaining input.old) (R.remaining input.new) }
+{
+    match file {
+        Some(name) => config_file(alloc, rt, files, name.as_str(), output, errors),
+        None => {
+            let ended = run_config(alloc, rt, input, output);
+            finish(errors, ended)
+        }
+    }
+}
+
 /// Builds the bundle of a file.
 fn build_file<F: Files, W: CountedWrite, S: CountedWrite, E: Executor>(
     alloc: Global,
@@ -140,6 +231,88 @@ fn draw_file<F: Files, W: CountedWrite, S: CountedWrite>(
     match open_bundle(files, name) {
         Ok(mut file) => {
             let ended = run_graph(alloc, rt, &mut file, output);
+            finish_file(alloc, errors, ended, name, file.why)
+        }
+        Err(error) => {
+            let ended = Err(open_fault(&error));
+            finish_file(alloc, errors, ended, name, why_of(error.kind()))
+        }
+    }
+}
+
+/// Prints the same of the bundle of a file.
+fn explain_file<F: Files, W: CountedWrite, S: CountedWrite>(
+    alloc: Global,
+    files: &F,
+    name: &str,
+    paths: &[Text],
+    output: &mut W,
+    errors: &mut S,
+) -> u8
+    requires writes { W.failures output.old < u64.MAX }
+    requires says { S.failures errors.old < u64.MAX }
+    ensures { CallsFile name.now (WhyEnds paths.now)
+        (stream (W.contents output.old) (W.failures output.old)) (stream (W.contents output.new) (W.failures output.new))
+        (stream (S.contents errors.old) (S.failures errors.old)) (stream (S.contents errors.new) (S.failures errors.new)) result }
+{
+    match open_bundle(files, name) {
+        Ok(mut file) => {
+            let ended = run_why(alloc, paths, &mut file, output);
+            finish_file(alloc, errors, ended, name, file.why)
+        }
+        Err(error) => {
+            let ended = Err(open_fault(&error));
+            finish_file(alloc, errors, ended, name, why_of(error.kind()))
+        }
+    }
+}
+
+/// Writes the graph of the bundle of a file for BuildKit.
+fn llb_file<F: Files, W: CountedWrite, S: CountedWrite>(
+    alloc: Global,
+    rt: &(impl Threads + Wait + Sync),
+    files: &F,
+    name: &str,
+    options: &LlbOptions,
+    output: &mut W,
+    errors: &mut S,
+) -> u8
+    requires writes { W.failures output.old < u64.MAX }
+    requires says { S.failures errors.old < u64.MAX }
+    ensures { CallsFile name.now (LlbEnds options.now)
+        (stream (W.contents output.old) (W.failures output.old)) (stream (W.contents output.new) (W.failures output.new))
+        (stream (S.contents errors.old) (S.failures errors.old)) (stream (S.contents errors.new) (S.failures errors.new)) result }
+{
+    match open_bundle(files, name) {
+        Ok(mut file) => {
+            let ended = run_llb(alloc, rt, options, &mut file, output);
+            finish_file(alloc, errors, ended, name, file.why)
+        }
+        Err(error) => {
+            let ended = Err(open_fault(&error));
+            finish_file(alloc, errors, ended, name, why_of(error.kind()))
+        }
+    }
+}
+
+/// Prints the configuration of the target of the bundle of a file.
+fn config_file<F: Files, W: CountedWrite, S: CountedWrite>(
+    alloc: Global,
+    rt: &(impl Threads + Wait + Sync),
+    files: &F,
+    name: &str,
+    output: &mut W,
+    errors: &mut S,
+) -> u8
+    requires writes { W.failures output.old < u64.MAX }
+    requires says { S.failures errors.old < u64.MAX }
+    ensures { CallsFile name.now ConfigEnds
+        (stream (W.contents output.old) (W.failures output.old)) (stream (W.contents output.new) (W.failures output.new))
+        (stream (S.contents errors.old) (S.failures errors.old)) (stream (S.contents errors.new) (S.failures errors.new)) result }
+{
+    match open_bundle(files, name) {
+        Ok(mut file) => {
+            let ended = run_config(alloc, rt, &mut file, output);
             finish_file(alloc, errors, ended, name, file.why)
         }
         Err(error) => {

@@ -10,7 +10,7 @@ ghost use Rattle.program.specs.PrivateRuns.{IsRefused};
 ghost use Rattle.packing.specs.Ends.{fault_text as pack_fault_text};
 ghost use Rattle.program.specs.Saying.{stream};
 
-use crate::bundles::{build_bundle, draw_bundle};
+use crate::bundles::{build_bundle, draw_bundle, explain_paths, export_bundle, tell_config};
 use crate::saying::{NO_MEMORY_LINE, say};
 use crate::{NotText, WordsFault};
 use clap::Error;
@@ -97,6 +97,21 @@ pub fn run_program<
         Ok(Task::Pack(options)) => {
             let status = pack(alloc, files, &options, output, errors);
             drop(options);
+            status
+        }
+        Ok(Task::Why(options)) => {
+            let status = explain_paths(alloc, files, &options, input, output, errors);
+            drop(options);
+            status
+        }
+        Ok(Task::Llb(options)) => {
+            let status = export_bundle(alloc, rt, files, &options, input, output, errors);
+            drop(options);
+            status
+        }
+        Ok(Task::Config(file)) => {
+            let status = tell_config(alloc, rt, files, &file, input, output, errors);
+            drop(file);
             status
         }
         Err(error) => refuse_words(alloc, output, errors, &error),

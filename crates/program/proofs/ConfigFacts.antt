@@ -1,0 +1,38 @@
+-- What is told of a configuration.
+use Rattle.std.proofs.Common.{◌≡◌, ℕ, List, Result, Ok, Err, sym, subst}
+use Rattle.std.specs.Prelude.{IfOk}
+use Rattle.plain.specs.declared.refusal.Refusal.{Refusal}
+use Rattle.plain.specs.declared.fault.Fault.{Fault}
+use Rattle.plain.specs.declared.fault.Fault.TheVariants.{Because}
+use Rattle.counted.specs.Edges.{line_of}
+use Rattle.serde_json.specs.Written.{compact_text}
+use Rattle.imageconfig.specs.Writing.{config_data}
+use Rattle.evaluation.specs.declared.evaluated.Evaluated.{Evaluated}
+use Rattle.bundle.specs.Answer.{refused_text}
+use Rattle.build.specs.declared.status.Status.{Status}
+use Rattle.build.specs.declared.status.Status.TheVariants.{Built, Failed, Refused}
+use Rattle.build.specs.Meaning.{Asks}
+use Rattle.build.specs.Telling.{IsAsked}
+use Rattle.program.specs.declared.told.Told.{Told}
+use Rattle.program.specs.Config.{TellsConfig}
+use Rattle.program.proofs.AskFacts.{asks, held}
+
+-- the same is told by bytes that hold the same
+pub moved : (bytes bundle : List ℕ) (status : Status) (text : List ℕ) → held bytes ≡ held bundle → TellsConfig bytes status text → TellsConfig bundle status text
+moved bytes bundle Built text same told = (told.0, asks bytes bundle (Ok told.0) same told.1, told.2)
+moved bytes bundle Failed text same told = told
+moved bytes bundle Refused text same told = (told.0, asks bytes bundle (Err told.0) same told.1, told.2)
+
+-- the configuration of what a bundle asks for
+pub config_told : {E : Type 0} (bytes : List ℕ) (made : Evaluated) (result : Result Told E) → Asks bytes (Ok made) → IfOk result (λ told. told.status ≡ Built)
+    → IfOk result (λ told. told.text ≡ line_of (compact_text (config_data made.config))) → IfOk result (λ told. TellsConfig bytes told.status told.text)
+config_told bytes made (Ok told) asked status text = subst (λ s. TellsConfig bytes s told.text) (sym status) (made, asked, text)
+config_told bytes made (Err memory) asked status text = status
+
+-- the refusal of a bundle
+pub refusal_told : {E : Type 0} (bytes : List ℕ) (fault : Fault Refusal) (refusal : Refusal) (result : Result Told E)
+    → fault ≡ Because refusal → IsAsked bytes (Err fault) → IfOk result (λ told. told.status ≡ Refused)
+    → IfOk result (λ told. told.text ≡ line_of (refused_text refusal)) → IfOk result (λ told. TellsConfig bytes told.status told.text)
+refusal_told bytes fault refusal (Ok told) because asked status text =
+    subst (λ s. TellsConfig bytes s told.text) (sym status) (refusal, subst (λ f. IsAsked bytes (Err f)) because asked, text)
+refusal_told bytes fault refusal (Err memory) because asked status text = status

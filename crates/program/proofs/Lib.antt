@@ -1,0 +1,5 @@
+mod AskFacts
+mod ConfigFacts
+mod LlbFacts
+mod TellFacts
+mod WhyFacts

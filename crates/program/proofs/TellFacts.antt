@@ -1,0 +1,92 @@
+-- What was read of a bundle, what is told of it, and what was written of that.
+use Rattle.std.proofs.Common.{◌≡◌, ◌<◌, ◌≤◌, inr, ℕ, ◌+◌, Bool, true, false, nat_le, List, [], length, take, Option, Some, None, Result, Ok, Err, refl, sym, ap, ◌∙◌, subst, arith}
+use Rattle.std.specs.Result.{IsErrAnd}
+use Rattle.std.specs.Io.KnownBytes.{Appends, Consumes}
+use Rattle.std.proofs.lemmas.Bool.{lt-leb, leb-true, leb-false}
+use Rattle.std.proofs.lemmas.List.{take_all, length-take, length-take-le, take-append-drop}
+use Rattle.plain.specs.Limits.{most_bundle_bytes}
+use Rattle.plain.specs.declared.fault.Fault.{Fault}
+use Rattle.plain.specs.declared.fault.Fault.TheVariants as edge
+use Rattle.counted.specs.declared.fault.Device.{Device}
+use Rattle.counted.specs.Edges.{AppendsBeginning, LosesBeginning, ReadsFirst, CountsFault, IsDevice}
+use Rattle.imageconfig.specs.Reading.{config_in}
+use Rattle.bundle.specs.Parts.{parts_within}
+use Rattle.build.specs.declared.status.Status.{Status}
+use Rattle.build.specs.Faults.{of_edge}
+use Rattle.build.specs.Ends.{Answering, Devices, IsAllLeft}
+use Rattle.program.specs.Telling.{HasTold, TellingEnds}
+use Rattle.program.proofs.AskFacts.{held}
+
+-- what was read holds what the whole bundle holds
+pub record IsReadOf (left : Option (List ℕ)) (bytes : List ℕ) : Type 0 where
+  pub bundle : List ℕ
+  pub is : IsAllLeft left bundle
+  pub same : held bytes ≡ held bundle
+
+long : (most : ℕ) (bytes : List ℕ) → most < length bytes → parts_within most config_in bytes ≡ None
+unfolding parts_within
+long most bytes more = rw (lt-leb (length bytes) most more)
+
+cut_by : (most limit : ℕ) (all : List ℕ) (b : Bool) → limit ≡ most + 1 → nat_le (length all) most ≡ b
+    → parts_within most config_in (take limit all) ≡ parts_within most config_in all
+cut_by most limit all true is short = ap (parts_within most config_in) (take_all limit all (omega (arith, leb-true (length all) most short)))
+cut_by most limit all false is more =
+    let past : limit ≤ length all = omega (arith, leb-false (length all) most more) in
+    let n : length (take limit all) ≡ limit = length-take-le limit all past in
+    long most (take limit all) (omega arith) ∙ sym (long most all (omega arith))
+
+-- a bundle past the limit isn't read, however little past it was read
+cut : (limit : ℕ) (all : List ℕ) → limit ≡ most_bundle_bytes + 1 → held (take limit all) ≡ held all
+cut limit all is = cut_by most_bundle_bytes limit all (nat_le (length all) most_bundle_bytes) is refl
+
+pub read_of : (limit : ℕ) (left rest : Option (List ℕ)) (bytes items : List ℕ) → limit ≡ most_bundle_bytes + 1 → bytes ≡ items
+    → ReadsFirst limit left rest items → IsReadOf left bytes
+read_of limit None rest bytes items is same reads = record { bundle = bytes; is = tt; same = refl }
+read_of limit (Some all) rest bytes items is same reads =
+    record { bundle = all; is = refl; same = ap held (same ∙ reads.0) ∙ cut limit all is }
+
+-- no more was read than was asked for
+pub loses_at_most : (limit : ℕ) (old new : Option (List ℕ)) (bytes : List ℕ) → ReadsFirst limit old new bytes → LosesBeginning limit old new
+loses_at_most limit None new bytes reads = ([], omega arith, tt)
+loses_at_most limit (Some all) new bytes reads =
+    let short : length (take limit all) ≤ limit = omega (arith, length-take limit all) in
+    (take limit all, short, subst (λ rest. Consumes (Some all) rest (take limit all)) (sym reads.1) (sym (take-append-drop limit all)))
+
+-- what is told of bytes that hold the same is told of them
+abbrev pub Moves : Answering → Type 0
+Moves Tells = (bytes bundle : List ℕ) (status : Status) (text : List ℕ) → held bytes ≡ held bundle → Tells bytes status text → Tells bundle status text
+
+-- all that is told was written
+pub has_told : (Tells : Answering) → Moves Tells → (old new : Devices) (bytes line text : List ℕ) (status : Status)
+    → IsReadOf old.left bytes → Tells bytes status text → line ≡ text → Appends old.written new.written line
+    → new.failed_reads ≡ old.failed_reads → new.failed_writes ≡ old.failed_writes → HasTold Tells old new status
+has_told Tells moves old new bytes line text status read tells is written reads writes = record {
+  bundle = read.bundle;
+  is = read.is;
+  text = text;
+  tells = moves bytes read.bundle status text read.same tells;
+  written = subst (Appends old.written new.written) is written;
+  failed_reads = reads;
+  failed_writes = writes;
+}
+
+-- a write failed
+pub has_begun : (Tells : Answering) (Collides : List ℕ → Type 0) → Moves Tells → (old new : Devices) (bytes line text : List ℕ) (status : Status) (fault : Fault Device)
+    → IsReadOf old.left bytes → Tells bytes status text → line ≡ text → AppendsBeginning old.written new.written line
+    → new.failed_reads ≡ old.failed_reads → CountsFault {T = Unit {0}} old.failed_writes new.failed_writes (Err fault) → IsDevice fault
+    → TellingEnds Tells Collides old new (Err (of_edge fault))
+has_begun Tells Collides moves old new bytes line text status edge.Memory read tells is written reads writes device = absurd device
+has_begun Tells Collides moves old new bytes line text status (edge.Because failed) read tells is written reads writes device = inr (record {
+  bundle = read.bundle;
+  is = read.is;
+  status = status;
+  text = text;
+  tells = moves bytes read.bundle status text read.same tells;
+  written = subst (AppendsBeginning old.written new.written) is written;
+  failed_reads = reads;
+  failed_writes = writes;
+})
+
+pub err_and : {T E : Type 0} (r : Result T E) (e : E) → IsErrAnd r (λ f. f ≡ e) → r ≡ Err e
+err_and (Ok x) e h = absurd h
+err_and (Err f) e h = ap Err h

@@ -1,0 +1,31 @@
+-- What is told of paths.
+use Rattle.std.proofs.Common.{◌≡◌, ℕ, List, Result, Ok, Err, sym, subst, ◌∙◌}
+use Rattle.std.specs.Prelude.{IfOk}
+use Rattle.plain.specs.declared.refusal.Refusal.{Refusal}
+use Rattle.plain.specs.declared.fault.Fault.{Fault}
+use Rattle.plain.specs.declared.fault.Fault.TheVariants.{Because}
+use Rattle.counted.specs.Edges.{line_of}
+use Rattle.imageconfig.specs.Reading.{config_in}
+use Rattle.bundle.specs.Answer.{refused_text}
+use Rattle.reasons.specs.Reasons.{TellsReasons}
+use Rattle.build.specs.declared.status.Status.{Status}
+use Rattle.build.specs.declared.status.Status.TheVariants.{Built, Failed, Refused}
+use Rattle.program.specs.declared.told.Told.{Told}
+use Rattle.program.specs.Why.{TellsWhy}
+use Rattle.program.proofs.AskFacts.{held, refused}
+
+-- the same is told by bytes that hold the same
+pub moved : (paths : List (List ℕ)) (bytes bundle : List ℕ) (status : Status) (text : List ℕ) → held bytes ≡ held bundle
+    → TellsWhy paths bytes status text → TellsWhy paths bundle status text
+moved paths bytes bundle Built text same told =
+    (told.0, record { parts = told.1.parts; is = sym same ∙ told.1.is; has = told.1.has }, told.2)
+moved paths bytes bundle Failed text same told = told
+moved paths bytes bundle Refused text same told = (told.0, refused bytes bundle told.0 same told.1, told.2)
+
+-- the refusal of a bundle is told as a line
+pub refusal_told : {E : Type 0} (paths : List (List ℕ)) (bytes : List ℕ) (fault : Fault Refusal) (refusal : Refusal) (result : Result Told E)
+    → fault ≡ Because refusal → TellsReasons config_in bytes paths (Err fault) → IfOk result (λ told. told.status ≡ Refused)
+    → IfOk result (λ told. told.text ≡ line_of (refused_text refusal)) → IfOk result (λ told. TellsWhy paths bytes told.status told.text)
+refusal_told paths bytes fault refusal (Ok told) because tells status text =
+    subst (λ s. TellsWhy paths bytes s told.text) (sym status) (refusal, subst (λ f. TellsReasons config_in bytes paths (Err f)) because tells, text)
+refusal_told paths bytes fault refusal (Err memory) because tells status text = status

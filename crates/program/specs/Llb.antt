@@ -1,0 +1,80 @@
+-- What is written of a bundle for BuildKit, and how that ends (own; BuildKit's LLB).
+use Rattle.std.specs.Prelude.{◌≡◌, ℕ, None, List, [], Result, Ok, Err}
+use Rattle.plain.specs.declared.refusal.Refusal.{Refusal}
+use Rattle.counted.specs.Edges.{line_of}
+use Rattle.command.specs.declared.task.LlbOptions.{LlbOptions}
+use Rattle.command.specs.declared.task.NetworkName.{NetworkName}
+use Rattle.command.specs.declared.task.NetworkName.TheVariants.{Usual, Absent, Host}
+use Rattle.command.specs.declared.task.PlatformName.{PlatformName}
+use Rattle.imageconfig.specs.declared.config.Config.{Config}
+use Rattle.plans.specs.Plan.{PlanValue, IsPlan}
+use Rattle.plans.specs.Value.{Out, value_of, tree_of}
+use Rattle.evaluation.specs.declared.evaluated.Evaluated.{Evaluated}
+use Rattle.lowering.specs.Means.{world, StandsFor}
+use Rattle.lowering.specs.Meaning.{tree_of_stage}
+use Rattle.drawing.specs.Drawn.{IsSimplified}
+use Rattle.llbmessages.specs.declared.exec.Network.{Network}
+use Rattle.llbmessages.specs.declared.exec.Network.TheVariants as network
+use Rattle.llbmessages.specs.declared.op.Platform.{Platform}
+use Rattle.exported.specs.declared.fault.Obstacle.{Obstacle}
+use Rattle.exported.specs.declared.making.Options.{Options}
+use Rattle.exported.specs.Exporting.{exported, IsExported}
+use Rattle.bundle.specs.Answer.{refused_text}
+use Rattle.build.specs.declared.status.Status.{Status}
+use Rattle.build.specs.declared.status.Status.TheVariants.{Built, Failed, Refused}
+use Rattle.build.specs.declared.status.BuildFault.{BuildFault}
+use Rattle.build.specs.Meaning.{Asks}
+use Rattle.build.specs.Ends.{Devices}
+use Rattle.program.specs.Telling.{TellingEnds}
+
+-- the network of a name
+abbrev pub network_of : NetworkName → Network
+network_of Usual = network.Sandbox
+network_of Absent = network.None
+network_of Host = network.Host
+
+-- the platform of these names
+abbrev pub platform_of : PlatformName → Platform
+platform_of names = record { architecture = names.architecture; os = names.os; variant = names.variant }
+
+-- what the words choose of a definition: no files of the folder that BuildKit is given are left out
+abbrev pub chosen : LlbOptions → Options
+chosen options = record { platform = platform_of options.platform; network = network_of options.network; unique = options.unique; excludes = None }
+
+-- A plan is the one whose graph is drawn of what a file's stages give: that which stands for the file, with its links put into one and without
+-- what its target doesn't reach. Under every executor it has the target's tree, and none where the target has none.
+pub record IsDrawnPlan (made : Evaluated) (simple : PlanValue Config) : Type 0 where
+  pub plan : PlanValue Config
+  pub is : IsPlan plan
+  pub stands : StandsFor plan made.rows made.target
+  pub simplified : IsSimplified plan simple
+  pub tree : (out : Out)
+      → tree_of (value_of out made.sources simple.graph.vertices simple.target) ≡ tree_of_stage (world out made.sources) made.rows made.target
+
+-- bytes are the definition of the plan that is drawn of what a file's stages give, and are read as it and nothing else
+pub record IsDefinitionOf (options : LlbOptions) (made : Evaluated) (text : List ℕ) : Type 0 where
+  pub plan : PlanValue Config
+  pub drawn : IsDrawnPlan made plan
+  pub written : IsExported (exported (chosen options) [] plan.graph plan.target) (Ok text)
+
+-- What is written of a bundle of these bytes: the definition of its graph, whether or not a build of it would fail; or the refusal of the bundle as
+-- a line.
+abbrev pub TellsLlb : LlbOptions → List ℕ → Status → List ℕ → Type 0
+TellsLlb options bytes Built text = (made : Evaluated) × Asks bytes (Ok made) × IsDefinitionOf options made text
+TellsLlb options bytes Failed text = ⊥
+TellsLlb options bytes Refused text = (refusal : Refusal) × Asks bytes (Err refusal) × (text ≡ line_of (refused_text refusal))
+
+-- the plan that is drawn of what a file's stages give has no definition
+pub record HasObstacle (options : LlbOptions) (made : Evaluated) : Type 0 where
+  pub plan : PlanValue Config
+  pub drawn : IsDrawnPlan made plan
+  pub obstacle : Obstacle
+  pub told : exported (chosen options) [] plan.graph plan.target ≡ Err obstacle
+
+-- the same of what a bundle of these bytes asks for
+abbrev pub LlbClashes : LlbOptions → List ℕ → Type 0
+LlbClashes options bytes = (made : Evaluated) × Asks bytes (Ok made) × HasObstacle options made
+
+-- how writing it ends
+abbrev pub LlbEnds : LlbOptions → Devices → Devices → Result Status BuildFault → Type 0
+LlbEnds options old new ended = TellingEnds (TellsLlb options) (LlbClashes options) old new ended

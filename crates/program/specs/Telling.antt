@@ -1,0 +1,38 @@
+-- How a call ends that reads a bundle and writes something of it: what it leaves of its reader and its writer (own).
+use Rattle.std.specs.Prelude.{◌≡◌, ◌⊎◌, ℕ, ◌+◌, List, Option, Result, Ok, Err}
+use Rattle.std.specs.Io.KnownBytes.{Appends}
+use Rattle.counted.specs.Edges.{AppendsBeginning}
+use Rattle.build.specs.declared.status.Status.{Status}
+use Rattle.build.specs.declared.status.BuildFault.{BuildFault}
+use Rattle.build.specs.declared.status.BuildFault.TheVariants.{Memory, Device, Clash}
+use Rattle.build.specs.Ends.{Answering, Devices, HasClashed, IsAllLeft, LeavesWriter}
+
+-- what is due of a bundle was written, and no call failed
+pub record HasTold (Tells : Answering) (old new : Devices) (status : Status) : Type 0 where
+  pub bundle : List ℕ
+  pub is : IsAllLeft old.left bundle
+  pub text : List ℕ
+  pub tells : Tells bundle status text
+  pub written : Appends old.written new.written text
+  pub failed_reads : new.failed_reads ≡ old.failed_reads
+  pub failed_writes : new.failed_writes ≡ old.failed_writes
+
+-- a write failed, and a beginning of what is due of a bundle was written
+pub record HasBegunTelling (Tells : Answering) (old new : Devices) : Type 0 where
+  pub bundle : List ℕ
+  pub is : IsAllLeft old.left bundle
+  pub status : Status
+  pub text : List ℕ
+  pub tells : Tells bundle status text
+  pub written : AppendsBeginning old.written new.written text
+  pub failed_reads : new.failed_reads ≡ old.failed_reads
+  pub failed_writes : new.failed_writes ≡ old.failed_writes + 1
+
+-- How such a call ends, by its result: what is due of the bundle was written; there was no memory, and nothing was written; a read failed, and
+-- nothing was written, or a write failed; or two operations clash, and nothing was written. Unlike a build's answer, what is written gets no LF at
+-- its end.
+abbrev pub TellingEnds : Answering → (List ℕ → Type 0) → Devices → Devices → Result Status BuildFault → Type 0
+TellingEnds Tells Collides old new (Ok status) = HasTold Tells old new status
+TellingEnds Tells Collides old new (Err Memory) = LeavesWriter old new × (new.failed_reads ≡ old.failed_reads)
+TellingEnds Tells Collides old new (Err Device) = (LeavesWriter old new × (new.failed_reads ≡ old.failed_reads + 1)) ⊎ HasBegunTelling Tells old new
+TellingEnds Tells Collides old new (Err Clash) = HasClashed Collides old new
