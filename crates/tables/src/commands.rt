@@ -2,7 +2,7 @@
 // stands a part of what is told of the fault.
 
 use clap::Error;
-use command::{BuildOptions, PackOptions, Task, read_command};
+use command::{BuildOptions, LlbOptions, PackOptions, Task, WhyOptions, read_command};
 use plain::{Memory, Text};
 use std::alloc::Global;
 
@@ -37,6 +37,21 @@ fn task_text(alloc: Global, task: Task) -> Result<String, Memory> {
             drop(options);
             told
         }
+        Task::Why(options) => {
+            let told = why_text(alloc, &options);
+            drop(options);
+            told
+        }
+        Task::Llb(options) => {
+            let told = llb_text(alloc, &options);
+            drop(options);
+            told
+        }
+        Task::Config(file) => {
+            let told = config_text(alloc, &file);
+            drop(file);
+            told
+        }
     }
 }
 
@@ -67,6 +82,38 @@ fn pack_text(alloc: Global, options: &PackOptions) -> Result<String, Memory> {
     if options.apply_ignore {
         told.push_str(" without what is ignored")?;
     }
+    Ok(told)
+}
+
+/// What `why` is asked for: its paths, and after them the bundle's file, if one is named.
+fn why_text(alloc: Global, options: &WhyOptions) -> Result<String, Memory> {
+    let mut told = String::from_str(alloc, "why")?;
+    for path in options.paths.as_slice() {
+        told.push_str(format!(in alloc; " [{}]", path.as_str())?.as_str())?;
+    }
+    add_text(alloc, &mut told, "bundle", &options.file)?;
+    Ok(told)
+}
+
+/// What `llb` is asked for: the three names of its platform, its network, the text that no other build has, and after them the bundle's file, if
+/// one is named.
+fn llb_text(alloc: Global, options: &LlbOptions) -> Result<String, Memory> {
+    let os = options.platform.os.as_str();
+    let architecture = options.platform.architecture.as_str();
+    let variant = options.platform.variant.as_str();
+    let network = options.network;
+    let unique = options.unique.as_str();
+    let mut told = format!(in alloc;
+        "llb for [{os}] [{architecture}] [{variant}] with {network:?} unique [{unique}]"
+    )?;
+    add_text(alloc, &mut told, "of", &options.file)?;
+    Ok(told)
+}
+
+/// What `config` is asked for.
+fn config_text(alloc: Global, file: &Option<Text>) -> Result<String, Memory> {
+    let mut told = String::from_str(alloc, "config")?;
+    add_text(alloc, &mut told, "of", file)?;
     Ok(told)
 }
 

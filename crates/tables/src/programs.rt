@@ -1,10 +1,12 @@
 // `programs`: a name, ` | `, the words of a command line, ` | `, and what stands on standard input. The
 // answer is the name, and on a line of its own each the exit status, what the program wrote on standard output and what on standard error; a LF
-// in them is written `¶`.
+// in them is written `¶`, and what is no text as hexadecimal digits.
 //
 // Names that begin with `example_` are the bundles and the packed folder of `examples/`, those that begin with `bundle_` are about the bundle
-// itself, and those with `pack_` pack the folders of `data/`. Those that begin with `several_failures_` are random bundles in which several
-// instructions fail; their answers are those of another program, which goes line by line.
+// itself, those with `pack_` pack the folders of `data/`, those with `why_` tell of paths, those with `llb_` BuildKit, and those with `config_` of
+// configurations. What BuildKit is told of the empty tree was made by protoc, as the row `empty-plan` of `llb_rows`, and the other definitions by a
+// program in another language. Those that begin with `several_failures_` are
+// random bundles in which several instructions fail; their answers are those of another program, which goes line by line.
 
 use counted::Counted;
 use executor::Fixture;
@@ -77,9 +79,14 @@ fn run_case<F: Files + AllocGlobal + Clone + Drop>(
     })
 }
 
-/// Bytes as one line of text: a LF is `¶`, and what is no UTF-8 isn't shown.
+/// Bytes as one line: of a text, in which a LF is `¶`, or else of hexadecimal digits.
 fn one_line(alloc: Global, bytes: &[u8]) -> Result<String, Memory> {
-    let text = str::from_utf8(bytes).unwrap_or("not UTF-8");
+    let Ok(text) = str::from_utf8(bytes) else {
+        return Ok(hex::encode(alloc, bytes)?);
+    };
+    if has_controls(bytes) {
+        return Ok(hex::encode(alloc, bytes)?);
+    }
     let mut line = String::new(alloc);
     for character in text.chars() {
         if character == '\n' {
@@ -89,4 +96,14 @@ fn one_line(alloc: Global, bytes: &[u8]) -> Result<String, Memory> {
         }
     }
     Ok(line)
+}
+
+/// Whether bytes have control characters that no text of the program has.
+fn has_controls(bytes: &[u8]) -> bool {
+    for byte in bytes {
+        if *byte < b'\t' {
+            return true;
+        }
+    }
+    false
 }
