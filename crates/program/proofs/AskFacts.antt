@@ -1,5 +1,5 @@
 -- What a bundle asks for, and bytes that hold the same.
-use Rattle.std.proofs.Common.{◌≡◌, inl, inr, ℕ, List, Option, Result, Ok, Err, sym, ◌∙◌}
+use Rattle.std.proofs.Common.{◌≡◌, inl, inr, ℕ, List, Option, Result, Err, sym, ◌∙◌}
 use Rattle.plain.specs.declared.refusal.Refusal.{Refusal}
 use Rattle.plain.specs.declared.fault.Fault.TheVariants.{Because}
 use Rattle.imageconfig.specs.Reading.{config_in}

@@ -1,5 +1,5 @@
 -- How a call ends that reads a bundle and writes something of it: what it leaves of its reader and its writer (own).
-use Rattle.std.specs.Prelude.{◌≡◌, ◌⊎◌, ℕ, ◌+◌, List, Option, Result, Ok, Err}
+use Rattle.std.specs.Prelude.{◌≡◌, ◌⊎◌, ℕ, ◌+◌, List, Result, Ok, Err}
 use Rattle.std.specs.Io.KnownBytes.{Appends}
 use Rattle.counted.specs.Edges.{AppendsBeginning}
 use Rattle.build.specs.declared.status.Status.{Status}
