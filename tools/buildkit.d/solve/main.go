@@ -1,0 +1,214 @@
+// Command solve is BuildKit's own code beside a definition that `dfsolve llb` wrote.
+//
+//	solve same FILE..                           reads each definition by BuildKit's package pb and writes it again: a line of JSON for each
+//	solve tree SOCK CONTEXT TAR [FIXTURE] < DEFINITION
+//	    solves it in the BuildKit of the dockerd at SOCK, where CONTEXT is the local source `context`, and writes the tree as the file TAR.
+//	    With FIXTURE, a folder with the program `fixture`, each command is handed to that program, which is mounted at /.dfsolve
+//	solve image SOCK CONTEXT NAME CONFIG < DEFINITION
+//	    leaves the result in that dockerd as the image NAME, with the configuration of the file CONFIG
+package main
+
+import (
+	"bufio"
+	"bytes"
+	"context"
+	"encoding/json"
+	"fmt"
+	"io"
+	"net"
+	"net/http"
+	"os"
+
+	"github.com/moby/buildkit/client"
+	"github.com/moby/buildkit/client/llb"
+	gateway "github.com/moby/buildkit/frontend/gateway/client"
+	"github.com/moby/buildkit/solver/pb"
+	"github.com/moby/buildkit/util/apicaps"
+	digest "github.com/opencontainers/go-digest"
+)
+
+func die(err error) {
+	if err != nil {
+		fmt.Fprintln(os.Stderr, err)
+		os.Exit(1)
+	}
+}
+
+// report is what BuildKit's package makes of one definition.
+type report struct {
+	File       string
+	Operations int
+	Bytes      int
+	Same       bool     // the definition and each operation but a merge come out as the bytes that they were
+	Merges     int      // operations that this BuildKit's package has no message for
+	Named      bool     // each input and each entry of the metadata names an operation of the definition
+	Unknown    []string // capabilities that this BuildKit doesn't know
+}
+
+func look(file string) report {
+	dt, err := os.ReadFile(file)
+	die(err)
+	var def pb.Definition
+	die(def.Unmarshal(dt))
+	again, err := def.Marshal()
+	die(err)
+	r := report{File: file, Operations: len(def.Def), Bytes: len(dt), Same: bytes.Equal(dt, again), Named: true, Unknown: []string{}}
+	known := pb.Caps.CapSet(pb.Caps.All())
+	seen := map[digest.Digest]bool{}
+	for _, b := range def.Def {
+		var op pb.Op
+		die(op.Unmarshal(b))
+		same, err := op.Marshal()
+		die(err)
+		if _, ok := def.Metadata[digest.FromBytes(b)].Caps["mergeop"]; ok && op.Op == nil {
+			r.Merges++
+		} else {
+			r.Same = r.Same && bytes.Equal(b, same)
+		}
+		for _, in := range op.Inputs {
+			r.Named = r.Named && seen[in.Digest]
+		}
+		seen[digest.FromBytes(b)] = true
+	}
+	unknown := map[apicaps.CapID]bool{}
+	for d, m := range def.Metadata {
+		r.Named = r.Named && seen[d]
+		for c := range m.Caps {
+			if known.Supports(c) != nil && !unknown[c] {
+				unknown[c] = true
+				r.Unknown = append(r.Unknown, string(c))
+			}
+		}
+	}
+	return r
+}
+
+type conn struct {
+	net.Conn
+	r *bufio.Reader
+}
+
+func (c conn) Read(b []byte) (int, error) { return c.r.Read(b) }
+
+// dial is what docker's client does: a request on /grpc that becomes a connection.
+func dial(sock string) func(context.Context, string) (net.Conn, error) {
+	return func(ctx context.Context, _ string) (net.Conn, error) {
+		c, err := net.Dial("unix", sock)
+		if err != nil {
+			return nil, err
+		}
+		req, _ := http.NewRequest("POST", "http://docker/grpc", nil)
+		req.Header.Set("Connection", "Upgrade")
+		req.Header.Set("Upgrade", "h2c")
+		if err := req.Write(c); err != nil {
+			return nil, err
+		}
+		r := bufio.NewReader(c)
+		resp, err := http.ReadResponse(r, req)
+		if err != nil {
+			return nil, err
+		}
+		if resp.StatusCode != http.StatusSwitchingProtocols {
+			return nil, fmt.Errorf("no upgrade: %s", resp.Status)
+		}
+		return conn{c, r}, nil
+	}
+}
+
+// withFixture hands each command to the fixture. All else stays, but for the digests of what stands on a command.
+func withFixture(def *llb.Definition) *llb.Definition {
+	out := &llb.Definition{Metadata: map[digest.Digest]pb.OpMetadata{}}
+	renamed := map[digest.Digest]digest.Digest{}
+	put := func(op pb.Op, meta pb.OpMetadata) digest.Digest {
+		b, err := op.Marshal()
+		die(err)
+		d := digest.FromBytes(b)
+		out.Def, out.Metadata[d] = append(out.Def, b), meta
+		return d
+	}
+	fixture := put(pb.Op{Op: &pb.Op_Source{Source: &pb.SourceOp{Identifier: "local://fixture",
+		Attrs: map[string]string{pb.AttrSharedKeyHint: "fixture"}}}, Constraints: &pb.WorkerConstraints{}}, pb.OpMetadata{})
+	for _, b := range def.Def {
+		var op pb.Op
+		die(op.Unmarshal(b))
+		before := digest.FromBytes(b)
+		for _, in := range op.Inputs {
+			in.Digest = renamed[in.Digest]
+		}
+		if run := op.GetExec(); run != nil {
+			words := []string{"/.dfsolve/fixture"}
+			for _, m := range run.Mounts {
+				if m.MountType == pb.MountType_CACHE {
+					words = append(words, m.Dest)
+				}
+			}
+			run.Meta.Args = append(append(words, "--"), run.Meta.Args...)
+			run.Meta.User = ""
+			run.Mounts = append(run.Mounts, &pb.Mount{Input: pb.InputIndex(len(op.Inputs)), Dest: "/.dfsolve", Output: pb.SkipOutput, Readonly: true})
+			op.Inputs = append(op.Inputs, &pb.Input{Digest: fixture})
+		}
+		renamed[before] = put(op, def.Metadata[before])
+	}
+	return out
+}
+
+func solve(sock, folder string, def *llb.Definition, opt client.SolveOpt, config []byte) {
+	ctx := context.Background()
+	c, err := client.New(ctx, "", client.WithContextDialer(dial(sock)))
+	die(err)
+	ch := make(chan *client.SolveStatus)
+	done := make(chan struct{})
+	go func() {
+		for s := range ch {
+			for _, l := range s.Logs {
+				os.Stderr.Write(l.Data)
+			}
+		}
+		close(done)
+	}()
+	if config != nil {
+		// dockerd's exporter takes the configuration from the result's metadata alone, so by way of a gateway
+		_, err = c.Build(ctx, opt, "", func(ctx context.Context, gw gateway.Client) (*gateway.Result, error) {
+			r, err := gw.Solve(ctx, gateway.SolveRequest{Definition: def.ToPB()})
+			if err == nil {
+				r.AddMeta("containerimage.config", config)
+			}
+			return r, err
+		}, ch)
+	} else {
+		_, err = c.Solve(ctx, def, opt, ch)
+	}
+	<-done
+	die(err)
+}
+
+func main() {
+	if len(os.Args) > 1 && os.Args[1] == "same" {
+		for _, file := range os.Args[2:] {
+			line, err := json.Marshal(look(file))
+			die(err)
+			fmt.Println(string(line))
+		}
+		return
+	}
+	if len(os.Args) < 5 {
+		die(fmt.Errorf("solve same FILE.. | tree SOCK CONTEXT TAR [FIXTURE] | image SOCK CONTEXT NAME CONFIG"))
+	}
+	def, err := llb.ReadFrom(os.Stdin)
+	die(err)
+	word, sock, folder, name := os.Args[1], os.Args[2], os.Args[3], os.Args[4]
+	opt := client.SolveOpt{LocalDirs: map[string]string{"context": folder}}
+	if word == "image" {
+		config, err := os.ReadFile(os.Args[5])
+		die(err)
+		opt.Exports = []client.ExportEntry{{Type: "moby", Attrs: map[string]string{"name": name}}}
+		solve(sock, folder, def, opt, config)
+		return
+	}
+	if len(os.Args) > 5 {
+		opt.LocalDirs["fixture"] = os.Args[5]
+		def = withFixture(def)
+	}
+	opt.Exports = []client.ExportEntry{{Type: client.ExporterTar, Output: func(map[string]string) (io.WriteCloser, error) { return os.Create(name) }}}
+	solve(sock, folder, def, opt, nil)
+}
