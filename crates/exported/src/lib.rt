@@ -4,7 +4,7 @@
 // a merge; and there is the end, which names the result. A call for one operation is given what the vertex holds and where the trees of its
 // inputs are: the digest of an operation, or none for the empty tree, which no operation makes. `export` goes over a whole plan: it gives each
 // operation once, and the end, and says of each what an engine has to be capable of, and what progress is to call it. Where in a file it stands
-// isn't said. Nothing uses the crate yet.
+// isn't said.
 //
 // The central definition is `exported` in specs/Exporting.antt, over `vertex_made` in specs/Making.antt and those of each kind: `copied` in
 // specs/Files.antt, `exec_of` in specs/Commands.antt. They speak of inputs by the numbers of specs/Places.antt. What is said of an operation is
