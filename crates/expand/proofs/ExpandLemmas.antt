@@ -1,15 +1,17 @@
 -- What the value of tokens is: that of the word that they stand for.
-use Rattle.std.proofs.Common.{◌≡◌, ℕ, zero, suc, Bool, true, false, List, [], ◌∷◌, ◌++◌, Option, refl, ap, subst, ◌∙◌, sym, append_assoc, append-nil}
-use Rattle.std.specs.Prelude.{if◌then◌else◌, Result}
+use Rattle.std.proofs.Common.{◌≡◌, ℕ, zero, suc, List, [], ◌∷◌, ◌++◌, Option, refl, ap, subst, ◌∙◌, sym, append_assoc, append-nil}
+use Rattle.std.specs.Prelude.{Result}
 use Rattle.plain.specs.declared.fault.Fault.{Fault}
 use Rattle.plain.specs.declared.refusal.Code.{Code}
-use Rattle.expand.specs.Value.{Parts, is_filled, text_of, value}
+use Rattle.expand.specs.Value.{Parts, choice_of, passes, chosen, text_of, value}
 use Rattle.expand.specs.PrivateTokens.{innermost, around, with_plain, levels, word_of}
-use Rattle.expand.specs.PrivateExpanding.{run}
+use Rattle.expand.specs.PrivateExpanding.{run, run_chosen}
 use Rattle.expand.specs.Expanding.{Expands}
 use Rattle.plain.specs.Limits.{most_text_bytes}
+use Rattle.expand.specs.declared.operator.Choice.{Choice}
+use Rattle.expand.specs.declared.operator.Choice.TheVariants.{Own, Word, Nothing}
 use Rattle.expand.specs.declared.token.Token.{Token}
-use Rattle.expand.specs.declared.token.Token.TheVariants.{Plain, Variable, Default, Alternative, Close}
+use Rattle.expand.specs.declared.token.Token.TheVariants.{Plain, Variable, Open, Close}
 
 -- the values of levels, one after another
 abbrev values : (List ℕ → Option (List ℕ)) → List Parts → List ℕ
@@ -36,17 +38,11 @@ around-plain : (text : List ℕ) (ws : List Parts) → around (with_plain text w
 around-plain [] ws = refl
 around-plain (b ∷ bs) ws = around-plain bs ws
 
-values-default : (b : Bool) (text inner rest : List ℕ) (more : List ℕ) → (if b then text ++ (rest ++ more) else inner ++ (rest ++ more)) ≡ ((if b then text else inner) ++ rest) ++ more
-values-default true text inner rest more = sym (append_assoc text rest more)
-values-default false text inner rest more = sym (append_assoc inner rest more)
-
-values-alternative : (b : Bool) (inner rest more : List ℕ) → (if b then inner ++ (rest ++ more) else rest ++ more) ≡ ((if b then inner else []) ++ rest) ++ more
-values-alternative true inner rest more = sym (append_assoc inner rest more)
-values-alternative false inner rest more = refl
-
-if_both : (b : Bool) (t u v w : List ℕ) → t ≡ v → u ≡ w → (if b then t else u) ≡ (if b then v else w)
-if_both true t u v w h i = h
-if_both false t u v w h i = i
+run-chosen : (choice : Choice) (own inner rest more word behind : List ℕ) → word ≡ inner ++ (rest ++ more) → behind ≡ rest ++ more
+    → run_chosen choice own word behind ≡ (chosen choice own inner ++ rest) ++ more
+run-chosen Own own inner rest more word behind h i = ap (λ t. own ++ t) i ∙ sym (append_assoc own rest more)
+run-chosen Word own inner rest more word behind h i = h ∙ sym (append_assoc inner rest more)
+run-chosen Nothing own inner rest more word behind h i = i
 
 values-twice : (s : List ℕ → Option (List ℕ)) (ws : List Parts) → values s ws ≡ value s (innermost ws) ++ (value s (innermost (around ws)) ++ values s (around (around ws)))
 values-twice s ws = values-split s ws ∙ ap (λ t. value s (innermost ws) ++ t) (values-split s (around ws))
@@ -57,17 +53,13 @@ run-values s (suc n) [] = ap (λ (ws : List Parts). values s ws) (sym (below-nil
 run-values s zero (Plain text ∷ ts) = ap (λ t. text ++ t) (run-values s zero ts) ∙ sym (values-plain s text (levels ts))
 run-values s zero (Variable v ∷ ts) =
     ap (λ t. text_of (s v) ++ t) (run-values s zero ts ∙ values-split s (levels ts)) ∙ sym (append_assoc (text_of (s v)) (value s (innermost (levels ts))) (values s (around (levels ts))))
-run-values s zero (Default v ∷ ts) =
-    if_both (is_filled (s v)) _ _ _ _ (ap (λ t. text_of (s v) ++ t) (run-values s 1 ts ∙ values-split s (around (levels ts)))) (run-values s zero ts ∙ values-twice s (levels ts))
-    ∙ values-default (is_filled (s v)) (text_of (s v)) (value s (innermost (levels ts))) (value s (innermost (around (levels ts)))) (values s (around (around (levels ts))))
-run-values s zero (Alternative v ∷ ts) =
-    if_both (is_filled (s v)) _ _ _ _ (run-values s zero ts ∙ values-twice s (levels ts)) (run-values s 1 ts ∙ values-split s (around (levels ts)))
-    ∙ values-alternative (is_filled (s v)) (value s (innermost (levels ts))) (value s (innermost (around (levels ts)))) (values s (around (around (levels ts))))
+run-values s zero (Open o t v ∷ ts) =
+    run-chosen (choice_of o (passes t (s v))) (text_of (s v)) (value s (innermost (levels ts))) (value s (innermost (around (levels ts)))) (values s (around (around (levels ts)))) _ _
+    (run-values s zero ts ∙ values-twice s (levels ts)) (run-values s 1 ts ∙ values-split s (around (levels ts)))
 run-values s zero (Close ∷ ts) = run-values s zero ts
 run-values s (suc n) (Plain text ∷ ts) = run-values s (suc n) ts ∙ ap (λ (ws : List Parts). values s (below n ws)) (sym (around-plain text (levels ts)))
 run-values s (suc n) (Variable v ∷ ts) = run-values s (suc n) ts
-run-values s (suc n) (Default v ∷ ts) = run-values s (suc (suc n)) ts
-run-values s (suc n) (Alternative v ∷ ts) = run-values s (suc (suc n)) ts
+run-values s (suc n) (Open o t v ∷ ts) = run-values s (suc (suc n)) ts
 run-values s (suc n) (Close ∷ ts) = run-values s n ts
 
 -- tokens of one level have the value of their word

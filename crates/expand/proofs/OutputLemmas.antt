@@ -3,14 +3,13 @@ use Rattle.std.proofs.Common.{◌≡◌, ℕ, List, [], ◌∷◌, ◌++◌, len
 use Rattle.expand.specs.PrivatePieces.{plain_bytes}
 use Rattle.expand.specs.PrivateOutput.{bytewise}
 use Rattle.expand.specs.declared.token.Token.{Token}
-use Rattle.expand.specs.declared.token.Token.TheVariants.{Plain, Variable, Default, Alternative, Close}
+use Rattle.expand.specs.declared.token.Token.TheVariants.{Plain, Variable, Open, Close}
 
 pub bytewise-append : (ts us : List Token) → bytewise (ts ++ us) ≡ bytewise ts ++ bytewise us
 bytewise-append [] us = refl
 bytewise-append (Plain text ∷ ts) us = ap (λ (vs : List Token). plain_bytes text ++ vs) (bytewise-append ts us) ∙ sym (append_assoc (plain_bytes text) (bytewise ts) (bytewise us))
 bytewise-append (Variable v ∷ ts) us = ap (λ (vs : List Token). Variable v ∷ vs) (bytewise-append ts us)
-bytewise-append (Default v ∷ ts) us = ap (λ (vs : List Token). Default v ∷ vs) (bytewise-append ts us)
-bytewise-append (Alternative v ∷ ts) us = ap (λ (vs : List Token). Alternative v ∷ vs) (bytewise-append ts us)
+bytewise-append (Open o t v ∷ ts) us = ap (λ (vs : List Token). Open o t v ∷ vs) (bytewise-append ts us)
 bytewise-append (Close ∷ ts) us = ap (λ (vs : List Token). Close ∷ vs) (bytewise-append ts us)
 
 pub bytewise_plain : (ts : List Token) (text : List ℕ) → bytewise (ts ++ Plain text ∷ []) ≡ bytewise ts ++ plain_bytes text

@@ -1,8 +1,8 @@
 -- Pieces as they are written, and where they may stand. `SyntaxLaws` says which syntax they are.
 use Rattle.std.specs.Prelude.{◌≡◌, ℕ, zero, suc, true, false, List, [], ◌∷◌, ◌++◌}
 use Rattle.ascii.specs.Names.{is_name}
-use Rattle.expand.specs.PrivatePieces.{Piece, itself, bare, braced, or_else, if_set, close}
-use Rattle.expand.specs.Syntax.{dollar, open_brace, close_brace, colon, dash, plus, active, goes_on, StandsForItself, MayNest}
+use Rattle.expand.specs.PrivatePieces.{Piece, itself, bare, braced, opening, close}
+use Rattle.expand.specs.Syntax.{dollar, open_brace, close_brace, active, operator_text, goes_on, StandsForItself, MayNest}
 use Rattle.expand.specs.declared.character.Character.{Character}
 use Rattle.expand.specs.declared.character.Character.TheVariants.{Active}
 
@@ -11,8 +11,7 @@ abbrev pub piece_text : Piece → List Character
 piece_text (itself c) = c ∷ []
 piece_text (bare v) = Active dollar ∷ active v
 piece_text (braced v) = Active dollar ∷ Active open_brace ∷ (active v ++ Active close_brace ∷ [])
-piece_text (or_else v) = Active dollar ∷ Active open_brace ∷ (active v ++ Active colon ∷ Active dash ∷ [])
-piece_text (if_set v) = Active dollar ∷ Active open_brace ∷ (active v ++ Active colon ∷ Active plus ∷ [])
+piece_text (opening o t v) = Active dollar ∷ Active open_brace ∷ (active v ++ operator_text o t)
 piece_text close = Active close_brace ∷ []
 
 -- pieces as they are written, one after another
@@ -27,7 +26,6 @@ AllStand n [] = n ≡ 0
 AllStand n (itself c ∷ ps) = StandsForItself n c (written ps) × AllStand n ps
 AllStand n (bare v ∷ ps) = (is_name v ≡ true) × (goes_on (written ps) ≡ false) × AllStand n ps
 AllStand n (braced v ∷ ps) = (is_name v ≡ true) × MayNest n × AllStand n ps
-AllStand n (or_else v ∷ ps) = (is_name v ≡ true) × MayNest n × AllStand (suc n) ps
-AllStand n (if_set v ∷ ps) = (is_name v ≡ true) × MayNest n × AllStand (suc n) ps
+AllStand n (opening o t v ∷ ps) = (is_name v ≡ true) × MayNest n × AllStand (suc n) ps
 AllStand zero (close ∷ ps) = ⊥
 AllStand (suc n) (close ∷ ps) = AllStand n ps

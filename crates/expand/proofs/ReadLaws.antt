@@ -4,14 +4,18 @@ use Rattle.std.proofs.Common.{inl, inr, sym, ◌∙◌, ap, subst, append_assoc,
 use Rattle.std.proofs.lemmas.Bool.{true≢false}
 use Rattle.std.proofs.lemmas.Bool.Decides.{nat_tests}
 use Rattle.ascii.specs.Names.{begins_name, is_in_name, are_in_name, is_name}
-use Rattle.expand.specs.Syntax.{active, goes_on, IsDollarAlone, StandsForItself, MayNest}
-use Rattle.expand.specs.PrivatePieces.{Piece, itself, bare, braced, or_else, if_set, close}
+use Rattle.expand.specs.Syntax.{active, sign_text, operator_text, goes_on, IsDollarAlone, StandsForItself, MayNest}
+use Rattle.expand.specs.PrivatePieces.{Piece, itself, bare, braced, opening, close}
 use Rattle.expand.proofs.PieceForms.{piece_text, written, AllStand}
-use Rattle.expand.specs.PrivateReading.{sign_at, sign_of, code_point, Step, bad, on, behind, step_close, step_at, step_after_dollar, step_in_name, step, ended_at_end, pieces_from, pieces}
+use Rattle.expand.specs.PrivateReading.{sign_at, sign_of, code_point, Step, bad, on, behind, step_close, step_at, step_after_dollar, step_in_name, step_open, step, ended_at_end, pieces_from, pieces}
 use Rattle.expand.specs.declared.character.Character.{Character}
 use Rattle.expand.specs.declared.character.Character.TheVariants.{Active, Literal}
 use Rattle.expand.specs.declared.character.Sign.{Sign}
 use Rattle.expand.specs.declared.character.Sign.TheVariants.{Dollar, OpenBrace, CloseBrace, Colon, Dash, Plus, Letter, Digit, Other}
+use Rattle.expand.specs.declared.operator.Operator.{Operator}
+use Rattle.expand.specs.declared.operator.Operator.TheVariants.{Default, Alternative}
+use Rattle.expand.specs.declared.operator.Test.{Test}
+use Rattle.expand.specs.declared.operator.Test.TheVariants.{IsSet, IsFilled}
 use Rattle.expand.specs.declared.state.Begun.{Begun}
 use Rattle.expand.specs.declared.state.Begun.TheVariants.{Nothing, AfterDollar, InName, AfterBrace, InBracedName, AfterColon}
 
@@ -295,11 +299,16 @@ ended_good n v c cs k i s h f =
 braced_text : (v : List ℕ) (cs : List Character) → piece_text (braced v) ++ cs ≡ Active 36 ∷ Active 123 ∷ (active v ++ (Active 125 ∷ cs))
 braced_text v cs = ap (λ (t : List Character). Active 36 ∷ Active 123 ∷ t) (append_assoc (active v) (Active 125 ∷ []) cs)
 
-or_else_text : (v : List ℕ) (cs : List Character) → piece_text (or_else v) ++ cs ≡ Active 36 ∷ Active 123 ∷ ((active v ++ Active 58 ∷ []) ++ (Active 45 ∷ cs))
-or_else_text v cs = ap (λ (t : List Character). Active 36 ∷ Active 123 ∷ t) (append_assoc (active v) (Active 58 ∷ Active 45 ∷ []) cs ∙ sym (append_assoc (active v) (Active 58 ∷ []) (Active 45 ∷ cs)))
+set_text : (o : Operator) (v : List ℕ) (c : Character) (cs : List Character) → c ≡ Active (sign_text o) → piece_text (opening o IsSet v) ++ cs ≡ Active 36 ∷ Active 123 ∷ (active v ++ (c ∷ cs))
+set_text o v c cs h = ap (λ (t : List Character). Active 36 ∷ Active 123 ∷ t) (append_assoc (active v) (Active (sign_text o) ∷ []) cs ∙ ap (λ (d : Character). active v ++ (d ∷ cs)) (sym h))
 
-if_set_text : (v : List ℕ) (cs : List Character) → piece_text (if_set v) ++ cs ≡ Active 36 ∷ Active 123 ∷ ((active v ++ Active 58 ∷ []) ++ (Active 43 ∷ cs))
-if_set_text v cs = ap (λ (t : List Character). Active 36 ∷ Active 123 ∷ t) (append_assoc (active v) (Active 58 ∷ Active 43 ∷ []) cs ∙ sym (append_assoc (active v) (Active 58 ∷ []) (Active 43 ∷ cs)))
+filled_text : (o : Operator) (v : List ℕ) (c : Character) (cs : List Character) → c ≡ Active (sign_text o) → piece_text (opening o IsFilled v) ++ cs ≡ Active 36 ∷ Active 123 ∷ ((active v ++ Active 58 ∷ []) ++ (c ∷ cs))
+filled_text o v c cs h =
+    ap (λ (t : List Character). Active 36 ∷ Active 123 ∷ t)
+    (append_assoc (active v) (Active 58 ∷ Active (sign_text o) ∷ []) cs ∙ sym (append_assoc (active v) (Active 58 ∷ []) (Active (sign_text o) ∷ cs)) ∙ ap (λ (d : Character). (active v ++ Active 58 ∷ []) ++ (d ∷ cs)) (sym h))
+
+open_good : (n : ℕ) (o : Operator) (t : Test) (v : List ℕ) (cs front : List Character) → piece_text (opening o t v) ++ cs ≡ front → (is_name v ≡ true) × MayNest n → Follows cs → IsGood n front (taken (step_open o t v n) cs)
+open_good n o t v cs front e i f = good_text n _ _ _ e (good_more n (suc n) (opening o t v) cs _ (λ ps j k. (i.0, i.1, j)) (f (suc n) Nothing tt))
 
 step_good : (n : ℕ) (b : Begun) (c : Character) (cs : List Character) (k : Sign) → SignIs k c → IsSound n b → Follows cs → IsGood n (begun_text b ++ (c ∷ cs)) (taken (step n b k c) cs)
 step_good n Nothing c cs Dollar h i f = at_good n c cs Dollar h f
@@ -316,9 +325,11 @@ step_good n (InBracedName v) c cs CloseBrace h i f = good_text n _ _ _ (braced_t
 step_good n (InBracedName v) c cs Colon h i f = good_same n _ _ _ (sym (taken-on n (AfterColon v) cs)) (good_text n _ _ _ (ap (λ (t : List Character). Active 36 ∷ Active 123 ∷ t) (append_assoc (active v) (Active 58 ∷ []) cs ∙ ap (λ (d : Character). active v ++ (d ∷ cs)) (sym (Colon_is c h)))) (f n (AfterColon v) i))
 step_good n (InBracedName v) c cs Letter h i f = good_same n _ _ _ (sym (taken-on n (InBracedName (v ++ code_point c ∷ [])) cs)) (good_text n _ _ _ (ap (λ (t : List Character). Active 36 ∷ Active 123 ∷ t) (name_more v c cs (Letter_is c h).0)) (f n (InBracedName (v ++ code_point c ∷ [])) (is_name-more v (code_point c) i.0 (Letter_is c h).1, i.1)))
 step_good n (InBracedName v) c cs Digit h i f = good_same n _ _ _ (sym (taken-on n (InBracedName (v ++ code_point c ∷ [])) cs)) (good_text n _ _ _ (ap (λ (t : List Character). Active 36 ∷ Active 123 ∷ t) (name_more v c cs (Digit_is c h).0)) (f n (InBracedName (v ++ code_point c ∷ [])) (is_name-more v (code_point c) i.0 (Digit_is c h).1, i.1)))
+step_good n (InBracedName v) c cs Dash h i f = open_good n Default IsSet v cs _ (set_text Default v c cs (Dash_is c h)) i f
+step_good n (InBracedName v) c cs Plus h i f = open_good n Alternative IsSet v cs _ (set_text Alternative v c cs (Plus_is c h)) i f
 step_good n (InBracedName v) c cs _ h i f = tt
-step_good n (AfterColon v) c cs Dash h i f = good_text n _ _ _ (or_else_text v cs ∙ ap (λ (d : Character). Active 36 ∷ Active 123 ∷ ((active v ++ Active 58 ∷ []) ++ (d ∷ cs))) (sym (Dash_is c h))) (good_more n (suc n) (or_else v) cs _ (λ ps j k. (i.0, i.1, j)) (f (suc n) Nothing tt))
-step_good n (AfterColon v) c cs Plus h i f = good_text n _ _ _ (if_set_text v cs ∙ ap (λ (d : Character). Active 36 ∷ Active 123 ∷ ((active v ++ Active 58 ∷ []) ++ (d ∷ cs))) (sym (Plus_is c h))) (good_more n (suc n) (if_set v) cs _ (λ ps j k. (i.0, i.1, j)) (f (suc n) Nothing tt))
+step_good n (AfterColon v) c cs Dash h i f = open_good n Default IsFilled v cs _ (filled_text Default v c cs (Dash_is c h)) i f
+step_good n (AfterColon v) c cs Plus h i f = open_good n Alternative IsFilled v cs _ (filled_text Alternative v c cs (Plus_is c h)) i f
 step_good n (AfterColon v) c cs _ h i f = tt
 
 end_good : (n : ℕ) (b : Begun) → IsSound n b → IsGood n (begun_text b ++ []) (ended_at_end n b)
@@ -498,6 +509,12 @@ piece_text-at p ps v ends front h = h ∙ ap (λ (t : List Character). front ++ 
 coloned_read : (n : ℕ) (v : List ℕ) (cs : List Character) → pieces_from n (InBracedName v) (Active 58 ∷ cs) ≡ pieces_from n (AfterColon v) cs
 coloned_read n v cs = pieces_from-at n (InBracedName v) (Active 58) cs Colon sign-58 ∙ taken-on n (AfterColon v) cs
 
+opened_reads : (n : ℕ) (o : Operator) (t : Test) (v : List ℕ) (cs : List Character) → pieces_from n (InBracedName v) (operator_text o t ++ cs) ≡ taken (step_open o t v n) cs
+opened_reads n Default IsSet v cs = pieces_from-at n (InBracedName v) (Active 45) cs Dash sign-45
+opened_reads n Alternative IsSet v cs = pieces_from-at n (InBracedName v) (Active 43) cs Plus sign-43
+opened_reads n Default IsFilled v cs = coloned_read n v (Active 45 ∷ cs) ∙ pieces_from-at n (AfterColon v) (Active 45) cs Dash sign-45
+opened_reads n Alternative IsFilled v cs = coloned_read n v (Active 43 ∷ cs) ∙ pieces_from-at n (AfterColon v) (Active 43) cs Plus sign-43
+
 all_read : (n : ℕ) (ps : List Piece) → AllStand n ps → pieces_from n Nothing (written ps) ≡ Some ps
 all_read n [] h = ap (λ m. ended_at_end m Nothing) h
 all_read n (itself c ∷ ps) h = itself_read n c (written ps) ps (sign_of c) refl (sign_is c) h.0 (all_read n ps h.1)
@@ -505,14 +522,9 @@ all_read n (bare v ∷ ps) h = bare_name n v (written ps) h.0 ∙ bare_ended n v
 all_read n (braced v ∷ ps) h =
     ap (λ (t : List Character). pieces_from n Nothing t) (piece_text-at (braced v) ps v (Active 125 ∷ []) (Active 36 ∷ Active 123 ∷ []) refl)
     ∙ braced_name n v (Active 125 ∷ written ps) h.0 h.1 ∙ pieces_from-at n (InBracedName v) (Active 125) (written ps) CloseBrace sign-125 ∙ put_before (braced v) _ ps (all_read n ps h.2)
-all_read n (or_else v ∷ ps) h =
-    ap (λ (t : List Character). pieces_from n Nothing t) (piece_text-at (or_else v) ps v (Active 58 ∷ Active 45 ∷ []) (Active 36 ∷ Active 123 ∷ []) refl)
-    ∙ braced_name n v (Active 58 ∷ Active 45 ∷ written ps) h.0 h.1 ∙ coloned_read n v (Active 45 ∷ written ps)
-    ∙ pieces_from-at n (AfterColon v) (Active 45) (written ps) Dash sign-45 ∙ put_before (or_else v) _ ps (all_read (suc n) ps h.2)
-all_read n (if_set v ∷ ps) h =
-    ap (λ (t : List Character). pieces_from n Nothing t) (piece_text-at (if_set v) ps v (Active 58 ∷ Active 43 ∷ []) (Active 36 ∷ Active 123 ∷ []) refl)
-    ∙ braced_name n v (Active 58 ∷ Active 43 ∷ written ps) h.0 h.1 ∙ coloned_read n v (Active 43 ∷ written ps)
-    ∙ pieces_from-at n (AfterColon v) (Active 43) (written ps) Plus sign-43 ∙ put_before (if_set v) _ ps (all_read (suc n) ps h.2)
+all_read n (opening o t v ∷ ps) h =
+    ap (λ (u : List Character). pieces_from n Nothing u) (piece_text-at (opening o t v) ps v (operator_text o t) (Active 36 ∷ Active 123 ∷ []) refl)
+    ∙ braced_name n v (operator_text o t ++ written ps) h.0 h.1 ∙ opened_reads n o t v (written ps) ∙ put_before (opening o t v) _ ps (all_read (suc n) ps h.2)
 all_read zero (close ∷ ps) h = absurd h
 all_read (suc n) (close ∷ ps) h = pieces_from-at (suc n) Nothing (Active 125) (written ps) CloseBrace sign-125 ∙ put_before close _ ps (all_read n ps h)
 

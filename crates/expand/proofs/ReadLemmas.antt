@@ -1,10 +1,10 @@
 -- The levels of what is read, and one more character of a reading.
 use Rattle.std.proofs.Common.{◌≡◌, ◌<◌, ◌+◌, ℕ, zero, suc, Bool, false, List, [], ◌∷◌, ◌++◌, Option, Some, None, length, refl, ap, ap₂, ◌∙◌, sym, subst, append_assoc, drop, get_or}
 use Rattle.std.specs.Prelude.{option_map, option_and_then, if◌then◌else◌}
-use Rattle.expand.specs.Value.{Parts, no_part, byte, variable, with_default, with_alternative}
+use Rattle.expand.specs.Value.{Parts, no_part, byte, variable, with_word}
 use Rattle.expand.specs.PrivateTokens.{innermost, around, with_plain, with_token, onto, levels, word_of, onto-append}
 use Rattle.expand.specs.Syntax.{character_bytes}
-use Rattle.expand.specs.PrivatePieces.{Piece, itself, bare, braced, or_else, if_set, close, tokens, piece_tokens, plain_bytes}
+use Rattle.expand.specs.PrivatePieces.{Piece, itself, bare, braced, opening, close, tokens, piece_tokens, plain_bytes}
 use Rattle.expand.proofs.PieceForms.{AllStand}
 use Rattle.std.proofs.lemmas.List.{at_drop_more}
 use Rattle.expand.specs.PrivateOutput.{bytewise}
@@ -20,7 +20,7 @@ use Rattle.expand.specs.declared.character.Character.{Character}
 use Rattle.expand.specs.declared.state.Begun.{Begun}
 use Rattle.expand.specs.declared.state.Begun.TheVariants.{Nothing}
 use Rattle.expand.specs.declared.token.Token.{Token}
-use Rattle.expand.specs.declared.token.Token.TheVariants.{Plain, Variable, Default, Alternative, Close}
+use Rattle.expand.specs.declared.token.Token.TheVariants.{Plain, Variable, Open, Close}
 
 pub tokens-append : (ps qs : List Piece) → tokens (ps ++ qs) ≡ tokens ps ++ tokens qs
 tokens-append [] qs = refl
@@ -36,8 +36,7 @@ pub onto-bytewise : (ts : List Token) (ws : List Parts) → onto (bytewise ts) w
 onto-bytewise [] ws = refl
 onto-bytewise (Plain text ∷ ts) ws = onto-append (plain_bytes text) (bytewise ts) ws ∙ onto-bytes text (onto (bytewise ts) ws) ∙ ap (λ (us : List Parts). with_plain text us) (onto-bytewise ts ws)
 onto-bytewise (Variable v ∷ ts) ws = ap (λ (us : List Parts). with_token (Variable v) us) (onto-bytewise ts ws)
-onto-bytewise (Default v ∷ ts) ws = ap (λ (us : List Parts). with_token (Default v) us) (onto-bytewise ts ws)
-onto-bytewise (Alternative v ∷ ts) ws = ap (λ (us : List Parts). with_token (Alternative v) us) (onto-bytewise ts ws)
+onto-bytewise (Open o t v ∷ ts) ws = ap (λ (us : List Parts). with_token (Open o t v) us) (onto-bytewise ts ws)
 onto-bytewise (Close ∷ ts) ws = ap (λ (us : List Parts). with_token Close us) (onto-bytewise ts ws)
 
 -- pieces that stand have as many levels as words are open
@@ -71,8 +70,7 @@ has_levels n (itself c ∷ ps) h =
     (levels_bytes n (character_bytes c) (levels (tokens ps)) (has_levels n ps h.1))
 has_levels n (bare v ∷ ps) h = on_top n (variable v (innermost (levels (tokens ps)))) (levels (tokens ps)) (has_levels n ps h.2)
 has_levels n (braced v ∷ ps) h = on_top n (variable v (innermost (levels (tokens ps)))) (levels (tokens ps)) (has_levels n ps h.2)
-has_levels n (or_else v ∷ ps) h = levels_opened n (with_default v (innermost (levels (tokens ps))) (innermost (around (levels (tokens ps))))) (levels (tokens ps)) (has_levels (suc n) ps h.2)
-has_levels n (if_set v ∷ ps) h = levels_opened n (with_alternative v (innermost (levels (tokens ps))) (innermost (around (levels (tokens ps))))) (levels (tokens ps)) (has_levels (suc n) ps h.2)
+has_levels n (opening o t v ∷ ps) h = levels_opened n (with_word o t v (innermost (levels (tokens ps))) (innermost (around (levels (tokens ps))))) (levels (tokens ps)) (has_levels (suc n) ps h.2)
 has_levels zero (close ∷ ps) h = absurd h
 has_levels (suc n) (close ∷ ps) h = has_levels n ps h
 

@@ -4,15 +4,15 @@ use Rattle.std.specs.Prelude.{◌≡◌, ℕ, zero, suc, false, List, [], ◌∷
 use Rattle.std.proofs.Common.{sym, ◌∙◌, ap, ap₂, subst, append_assoc, append-nil}
 use Rattle.expand.specs.Value.{Parts, with_text}
 use Rattle.expand.specs.PrivateTokens.{word_of, tokens_of, word_of-tokens_of}
-use Rattle.expand.specs.Syntax.{Syntax, ended, standing, bare_name, braced_name, default_word, alternative_word, active, written, goes_on, IsDollarAlone, StandsForItself, Stands, character_bytes, parts_of, IsRead}
-use Rattle.expand.specs.PrivatePieces.{Piece, itself, bare, braced, or_else, if_set, close, plain_bytes, tokens}
+use Rattle.expand.specs.Syntax.{Syntax, ended, standing, bare_name, braced_name, braced_word, active, operator_text, written, goes_on, IsDollarAlone, StandsForItself, Stands, character_bytes, parts_of, IsRead}
+use Rattle.expand.specs.PrivatePieces.{Piece, itself, bare, braced, opening, close, plain_bytes, tokens}
 use Rattle.expand.proofs.PieceForms.{written as pieces_text, AllStand}
 use Rattle.expand.specs.PrivateReading.{pieces}
 use Rattle.expand.proofs.ReadLaws.{pieces-good, pieces-only, IsGood}
 use Rattle.expand.specs.declared.character.Character.{Character}
 use Rattle.expand.specs.declared.character.Character.TheVariants.{Active, Literal}
 use Rattle.expand.specs.declared.token.Token.{Token}
-use Rattle.expand.specs.declared.token.Token.TheVariants.{Plain, Variable, Default, Alternative, Close}
+use Rattle.expand.specs.declared.token.Token.TheVariants.{Plain, Variable, Open, Close}
 
 -- the pieces of a syntax, before others: a word within it goes up to its own close
 abbrev flat : Syntax → List Piece → List Piece
@@ -20,17 +20,17 @@ flat ended ps = ps
 flat (standing c rest) ps = itself c ∷ flat rest ps
 flat (bare_name v rest) ps = bare v ∷ flat rest ps
 flat (braced_name v rest) ps = braced v ∷ flat rest ps
-flat (default_word v word rest) ps = or_else v ∷ flat word (close ∷ flat rest ps)
-flat (alternative_word v word rest) ps = if_set v ∷ flat word (close ∷ flat rest ps)
+flat (braced_word o t v word rest) ps = opening o t v ∷ flat word (close ∷ flat rest ps)
 
 -- they are written as the syntax
 
-within-text : (v : List ℕ) (sign : Character) (word rest behind all : List Character) → all ≡ word ++ Active 125 ∷ (rest ++ behind)
-    → (active v ++ Active 58 ∷ sign ∷ []) ++ all ≡ (active v ++ Active 58 ∷ sign ∷ (word ++ Active 125 ∷ rest)) ++ behind
-within-text v sign word rest behind all h =
-    ap (λ (t : List Character). (active v ++ Active 58 ∷ sign ∷ []) ++ t) (h ∙ sym (append_assoc word (Active 125 ∷ rest) behind))
-    ∙ append_assoc (active v) (Active 58 ∷ sign ∷ []) ((word ++ Active 125 ∷ rest) ++ behind)
-    ∙ sym (append_assoc (active v) (Active 58 ∷ sign ∷ (word ++ Active 125 ∷ rest)) behind)
+within-text : (v : List ℕ) (ends word rest behind all : List Character) → all ≡ word ++ Active 125 ∷ (rest ++ behind)
+    → (active v ++ ends) ++ all ≡ (active v ++ (ends ++ (word ++ Active 125 ∷ rest))) ++ behind
+within-text v ends word rest behind all h =
+    ap (λ (t : List Character). (active v ++ ends) ++ t) (h ∙ sym (append_assoc word (Active 125 ∷ rest) behind))
+    ∙ append_assoc (active v) ends ((word ++ Active 125 ∷ rest) ++ behind)
+    ∙ ap (λ (t : List Character). active v ++ t) (sym (append_assoc ends (word ++ Active 125 ∷ rest) behind))
+    ∙ sym (append_assoc (active v) (ends ++ (word ++ Active 125 ∷ rest)) behind)
 
 braced-text : (v : List ℕ) (rest behind all : List Character) → all ≡ rest ++ behind → (active v ++ Active 125 ∷ []) ++ all ≡ (active v ++ Active 125 ∷ rest) ++ behind
 braced-text v rest behind all h =
@@ -41,13 +41,9 @@ flat-text ended ps = refl
 flat-text (standing c rest) ps = ap (λ (t : List Character). c ∷ t) (flat-text rest ps)
 flat-text (bare_name v rest) ps = ap (λ (t : List Character). Active 36 ∷ (active v ++ t)) (flat-text rest ps) ∙ ap (λ (t : List Character). Active 36 ∷ t) (sym (append_assoc (active v) (written rest) (pieces_text ps)))
 flat-text (braced_name v rest) ps = ap (λ (t : List Character). Active 36 ∷ Active 123 ∷ t) (braced-text v (written rest) (pieces_text ps) (pieces_text (flat rest ps)) (flat-text rest ps))
-flat-text (default_word v word rest) ps =
+flat-text (braced_word o u v word rest) ps =
     ap (λ (t : List Character). Active 36 ∷ Active 123 ∷ t)
-    (within-text v (Active 45) (written word) (written rest) (pieces_text ps) (pieces_text (flat word (close ∷ flat rest ps)))
-    (flat-text word (close ∷ flat rest ps) ∙ ap (λ (t : List Character). written word ++ Active 125 ∷ t) (flat-text rest ps)))
-flat-text (alternative_word v word rest) ps =
-    ap (λ (t : List Character). Active 36 ∷ Active 123 ∷ t)
-    (within-text v (Active 43) (written word) (written rest) (pieces_text ps) (pieces_text (flat word (close ∷ flat rest ps)))
+    (within-text v (operator_text o u) (written word) (written rest) (pieces_text ps) (pieces_text (flat word (close ∷ flat rest ps)))
     (flat-text word (close ∷ flat rest ps) ∙ ap (λ (t : List Character). written word ++ Active 125 ∷ t) (flat-text rest ps)))
 
 -- where a syntax may stand, its pieces may, and the other way round
@@ -90,8 +86,7 @@ flat-stands n (standing c rest) ps h i j =
     (subst (λ (t : List Character). StandsForItself n c t) (sym (flat-text rest ps)) (stands-more n c (written rest) (pieces_text ps) i.0 h.0), flat-stands n rest ps h.1 i j)
 flat-stands n (bare_name v rest) ps h i j = (h.0, ap goes_on (flat-text rest ps) ∙ goes_on-more (written rest) (pieces_text ps) i.1 h.1, flat-stands n rest ps h.2 i j)
 flat-stands n (braced_name v rest) ps h i j = (h.0, h.1, flat-stands n rest ps h.2 i j)
-flat-stands n (default_word v word rest) ps h i j = (h.0, h.1, flat-stands (suc n) word (close ∷ flat rest ps) h.2 ((refl, refl), refl) (flat-stands n rest ps h.3 i j))
-flat-stands n (alternative_word v word rest) ps h i j = (h.0, h.1, flat-stands (suc n) word (close ∷ flat rest ps) h.2 ((refl, refl), refl) (flat-stands n rest ps h.3 i j))
+flat-stands n (braced_word o t v word rest) ps h i j = (h.0, h.1, flat-stands (suc n) word (close ∷ flat rest ps) h.2 ((refl, refl), refl) (flat-stands n rest ps h.3 i j))
 
 -- the pieces behind the innermost of n words that are open: its close, and the rest of the word around it
 abbrev Ends : ℕ → List Piece → Type 0
@@ -135,8 +130,7 @@ splits n (bare v ∷ ps) h =
       s.4,
     )
 splits n (braced v ∷ ps) h = let s = splits n ps h.2 in (braced_name v s.0, s.1, (h.0, h.1, s.2), ap (λ (qs : List Piece). braced v ∷ qs) s.3, s.4)
-splits n (or_else v ∷ ps) h = split-opening n (or_else v) ps (default_word v) (λ word rest i j. (h.0, h.1, i, j)) (λ word rest behind. refl) (splits (suc n) ps h.2)
-splits n (if_set v ∷ ps) h = split-opening n (if_set v) ps (alternative_word v) (λ word rest i j. (h.0, h.1, i, j)) (λ word rest behind. refl) (splits (suc n) ps h.2)
+splits n (opening o t v ∷ ps) h = split-opening n (opening o t v) ps (braced_word o t v) (λ word rest i j. (h.0, h.1, i, j)) (λ word rest behind. refl) (splits (suc n) ps h.2)
 splits zero (close ∷ ps) h = absurd h
 splits (suc n) (close ∷ ps) h = let s = splits n ps h in (ended, close ∷ ps, tt, refl, (s.0, s.1, s.2, ap (λ (qs : List Piece). close ∷ qs) s.3, s.4))
 
@@ -151,12 +145,8 @@ flat-tokens ended ps = refl
 flat-tokens (standing c rest) ps = ap (λ (ts : List Token). plain_bytes (character_bytes c) ++ ts) (flat-tokens rest ps) ∙ text-tokens (character_bytes c) (parts_of rest) (tokens ps)
 flat-tokens (bare_name v rest) ps = ap (λ (ts : List Token). Variable v ∷ ts) (flat-tokens rest ps)
 flat-tokens (braced_name v rest) ps = ap (λ (ts : List Token). Variable v ∷ ts) (flat-tokens rest ps)
-flat-tokens (default_word v word rest) ps =
-    ap (λ (ts : List Token). Default v ∷ ts)
-    (flat-tokens word (close ∷ flat rest ps) ∙ ap (λ (ts : List Token). tokens_of (parts_of word) ++ (Close ∷ ts)) (flat-tokens rest ps)
-    ∙ sym (append_assoc (tokens_of (parts_of word)) (Close ∷ tokens_of (parts_of rest)) (tokens ps)))
-flat-tokens (alternative_word v word rest) ps =
-    ap (λ (ts : List Token). Alternative v ∷ ts)
+flat-tokens (braced_word o t v word rest) ps =
+    ap (λ (ts : List Token). Open o t v ∷ ts)
     (flat-tokens word (close ∷ flat rest ps) ∙ ap (λ (ts : List Token). tokens_of (parts_of word) ++ (Close ∷ ts)) (flat-tokens rest ps)
     ∙ sym (append_assoc (tokens_of (parts_of word)) (Close ∷ tokens_of (parts_of rest)) (tokens ps)))
 
@@ -206,8 +196,7 @@ abbrev with_piece : Piece → List Syntax → List Syntax
 with_piece (itself c) ss = standing c (first ss) ∷ others ss
 with_piece (bare v) ss = bare_name v (first ss) ∷ others ss
 with_piece (braced v) ss = braced_name v (first ss) ∷ others ss
-with_piece (or_else v) ss = default_word v (first ss) (first (others ss)) ∷ others (others ss)
-with_piece (if_set v) ss = alternative_word v (first ss) (first (others ss)) ∷ others (others ss)
+with_piece (opening o t v) ss = braced_word o t v (first ss) (first (others ss)) ∷ others (others ss)
 with_piece close ss = ended ∷ ss
 
 abbrev syntaxes : List Piece → List Syntax
@@ -225,16 +214,14 @@ joined ended t = t
 joined (standing c rest) t = standing c (joined rest t)
 joined (bare_name v rest) t = bare_name v (joined rest t)
 joined (braced_name v rest) t = braced_name v (joined rest t)
-joined (default_word v word rest) t = default_word v word (joined rest t)
-joined (alternative_word v word rest) t = alternative_word v word (joined rest t)
+joined (braced_word o t v word rest) u = braced_word o t v word (joined rest u)
 
 joined-ended : (s : Syntax) → joined s ended ≡ s
 joined-ended ended = refl
 joined-ended (standing c rest) = ap (λ (t : Syntax). standing c t) (joined-ended rest)
 joined-ended (bare_name v rest) = ap (λ (t : Syntax). bare_name v t) (joined-ended rest)
 joined-ended (braced_name v rest) = ap (λ (t : Syntax). braced_name v t) (joined-ended rest)
-joined-ended (default_word v word rest) = ap (λ (t : Syntax). default_word v word t) (joined-ended rest)
-joined-ended (alternative_word v word rest) = ap (λ (t : Syntax). alternative_word v word t) (joined-ended rest)
+joined-ended (braced_word o u v word rest) = ap (λ (t : Syntax). braced_word o u v word t) (joined-ended rest)
 
 abbrev joined_to : Syntax → List Syntax → List Syntax
 joined_to s ss = joined s (first ss) ∷ others ss
@@ -244,10 +231,8 @@ syntaxes-flat ended ps = syntaxes-some ps
 syntaxes-flat (standing c rest) ps = ap (λ (ss : List Syntax). with_piece (itself c) ss) (syntaxes-flat rest ps)
 syntaxes-flat (bare_name v rest) ps = ap (λ (ss : List Syntax). with_piece (bare v) ss) (syntaxes-flat rest ps)
 syntaxes-flat (braced_name v rest) ps = ap (λ (ss : List Syntax). with_piece (braced v) ss) (syntaxes-flat rest ps)
-syntaxes-flat (default_word v word rest) ps =
-    ap (λ (ss : List Syntax). with_piece (or_else v) ss) (syntaxes-flat word (close ∷ flat rest ps) ∙ ap₂ (λ (t : Syntax) (ss : List Syntax). t ∷ ss) (joined-ended word) (syntaxes-flat rest ps))
-syntaxes-flat (alternative_word v word rest) ps =
-    ap (λ (ss : List Syntax). with_piece (if_set v) ss) (syntaxes-flat word (close ∷ flat rest ps) ∙ ap₂ (λ (t : Syntax) (ss : List Syntax). t ∷ ss) (joined-ended word) (syntaxes-flat rest ps))
+syntaxes-flat (braced_word o u v word rest) ps =
+    ap (λ (ss : List Syntax). with_piece (opening o u v) ss) (syntaxes-flat word (close ∷ flat rest ps) ∙ ap₂ (λ (t : Syntax) (ss : List Syntax). t ∷ ss) (joined-ended word) (syntaxes-flat rest ps))
 
 syntax-flat : (s : Syntax) → first (syntaxes (flat s [])) ≡ s
 syntax-flat s = ap first (syntaxes-flat s []) ∙ joined-ended s

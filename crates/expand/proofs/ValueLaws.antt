@@ -1,7 +1,11 @@
 -- Laws of values: of plain text, and of a variable with a word, by whether the variable is set and has a text.
-use Rattle.std.specs.Prelude.{◌≡◌, ◌≢◌, ℕ, List, [], ◌∷◌, ◌++◌, if◌then◌else◌, Option, Some, None, refl}
-use Rattle.std.proofs.Common.{ap, ◌∙◌}
-use Rattle.expand.specs.Value.{Parts, no_part, variable, with_default, with_alternative, with_text, is_filled, text_of, value}
+use Rattle.std.specs.Prelude.{◌≡◌, ◌≢◌, ℕ, List, [], ◌∷◌, ◌++◌, Option, Some, None, refl}
+use Rattle.std.proofs.Common.{ap}
+use Rattle.expand.specs.Value.{Parts, no_part, variable, with_word, with_text, passes, choice_of, chosen, text_of, value}
+use Rattle.expand.specs.declared.operator.Operator.{Operator}
+use Rattle.expand.specs.declared.operator.Operator.TheVariants.{Default, Alternative}
+use Rattle.expand.specs.declared.operator.Test.{Test}
+use Rattle.expand.specs.declared.operator.Test.TheVariants.{IsSet, IsFilled}
 
 pub value-text : (s : List ℕ → Option (List ℕ)) (text : List ℕ) → value s (with_text text no_part) ≡ text
 value-text s [] = refl
@@ -13,36 +17,37 @@ value-variable_set s v text rest h = ap (λ (o : Option (List ℕ)). text_of o +
 pub value-variable_unset : (s : List ℕ → Option (List ℕ)) (v : List ℕ) (rest : Parts) → s v ≡ None → value s (variable v rest) ≡ value s rest
 value-variable_unset s v rest h = ap (λ (o : Option (List ℕ)). text_of o ++ value s rest) h
 
--- the value of a default word, by what its variable has
-abbrev default_by : (List ℕ → Option (List ℕ)) → Parts → Parts → Option (List ℕ) → List ℕ
-default_by s word rest o = (if is_filled o then text_of o else value s word) ++ value s rest
+-- the value of a variable with a word, by what the variable has
+value-by : (s : List ℕ → Option (List ℕ)) (o : Operator) (t : Test) (v : List ℕ) (word rest : Parts) (found : Option (List ℕ)) → s v ≡ found
+    → value s (with_word o t v word rest) ≡ chosen (choice_of o (passes t found)) (text_of found) (value s word) ++ value s rest
+value-by s o t v word rest found h = ap (λ (u : Option (List ℕ)). chosen (choice_of o (passes t u)) (text_of u) (value s word) ++ value s rest) h
 
-default_by-filled : (s : List ℕ → Option (List ℕ)) (text : List ℕ) (word rest : Parts) → text ≢ [] → default_by s word rest (Some text) ≡ text ++ value s rest
-default_by-filled s [] word rest h = absurd (h refl)
-default_by-filled s (b ∷ bs) word rest h = refl
+pub value-default_filled : (s : List ℕ → Option (List ℕ)) (t : Test) (v text : List ℕ) (word rest : Parts) → s v ≡ Some text → text ≢ [] → value s (with_word Default t v word rest) ≡ text ++ value s rest
+value-default_filled s t v [] word rest h i = absurd (i refl)
+value-default_filled s IsSet v (b ∷ bs) word rest h i = value-by s Default IsSet v word rest (Some (b ∷ bs)) h
+value-default_filled s IsFilled v (b ∷ bs) word rest h i = value-by s Default IsFilled v word rest (Some (b ∷ bs)) h
 
-pub value-default_filled : (s : List ℕ → Option (List ℕ)) (v text : List ℕ) (word rest : Parts) → s v ≡ Some text → text ≢ [] → value s (with_default v word rest) ≡ text ++ value s rest
-value-default_filled s v text word rest h i = ap (default_by s word rest) h ∙ default_by-filled s text word rest i
+pub value-default_empty_set : (s : List ℕ → Option (List ℕ)) (v : List ℕ) (word rest : Parts) → s v ≡ Some [] → value s (with_word Default IsSet v word rest) ≡ value s rest
+value-default_empty_set s v word rest h = value-by s Default IsSet v word rest (Some []) h
 
-pub value-default_empty : (s : List ℕ → Option (List ℕ)) (v : List ℕ) (word rest : Parts) → s v ≡ Some [] → value s (with_default v word rest) ≡ value s word ++ value s rest
-value-default_empty s v word rest h = ap (default_by s word rest) h
+pub value-default_empty_filled : (s : List ℕ → Option (List ℕ)) (v : List ℕ) (word rest : Parts) → s v ≡ Some [] → value s (with_word Default IsFilled v word rest) ≡ value s word ++ value s rest
+value-default_empty_filled s v word rest h = value-by s Default IsFilled v word rest (Some []) h
 
-pub value-default_unset : (s : List ℕ → Option (List ℕ)) (v : List ℕ) (word rest : Parts) → s v ≡ None → value s (with_default v word rest) ≡ value s word ++ value s rest
-value-default_unset s v word rest h = ap (default_by s word rest) h
+pub value-default_unset : (s : List ℕ → Option (List ℕ)) (t : Test) (v : List ℕ) (word rest : Parts) → s v ≡ None → value s (with_word Default t v word rest) ≡ value s word ++ value s rest
+value-default_unset s IsSet v word rest h = value-by s Default IsSet v word rest None h
+value-default_unset s IsFilled v word rest h = value-by s Default IsFilled v word rest None h
 
--- the value of an alternative word, by what its variable has
-abbrev alternative_by : (List ℕ → Option (List ℕ)) → Parts → Parts → Option (List ℕ) → List ℕ
-alternative_by s word rest o = (if is_filled o then value s word else []) ++ value s rest
+pub value-alternative_filled : (s : List ℕ → Option (List ℕ)) (t : Test) (v text : List ℕ) (word rest : Parts) → s v ≡ Some text → text ≢ [] → value s (with_word Alternative t v word rest) ≡ value s word ++ value s rest
+value-alternative_filled s t v [] word rest h i = absurd (i refl)
+value-alternative_filled s IsSet v (b ∷ bs) word rest h i = value-by s Alternative IsSet v word rest (Some (b ∷ bs)) h
+value-alternative_filled s IsFilled v (b ∷ bs) word rest h i = value-by s Alternative IsFilled v word rest (Some (b ∷ bs)) h
 
-alternative_by-filled : (s : List ℕ → Option (List ℕ)) (text : List ℕ) (word rest : Parts) → text ≢ [] → alternative_by s word rest (Some text) ≡ value s word ++ value s rest
-alternative_by-filled s [] word rest h = absurd (h refl)
-alternative_by-filled s (b ∷ bs) word rest h = refl
+pub value-alternative_empty_set : (s : List ℕ → Option (List ℕ)) (v : List ℕ) (word rest : Parts) → s v ≡ Some [] → value s (with_word Alternative IsSet v word rest) ≡ value s word ++ value s rest
+value-alternative_empty_set s v word rest h = value-by s Alternative IsSet v word rest (Some []) h
 
-pub value-alternative_filled : (s : List ℕ → Option (List ℕ)) (v text : List ℕ) (word rest : Parts) → s v ≡ Some text → text ≢ [] → value s (with_alternative v word rest) ≡ value s word ++ value s rest
-value-alternative_filled s v text word rest h i = ap (alternative_by s word rest) h ∙ alternative_by-filled s text word rest i
+pub value-alternative_empty_filled : (s : List ℕ → Option (List ℕ)) (v : List ℕ) (word rest : Parts) → s v ≡ Some [] → value s (with_word Alternative IsFilled v word rest) ≡ value s rest
+value-alternative_empty_filled s v word rest h = value-by s Alternative IsFilled v word rest (Some []) h
 
-pub value-alternative_empty : (s : List ℕ → Option (List ℕ)) (v : List ℕ) (word rest : Parts) → s v ≡ Some [] → value s (with_alternative v word rest) ≡ value s rest
-value-alternative_empty s v word rest h = ap (alternative_by s word rest) h
-
-pub value-alternative_unset : (s : List ℕ → Option (List ℕ)) (v : List ℕ) (word rest : Parts) → s v ≡ None → value s (with_alternative v word rest) ≡ value s rest
-value-alternative_unset s v word rest h = ap (alternative_by s word rest) h
+pub value-alternative_unset : (s : List ℕ → Option (List ℕ)) (t : Test) (v : List ℕ) (word rest : Parts) → s v ≡ None → value s (with_word Alternative t v word rest) ≡ value s rest
+value-alternative_unset s IsSet v word rest h = value-by s Alternative IsSet v word rest None h
+value-alternative_unset s IsFilled v word rest h = value-by s Alternative IsFilled v word rest None h

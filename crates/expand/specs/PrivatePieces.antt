@@ -3,16 +3,17 @@ use Rattle.std.specs.Prelude.{ℕ, List, [], ◌∷◌, ◌++◌, map}
 use Rattle.expand.specs.Syntax.{character_bytes}
 use Rattle.expand.specs.declared.character.Character.{Character}
 use Rattle.expand.specs.declared.token.Token.{Token}
-use Rattle.expand.specs.declared.token.Token.TheVariants.{Plain, Variable, Default, Alternative, Close}
+use Rattle.expand.specs.declared.token.Token.TheVariants.{Plain, Variable, Open, Close}
+use Rattle.expand.specs.declared.operator.Operator.{Operator}
+use Rattle.expand.specs.declared.operator.Test.{Test}
 
--- a piece of a word: a character that stands for itself, `$v`, `${v}`, the opening `${v:-` or `${v:+` of a word within the
--- word, or the `}` that closes the one that was opened last
+-- a piece of a word: a character that stands for itself, `$v`, `${v}`, the opening of a word within the word (`${v-`,
+-- `${v:-`, `${v+` or `${v:+`), or the `}` that closes the one that was opened last
 pub data Piece : Type 0 where
   itself : Character → Piece
   bare : List ℕ → Piece
   braced : List ℕ → Piece
-  or_else : List ℕ → Piece
-  if_set : List ℕ → Piece
+  opening : Operator → Test → List ℕ → Piece
   close : Piece
 
 -- the tokens of plain text, one for each byte
@@ -24,8 +25,7 @@ abbrev pub piece_tokens : Piece → List Token
 piece_tokens (itself c) = plain_bytes (character_bytes c)
 piece_tokens (bare v) = Variable v ∷ []
 piece_tokens (braced v) = Variable v ∷ []
-piece_tokens (or_else v) = Default v ∷ []
-piece_tokens (if_set v) = Alternative v ∷ []
+piece_tokens (opening o t v) = Open o t v ∷ []
 piece_tokens close = Close ∷ []
 
 -- the tokens that pieces stand for, one after another

@@ -1,12 +1,16 @@
 -- How marked characters are read from the front on: what the private functions of src/character.rt and src/reading.rt say.
 use Rattle.std.specs.Prelude.{◌≡◌, ℕ, zero, suc, Bool, true, false, List, [], ◌∷◌, ◌++◌, ◌==◌, nat_lt, if◌then◌else◌, Option, Some, None, option_map}
 use Rattle.ascii.specs.Names.{begins_name, is_digit}
-use Rattle.expand.specs.PrivatePieces.{Piece, itself, bare, braced, or_else, if_set, close, tokens}
+use Rattle.expand.specs.PrivatePieces.{Piece, itself, bare, braced, opening, close, tokens}
 use Rattle.expand.specs.Syntax.{dollar, open_brace, close_brace, colon, dash, plus, most_nested}
 use Rattle.expand.specs.declared.character.Character.{Character}
 use Rattle.expand.specs.declared.character.Character.TheVariants.{Active, Literal}
 use Rattle.expand.specs.declared.character.Sign.{Sign}
 use Rattle.expand.specs.declared.character.Sign.TheVariants.{Dollar, OpenBrace, CloseBrace, Colon, Dash, Plus, Letter, Digit, Other}
+use Rattle.expand.specs.declared.operator.Operator.{Operator}
+use Rattle.expand.specs.declared.operator.Operator.TheVariants.{Default, Alternative}
+use Rattle.expand.specs.declared.operator.Test.{Test}
+use Rattle.expand.specs.declared.operator.Test.TheVariants.{IsSet, IsFilled}
 use Rattle.expand.specs.declared.state.Begun.{Begun}
 use Rattle.expand.specs.declared.state.Begun.TheVariants.{Nothing, AfterDollar, InName, AfterBrace, InBracedName, AfterColon}
 use Rattle.expand.specs.declared.state.Reading.{Reading}
@@ -81,18 +85,24 @@ abbrev pub step_after_brace : ℕ → Sign → Character → Step
 step_after_brace n Letter c = on [] n (InBracedName (code_point c ∷ []))
 step_after_brace n _ c = bad
 
+-- behind `${v` and an operator
+abbrev pub step_open : Operator → Test → List ℕ → ℕ → Step
+step_open o t v n = on (opening o t v ∷ []) (suc n) Nothing
+
 -- behind `${v`, where the name goes on or ends
 abbrev pub step_in_braced_name : List ℕ → ℕ → Sign → Character → Step
 step_in_braced_name v n CloseBrace c = on (braced v ∷ []) n Nothing
 step_in_braced_name v n Colon c = on [] n (AfterColon v)
+step_in_braced_name v n Dash c = step_open Default IsSet v n
+step_in_braced_name v n Plus c = step_open Alternative IsSet v n
 step_in_braced_name v n Letter c = on [] n (InBracedName (v ++ code_point c ∷ []))
 step_in_braced_name v n Digit c = on [] n (InBracedName (v ++ code_point c ∷ []))
 step_in_braced_name v n _ c = bad
 
 -- behind `${v:`
 abbrev pub step_after_colon : List ℕ → ℕ → Sign → Character → Step
-step_after_colon v n Dash c = on (or_else v ∷ []) (suc n) Nothing
-step_after_colon v n Plus c = on (if_set v ∷ []) (suc n) Nothing
+step_after_colon v n Dash c = step_open Default IsFilled v n
+step_after_colon v n Plus c = step_open Alternative IsFilled v n
 step_after_colon v n _ c = bad
 
 -- the step of one more character, where so many words are open and this is begun

@@ -2,9 +2,9 @@
 use Rattle.std.specs.Prelude.{◌≡◌, ℕ, List, [], ◌∷◌, ◌++◌, refl}
 use Rattle.std.proofs.Common.{ap, ◌∙◌}
 use Rattle.std.specs.Coded.{Coded, code_by, coded_list}
-use Rattle.expand.specs.Value.{Parts, no_part, byte, variable, with_default, with_alternative}
+use Rattle.expand.specs.Value.{Parts, no_part, byte, variable, with_word}
 use Rattle.expand.specs.declared.token.Token.{Token}
-use Rattle.expand.specs.declared.token.Token.TheVariants.{Plain, Variable, Default, Alternative, Close}
+use Rattle.expand.specs.declared.token.Token.TheVariants.{Plain, Variable, Open, Close}
 use Rattle.expand.specs.contracts.token.Token as token
 
 -- Words that stand within one another are levels: the innermost word first, then the rest of the one around it, and so
@@ -30,8 +30,7 @@ with_plain (b ∷ bs) ws = byte b (innermost (with_plain bs ws)) ∷ around (wit
 abbrev pub with_token : Token → List Parts → List Parts
 with_token (Plain text) ws = with_plain text ws
 with_token (Variable v) ws = variable v (innermost ws) ∷ around ws
-with_token (Default v) ws = with_default v (innermost ws) (innermost (around ws)) ∷ around (around ws)
-with_token (Alternative v) ws = with_alternative v (innermost ws) (innermost (around ws)) ∷ around (around ws)
+with_token (Open o t v) ws = with_word o t v (innermost ws) (innermost (around ws)) ∷ around (around ws)
 with_token Close ws = no_part ∷ ws
 
 -- levels with tokens before them, the last token first
@@ -52,23 +51,20 @@ abbrev pub tokens_of : Parts → List Token
 tokens_of no_part = []
 tokens_of (byte b w) = Plain (b ∷ []) ∷ tokens_of w
 tokens_of (variable v w) = Variable v ∷ tokens_of w
-tokens_of (with_default v d w) = Default v ∷ (tokens_of d ++ (Close ∷ tokens_of w))
-tokens_of (with_alternative v d w) = Alternative v ∷ (tokens_of d ++ (Close ∷ tokens_of w))
+tokens_of (with_word o t v d w) = Open o t v ∷ (tokens_of d ++ (Close ∷ tokens_of w))
 
 -- a word before the innermost one
 abbrev joined : Parts → Parts → Parts
 joined no_part u = u
 joined (byte b w) u = byte b (joined w u)
 joined (variable v w) u = variable v (joined w u)
-joined (with_default v d w) u = with_default v d (joined w u)
-joined (with_alternative v d w) u = with_alternative v d (joined w u)
+joined (with_word o t v d w) u = with_word o t v d (joined w u)
 
 joined-no_part : (w : Parts) → joined w no_part ≡ w
 joined-no_part no_part = refl
 joined-no_part (byte b w) = ap (λ (u : Parts). byte b u) (joined-no_part w)
 joined-no_part (variable v w) = ap (λ (u : Parts). variable v u) (joined-no_part w)
-joined-no_part (with_default v d w) = ap (λ (u : Parts). with_default v d u) (joined-no_part w)
-joined-no_part (with_alternative v d w) = ap (λ (u : Parts). with_alternative v d u) (joined-no_part w)
+joined-no_part (with_word o t v d w) = ap (λ (u : Parts). with_word o t v d u) (joined-no_part w)
 
 pub onto-append : (ts us : List Token) (ws : List Parts) → onto (ts ++ us) ws ≡ onto ts (onto us ws)
 onto-append [] us ws = refl
@@ -78,14 +74,8 @@ onto-tokens_of : (w u : Parts) (us : List Parts) → onto (tokens_of w) (u ∷ u
 onto-tokens_of no_part u us = refl
 onto-tokens_of (byte b w) u us = ap (λ (vs : List Parts). with_token (Plain (b ∷ [])) vs) (onto-tokens_of w u us)
 onto-tokens_of (variable v w) u us = ap (λ (vs : List Parts). with_token (Variable v) vs) (onto-tokens_of w u us)
-onto-tokens_of (with_default v d w) u us =
-    ap (λ (vs : List Parts). with_token (Default v) vs)
-    (onto-append (tokens_of d) (Close ∷ tokens_of w) (u ∷ us)
-    ∙ ap (λ (vs : List Parts). onto (tokens_of d) (no_part ∷ vs)) (onto-tokens_of w u us)
-    ∙ onto-tokens_of d no_part (joined w u ∷ us)
-    ∙ ap (λ (e : Parts). e ∷ joined w u ∷ us) (joined-no_part d))
-onto-tokens_of (with_alternative v d w) u us =
-    ap (λ (vs : List Parts). with_token (Alternative v) vs)
+onto-tokens_of (with_word o t v d w) u us =
+    ap (λ (vs : List Parts). with_token (Open o t v) vs)
     (onto-append (tokens_of d) (Close ∷ tokens_of w) (u ∷ us)
     ∙ ap (λ (vs : List Parts). onto (tokens_of d) (no_part ∷ vs)) (onto-tokens_of w u us)
     ∙ onto-tokens_of d no_part (joined w u ∷ us)

@@ -1,9 +1,13 @@
 -- The syntax of a word: what stands in it, how that is written in marked characters, and which parts it is.
 use Rattle.std.specs.Prelude.{◌≡◌, ◌<◌, ℕ, suc, Bool, true, false, List, [], ◌∷◌, ◌++◌, ◌==◌, map, encode_utf8}
 use Rattle.ascii.specs.Names.{begins_name, is_in_name, is_name}
-use Rattle.expand.specs.Value.{Parts, no_part, variable, with_default, with_alternative, with_text}
+use Rattle.expand.specs.Value.{Parts, no_part, variable, with_word, with_text}
 use Rattle.expand.specs.declared.character.Character.{Character}
 use Rattle.expand.specs.declared.character.Character.TheVariants.{Active, Literal}
+use Rattle.expand.specs.declared.operator.Operator.{Operator}
+use Rattle.expand.specs.declared.operator.Operator.TheVariants.{Default, Alternative}
+use Rattle.expand.specs.declared.operator.Test.{Test}
+use Rattle.expand.specs.declared.operator.Test.TheVariants.{IsSet, IsFilled}
 
 -- the characters of the syntax
 
@@ -25,19 +29,30 @@ dash = 45
 abbrev pub plus : ℕ
 plus = 43
 
--- what is written in a word: a character that stands for itself, `$v`, `${v}`, `${v:-word}` or `${v:+word}`, each followed
--- by the rest; the words within it are such syntax too (Dockerfile reference, environment replacement)
+-- what is written in a word: a character that stands for itself, `$v`, `${v}`, `${v-word}`, `${v:-word}`, `${v+word}` or
+-- `${v:+word}`, each followed by the rest; the words within it are such syntax too (Dockerfile reference, environment
+-- replacement; POSIX shell, parameter expansion)
 pub data Syntax : Type 0 where
   ended : Syntax
   standing : Character → Syntax → Syntax
   bare_name : List ℕ → Syntax → Syntax
   braced_name : List ℕ → Syntax → Syntax
-  default_word : List ℕ → Syntax → Syntax → Syntax
-  alternative_word : List ℕ → Syntax → Syntax → Syntax
+  braced_word : Operator → Test → List ℕ → Syntax → Syntax → Syntax
 
 -- a text of the syntax: each of its characters is active, the name's too (own)
 abbrev pub active : List ℕ → List Character
 active characters = map (λ character. Active character) characters
+
+-- the sign of an operator (POSIX shell, parameter expansion)
+abbrev pub sign_text : Operator → ℕ
+sign_text Default = dash
+sign_text Alternative = plus
+
+-- an operator and a test as they are written: a `:` before the sign asks whether the variable is filled, and without one
+-- it has to be set alone (POSIX shell, parameter expansion)
+abbrev pub operator_text : Operator → Test → List Character
+operator_text operator IsSet = Active (sign_text operator) ∷ []
+operator_text operator IsFilled = Active colon ∷ Active (sign_text operator) ∷ []
 
 -- a word as it is written, the `}` of a word within it behind that word (Dockerfile reference, environment replacement)
 abbrev pub written : Syntax → List Character
@@ -45,8 +60,7 @@ written ended = []
 written (standing character rest) = character ∷ written rest
 written (bare_name name rest) = Active dollar ∷ (active name ++ written rest)
 written (braced_name name rest) = Active dollar ∷ Active open_brace ∷ (active name ++ Active close_brace ∷ written rest)
-written (default_word name word rest) = Active dollar ∷ Active open_brace ∷ (active name ++ Active colon ∷ Active dash ∷ (written word ++ Active close_brace ∷ written rest))
-written (alternative_word name word rest) = Active dollar ∷ Active open_brace ∷ (active name ++ Active colon ∷ Active plus ∷ (written word ++ Active close_brace ∷ written rest))
+written (braced_word operator test name word rest) = Active dollar ∷ Active open_brace ∷ (active name ++ (operator_text operator test ++ (written word ++ Active close_brace ∷ written rest)))
 
 -- what follows begins with a character that goes on with a name
 abbrev pub goes_on : List Character → Bool
@@ -82,8 +96,7 @@ Stands depth ended = Unit {0}
 Stands depth (standing character rest) = StandsForItself depth character (written rest) × Stands depth rest
 Stands depth (bare_name name rest) = (is_name name ≡ true) × (goes_on (written rest) ≡ false) × Stands depth rest
 Stands depth (braced_name name rest) = (is_name name ≡ true) × MayNest depth × Stands depth rest
-Stands depth (default_word name word rest) = (is_name name ≡ true) × MayNest depth × Stands (suc depth) word × Stands depth rest
-Stands depth (alternative_word name word rest) = (is_name name ≡ true) × MayNest depth × Stands (suc depth) word × Stands depth rest
+Stands depth (braced_word operator test name word rest) = (is_name name ≡ true) × MayNest depth × Stands (suc depth) word × Stands depth rest
 
 -- the bytes of a character, whether it is active or not
 abbrev pub character_bytes : Character → List ℕ
@@ -96,8 +109,7 @@ parts_of ended = no_part
 parts_of (standing character rest) = with_text (character_bytes character) (parts_of rest)
 parts_of (bare_name name rest) = variable name (parts_of rest)
 parts_of (braced_name name rest) = variable name (parts_of rest)
-parts_of (default_word name word rest) = with_default name (parts_of word) (parts_of rest)
-parts_of (alternative_word name word rest) = with_alternative name (parts_of word) (parts_of rest)
+parts_of (braced_word operator test name word rest) = with_word operator test name (parts_of word) (parts_of rest)
 
 -- marked characters are read as a word: they are what some syntax is written as, and it may stand within no word
 -- (Dockerfile reference, environment replacement; own in details). Where they are read as none, there is a bad substitution

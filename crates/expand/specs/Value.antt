@@ -1,15 +1,20 @@
 -- What a word is, and its value under a scope.
-use Rattle.std.specs.Prelude.{ℕ, Bool, true, false, List, [], ◌∷◌, ◌++◌, if◌then◌else◌, Option, Some, None}
+use Rattle.std.specs.Prelude.{ℕ, Bool, true, false, List, [], ◌∷◌, ◌++◌, Option, Some, None, is_some}
+use Rattle.expand.specs.declared.operator.Operator.{Operator}
+use Rattle.expand.specs.declared.operator.Operator.TheVariants.{Default, Alternative}
+use Rattle.expand.specs.declared.operator.Test.{Test}
+use Rattle.expand.specs.declared.operator.Test.TheVariants.{IsSet, IsFilled}
+use Rattle.expand.specs.declared.operator.Choice.{Choice}
+use Rattle.expand.specs.declared.operator.Choice.TheVariants.{Own, Word, Nothing}
 
--- a word: a list of parts. A part is a byte of plain text, a variable (`$v` or `${v}`), a variable with a default word
--- (`${v:-word}`) or a variable with an alternative word (`${v:+word}`); each is followed by the rest (Dockerfile
--- reference, environment replacement)
+-- a word: a list of parts. A part is a byte of plain text, a variable (`$v` or `${v}`), or a variable with an operator, a
+-- test and a word of its own (`${v-word}`, `${v:-word}`, `${v+word}` or `${v:+word}`); each is followed by the rest
+-- (Dockerfile reference, environment replacement; POSIX shell, parameter expansion)
 pub data Parts : Type 0 where
   no_part : Parts
   byte : ℕ → Parts → Parts
   variable : List ℕ → Parts → Parts
-  with_default : List ℕ → Parts → Parts → Parts
-  with_alternative : List ℕ → Parts → Parts → Parts
+  with_word : Operator → Test → List ℕ → Parts → Parts → Parts
 
 -- a word with a plain text before it, byte by byte
 abbrev pub with_text : List ℕ → Parts → Parts
@@ -22,16 +27,35 @@ is_filled None = false
 is_filled (Some []) = false
 is_filled (Some (c ∷ cs)) = true
 
+-- a variable passes a test: it is set, perhaps to the empty text, or it is filled (POSIX shell, parameter expansion)
+abbrev pub passes : Test → Option (List ℕ) → Bool
+passes IsSet text = is_some text
+passes IsFilled text = is_filled text
+
+-- what a variable with a word stands for, by whether it passes its test. A default word stands in for a variable that
+-- doesn't, and an alternative word for one that does; for one that doesn't, an alternative leaves nothing (Dockerfile
+-- reference, environment replacement; POSIX shell, parameter expansion)
+abbrev pub choice_of : Operator → Bool → Choice
+choice_of Default true = Own
+choice_of Default false = Word
+choice_of Alternative true = Word
+choice_of Alternative false = Nothing
+
+-- the text that is chosen, of the variable's own and the value of its word
+abbrev pub chosen : Choice → List ℕ → List ℕ → List ℕ
+chosen Own own word = own
+chosen Word own word = word
+chosen Nothing own word = []
+
 -- an unset variable has the empty text
 abbrev pub text_of : Option (List ℕ) → List ℕ
 text_of None = []
 text_of (Some text) = text
 
--- the value of a word under a scope, which gives each name a value or none: the values of its parts, joined. A default
--- counts where its variable isn't filled, an alternative where it is (Dockerfile reference, environment replacement)
+-- the value of a word under a scope, which gives each name a value or none: the values of its parts, joined. The value of
+-- a word within it counts only where that word is chosen (Dockerfile reference, environment replacement)
 abbrev pub value : (List ℕ → Option (List ℕ)) → Parts → List ℕ
 value s no_part = []
 value s (byte b rest) = b ∷ value s rest
 value s (variable v rest) = text_of (s v) ++ value s rest
-value s (with_default v word rest) = (if is_filled (s v) then text_of (s v) else value s word) ++ value s rest
-value s (with_alternative v word rest) = (if is_filled (s v) then value s word else []) ++ value s rest
+value s (with_word operator test v word rest) = chosen (choice_of operator (passes test (s v))) (text_of (s v)) (value s word) ++ value s rest

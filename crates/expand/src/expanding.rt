@@ -3,9 +3,10 @@ ghost use Rattle.std.specs.String.{string_bytes, string_len};
 ghost use Rattle.plain.specs.Limits.{most_text_bytes};
 ghost use Rattle.expand.specs.Expanding.{Expands};
 ghost use Rattle.expand.specs.PrivateExpanding.{IsPushed, run};
-ghost use Rattle.expand.specs.Value.{value, text_of};
+ghost use Rattle.expand.specs.Value.{choice_of, passes, value, text_of};
 
 use crate::lookup::Lookup;
+use crate::operator::{Choice, Operator, Test};
 use crate::token::Token;
 use crate::word::Word;
 use plain::limits::MOST_TEXT_BYTES;
@@ -15,9 +16,9 @@ use words::TextFault;
 
 /// The value of a word under a scope: the values of its parts, joined.
 ///
-/// A variable that is unset has the empty text. The default of `${v:-word}` counts where v is unset or empty, the
-/// alternative of `${v:+word}` where it is neither. R18 exactly where the value has more than 1,048,576 bytes; no text
-/// longer than that is built to find out.
+/// A variable that is unset has the empty text. The word of `${v-word}` stands in for v where v is unset, that of `${v+word}`
+/// where it is set, and with a `:` before the sign an empty v counts as unset. A word that isn't chosen is gone past. R18
+/// exactly where the value has more than 1,048,576 bytes; no text longer than that is built to find out.
 pub fn expand<S: Lookup>(alloc: Global, word: &Word, scope: &S) -> Result<Text, TextFault>
     ensures { Expands most_text_bytes (value (S.value_of scope.now) word.now) result }
 {
@@ -72,7 +73,7 @@ fn expand_variable<S: Lookup>(
 
 /// Adds the value of tokens to a text: R18 where the whole would be longer than the limit.
 ///
-/// A word that doesn't count is gone past: `skipped` is how many such words are open.
+/// A word that isn't chosen is gone past: `skipped` is how many such words are open.
 fn push_tokens<S: Lookup>(
     text: &mut String,
     tokens: &[Token],
@@ -85,27 +86,35 @@ fn push_tokens<S: Lookup>(
     let mut skipped = 0usize;
     for token in tokens {
         match token {
-            // a close where nothing is skipped ends a word that counts
+            // a close where nothing is skipped ends a word that was chosen
             Token::Close => skipped = skipped.saturating_sub(1),
             Token::Plain(_) | Token::Variable(_) if skipped > 0 => {}
-            Token::Default(_) | Token::Alternative(_) if skipped > 0 => skipped += 1,
+            Token::Open(_, _, _) if skipped > 0 => skipped += 1,
             Token::Plain(plain) => push_within(text, plain.as_str(), limit)?,
             Token::Variable(name) => push_within(text, value_at(scope, name), limit)?,
-            Token::Default(name) => {
-                let value = value_at(scope, name);
-                if !value.is_empty() {
-                    push_within(text, value, limit)?;
+            Token::Open(operator, test, name) => match choice(scope, *operator, *test, name) {
+                Choice::Own => {
+                    push_within(text, value_at(scope, name), limit)?;
                     skipped = 1;
                 }
-            }
-            Token::Alternative(name) => {
-                if value_at(scope, name).is_empty() {
-                    skipped = 1;
-                }
-            }
+                Choice::Word => {}
+                Choice::Nothing => skipped = 1,
+            },
         }
     }
     Ok(())
+}
+
+/// What a variable with a word stands for.
+fn choice<S: Lookup>(scope: &S, operator: Operator, test: Test, name: &Text) -> Choice
+    ensures { result ≡ choice_of operator (passes test (S.value_of scope.now name.now)) }
+{
+    let passes = match (test, scope.find(name.as_str())) {
+        (_, None) => false,
+        (Test::IsSet, Some(_)) => true,
+        (Test::IsFilled, Some(text)) => text.len() > 0,
+    };
+    operator.choice(passes)
 }
 
 /// The text of a variable, which is empty where it is unset.

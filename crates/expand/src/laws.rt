@@ -4,12 +4,14 @@ ghost use Rattle.std.specs.Prelude.{◌≡◌, ◌≢◌, ◌↔◌, ◌++◌, [
 ghost use Rattle.std.specs.Str.{IsUtf8, chars};
 ghost use Rattle.lines.specs.declared.escape.Escape.{Escape};
 ghost use Rattle.words.specs.Cutting.{ends_open};
-ghost use Rattle.expand.specs.Value.{Parts, no_part, variable, with_default, with_alternative, with_text, value};
+ghost use Rattle.expand.specs.Value.{Parts, no_part, variable, with_word, with_text, value};
 ghost use Rattle.expand.specs.Syntax.{Syntax, Stands, written};
 ghost use Rattle.expand.specs.Word.{IsWord, AreOrdinary, word};
 ghost use Rattle.expand.specs.Scan.{IsScanned};
 ghost use Rattle.expand.specs.declared.character.Character.{Character};
 ghost use Rattle.expand.specs.declared.kind.Kind.{Kind};
+ghost use Rattle.expand.specs.declared.operator.Operator.{Operator};
+ghost use Rattle.expand.specs.declared.operator.Test.{Test};
 
 /// Each text is just one word, the one that reading it from its front gives, or none.
 pub fn words_are_unique()
@@ -42,16 +44,21 @@ pub fn variables_have_values()
     ensures unset { (scope : List ℕ → Option (List ℕ)) (name : List ℕ) (rest : Parts) → scope name ≡ None → value scope (variable name rest) ≡ value scope rest }
 {}
 
-/// The value of `${v:-word}` before the rest of a word: the text of `v` where it is set and not empty, else the word's value.
+/// The value of `${v-word}` and of `${v:-word}` before the rest of a word: the text of `v` where it is set and not empty, and
+/// the word's value where `v` is unset. An empty `v` is set, but not filled: `${v-word}` has no text then, and `${v:-word}` has
+/// the word's value.
 pub fn defaults_have_values()
-    ensures filled { (scope : List ℕ → Option (List ℕ)) (name text : List ℕ) (default rest : Parts) → scope name ≡ Some text → text ≢ [] → value scope (with_default name default rest) ≡ text ++ value scope rest }
-    ensures empty { (scope : List ℕ → Option (List ℕ)) (name : List ℕ) (default rest : Parts) → scope name ≡ Some [] → value scope (with_default name default rest) ≡ value scope default ++ value scope rest }
-    ensures unset { (scope : List ℕ → Option (List ℕ)) (name : List ℕ) (default rest : Parts) → scope name ≡ None → value scope (with_default name default rest) ≡ value scope default ++ value scope rest }
+    ensures filled { (scope : List ℕ → Option (List ℕ)) (test : Test) (name text : List ℕ) (default rest : Parts) → scope name ≡ Some text → text ≢ [] → value scope (with_word Operator.Default test name default rest) ≡ text ++ value scope rest }
+    ensures empty_set { (scope : List ℕ → Option (List ℕ)) (name : List ℕ) (default rest : Parts) → scope name ≡ Some [] → value scope (with_word Operator.Default Test.IsSet name default rest) ≡ value scope rest }
+    ensures empty_filled { (scope : List ℕ → Option (List ℕ)) (name : List ℕ) (default rest : Parts) → scope name ≡ Some [] → value scope (with_word Operator.Default Test.IsFilled name default rest) ≡ value scope default ++ value scope rest }
+    ensures unset { (scope : List ℕ → Option (List ℕ)) (test : Test) (name : List ℕ) (default rest : Parts) → scope name ≡ None → value scope (with_word Operator.Default test name default rest) ≡ value scope default ++ value scope rest }
 {}
 
-/// The value of `${v:+word}` before the rest of a word: the word's value where `v` is set and not empty, else none.
+/// The value of `${v+word}` and of `${v:+word}` before the rest of a word: the word's value where `v` is set and not empty, and
+/// none where it is unset. An empty `v` is set, but not filled: `${v+word}` has the word's value then, and `${v:+word}` none.
 pub fn alternatives_have_values()
-    ensures filled { (scope : List ℕ → Option (List ℕ)) (name text : List ℕ) (alternative rest : Parts) → scope name ≡ Some text → text ≢ [] → value scope (with_alternative name alternative rest) ≡ value scope alternative ++ value scope rest }
-    ensures empty { (scope : List ℕ → Option (List ℕ)) (name : List ℕ) (alternative rest : Parts) → scope name ≡ Some [] → value scope (with_alternative name alternative rest) ≡ value scope rest }
-    ensures unset { (scope : List ℕ → Option (List ℕ)) (name : List ℕ) (alternative rest : Parts) → scope name ≡ None → value scope (with_alternative name alternative rest) ≡ value scope rest }
+    ensures filled { (scope : List ℕ → Option (List ℕ)) (test : Test) (name text : List ℕ) (alternative rest : Parts) → scope name ≡ Some text → text ≢ [] → value scope (with_word Operator.Alternative test name alternative rest) ≡ value scope alternative ++ value scope rest }
+    ensures empty_set { (scope : List ℕ → Option (List ℕ)) (name : List ℕ) (alternative rest : Parts) → scope name ≡ Some [] → value scope (with_word Operator.Alternative Test.IsSet name alternative rest) ≡ value scope alternative ++ value scope rest }
+    ensures empty_filled { (scope : List ℕ → Option (List ℕ)) (name : List ℕ) (alternative rest : Parts) → scope name ≡ Some [] → value scope (with_word Operator.Alternative Test.IsFilled name alternative rest) ≡ value scope rest }
+    ensures unset { (scope : List ℕ → Option (List ℕ)) (test : Test) (name : List ℕ) (alternative rest : Parts) → scope name ≡ None → value scope (with_word Operator.Alternative test name alternative rest) ≡ value scope rest }
 {}

@@ -18,6 +18,7 @@ mod expanding;
 mod kind;
 pub mod laws;
 mod lookup;
+mod operator;
 mod output;
 mod reading;
 mod scan;

@@ -1,10 +1,11 @@
 ghost use Rattle.std.specs.Prelude.{◌≡◌, ◌<◌, ◌≤◌, [], ◌∷◌, ◌++◌, IfOk, option_map};
 ghost use Rattle.expand.specs.PrivatePieces.{tokens};
 ghost use Rattle.expand.specs.PrivateOutput.{bytewise, made};
-ghost use Rattle.expand.specs.PrivateReading.{sign_of, code_point, pieces, step, step_at, step_after_dollar, step_in_name, step_after_brace, step_in_braced_name, step_after_colon, ended_at_end, IsStep, finished};
+ghost use Rattle.expand.specs.PrivateReading.{sign_of, code_point, pieces, step, step_at, step_after_dollar, step_in_name, step_after_brace, step_in_braced_name, step_after_colon, step_open, ended_at_end, IsStep, finished};
 ghost use Rattle.expand.specs.Syntax.{most_nested};
 
 use crate::character::{Character, Sign};
+use crate::operator::{Operator, Test};
 use crate::output::Output;
 use crate::state::{Begun, MOST_NESTED, Reading};
 use crate::token::Token;
@@ -135,7 +136,7 @@ fn step_after_brace(
     }
 }
 
-/// Behind `${` and a name so far, which goes on, or ends before `}` or `:`.
+/// Behind `${` and a name so far, which goes on, or ends before `}`, `:` or an operator.
 fn step_in_braced_name(
     alloc: Global,
     output: &mut Output,
@@ -156,11 +157,20 @@ fn step_in_braced_name(
             output.push_token(alloc, Token::Variable(name))?;
             Ok(Some(Reading::new(depth, Begun::Nothing)))
         }
+        Sign::Dash => open(alloc, output, depth, Operator::Default, Test::IsSet, name),
+        Sign::Plus => open(
+            alloc,
+            output,
+            depth,
+            Operator::Alternative,
+            Test::IsSet,
+            name,
+        ),
         _ => Ok(None),
     }
 }
 
-/// Behind `${`, a name and `:`, where a word of its own begins.
+/// Behind `${`, a name and `:`, where an operator has to come.
 fn step_after_colon(
     alloc: Global,
     output: &mut Output,
@@ -171,12 +181,27 @@ fn step_after_colon(
     requires { depth < most_nested }
     ensures { IfOk result (IsStep (made output.old) (made output.new) (step_after_colon name depth (sign_of character) character)) }
 {
-    let opening = match character.sign() {
-        Sign::Dash => Token::Default(name),
-        Sign::Plus => Token::Alternative(name),
+    let operator = match character.sign() {
+        Sign::Dash => Operator::Default,
+        Sign::Plus => Operator::Alternative,
         _ => return Ok(None),
     };
-    output.push_token(alloc, opening)?;
+    open(alloc, output, depth, operator, Test::IsFilled, name)
+}
+
+/// Behind `${`, a name and an operator, where a word within the word begins.
+fn open(
+    alloc: Global,
+    output: &mut Output,
+    depth: u8,
+    operator: Operator,
+    test: Test,
+    name: Text,
+) -> Result<Option<Reading>, Memory>
+    requires { depth < most_nested }
+    ensures { IfOk result (IsStep (made output.old) (made output.new) (step_open operator test name depth)) }
+{
+    output.push_token(alloc, Token::Open(operator, test, name))?;
     Ok(Some(Reading::new(depth + 1, Begun::Nothing)))
 }
 

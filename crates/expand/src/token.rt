@@ -1,3 +1,4 @@
+use crate::operator::{Operator, Test};
 use plain::Text;
 
 /// A piece of a word as it is kept: words within a word aren't nested, but stand between an opening and its close. So a
@@ -8,10 +9,8 @@ pub enum Token {
     Plain(Text),
     /// A variable, `$v` or `${v}`.
     Variable(Text),
-    /// A variable whose default word follows, up to the close that belongs to it.
-    Default(Text),
-    /// A variable whose alternative word follows, up to the close that belongs to it.
-    Alternative(Text),
+    /// A variable whose word follows, up to the close that belongs to it.
+    Open(Operator, Test, Text),
     /// The end of the word that was opened last.
     Close,
 }

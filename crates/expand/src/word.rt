@@ -17,8 +17,8 @@ use std::alloc::Global;
 use std::marker::Model;
 use words::TextFault;
 
-/// A text that is expanded: a list of parts, each plain text, a variable, a variable with a default word or a variable with
-/// an alternative word, words within it being such lists as well (Dockerfile reference, environment replacement).
+/// A text that is expanded: a list of parts, each plain text, a variable, or a variable with an operator, a test and a
+/// word, words within it being such lists as well (Dockerfile reference, environment replacement).
 #[derive(Debug, Drop)]
 pub struct Word {
     tokens: Items<Token>,
@@ -41,8 +41,8 @@ impl Model for Word {
 impl Word {
     /// The word of a text.
     ///
-    /// R09 exactly where the text is none: a quote is open, a `${` doesn't go on with a name and then `}`, `:-` or `:+`, a
-    /// word within it has no `}` of its own, or more than 32 `${` stand within one another.
+    /// R09 exactly where the text is none: a quote is open, a `${` doesn't go on with a name and then `}`, `-`, `:-`, `+` or
+    /// `:+`, a word within it has no `}` of its own, or more than 32 `${` stand within one another.
     pub fn read(alloc: Global, kind: Kind, escape: Escape, text: &str) -> Result<Word, TextFault>
         ensures word { Reads kind escape text.now result }
         ensures found { Finds (word kind escape text.now) result }
