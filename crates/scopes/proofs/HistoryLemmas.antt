@@ -1,6 +1,6 @@
 -- A scope means the history of its lines: what a line says and expands doesn't tell the two apart.
 use Rattle.std.proofs.Common.{◌≡◌, ℕ, List, [], ◌∷◌, ◌++◌, map, Option, Some, None, refl, ap, ap₂, ◌∙◌}
-use Rattle.expand.specs.Value.{Parts, no_part, byte, variable, with_default, with_alternative, value}
+use Rattle.expand.specs.Value.{Parts, no_part, byte, variable, with_word, value}
 use Rattle.instructions.specs.declared.instruction.Argument.{Argument}
 use Rattle.instructions.specs.declared.instruction.Assignment.{Assignment}
 use Rattle.scopes.specs.Scope.{or_else, value_in, kept}
@@ -18,8 +18,7 @@ pub value-agree : (s t : Values) → Agree s t → (w : Parts) → value s w ≡
 value-agree s t h no_part = refl
 value-agree s t h (byte b rest) = ap (λ bs. b ∷ bs) (value-agree s t h rest)
 value-agree s t h (variable v rest) = rw (h v, value-agree s t h rest) refl
-value-agree s t h (with_default v word rest) = rw (h v, value-agree s t h word, value-agree s t h rest) refl
-value-agree s t h (with_alternative v word rest) = rw (h v, value-agree s t h word, value-agree s t h rest) refl
+value-agree s t h (with_word o u v word rest) = rw (h v, value-agree s t h word, value-agree s t h rest) refl
 
 map-agree : {X Y : Type 0} (f g : X → Y) → ((x : X) → f x ≡ g x) → (xs : List X) → map f xs ≡ map g xs
 map-agree f g h [] = refl
