@@ -8,10 +8,10 @@ use Rattle.std.specs.Map.{lookup, keys_of}
 use Rattle.std.specs.BTreeMap.{is_at}
 use Rattle.std.specs.List.{AllByRecursion}
 use Rattle.std.specs.List.Sorted.{IsStrictlySortedBy}
-use Rattle.std.specs.FinMap.{get, find}
+use Rattle.std.specs.FinMap.{get, find, empty, get-empty}
 use Rattle.trees.specs.declared.entry.Entry.{Entry}
 use Rattle.trees.specs.declared.entry.Entry.TheVariants.{Directory, File}
-use Rattle.paths.specs.Order.{name_cmp}
+use Rattle.paths.specs.Order.{name_cmp, path_cmp}
 use Rattle.trees.specs.TreeMap.{TreeMap, is_blocked, is_file, is_directory}
 use Rattle.trees.specs.PrivateNode.{NodeValue, map_of, joined, laid_kid, AreLaid}
 use Rattle.trees.specs.Over.{over}
@@ -46,6 +46,23 @@ over-file lower upper not_dir = same_tree _ _ at
         let file : is_file (get (map_of upper) []) ≡ true = ap is_file (get-map_of_root upper) ∙ file_top upper.top not_dir in
         get-over lower (map_of upper) (c ∷ cs)
         ∙ ap (λ b. option_or (get (map_of upper) (c ∷ cs)) (cond b None (get lower (c ∷ cs)))) (is_blocked-cons (get (map_of upper)) c cs ∙ (λ i. file i || is_blocked (λ p. get (map_of upper) (c ∷ p)) cs))
+        ∙ or_nothing (get (map_of upper) (c ∷ cs))
+
+-- over a node with nothing below it, a node stands as it is
+pub over-bare : (lower upper : NodeValue) → lower.below ≡ empty → over (map_of lower) (map_of upper) ≡ map_of upper
+over-bare lower upper bare = same_tree _ _ at
+  where
+    nothing : (b : Bool) → cond {A = Option Entry} b None None ≡ None
+    nothing true = refl
+    nothing false = refl
+
+    at : (q : List (List ℕ)) → get (over (map_of lower) (map_of upper)) q ≡ get (map_of upper) q
+    at [] = get-over (map_of lower) (map_of upper) [] ∙ keep_some (get (map_of upper) []) _ upper.top (get-map_of_root upper)
+    at (c ∷ cs) =
+        let none : get (map_of lower) (c ∷ cs) ≡ None = get-map_of_cons lower c cs ∙ ap (λ m. get m (c ∷ cs)) bare ∙ get-empty path_cmp (c ∷ cs) in
+        get-over (map_of lower) (map_of upper) (c ∷ cs)
+        ∙ ap (λ o. option_or (get (map_of upper) (c ∷ cs)) (cond (is_blocked (get (map_of upper)) (c ∷ cs)) None o)) none
+        ∙ ap (option_or (get (map_of upper) (c ∷ cs))) (nothing (is_blocked (get (map_of upper)) (c ∷ cs)))
         ∙ or_nothing (get (map_of upper) (c ∷ cs))
 
 -- children that stand, with those that are still to be laid over them, for what these do
@@ -151,3 +168,33 @@ pub laid-end : (low up : NodeValue) (top own top' : Entry) (old upper new : List
     → own ≡ top' → AreLaid old upper new → map_of (node_of own new) ≡ over (map_of low) (map_of up)
 laid-end low up top own top' old upper new told low-is up-is said held same laid =
     (λ i. map_of (node_of (same i) new)) ∙ laid-all low up top top' old upper new low-is up-is (sym said ∙ held) laid
+
+-- ---- nodes that hide others
+
+-- nothing is hidden yet
+pub hidden-start : (old upper kids its : List (List ℕ × NodeValue)) → kids ≡ old → its ≡ upper → AreLaid kids its its → AreLaid old upper upper
+hidden-start old upper kids its k u laid = subst (λ (l : List (List ℕ × NodeValue)). AreLaid l upper upper) k (subst (λ (l : List (List ℕ × NodeValue)). AreLaid kids l l) u laid)
+
+-- where none is left, nothing is
+pub hidden-end : (kids its : List (List ℕ × NodeValue)) → kids ≡ [] → AreLaid kids its its
+hidden-end kids its none = record { at = λ c. same (find name_cmp c its) ∙ (λ i. laid_kid (find name_cmp c (sym none i)) (find name_cmp c its)) }
+  where
+    same : (o : Option NodeValue) → laid_kid o None ≡ laid_kid None o
+    same None = refl
+    same (Some v) = refl
+
+-- a step: of both, the first hides the first of the same name
+pub hidden-more : (kids more its rest : List (List ℕ × NodeValue)) (name upper_name : List ℕ) (kid upper : NodeValue) → kids ≡ (name, kid) ∷ more → its ≡ (upper_name, upper) ∷ rest → name ≡ upper_name
+    → over (map_of kid) (map_of upper) ≡ map_of upper → AreLaid more rest rest → AreLaid kids its its
+hidden-more kids more its rest name upper_name kid upper k u same hides laid = record {
+  at = λ c.
+      (λ i. laid_kid (find name_cmp c (u i)) None)
+      ∙ (λ i. laid_kid (cond (eq_by_cmp name_cmp c (sym same i)) (Some upper) (find name_cmp c rest)) None)
+      ∙ by_both (eq_by_cmp name_cmp c name) (find name_cmp c more) (find name_cmp c rest) (laid.at c)
+      ∙ (λ i. laid_kid (find name_cmp c (sym k i)) (cond (eq_by_cmp name_cmp c (same i)) (Some upper) (find name_cmp c rest)))
+      ∙ (λ i. laid_kid (find name_cmp c kids) (find name_cmp c (sym u i)));
+}
+  where
+    by_both : (tie : Bool) (low up : Option NodeValue) → laid_kid up None ≡ laid_kid low up → laid_kid (cond tie (Some upper) up) None ≡ laid_kid (cond tie (Some kid) low) (cond tie (Some upper) up)
+    by_both true low up h = ap Some (sym hides)
+    by_both false low up h = h

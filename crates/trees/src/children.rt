@@ -279,6 +279,11 @@ impl Children {
             *self = upper.copy(alloc)?;
             return Ok(false);
         }
+        // Folders of files are mostly laid over others of the same names: they are shared then, and no name is copied.
+        if self.is_hidden_by(upper) {
+            *self = upper.copy(alloc)?;
+            return Ok(true);
+        }
         let mut is_less = false;
         let mut uppers = upper.iter();
         while let Some((name, kid)) = uppers.next() {
@@ -293,6 +298,29 @@ impl Children {
             }
         }
         Ok(is_less)
+    }
+
+    /// Whether nothing of these is left once others are laid over them, as far as is seen at once: the others begin with the same names,
+    /// and each of their nodes hides the one of its name.
+    fn is_hidden_by(&self, upper: &Children) -> bool
+        ensures { IsTrue result → AreLaid self.now upper.now upper.now }
+    {
+        let mut kids = self.iter();
+        let mut uppers = upper.iter();
+        while let Some((name, kid)) = kids.next() {
+            match uppers.next() {
+                Some((upper_name, upper_kid)) => {
+                    if !name.same(upper_name) {
+                        return false;
+                    }
+                    if !upper_kid.hides(kid) {
+                        return false;
+                    }
+                }
+                None => return false,
+            }
+        }
+        true
     }
 }
 

@@ -300,6 +300,13 @@ impl Node {
         Ok(self.depth < before)
     }
 
+    /// Whether nothing of another node is left once this one is laid over it: this one is a file, or nothing is below the other.
+    pub(crate) fn hides(&self, lower: &Node) -> bool
+        ensures { IsTrue result → over (map_of lower.now) (map_of self.now) ≡ map_of self.now }
+    {
+        !self.entry.is_directory() || lower.is_bare()
+    }
+
     /// Puts what is below a folder below the node at a path, if there is one, in place of what was below that. All of it is shared.
     #[cycle(filling)]
     pub(crate) fn fill(&mut self, alloc: Global, path: &[Text], folder: &Node) -> Result<(), Memory>
