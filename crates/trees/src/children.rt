@@ -169,7 +169,7 @@ impl Children {
         if has_room(&self.parts[first], self.parts.len()) {
             return put(alloc, &mut self.parts[first], name, kid);
         }
-        make_room(alloc, &mut self.parts, first)?;
+        make_room(alloc, &mut self.parts, first, name)?;
         let at = place(self.parts.as_slice(), name);
         put(alloc, &mut self.parts[at], name, kid)
     }

@@ -14,8 +14,8 @@ use std::sync::Arc;
 /// Some children of a folder whose names follow each other, behind a pointer that folders share.
 pub(crate) type Part = Arc<BTreeMap<Text, Node>, Global>;
 
-/// So many names every part may have before it is cut in two.
-const FEW_NAMES: usize = 16;
+/// So many names every part may have before it is cut in two. They lie in one block of memory: a map's node has room for so many.
+const FEW_NAMES: usize = 15;
 
 /// For each so many parts of a folder, its parts may have one name more: a change copies the pointers to all parts and the names of
 /// one, and a name costs so many pointers.
@@ -176,8 +176,13 @@ pub(crate) fn has_room(part: &BTreeMap<Text, Node>, parts: usize) -> bool {
     part.len() < FEW_NAMES + parts / PARTS_A_NAME
 }
 
-/// Cuts the part at a place in two.
-pub(crate) fn make_room(alloc: Global, parts: &mut Vec<Part>, at: usize) -> Result<(), Memory>
+/// Cuts the part at a place in two, so that a name has room.
+pub(crate) fn make_room(
+    alloc: Global,
+    parts: &mut Vec<Part>,
+    at: usize,
+    name: &Text,
+) -> Result<(), Memory>
     requires inside { at < vec_len parts.old }
     requires parts { are_parts (lists_of parts.old.items) ≡ true }
     ensures kids { flat (lists_of parts.new.items) ≡ flat (lists_of parts.old.items) }
@@ -186,20 +191,20 @@ pub(crate) fn make_room(alloc: Global, parts: &mut Vec<Part>, at: usize) -> Resu
 {
     parts.reserve(1)?;
     let mut upper = Arc::new(alloc, BTreeMap::new(alloc))?;
-    let halved = halve(alloc, &mut parts[at], &mut upper)?;
+    let halved = halve(alloc, &mut parts[at], &mut upper, name)?;
     if halved {
         parts.insert(at + 1, upper).unwrap();
     }
     Ok(())
 }
 
-/// Moves the upper half of a part into an empty one. Where there is nothing to move, nothing has changed.
-fn halve(alloc: Global, part: &mut Part, upper: &mut Part) -> Result<bool, Memory>
+/// Moves the upper half of a part into an empty one, so that a new name has room. Where there is nothing to move, nothing has changed.
+fn halve(alloc: Global, part: &mut Part, upper: &mut Part, new: &Text) -> Result<bool, Memory>
     ensures done { IfOk result (λ halved. IsTrue halved → IsHalved (arc_value part.old).entries (arc_value part.new).entries (arc_value upper.new).entries) }
     ensures kept { IfOk result (λ halved. halved ≡ false → (arc_value part.new).entries ≡ (arc_value part.old).entries) }
     ensures err { OnErr result ((arc_value part.new).entries ≡ (arc_value part.old).entries) }
 {
-    let Some(name) = middle(alloc, part)? else {
+    let Some(name) = middle(alloc, part, new)? else {
         return Ok(false);
     };
     own(alloc, part)?;
@@ -213,11 +218,11 @@ fn halve(alloc: Global, part: &mut Part, upper: &mut Part) -> Result<bool, Memor
     Ok(true)
 }
 
-/// The name behind the middle, with names before it.
-fn middle(alloc: Global, map: &BTreeMap<Text, Node>) -> Result<Option<Text>, Memory>
+/// The name with which the upper half begins where a new name needs room, with names before it.
+fn middle(alloc: Global, map: &BTreeMap<Text, Node>, new: &Text) -> Result<Option<Text>, Memory>
     ensures { IfOk result (λ found. IfSome found (λ name. IsWithin name map.now.entries)) }
 {
-    let half = map.len() / 2 + 1;
+    let half = lower_half(map, new);
     let mut passed = 0;
     for (name, _) in map.iter() {
         if passed == half {
@@ -226,4 +231,15 @@ fn middle(alloc: Global, map: &BTreeMap<Text, Node>) -> Result<Option<Text>, Mem
         passed += 1;
     }
     Ok(None)
+}
+
+/// How many names stay where a part is cut: half of them. Rows in the order of a walk are placed last first, so all but one go where a new
+/// name comes before them: the parts of a folder are full then.
+fn lower_half(map: &BTreeMap<Text, Node>, new: &Text) -> usize
+    ensures { 0 < result }
+{
+    match map.first_key_value() {
+        Some((first, _)) if new < first => 1,
+        _ => map.len() / 2 + 1,
+    }
 }
