@@ -94,6 +94,10 @@ llb_command = with_rule llb_options bundle_argument
 abbrev pub config_command : App
 config_command = with_rule (new_app (codes "config")) bundle_argument
 
+-- `check [FILE]` (own)
+abbrev pub check_command : App
+check_command = with_rule (new_app (codes "check")) bundle_argument
+
 -- `dfsolve COMMAND` (own)
 abbrev pub whole_command : App
-whole_command = with_subcommand (with_subcommand asking_command llb_command.top) config_command.top
+whole_command = with_subcommand (with_subcommand (with_subcommand asking_command llb_command.top) config_command.top) check_command.top

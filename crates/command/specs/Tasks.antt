@@ -14,7 +14,7 @@ use Rattle.command.specs.declared.task.BuildOptions.{BuildOptions}
 use Rattle.command.specs.declared.task.PackOptions.{PackOptions}
 use Rattle.command.specs.declared.task.WhyOptions.{WhyOptions}
 use Rattle.command.specs.declared.task.Task.{Task}
-use Rattle.command.specs.declared.task.Task.TheVariants.{Build, Graph, Pack, Why, Llb, Config}
+use Rattle.command.specs.declared.task.Task.TheVariants.{Build, Graph, Pack, Why, Llb, Config, Check}
 
 -- the number that the value of `--workers` says, within its range: decimal digits, of which a `+` may stand in front, which is how
 -- clap reads a number (own)
@@ -87,6 +87,7 @@ IsTaskOf (Some found) (Pack options) = (found.0 ≡ codes "pack") × (pack_of fo
 IsTaskOf (Some found) (Why options) = (found.0 ≡ codes "why") × (options ≡ why_of found.1)
 IsTaskOf (Some found) (Llb options) = (found.0 ≡ codes "llb") × (llb_of found.1 ≡ Some options)
 IsTaskOf (Some found) (Config file) = (found.0 ≡ codes "config") × (file ≡ bundle_file found.1)
+IsTaskOf (Some found) (Check file) = (found.0 ≡ codes "check") × (file ≡ bundle_file found.1)
 
 -- `pack` with a build argument without a `=` (own)
 abbrev pub has_bare_argument : Text × List Row → Bool

@@ -1,7 +1,7 @@
 ghost use Rattle.std.specs.Prelude.{◌≡◌, IfOk, false};
 ghost use Rattle.clap.specs.Words.{app_of, rule_of};
 ghost use Rattle.clap.specs.declared.builder.command.Command.TheViews.{out-Command};
-ghost use Rattle.command.specs.CommandLine.{argument_option, asking_command, build_command, bundle_argument, bundle_command, config_command, folder_argument, graph_command, ignore_flag, llb_command, llb_options, pack_command, pack_from, pack_to, paths_argument, text_option, whole_command, why_command, workers_option};
+ghost use Rattle.command.specs.CommandLine.{argument_option, asking_command, build_command, bundle_argument, bundle_command, check_command, config_command, folder_argument, graph_command, ignore_flag, llb_command, llb_options, pack_command, pack_from, pack_to, paths_argument, text_option, whole_command, why_command, workers_option};
 
 use clap::{Arg, ArgAction, Command, value_parser};
 use plain::limits::MOST_WORKERS;
@@ -68,6 +68,9 @@ const LLB_HELP: &str =
 const CONFIG_HELP: &str =
     "Status: 0 if the configuration was printed, 2 if the bundle or the command line is refused, 3 if there was no memory or a device failed.\nExample: dfsolve config bundle.json";
 
+const CHECK_HELP: &str =
+    "Status: 0 if there is no fault, 1 if there is one, 2 if the command line is refused, 3 if there was no memory or a device failed.\nExample: dfsolve pack . | dfsolve check";
+
 /// The version of the program, which `--version` prints after its name.
 const VERSION: &str = "0.1.0";
 
@@ -78,7 +81,11 @@ pub fn whole_command<'a>(alloc: Global) -> Result<Command<'a>, AllocError>
     let asking = asking_command(alloc)?;
     let llb = llb_command(alloc)?;
     let config = config_command(alloc)?;
-    asking.subcommand(llb)?.subcommand(config)
+    let check = check_command(alloc)?;
+    asking
+        .subcommand(llb)?
+        .subcommand(config)?
+        .subcommand(check)
 }
 
 /// `dfsolve COMMAND` with the commands that have to do with no engine but the program's own.
@@ -233,6 +240,17 @@ fn config_command<'a>(alloc: Global) -> Result<Command<'a>, AllocError>
     Command::new(alloc, "config")
         .about("Prints the configuration of the target of a bundle, without a build")
         .after_help(CONFIG_HELP)
+        .arg(bundle_argument(alloc))
+}
+
+/// `check [FILE]`.
+fn check_command<'a>(alloc: Global) -> Result<Command<'a>, AllocError>
+    ensures app { IfOk result (λ command. app_of command ≡ check_command) }
+    ensures local { IfOk result (λ command. (out-Command command).has_globals ≡ false) }
+{
+    Command::new(alloc, "check")
+        .about("Prints all faults of a bundle, with what helps, and builds nothing")
+        .after_help(CHECK_HELP)
         .arg(bundle_argument(alloc))
 }
 

@@ -15,6 +15,8 @@ pub enum Task {
     Llb(LlbOptions),
     /// `config`: write the configuration of a bundle's target, of the file that is named, or on standard input.
     Config(Option<Text>),
+    /// `check`: write all faults of a bundle, of the file that is named, or on standard input.
+    Check(Option<Text>),
 }
 
 /// What `build` is asked for.
