@@ -1,3 +1,4 @@
+pub mod Check
 pub mod Config
 pub mod Llb
 pub mod PrivateFiles

@@ -11,7 +11,7 @@ use Rattle.command.specs.CommandLine.{whole_command}
 use Rattle.command.specs.Tasks.{IsTaskOf, faults_of}
 use Rattle.command.specs.declared.task.PackOptions.{PackOptions}
 use Rattle.command.specs.declared.task.Task.{Task}
-use Rattle.command.specs.declared.task.Task.TheVariants.{Build, Graph, Pack, Why, Llb, Config}
+use Rattle.command.specs.declared.task.Task.TheVariants.{Build, Graph, Pack, Why, Llb, Config, Check}
 use Rattle.plans.specs.Value.{Out}
 use Rattle.build.specs.declared.status.Status.{Status}
 use Rattle.build.specs.declared.status.BuildFault.{BuildFault}
@@ -26,6 +26,7 @@ use Rattle.packing.specs.declared.fault.PackFault.TheVariants.{Device as PackDev
 use Rattle.packing.specs.declared.packing.Status.{Status as PackStatus}
 use Rattle.packing.specs.declared.packing.Status.TheVariants.{Built as Packed, Refused as Unpacked}
 use Rattle.program.specs.declared.arguments.NotText.{NotText}
+use Rattle.program.specs.Check.{CheckEnds}
 use Rattle.program.specs.Config.{ConfigEnds}
 use Rattle.program.specs.Llb.{LlbEnds}
 use Rattle.program.specs.Saying.{Stream, Says}
@@ -176,8 +177,8 @@ abbrev pub CallsBy : Option (List ℕ) → (Devices → Devices → Result Statu
 CallsBy None EndsSo old new status = Calls EndsSo old new status
 CallsBy (Some name) EndsSo old new status = OnWriters (CallsFile name EndsSo) old new status
 
--- a task was done: a build was run, a graph was drawn or written for BuildKit, a folder was packed, the target's configuration was printed, or why
--- paths are kept or left out
+-- a task was done: a build was run, a graph was drawn or written for BuildKit, a folder was packed, or the target's configuration was printed, all
+-- faults of a bundle, or why paths are kept or left out
 abbrev pub Does : Out → Task → Streams → Streams → ℕ → Type 0
 Does out (Build options) old new status = CallsBy options.file (Ends out) old new status
 Does out (Graph file) old new status = CallsBy file GraphEnds old new status
@@ -185,6 +186,7 @@ Does out (Pack options) old new status = OnWriters (Packs options) old new statu
 Does out (Why options) old new status = CallsBy options.file (WhyEnds options.paths) old new status
 Does out (Llb options) old new status = CallsBy options.file (LlbEnds options) old new status
 Does out (Config file) old new status = CallsBy file ConfigEnds old new status
+Does out (Check file) old new status = CallsBy file CheckEnds old new status
 
 -- a mistake in the words
 abbrev pub Mistakes : Stream → Stream → Stream → Stream → ℕ → Type 0

@@ -7,6 +7,7 @@ ghost use Rattle.build.specs.Ends.{Ends, GraphEnds, devices};
 ghost use Rattle.build.specs.Faults.{exit_status};
 ghost use Rattle.build.specs.Messages.{fault_text};
 ghost use Rattle.build.specs.declared.status.BuildFault.TheVariants.{Device};
+ghost use Rattle.program.specs.Check.{CheckEnds};
 ghost use Rattle.program.specs.Config.{ConfigEnds};
 ghost use Rattle.program.specs.Llb.{LlbEnds};
 ghost use Rattle.program.specs.Runs.{CallsBy, CallsFile, IsOpenFault, IsTold, SaysEnd, SaysFileEnd, SaysNamed, streams};
@@ -14,6 +15,7 @@ ghost use Rattle.program.specs.Saying.{stream};
 ghost use Rattle.program.specs.Why.{WhyEnds};
 
 use crate::bundle_file::{open_bundle, why_of};
+use crate::checking::run_check;
 use crate::config::run_config;
 use crate::exporting::run_llb;
 use crate::saying::{NO_MEMORY_LINE, say};
@@ -183,6 +185,34 @@ pub(crate) fn tell_config<F: Files, R: CountedRead, W: CountedWrite, S: CountedW
     }
 }
 
+/// Prints all faults of a bundle, and gives the status to end with.
+pub(crate) fn check_bundle<F: Files, R: CountedRead, W: CountedWrite, S: CountedWrite>(
+    alloc: Global,
+    rt: &(impl Threads + Wait + Sync),
+    files: &F,
+    file: &Option<Text>,
+    input: &mut R,
+    output: &mut W,
+    errors: &mut S,
+) -> u8
+    requires reads { R.failures input.old < u64.MAX }
+    requires writes { W.failures output.old < u64.MAX }
+    requires says { S.failures errors.old < u64.MAX }
+    ensures calls { CallsBy file.now CheckEnds
+        (streams (devices (R.remaining input.old) (R.failures input.old) (W.contents output.old) (W.failures output.old)) (stream (S.contents errors.old) (S.failures errors.old)))
+        (streams (devices (R.remaining input.new) (R.failures input.new) (W.contents output.new) (W.failures output.new)) (stream (S.contents errors.new) (S.failures errors.new)))
+        result }
+    ensures taken { LosesBeginning (most_bundle_bytes + 1) (R.remaining input.old) (R.remaining input.new) }
+{
+    match file {
+        Some(name) => check_file(alloc, rt, files, name.as_str(), output, errors),
+        None => {
+            let ended = run_check(alloc, rt, input, output);
+            finish(errors, ended)
+        }
+    }
+}
+
 /// Builds the bundle of a file.
 fn build_file<F: Files, W: CountedWrite, S: CountedWrite, E: Executor>(
     alloc: Global,
@@ -313,6 +343,33 @@ fn config_file<F: Files, W: CountedWrite, S: CountedWrite>(
     match open_bundle(files, name) {
         Ok(mut file) => {
             let ended = run_config(alloc, rt, &mut file, output);
+            finish_file(alloc, errors, ended, name, file.why)
+        }
+        Err(error) => {
+            let ended = Err(open_fault(&error));
+            finish_file(alloc, errors, ended, name, why_of(error.kind()))
+        }
+    }
+}
+
+/// Prints all faults of the bundle of a file.
+fn check_file<F: Files, W: CountedWrite, S: CountedWrite>(
+    alloc: Global,
+    rt: &(impl Threads + Wait + Sync),
+    files: &F,
+    name: &str,
+    output: &mut W,
+    errors: &mut S,
+) -> u8
+    requires writes { W.failures output.old < u64.MAX }
+    requires says { S.failures errors.old < u64.MAX }
+    ensures { CallsFile name.now CheckEnds
+        (stream (W.contents output.old) (W.failures output.old)) (stream (W.contents output.new) (W.failures output.new))
+        (stream (S.contents errors.old) (S.failures errors.old)) (stream (S.contents errors.new) (S.failures errors.new)) result }
+{
+    match open_bundle(files, name) {
+        Ok(mut file) => {
+            let ended = run_check(alloc, rt, &mut file, output);
             finish_file(alloc, errors, ended, name, file.why)
         }
         Err(error) => {

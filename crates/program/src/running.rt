@@ -10,7 +10,9 @@ ghost use Rattle.program.specs.PrivateRuns.{IsRefused};
 ghost use Rattle.packing.specs.Ends.{fault_text as pack_fault_text};
 ghost use Rattle.program.specs.Saying.{stream};
 
-use crate::bundles::{build_bundle, draw_bundle, explain_paths, export_bundle, tell_config};
+use crate::bundles::{
+    build_bundle, check_bundle, draw_bundle, explain_paths, export_bundle, tell_config,
+};
 use crate::saying::{NO_MEMORY_LINE, say};
 use crate::{NotText, WordsFault};
 use clap::Error;
@@ -111,6 +113,11 @@ pub fn run_program<
         }
         Ok(Task::Config(file)) => {
             let status = tell_config(alloc, rt, files, &file, input, output, errors);
+            drop(file);
+            status
+        }
+        Ok(Task::Check(file)) => {
+            let status = check_bundle(alloc, rt, files, &file, input, output, errors);
             drop(file);
             status
         }

@@ -52,6 +52,11 @@ fn task_text(alloc: Global, task: Task) -> Result<String, Memory> {
             drop(file);
             told
         }
+        Task::Check(file) => {
+            let told = check_text(alloc, &file);
+            drop(file);
+            told
+        }
     }
 }
 
@@ -113,6 +118,13 @@ fn llb_text(alloc: Global, options: &LlbOptions) -> Result<String, Memory> {
 /// What `config` is asked for.
 fn config_text(alloc: Global, file: &Option<Text>) -> Result<String, Memory> {
     let mut told = String::from_str(alloc, "config")?;
+    add_text(alloc, &mut told, "of", file)?;
+    Ok(told)
+}
+
+/// What `check` is asked for.
+fn check_text(alloc: Global, file: &Option<Text>) -> Result<String, Memory> {
+    let mut told = String::from_str(alloc, "check")?;
     add_text(alloc, &mut told, "of", file)?;
     Ok(told)
 }
