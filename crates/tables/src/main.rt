@@ -9,17 +9,22 @@
 mod changing;
 mod commands;
 mod definitions;
+mod devices;
+mod failing;
 mod files;
 mod language;
+mod limits;
 mod lookup;
 mod patterns;
 mod programs;
 mod reading;
+mod repeating;
 mod running;
 mod showing;
 mod spelling;
 mod stage;
 mod steps;
+mod stores;
 mod telling;
 
 use plain::Memory;
@@ -40,6 +45,9 @@ enum Table {
     Trees,
     Definitions,
     Programs,
+    FailingDevices,
+    Limits,
+    Stores,
     /// No heading stands before the case, or one of another name.
     Unknown,
 }
@@ -83,6 +91,9 @@ fn table_of(name: &str) -> Table {
         "trees" => Table::Trees,
         "definitions" => Table::Definitions,
         "programs" => Table::Programs,
+        "failing devices" => Table::FailingDevices,
+        "limits" => Table::Limits,
+        "stores" => Table::Stores,
         _ => Table::Unknown,
     }
 }
@@ -104,6 +115,9 @@ fn answer<F: Files + AllocGlobal + Clone + Drop>(
         Table::Trees => steps::answer(alloc, case),
         Table::Definitions => definitions::answer(alloc, case),
         Table::Programs => programs::answer(alloc, rt, files, case),
+        Table::FailingDevices => failing::answer(alloc, rt, files, case),
+        Table::Limits => limits::answer(alloc, rt, files, case),
+        Table::Stores => stores::answer(alloc, rt, case),
         Table::Unknown => Err(Memory),
     }
 }

@@ -8,26 +8,15 @@
 // program in another language. Those that begin with `several_failures_` are
 // random bundles in which several instructions fail; their answers are those of another program, which goes line by line.
 
-use counted::Counted;
-use executor::Fixture;
+use crate::devices::{Devices, Ended, run};
 use plain::Memory;
-use program::run_program;
 use std::alloc::Global;
-use std::io::Cursor;
 use std::rt::Files;
 use std::sync::Wait;
 use std::thread::Threads;
 
-/// How much room an answer has: a writer in memory that has to grow could be refused.
-const ROOM: usize = 16384;
-
-/// What the program did.
-#[derive(Drop)]
-struct Ended {
-    status: u8,
-    output: String,
-    errors: String,
-}
+/// The longest output that other tables show.
+pub const LONGEST: usize = 1_000;
 
 pub fn answer<F: Files + AllocGlobal + Clone + Drop>(
     alloc: Global,
@@ -35,58 +24,45 @@ pub fn answer<F: Files + AllocGlobal + Clone + Drop>(
     files: &F,
     case: &str,
 ) -> Result<String, Memory> {
-    let (name, run) = case.split_once(" | ").unwrap_or((case, ""));
-    let ended = run_case(alloc, rt, files, run)?;
-    ended_text(alloc, name, ended)
-}
-
-fn ended_text(alloc: Global, name: &str, ended: Ended) -> Result<String, Memory> {
-    let status = ended.status;
-    let output = ended.output.as_str();
-    let errors = ended.errors.as_str();
-    Ok(format!(in alloc; "{name}\n    {status}\n    out {output}\n    err {errors}")?)
-}
-
-/// Runs the program on what stands behind a case's name.
-fn run_case<F: Files + AllocGlobal + Clone + Drop>(
-    alloc: Global,
-    rt: &(impl Threads + Wait + Sync),
-    files: &F,
-    run: &str,
-) -> Result<Ended, Memory> {
-    let (line, bundle) = run.split_once(" | ").unwrap_or((run, ""));
+    let (name, rest) = case.split_once(" | ").unwrap_or((case, ""));
+    let (line, bundle) = rest.split_once(" | ").unwrap_or((rest, ""));
     let words: Vec<&str> = line.split(' ').collect(alloc)?;
-    let mut input = Counted::new(Cursor::new(bundle.as_bytes()));
-    let mut output = Counted::new(Vec::with_capacity(alloc, ROOM)?);
-    let mut errors = Counted::new(Vec::with_capacity(alloc, ROOM)?);
-    let words = Ok(words.as_slice());
-    let status = run_program(
+    let devices = Devices::whole(usize::MAX);
+    let ended = run(
         alloc,
         rt,
         files,
-        words,
-        &mut input,
-        &mut output,
-        &mut errors,
-        &Fixture,
+        words.as_slice(),
+        bundle.as_bytes(),
+        devices,
     );
-    let output = one_line(alloc, output.into_inner().as_slice())?;
-    let errors = one_line(alloc, errors.into_inner().as_slice())?;
-    Ok(Ended {
-        status,
-        output,
-        errors,
-    })
+    let text = shown(alloc, &ended, usize::MAX);
+    drop(ended);
+    let text = text?;
+    Ok(format!(in alloc; "{name}\n{text}")?)
 }
 
-/// Bytes as one line: of a text, in which a LF is `¶`, or else of hexadecimal digits.
-fn one_line(alloc: Global, bytes: &[u8]) -> Result<String, Memory> {
-    let Ok(text) = str::from_utf8(bytes) else {
-        return Ok(hex::encode(alloc, bytes)?);
-    };
-    if has_controls(bytes) {
-        return Ok(hex::encode(alloc, bytes)?);
+/// What the program did, in three lines. An output of more bytes than these is told by its length.
+pub fn shown(alloc: Global, ended: &Ended, most: usize) -> Result<String, Memory> {
+    let status = ended.status;
+    let output = one_line(alloc, &ended.output, most)?;
+    let errors = one_line(alloc, &ended.errors, most)?;
+    Ok(format!(in alloc; "    {status}\n    out {output}\n    err {errors}")?)
+}
+
+/// Bytes as one line: of a text, in which a LF is `¶`, or else of hexadecimal digits; or how many they are, if they are more than these.
+fn one_line(alloc: Global, bytes: &[u8], most: usize) -> Result<String, Memory> {
+    if bytes.len() > most {
+        return Ok(format!(in alloc; "{} bytes", bytes.len())?);
     }
+    match str::from_utf8(bytes) {
+        Ok(text) if !has_controls(bytes) => text_line(alloc, text),
+        _ => Ok(hex::encode(alloc, bytes)?),
+    }
+}
+
+/// A text as one line.
+fn text_line(alloc: Global, text: &str) -> Result<String, Memory> {
     let mut line = String::new(alloc);
     for character in text.chars() {
         if character == '\n' {

@@ -1,0 +1,163 @@
+// `stores`: a name, ` | `, a number of workers and, if the executor wants memory, the number of its first run that does, from 0 on, as do all that
+// begin later; ` | `, and a bundle. Its plan is solved over a store of what the bundle's caches hold, and then again over that store by an executor
+// that has memory. The answer is the name and what each came to: a tree's entries, or a failure's line and cause, or want of memory; and that a
+// lease is out after it, if one is.
+//
+// `tools/refuse-allocations` runs this table with each of its allocations refused in turn.
+
+ghost use Rattle.std.specs.Prelude.{◌≡◌, ◌<◌, ◌≤◌, []};
+ghost use Rattle.build.specs.Lowerable.{IsLowerable};
+
+use build::{Asked, ask, plan_of};
+use cachemounts::CacheStore;
+use executor::{Executor, Fixture, Outcome, Request};
+use imageconfig::Config;
+use plain::Memory;
+use plans::Plan;
+use samples::listing;
+use solver::{OpenGate, Solution};
+use std::alloc::Global;
+use std::sync::Wait;
+use std::sync::atomic::{AtomicU64, Ordering};
+use std::thread::Threads;
+use trees::Tree;
+use workers::solve;
+
+/// Runs commands as the fixture does, and wants memory from the one of this number on.
+#[derive(Drop)]
+struct Wanting {
+    begun: AtomicU64,
+    from: u64,
+}
+
+impl Executor for Wanting {
+    ghost use Rattle.executor.specs.Fixture.{fixture_out};
+    ghost use Rattle.executor.specs.PrivateFixtureExits.{fixture_out-exits};
+
+    ghost out = { λ _ request. fixture_out request };
+
+    ghost exits = { λ _ request status e. fixture_out-exits request status e };
+
+    fn run(
+        &self,
+        alloc: Global,
+        request: &Request,
+        caches: &mut Vec<Tree>,
+    ) -> Result<Outcome, Memory> {
+        if self.begun.fetch_add(1, Ordering::SeqCst) >= self.from {
+            return Err(Memory);
+        }
+        Fixture.run(alloc, request, caches)
+    }
+}
+
+pub fn answer(
+    alloc: Global,
+    rt: &(impl Threads + Wait + Sync),
+    case: &str,
+) -> Result<String, Memory> {
+    let (name, rest) = case.split_once(" | ").unwrap_or((case, ""));
+    let (numbers, bundle) = rest.split_once(" | ").unwrap_or((rest, ""));
+    let (workers, from) = numbers.split_once(" from ").unwrap_or((numbers, ""));
+    let workers = match workers.parse::<u32>() {
+        Ok(workers) if 0 < workers && workers <= 64 => workers,
+        _ => 1,
+    };
+    let from = from.parse::<u64>().unwrap_or(u64::MAX);
+    let text = match ask(alloc, rt, bundle.as_bytes()) {
+        Ok(asked) => asked_text(alloc, rt, asked, workers, from)?,
+        Err(_) => return Err(Memory),
+    };
+    Ok(format!(in alloc; "{name}: {text}")?)
+}
+
+/// What a bundle comes to, twice over one store.
+fn asked_text(
+    alloc: Global,
+    rt: &(impl Threads + Wait + Sync),
+    asked: Asked,
+    workers: u32,
+    from: u64,
+) -> Result<String, Memory>
+    requires workers { (0 < workers) × (workers ≤ 64) }
+    requires idle { asked.caches.holds ≡ [] }
+    requires lowerable { IsLowerable asked.evaluated }
+{
+    let Asked {
+        evaluated,
+        mut caches,
+    } = asked;
+    match plan_of(alloc, evaluated) {
+        Ok(plan) => {
+            let text = plan_text(alloc, rt, &plan, &mut caches, workers, from);
+            drop(plan);
+            drop(caches);
+            text
+        }
+        Err(memory) => {
+            drop(caches);
+            Err(memory)
+        }
+    }
+}
+
+fn plan_text(
+    alloc: Global,
+    rt: &(impl Threads + Wait + Sync),
+    plan: &Plan<Config>,
+    caches: &mut CacheStore,
+    workers: u32,
+    from: u64,
+) -> Result<String, Memory>
+    requires workers { (0 < workers) × (workers ≤ 64) }
+    requires idle { caches.old.holds ≡ [] }
+{
+    let wanting = Wanting {
+        begun: AtomicU64::new(0),
+        from,
+    };
+    let first = solved(alloc, rt, plan, &wanting, caches, workers);
+    let second = solved(alloc, rt, plan, &Fixture, caches, workers);
+    let (first, second) = (first?, second?);
+    Ok(format!(in alloc; "{first}; then {second}")?)
+}
+
+/// What a plan comes to over a store, and whether a lease is out then.
+fn solved<E: Executor>(
+    alloc: Global,
+    rt: &(impl Threads + Wait + Sync),
+    plan: &Plan<Config>,
+    executor: &E,
+    caches: &mut CacheStore,
+    workers: u32,
+) -> Result<String, Memory>
+    requires workers { (0 < workers) × (workers ≤ 64) }
+    requires idle { caches.old.holds ≡ [] }
+    ensures idle { caches.new.holds ≡ [] }
+{
+    let text = match solve(alloc, rt, plan, executor, workers, &OpenGate, caches) {
+        Ok(solution) => solution_text(alloc, solution),
+        Err(Memory) => Ok(String::from_str(alloc, "out of memory")?),
+    };
+    if caches.is_idle() {
+        text
+    } else {
+        Ok(format!(in alloc; "{}, with a lease out", text?)?)
+    }
+}
+
+fn solution_text(alloc: Global, solution: Solution) -> Result<String, Memory> {
+    match solution {
+        Solution::Built(tree) => {
+            let list = listing(alloc, &tree);
+            drop(tree);
+            let list = list?;
+            Ok(format!(in alloc; "built{list}")?)
+        }
+        Solution::Failed {
+            vertex: _,
+            place,
+            cause,
+        } => Ok(format!(in alloc; "failed {place}: {cause}")?),
+    }
+}
