@@ -2,6 +2,7 @@ mod AddressFacts
 mod ClashLaws
 mod FormFacts
 mod KeyFacts
+mod LinesFacts
 mod OneReadingLaws
 mod PlaceFacts
 mod ReadingFacts

@@ -12,7 +12,7 @@ use Rattle.definition.specs.declared.fault.Defect.TheVariants.{Malformed, Unknow
 use Rattle.operations.specs.declared.spelled.Spelled.{Spelled}
 use Rattle.definition.specs.Address.{addresses_of, place_of}
 use Rattle.operations.specs.Spelled.{spelled_in}
-use Rattle.definition.specs.Reading.{IsReason, IsConclusive, named_in, address_place, Spells, IsNext, IsReadAfter, grown, no_graph, IsEnd, parts_of, IsFault, IsReadAs}
+use Rattle.definition.specs.Reading.{Operations, IsReason, IsConclusive, named_in, address_place, Spells, IsNext, IsReadAfter, grown, no_graph, IsEnd, parts_of, IsFault, IsReadAs}
 
 none_some : {A : Type 0} (x : A) → None ≡ Some x → ⊥
 none_some x e = true≢false (sym (ap is_some e))
@@ -70,32 +70,32 @@ fault-same before d (Because (Clash n)) Memory t u h g = absurd u
 fault-same before d Memory g t u h k = absurd t
 
 -- all operations
-again : (before : GraphValue) (ds : List Data) (r : Result GraphValue (Fault Defect)) (v w : Vertex) → v ≡ w → IsReadAfter (grown before w []) ds r → IsReadAfter (grown before v []) ds r
-again before ds r v w same h = subst (λ (x : Vertex). IsReadAfter (grown before x []) ds r) (sym same) h
+again : (before : GraphValue) (os : Operations) (lines : List ℕ) (r : Result GraphValue (Fault Defect)) (v w : Vertex) → v ≡ w → IsReadAfter (grown before w lines) os r → IsReadAfter (grown before v lines) os r
+again before os lines r v w same h = subst (λ (x : Vertex). IsReadAfter (grown before x lines) os r) (sym same) h
 
-oks : (ds : List Data) (before a b : GraphValue) → IsReadAfter before ds (Ok a) → IsReadAfter before ds (Ok b) → a ≡ b
+oks : (os : Operations) (before a b : GraphValue) → IsReadAfter before os (Ok a) → IsReadAfter before os (Ok b) → a ≡ b
 oks [] before a b h g = h ∙ sym g
-oks (d ∷ ds) before a b h g = oks ds (grown before h.0 []) a b h.1.1 (again before ds (Ok b) h.0 g.0 (spells-same before.vertices d h.0 g.0 h.1.0.0 g.1.0.0) g.1.1)
+oks (o ∷ os) before a b h g = oks os (grown before h.0 o.1) a b h.1.1 (again before os o.1 (Ok b) h.0 g.0 (spells-same before.vertices o.0 h.0 g.0 h.1.0.0 g.1.0.0) g.1.1)
 
-ok-err : (ds : List Data) (before a : GraphValue) (f : Fault Defect) → IsReason f → IsReadAfter before ds (Ok a) → IsReadAfter before ds (Err f) → ⊥
+ok-err : (os : Operations) (before a : GraphValue) (f : Fault Defect) → IsReason f → IsReadAfter before os (Ok a) → IsReadAfter before os (Err f) → ⊥
 ok-err [] before a f t h g = g
-ok-err (d ∷ ds) before a f t h g =
+ok-err (o ∷ os) before a f t h g =
     elim g [
-      | inl now ↦ ok-fault before.vertices d h.0 f t h.1.0 now
-      | inr later ↦ ok-err ds (grown before h.0 []) a f t h.1.1 (again before ds (Err f) h.0 later.0 (spells-same before.vertices d h.0 later.0 h.1.0.0 later.1.0.0) later.1.1)
+      | inl now ↦ ok-fault before.vertices o.0 h.0 f t h.1.0 now
+      | inr later ↦ ok-err os (grown before h.0 o.1) a f t h.1.1 (again before os o.1 (Err f) h.0 later.0 (spells-same before.vertices o.0 h.0 later.0 h.1.0.0 later.1.0.0) later.1.1)
     ]
 
-errs : (ds : List Data) (before : GraphValue) (f g : Fault Defect) → IsReason f → IsReason g → IsReadAfter before ds (Err f) → IsReadAfter before ds (Err g) → f ≡ g
+errs : (os : Operations) (before : GraphValue) (f g : Fault Defect) → IsReason f → IsReason g → IsReadAfter before os (Err f) → IsReadAfter before os (Err g) → f ≡ g
 errs [] before f g t u h k = absurd h
-errs (d ∷ ds) before f g t u h k =
+errs (o ∷ os) before f g t u h k =
     elim h [
       | inl now ↦ elim k [
-        | inl now' ↦ fault-same before.vertices d f g t u now now'
-        | inr later' ↦ absurd (ok-fault before.vertices d later'.0 f t later'.1.0 now)
+        | inl now' ↦ fault-same before.vertices o.0 f g t u now now'
+        | inr later' ↦ absurd (ok-fault before.vertices o.0 later'.0 f t later'.1.0 now)
       ]
       | inr later ↦ elim k [
-        | inl now' ↦ absurd (ok-fault before.vertices d later.0 g u later.1.0 now')
-        | inr later' ↦ errs ds (grown before later.0 []) f g t u later.1.1 (again before ds (Err g) later.0 later'.0 (spells-same before.vertices d later.0 later'.0 later.1.0.0 later'.1.0.0) later'.1.1)
+        | inl now' ↦ absurd (ok-fault before.vertices o.0 later.0 g u later.1.0 now')
+        | inr later' ↦ errs os (grown before later.0 o.1) f g t u later.1.1 (again before os o.1 (Err g) later.0 later'.0 (spells-same before.vertices o.0 later.0 later'.0 later.1.0.0 later'.1.0.0) later'.1.1)
       ]
     ]
 
@@ -135,22 +135,22 @@ fault-of text (Because (Repeated n)) t h = h
 fault-of text (Because (Clash n)) t h = h
 fault-of text Memory t h = absurd t
 
-same-parts : (text : List ℕ) (p q : List Data × Data) → parts_of text ≡ Some p → parts_of text ≡ Some q → p ≡ q
+same-parts : (text : List ℕ) (p q : Operations × Data) → parts_of text ≡ Some p → parts_of text ≡ Some q → p ≡ q
 same-parts text p q e f = some_same p q (sym e ∙ f)
 
 both_ok : (text : List ℕ) (x y : GraphValue × ℕ) → IsReadAs text (Ok x) → IsReadAs text (Ok y) → x ≡ y
 both_ok text (g, a) (k, b) x y =
     let same : (x.0, x.1.0) ≡ (y.0, y.1.0) = same-parts text (x.0, x.1.0) (y.0, y.1.0) x.1.1.0 y.1.1.0 in
-    let all : IsReadAfter no_graph x.0 (Ok k) = subst (λ (p : List Data × Data). IsReadAfter no_graph p.0 (Ok k)) (sym same) y.1.1.1.0 in
+    let all : IsReadAfter no_graph x.0 (Ok k) = subst (λ (p : Operations × Data). IsReadAfter no_graph p.0 (Ok k)) (sym same) y.1.1.1.0 in
     let graphs : g ≡ k = oks x.0 no_graph g k x.1.1.1.0 all in
-    let ending : IsEnd g.vertices x.1.0 (Ok b) = subst (λ (m : GraphValue). IsEnd m.vertices x.1.0 (Ok b)) (sym graphs) (subst (λ (p : List Data × Data). IsEnd k.vertices p.1 (Ok b)) (sym same) y.1.1.1.1) in
+    let ending : IsEnd g.vertices x.1.0 (Ok b) = subst (λ (m : GraphValue). IsEnd m.vertices x.1.0 (Ok b)) (sym graphs) (subst (λ (p : Operations × Data). IsEnd k.vertices p.1 (Ok b)) (sym same) y.1.1.1.1) in
     λ i. (graphs i, end-oks g.vertices x.1.0 a b x.1.1.1.1 ending i)
 
 -- a fault after the shape
-abbrev pub Later : List Data × Data → (Fault Defect) → Type 0
+abbrev pub Later : Operations × Data → (Fault Defect) → Type 0
 Later p f = IsReadAfter no_graph p.0 (Err f) ⊎ ((graph : GraphValue) × (IsReadAfter no_graph p.0 (Ok graph) × IsEnd graph.vertices p.1 (Err f)))
 
-ok_later : (p : List Data × Data) (g : GraphValue) (a : ℕ) (f : Fault Defect) → IsReason f → IsReadAfter no_graph p.0 (Ok g) → IsEnd g.vertices p.1 (Ok a) → Later p f → ⊥
+ok_later : (p : Operations × Data) (g : GraphValue) (a : ℕ) (f : Fault Defect) → IsReason f → IsReadAfter no_graph p.0 (Ok g) → IsEnd g.vertices p.1 (Ok a) → Later p f → ⊥
 ok_later p g a f t all end (inl now) = ok-err p.0 no_graph g f t all now
 ok_later p g a f t all end (inr later) =
     end-ok-err g.vertices p.1 a f t end (subst (λ (m : GraphValue). IsEnd m.vertices p.1 (Err f)) (sym (oks p.0 no_graph g later.0 all later.1.0)) later.1.1)
@@ -158,7 +158,7 @@ ok_later p g a f t all end (inr later) =
 ok_fault : (text : List ℕ) (x : GraphValue × ℕ) (f : Fault Defect) → IsReason f → IsReadAs text (Ok x) → IsFault text f → ⊥
 ok_fault text (g, a) f t x (inl none) = none_some (x.0, x.1.0) (sym none.0 ∙ x.1.1.0)
 ok_fault text (g, a) f t x (inr y) =
-    ok_later (x.0, x.1.0) g a f t x.1.1.1.0 x.1.1.1.1 (subst (λ (p : List Data × Data). Later p f) (same-parts text (y.0, y.1.0) (x.0, x.1.0) y.1.1.0 x.1.1.0) y.1.1.1)
+    ok_later (x.0, x.1.0) g a f t x.1.1.1.0 x.1.1.1.1 (subst (λ (p : Operations × Data). Later p f) (same-parts text (y.0, y.1.0) (x.0, x.1.0) y.1.1.0 x.1.1.0) y.1.1.1)
 
 both_faults : (text : List ℕ) (f g : Fault Defect) → IsReason f → IsReason g → IsFault text f → IsFault text g → f ≡ g
 both_faults text f g t u h k =
@@ -173,15 +173,15 @@ both_faults text f g t u h k =
             let same : (x.0, x.1.0) ≡ (y.0, y.1.0) = same-parts text (x.0, x.1.0) (y.0, y.1.0) x.1.1.0 y.1.1.0 in
             elim x.1.1.1 [
               | inl now ↦ elim y.1.1.1 [
-                | inl now' ↦ errs x.0 no_graph f g t u now (subst (λ (p : List Data × Data). IsReadAfter no_graph p.0 (Err g)) (sym same) now')
-                | inr later' ↦ absurd (ok-err x.0 no_graph later'.0 f t (subst (λ (p : List Data × Data). IsReadAfter no_graph p.0 (Ok later'.0)) (sym same) later'.1.0) now)
+                | inl now' ↦ errs x.0 no_graph f g t u now (subst (λ (p : Operations × Data). IsReadAfter no_graph p.0 (Err g)) (sym same) now')
+                | inr later' ↦ absurd (ok-err x.0 no_graph later'.0 f t (subst (λ (p : Operations × Data). IsReadAfter no_graph p.0 (Ok later'.0)) (sym same) later'.1.0) now)
               ]
               | inr later ↦ elim y.1.1.1 [
-                | inl now' ↦ absurd (ok-err x.0 no_graph later.0 g u later.1.0 (subst (λ (p : List Data × Data). IsReadAfter no_graph p.0 (Err g)) (sym same) now'))
+                | inl now' ↦ absurd (ok-err x.0 no_graph later.0 g u later.1.0 (subst (λ (p : Operations × Data). IsReadAfter no_graph p.0 (Err g)) (sym same) now'))
                 | inr later' ↦
-                    let all : IsReadAfter no_graph x.0 (Ok later'.0) = subst (λ (p : List Data × Data). IsReadAfter no_graph p.0 (Ok later'.0)) (sym same) later'.1.0 in
+                    let all : IsReadAfter no_graph x.0 (Ok later'.0) = subst (λ (p : Operations × Data). IsReadAfter no_graph p.0 (Ok later'.0)) (sym same) later'.1.0 in
                     let graphs : later.0 ≡ later'.0 = oks x.0 no_graph later.0 later'.0 later.1.0 all in
-                    end-errs later.0.vertices x.1.0 f g t u later.1.1 (subst (λ (m : GraphValue). IsEnd m.vertices x.1.0 (Err g)) (sym graphs) (subst (λ (p : List Data × Data). IsEnd later'.0.vertices p.1 (Err g)) (sym same) later'.1.1))
+                    end-errs later.0.vertices x.1.0 f g t u later.1.1 (subst (λ (m : GraphValue). IsEnd m.vertices x.1.0 (Err g)) (sym graphs) (subst (λ (p : Operations × Data). IsEnd later'.0.vertices p.1 (Err g)) (sym same) later'.1.1))
               ]
             ]
       ]

@@ -1,9 +1,13 @@
 -- From the steps of reading one operation to what it tells.
-use Rattle.std.specs.Prelude.{◌≡◌, ◌<◌, ◌+◌, ℕ, suc, Bool, true, false, cond, ◌⊎◌, Option, Some, None, Result, Ok, Err, List, [], ◌∷◌, ◌++◌, length, slice_get, slice_index_or, is_some, bytes_eq}
+use Rattle.std.specs.Prelude.{◌≡◌, ◌<◌, ◌≤◌, ◌+◌, ℕ, suc, map, Bool, true, false, cond, ◌⊎◌, Option, Some, None, Result, Ok, Err, List, [], ◌∷◌, ◌++◌, length, slice_get, slice_index_or, is_some, bytes_eq}
 use Rattle.std.proofs.Common.{sym, ap, refl, ◌∙◌, subst, true≢false, arith, inl, inr}
 use Rattle.std.specs.Option.{option_map, unwrap_or}
 use Rattle.std.proofs.lemmas.Option.{slice_get-get_or, slice_get_within}
+use Rattle.std.proofs.lemmas.List.{length_push}
 use Rattle.serde_json.specs.Data.{Data}
+use Rattle.serde_json.specs.View.{view}
+use Rattle.serde_json.specs.declared.value.Value.{Value}
+use Rattle.definition.specs.Lines.{operation_in}
 use Rattle.llb.specs.declared.vertex.Vertex.{Vertex}
 use Rattle.llb.specs.Graph.{GraphValue, AreVertices, IsNew, IsFound, IsAppended}
 use Rattle.plain.specs.declared.fault.Fault.{Fault}
@@ -17,8 +21,8 @@ use Rattle.definition.specs.Address.{address_of, addresses_at, addresses_of, ver
 use Rattle.definition.specs.PrivateAddresses.{AreOnce}
 use Rattle.definition.proofs.AddressFacts.{address_of-is, length-addresses_after, addresses_after-append}
 use Rattle.strict.specs.Strict.{with_first}
-use Rattle.definition.specs.Reading.{places_of, named_in, address_place, IsNext, IsReadAfter, grown, no_graph}
-use Rattle.definition.specs.PrivateReading.{IsPlaced, IsAllRead}
+use Rattle.definition.specs.Reading.{Operations, places_of, named_in, address_place, IsNext, IsReadAfter, grown, no_graph}
+use Rattle.definition.specs.PrivateReading.{IsPlaced, IsAllRead, IsOneRead}
 use Rattle.definition.proofs.PlaceFacts.{same_bytes}
 
 none_some : {A : Type 0} (x : A) → None ≡ Some x → ⊥
@@ -104,10 +108,10 @@ pub addresses-count : (vs : List Vertex) → length (addresses_of vs) ≡ length
 addresses-count vs = let long : length (addresses_of vs) ≡ 0 + length vs = length-addresses_after [] vs in omega arith
 
 -- the addresses after a vertex was added that is new
-pub with-addresses : (old value new : GraphValue) (v : Vertex) (id : ℕ) (known known' : List (List ℕ)) (address : List ℕ) → IsFound old new v [] id ⊎ IsAppended old new v [] id → old ≡ value → IsNew value.vertices v → known ≡ addresses_of old.vertices → address ≡ vertex_address (addresses_of value.vertices) v
+pub with-addresses : (old value new : GraphValue) (v : Vertex) (lines : List ℕ) (id : ℕ) (known known' : List (List ℕ)) (address : List ℕ) → IsFound old new v lines id ⊎ IsAppended old new v lines id → old ≡ value → IsNew value.vertices v → known ≡ addresses_of old.vertices → address ≡ vertex_address (addresses_of value.vertices) v
     → known' ≡ known ++ address ∷ [] → known' ≡ addresses_of new.vertices
-with-addresses old value new v id known known' address (inl found) view fresh same is more = absurd (fresh id (ap (λ (g : GraphValue). slice_get g.vertices id) (sym view) ∙ found.stood))
-with-addresses old value new v id known known' address (inr appended) view fresh same is more =
+with-addresses old value new v lines id known known' address (inl found) view fresh same is more = absurd (fresh id (ap (λ (g : GraphValue). slice_get g.vertices id) (sym view) ∙ found.stood))
+with-addresses old value new v lines id known known' address (inr appended) view fresh same is more =
     more ∙ (λ i. (same ∙ ap (λ (g : GraphValue). addresses_of g.vertices) view) i ++ is i ∷ []) ∙ sym (addresses-with value.vertices v)
     ∙ (λ i. addresses_of ((sym view i).vertices ++ v ∷ [])) ∙ ap (λ (g : GraphValue). addresses_of g.vertices) (sym appended.added)
 
@@ -116,29 +120,80 @@ with-few old value known view same few =
     let count : length known ≡ length value.vertices = ap length same ∙ addresses-count old.vertices ∙ ap (λ (g : GraphValue). length g.vertices) view in omega arith
 
 -- what the operations that are left tell after this graph, all of them tell
-pub record IsReading (now : GraphValue) (rest all : List Data) : Type 0 where
+pub record IsReading (now : GraphValue) (rest all : Operations) : Type 0 where
   pub continues : (told : Result GraphValue (Fault Defect)) → IsReadAfter now rest told → IsReadAfter no_graph all told
 
-pub reading-start : (all : List Data) → IsReading no_graph all all
+pub reading-start : (all : Operations) → IsReading no_graph all all
 reading-start all = record { continues = λ told h. h }
 
-read-one : (now : GraphValue) (d : Data) (rest : List Data) (vertex : Vertex) (told : Result GraphValue (Fault Defect)) → IsNext now.vertices d (Ok vertex) → IsReadAfter (grown now vertex []) rest told → IsReadAfter now (d ∷ rest) told
-read-one now d rest vertex (Ok after) next h = (vertex, (next, h))
-read-one now d rest vertex (Err fault) next h = inr (vertex, (next, h))
+read-one : (now : GraphValue) (o : Data × List ℕ) (rest : Operations) (vertex : Vertex) (told : Result GraphValue (Fault Defect)) → IsNext now.vertices o.0 (Ok vertex) → IsReadAfter (grown now vertex o.1) rest told → IsReadAfter now (o ∷ rest) told
+read-one now o rest vertex (Ok after) next h = (vertex, (next, h))
+read-one now o rest vertex (Err fault) next h = inr (vertex, (next, h))
+
+-- one operation, by what its steps tell
+pub one-read : (before after : GraphValue) (d : Data) (lines : List ℕ) (o : Data × List ℕ) (vertex : Vertex) → (d, lines) ≡ o → IsNext before.vertices d (Ok vertex) → after ≡ grown before vertex lines → IsOneRead before o (Ok after)
+one-read before after d lines o vertex same next is = subst (λ (p : Data × List ℕ). IsOneRead before p (Ok after)) same (vertex, (next, is))
+
+pub one-fault : (before : GraphValue) (d : Data) (lines : List ℕ) (o : Data × List ℕ) (fault : Fault Defect) → (d, lines) ≡ o → IsNext before.vertices d (Err fault) → IsOneRead before o (Err fault)
+one-fault before d lines o fault same next = subst (λ (p : Data × List ℕ). IsNext before.vertices p.0 (Err fault)) same next
 
 -- one operation more is read
-pub reading-step : (now next : GraphValue) (d : Data) (rest rest' all : List Data) (vertex : Vertex) → IsReading now rest all → rest ≡ d ∷ rest' → IsNext now.vertices d (Ok vertex) → next ≡ grown now vertex [] → IsReading next rest' all
-reading-step now next d rest rest' all vertex so_far is spelled more = record {
-  continues = λ told h. so_far.continues told (subst (λ (l : List Data). IsReadAfter now l told) (sym is) (read-one now d rest' vertex told spelled (subst (λ (g : GraphValue). IsReadAfter g rest' told) more h)));
+pub reading-step : (now next : GraphValue) (o : Data × List ℕ) (rest rest' all : Operations) (vertex : Vertex) → IsReading now rest all → rest ≡ o ∷ rest' → IsNext now.vertices o.0 (Ok vertex) → next ≡ grown now vertex o.1 → IsReading next rest' all
+reading-step now next o rest rest' all vertex so_far is spelled more = record {
+  continues = λ told h. so_far.continues told (subst (λ (l : Operations). IsReadAfter now l told) (sym is) (read-one now o rest' vertex told spelled (subst (λ (g : GraphValue). IsReadAfter g rest' told) more h)));
 }
 
--- an operation that tells a fault
-pub reading-fault : (now : GraphValue) (d : Data) (rest rest' all : List Data) (fault : Fault Defect) → IsReading now rest all → rest ≡ d ∷ rest' → IsNext now.vertices d (Err fault) → IsAllRead all (Err fault)
-reading-fault now d rest rest' all (Because (Malformed n)) so_far is told = so_far.continues (Err (Because (Malformed n))) (subst (λ (l : List Data). IsReadAfter now l (Err (Because (Malformed n)))) (sym is) (inl told))
-reading-fault now d rest rest' all (Because (Unknown n)) so_far is told = so_far.continues (Err (Because (Unknown n))) (subst (λ (l : List Data). IsReadAfter now l (Err (Because (Unknown n)))) (sym is) (inl told))
-reading-fault now d rest rest' all (Because (Repeated n)) so_far is told = so_far.continues (Err (Because (Repeated n))) (subst (λ (l : List Data). IsReadAfter now l (Err (Because (Repeated n)))) (sym is) (inl told))
-reading-fault now d rest rest' all (Because (Clash n)) so_far is told = so_far.continues (Err (Because (Clash n))) (subst (λ (l : List Data). IsReadAfter now l (Err (Because (Clash n)))) (sym is) (inl told))
-reading-fault now d rest rest' all Memory so_far is told = tt
+-- the same of what is left to be read, and of how many vertices there are then
+pub reading-on : {A : Type 0} (operation : A → Data × List ℕ) (xs left : List A) (x : A) (now next : GraphValue) (all : Operations) → IsReading now (map operation xs) all × (length now.vertices + length xs ≤ most_vertices) → xs ≡ x ∷ left → IsOneRead now (operation x) (Ok next)
+    → IsReading next (map operation left) all × (length next.vertices + length left ≤ most_vertices)
+reading-on operation xs left x now next all so_far is read =
+    let count : length next.vertices ≡ length now.vertices + 1 = ap (λ (g : GraphValue). length g.vertices) read.1.1 ∙ length_push now.vertices read.0 in
+    let more : length xs ≡ suc (length left) = ap length is in
+    let few = so_far.1 in (
+      reading-step now next (operation x) (map operation xs) (map operation left) all read.0 so_far.0 (ap (map operation) is) read.1.0 read.1.1,
+      omega (arith, count, more, few),
+    )
 
-pub reading-end : (now : GraphValue) (rest all : List Data) → IsReading now rest all → rest ≡ [] → IsReadAfter no_graph all (Ok now)
-reading-end now rest all so_far none = so_far.continues (Ok now) (subst (λ (l : List Data). IsReadAfter now l (Ok now)) (sym none) refl)
+pub reading-room : {A : Type 0} (xs left : List A) (x : A) (n : ℕ) → n + length xs ≤ most_vertices → xs ≡ x ∷ left → n < most_vertices
+reading-room xs left x n few is = let more : length xs ≡ suc (length left) = ap length is in omega (arith, few, more)
+
+-- an operation that tells a fault
+pub reading-fault : (now : GraphValue) (o : Data × List ℕ) (rest rest' all : Operations) (fault : Fault Defect) → IsReading now rest all → rest ≡ o ∷ rest' → IsNext now.vertices o.0 (Err fault) → IsAllRead all (Err fault)
+reading-fault now o rest rest' all (Because (Malformed n)) so_far is told = so_far.continues (Err (Because (Malformed n))) (subst (λ (l : Operations). IsReadAfter now l (Err (Because (Malformed n)))) (sym is) (inl told))
+reading-fault now o rest rest' all (Because (Unknown n)) so_far is told = so_far.continues (Err (Because (Unknown n))) (subst (λ (l : Operations). IsReadAfter now l (Err (Because (Unknown n)))) (sym is) (inl told))
+reading-fault now o rest rest' all (Because (Repeated n)) so_far is told = so_far.continues (Err (Because (Repeated n))) (subst (λ (l : Operations). IsReadAfter now l (Err (Because (Repeated n)))) (sym is) (inl told))
+reading-fault now o rest rest' all (Because (Clash n)) so_far is told = so_far.continues (Err (Because (Clash n))) (subst (λ (l : Operations). IsReadAfter now l (Err (Because (Clash n)))) (sym is) (inl told))
+reading-fault now o rest rest' all Memory so_far is told = tt
+
+pub reading-end : (now : GraphValue) (rest all : Operations) → IsReading now rest all → rest ≡ [] → IsReadAfter no_graph all (Ok now)
+reading-end now rest all so_far none = so_far.continues (Ok now) (subst (λ (l : Operations). IsReadAfter now l (Ok now)) (sym none) refl)
+
+-- ---- values that are operations with their lines
+
+abbrev pub said : Bool → Value → Data × List ℕ
+said says v = operation_in says (view v)
+
+fused : (says : Bool) (vs : List Value) → map (said says) vs ≡ map (operation_in says) (map view vs)
+fused says [] = refl
+fused says (v ∷ vs) = ap (λ (os : Operations). said says v ∷ os) (fused says vs)
+
+pub values-start : (says : Bool) (vs items : List Value) (now : GraphValue) → now ≡ no_graph → vs ≡ items → length items ≤ most_vertices
+    → IsReading now (map (said says) vs) (map (said says) vs) × (length now.vertices + length vs ≤ most_vertices)
+values-start says vs items now none same few =
+    let count : length vs ≡ length items = ap (λ (xs : List Value). length xs) same in
+    let empty : length now.vertices ≡ 0 = ap (λ (g : GraphValue). length g.vertices) none in (
+      subst (λ (g : GraphValue). IsReading g (map (said says) vs) (map (said says) vs)) (sym none) (reading-start (map (said says) vs)),
+      omega (arith, count, empty, few),
+    )
+
+pub values-end : (says : Bool) (rest all items : List Value) (now : GraphValue) → IsReading now (map (said says) rest) (map (said says) all) × (length now.vertices + length rest ≤ most_vertices) → length rest ≡ 0 → all ≡ items
+    → IsReadAfter no_graph (map (operation_in says) (map view items)) (Ok now)
+values-end says [] all items now so_far none same =
+    subst (λ (os : Operations). IsReadAfter no_graph os (Ok now)) (ap (λ (vs : List Value). map (said says) vs) same ∙ fused says items) (reading-end now [] (map (said says) all) so_far.0 refl)
+values-end says (v ∷ rest) all items now so_far none same = absurd (omega (arith, none))
+
+pub values-fault : (says : Bool) (rest left all items : List Value) (v : Value) (now : GraphValue) (fault : Fault Defect) → IsReading now (map (said says) rest) (map (said says) all) × (length now.vertices + length rest ≤ most_vertices)
+    → rest ≡ v ∷ left → all ≡ items → IsOneRead now (said says v) (Err fault) → IsAllRead (map (operation_in says) (map view items)) (Err fault)
+values-fault says rest left all items v now fault so_far is same told =
+    subst (λ (os : Operations). IsAllRead os (Err fault)) (ap (λ (vs : List Value). map (said says) vs) same ∙ fused says items)
+    (reading-fault now (said says v) (map (said says) rest) (map (said says) left) (map (said says) all) fault so_far.0 (ap (λ (vs : List Value). map (said says) vs) is) told)

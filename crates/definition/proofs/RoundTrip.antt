@@ -5,7 +5,7 @@ use Rattle.std.specs.Option.{option_map, option_and_then}
 use Rattle.std.specs.List.{list_any, list_all, All}
 use Rattle.std.proofs.lemmas.Option.{slice_get-get_or, slice_get_within}
 use Rattle.std.proofs.lemmas.Bool.{le-leb}
-use Rattle.std.proofs.lemmas.List.{length_push, take_more, take_all}
+use Rattle.std.proofs.lemmas.List.{length_push, take_more, take_all, length-map}
 use Rattle.serde_json.specs.Data.{Data, depth, items_depth}
 use Rattle.serde_json.specs.View.{items_of}
 use Rattle.serde_json.specs.Read.{read}
@@ -14,7 +14,8 @@ use Rattle.plain.specs.Limits.{most_vertices}
 use Rattle.llb.specs.declared.op.Op.{Op}
 use Rattle.llb.specs.declared.op.Op.TheVariants.{Source as SourceOp, Exec as ExecOp, Copy as CopyOp, MakeDirs as MakeDirsOp, Merge as MergeOp}
 use Rattle.llb.specs.declared.vertex.Vertex.{Vertex}
-use Rattle.llb.specs.Graph.{GraphValue, AreVertices, IsNew, IsAfterInputs}
+use Rattle.llb.specs.Graph.{GraphValue, IsGraph, AreVertices, IsNew, IsAfterInputs}
+use Rattle.llb.specs.Places.{AreLines}
 use Rattle.llb.specs.WellFormed.{is_well_formed_on}
 use Rattle.operations.specs.declared.spelled.Spelled.{Spelled}
 use Rattle.operations.specs.Texts.{source_data, exec_data, copy_data, mkdir_data, merge_data, op_data}
@@ -25,9 +26,11 @@ use Rattle.operations.proofs.DepthFacts.{op-depth}
 use Rattle.strict.specs.Strict.{list_in}
 use Rattle.definition.specs.Address.{addresses_at, addresses_of, addresses_after, vertex_data, vertex_address, data_after, clash_after, place_of}
 use Rattle.definition.specs.PrivateAddresses.{AreOnce}
-use Rattle.definition.specs.Definition.{end_data, whole_data, definition_data, AreProper}
-use Rattle.definition.specs.Reading.{places_of, address_place, IsNext, IsReadAfter, grown, no_graph, graph_of, end_in, is_end, parted_few, parts_in, parts_of, IsReadAs}
+use Rattle.definition.specs.Definition.{end_data, end_of, whole_data, definition_data, first_definition_data, AreProper}
+use Rattle.definition.specs.Lines.{lined, lined_all, operation_in}
+use Rattle.definition.specs.Reading.{Operations, places_of, address_place, IsNext, IsReadAfter, grown, no_graph, graph_of, end_in, is_end, list_of, parted_few, parts_in, parts_of, IsReadAs}
 use Rattle.definition.proofs.FormFacts.{address-is}
+use Rattle.definition.proofs.LinesFacts.{operation-back, lined-depth, lined_all-length}
 use Rattle.definition.proofs.PlaceFacts.{once-push, none_once, no_clash, once-after}
 use Rattle.definition.proofs.ReadingFacts.{addresses-with, addresses-count}
 use Rattle.definition.proofs.ShapeFacts.{list-items, parted-last}
@@ -62,10 +65,17 @@ abbrev pub AllBack : List (List ℕ) → List Vertex → Type 0
 AllBack known [] = Unit {0}
 AllBack known (v ∷ vs) = (spelled_in (vertex_data known v) ≡ Some (record { op = v.op; inputs = addresses_at known v.inputs })) × AllBack (known ++ vertex_address known v ∷ []) vs
 
--- a graph with vertices more, behind which there are no lines
-abbrev pub grown_by : GraphValue → List Vertex → GraphValue
-grown_by graph [] = graph
-grown_by graph (v ∷ vs) = grown_by (grown graph v []) vs
+-- a graph with vertices more, and the lines behind them
+abbrev pub grown_by : GraphValue → List Vertex → List (List ℕ) → GraphValue
+grown_by graph [] places = graph
+grown_by graph (v ∷ vs) [] = grown_by (grown graph v []) vs []
+grown_by graph (v ∷ vs) (lines ∷ places) = grown_by (grown graph v lines) vs places
+
+-- operations with their lines beside them
+abbrev pub beside : List Data → List (List ℕ) → Operations
+beside [] places = []
+beside (d ∷ ds) [] = (d, []) ∷ beside ds []
+beside (d ∷ ds) (lines ∷ places) = (d, lines) ∷ beside ds places
 
 get-at : (xs ys : List Vertex) (y : Vertex) → slice_get (xs ++ y ∷ ys) (length xs) ≡ Some y
 get-at [] ys y = refl
@@ -84,9 +94,11 @@ new-at before after v are k there =
     let same : k ≡ length before = are.once k (length before) v (get-front before (v ∷ after) k v there) (get-at before after v) in
     absurd (omega arith)
 
-pub chain-back : (vs : List Vertex) (graph : GraphValue) (known : List (List ℕ)) → known ≡ addresses_of graph.vertices → AreOnce known → AreVertices (graph.vertices ++ vs) → clash_after known vs ≡ None → AllBack known vs → IsReadAfter graph (data_after known vs) (Ok (grown_by graph vs))
-chain-back [] graph known same once are none back = refl
-chain-back (v ∷ vs) graph known same once are none back =
+pub chain-back : (vs : List Vertex) (places : List (List ℕ)) (graph : GraphValue) (known : List (List ℕ)) → length places ≡ length vs → known ≡ addresses_of graph.vertices → AreOnce known → AreVertices (graph.vertices ++ vs) → clash_after known vs ≡ None → AllBack known vs
+    → IsReadAfter graph (beside (data_after known vs) places) (Ok (grown_by graph vs places))
+chain-back [] places graph known long same once are none back = refl
+chain-back (v ∷ vs) [] graph known long same once are none back = absurd (omega (arith, long))
+chain-back (v ∷ vs) (lines ∷ places) graph known long same once are none back =
     let parts = no_clash (place_of known (vertex_address known v)) (length known) (clash_after (known ++ vertex_address known v ∷ []) vs) none in
     let after : IsAfterInputs (length graph.vertices) v = are.after (length graph.vertices) v (get-at graph.vertices vs v) in
     let here : IsNext graph.vertices (vertex_data known v) (Ok v) =
@@ -95,12 +107,31 @@ chain-back (v ∷ vs) graph known same once are none back =
     (subst (λ (k : List (List ℕ)). spelled_in (vertex_data k v) ≡ Some (record { op = v.op; inputs = addresses_at k v.inputs })) same back.0)
     ((λ i. place_of (sym same i) (vertex_address (sym same i) v)) ∙ parts.0)) in
     let same' : known ++ vertex_address known v ∷ [] ≡ addresses_of (graph.vertices ++ v ∷ []) = (λ i. same i ++ vertex_address (same i) v ∷ []) ∙ sym (addresses-with graph.vertices v) in
-    (v, (here, chain-back vs (grown graph v []) (known ++ vertex_address known v ∷ []) same' (once-push known (vertex_address known v) once parts.0) (subst AreVertices (sym (append_assoc graph.vertices (v ∷ []) vs)) are) parts.1 back.1))
+    let rest : length places ≡ length vs = omega (arith, long) in
+    (v, (here, chain-back vs places (grown graph v lines) (known ++ vertex_address known v ∷ []) rest same' (once-push known (vertex_address known v) once parts.0) (subst AreVertices (sym (append_assoc graph.vertices (v ∷ []) vs)) are) parts.1 back.1))
 
--- a graph without lines
-pub bare : (vs : List Vertex) (graph : GraphValue) → grown_by graph vs ≡ record { vertices = graph.vertices ++ vs; places = graph.places ++ map (λ _. []) vs }
-bare [] graph = λ i. record { vertices = sym (append-nil graph.vertices) i; places = sym (append-nil graph.places) i }
-bare (v ∷ vs) graph = bare vs (grown graph v []) ∙ (λ i. record { vertices = append_assoc graph.vertices (v ∷ []) vs i; places = append_assoc graph.places ([] ∷ []) (map (λ _. []) vs) i })
+-- the graph that grew
+pub whole-grown : (vs : List Vertex) (places : List (List ℕ)) (graph : GraphValue) → length places ≡ length vs → grown_by graph vs places ≡ record { vertices = graph.vertices ++ vs; places = graph.places ++ places }
+whole-grown [] [] graph long = λ i. record { vertices = sym (append-nil graph.vertices) i; places = sym (append-nil graph.places) i }
+whole-grown [] (lines ∷ places) graph long = absurd (omega (arith, long))
+whole-grown (v ∷ vs) [] graph long = absurd (omega (arith, long))
+whole-grown (v ∷ vs) (lines ∷ places) graph long =
+    let rest : length places ≡ length vs = omega (arith, long) in
+    whole-grown vs places (grown graph v lines) rest ∙ (λ i. record { vertices = append_assoc graph.vertices (v ∷ []) vs i; places = append_assoc graph.places (lines ∷ []) places i })
+
+-- operations that were written with their lines are read with them
+pub operations-back : (known : List (List ℕ)) (vs : List Vertex) (places : List (List ℕ)) → length places ≡ length vs → ((k : ℕ) (lines : List ℕ) → slice_get places k ≡ Some lines → AreLines lines)
+    → map (operation_in true) (lined_all places (data_after known vs)) ≡ beside (data_after known vs) places
+operations-back known [] places long are = refl
+operations-back known (v ∷ vs) [] long are = absurd (omega (arith, long))
+operations-back known (v ∷ vs) (lines ∷ places) long are =
+    let rest : length places ≡ length vs = omega (arith, long) in
+    (λ i. operation-back (addresses_at known v.inputs) v.op lines (are 0 lines refl) i ∷ operations-back (known ++ vertex_address known v ∷ []) vs places rest (λ k ls e. are (suc k) ls e) i)
+
+-- and those that were written without lines are read without
+pub first-back : (known : List (List ℕ)) (vs : List Vertex) → map (operation_in false) (data_after known vs) ≡ beside (data_after known vs) (map (λ _. []) vs)
+first-back known [] = refl
+first-back known (v ∷ vs) = ap (λ os. (vertex_data known v, []) ∷ os) (first-back (known ++ vertex_address known v ∷ []) vs)
 
 -- ---- the end
 
@@ -120,20 +151,43 @@ op-no_end inputs (CopyOp files) = refl
 op-no_end inputs (MakeDirsOp path) = refl
 op-no_end inputs MergeOp = refl
 
+lined-no_end : (lines : List ℕ) (inputs : List (List ℕ)) (op : Op) → is_end (lined lines (op_data inputs op)) ≡ false
+unfolding source_data exec_data copy_data mkdir_data merge_data
+lined-no_end lines inputs (SourceOp source) = refl
+lined-no_end lines inputs (ExecOp exec) = refl
+lined-no_end lines inputs (CopyOp files) = refl
+lined-no_end lines inputs (MakeDirsOp path) = refl
+lined-no_end lines inputs MergeOp = refl
+
 no_ends : (known : List (List ℕ)) (vs : List Vertex) → list_any is_end (data_after known vs) ≡ false
 no_ends known [] = refl
 no_ends known (v ∷ vs) = rw (op-no_end (addresses_at known v.inputs) v.op) (no_ends (known ++ vertex_address known v ∷ []) vs)
+
+lined-no_ends : (places : List (List ℕ)) (known : List (List ℕ)) (vs : List Vertex) → list_any is_end (lined_all places (data_after known vs)) ≡ false
+lined-no_ends places known [] = refl
+lined-no_ends [] known (v ∷ vs) = rw (lined-no_end [] (addresses_at known v.inputs) v.op) (lined-no_ends [] (known ++ vertex_address known v ∷ []) vs)
+lined-no_ends (lines ∷ places) known (v ∷ vs) = rw (lined-no_end lines (addresses_at known v.inputs) v.op) (lined-no_ends places (known ++ vertex_address known v ∷ []) vs)
 
 length-data_after : (known : List (List ℕ)) (vs : List Vertex) → length (data_after known vs) ≡ length vs
 length-data_after known [] = refl
 length-data_after known (v ∷ vs) = ap suc (length-data_after (known ++ vertex_address known v ∷ []) vs)
 
 -- the shape of what is written
-pub shape-back : (vs : List Vertex) (address : List ℕ) → length vs ≤ most_vertices → parts_in (whole_data (data_after [] vs ++ end_data address ∷ [])) ≡ Some (data_after [] vs, end_data address)
-unfolding parts_in whole_data parted_few
-shape-back vs address few =
-    let count : length (data_after [] vs) ≡ length vs = length-data_after [] vs in
-    rw (list-items (data_after [] vs ++ end_data address ∷ []), parted-last (data_after [] vs) (end_data address), no_ends [] vs, end-is address, le-leb (length (data_after [] vs)) most_vertices (omega arith)) refl
+shape-few : (ds : List Data) (address : List ℕ) → list_any is_end ds ≡ false → length ds ≤ most_vertices → option_and_then parted_few (Some (list_of (items_of (ds ++ end_data address ∷ [])))) ≡ Some (ds, end_data address)
+unfolding parted_few
+shape-few ds address none few = rw (list-items (ds ++ end_data address ∷ []), parted-last ds (end_data address), none, end-is address, le-leb (length ds) most_vertices few) refl
+
+taken-by : (says : Bool) (o : Option (List Data × Data)) (ds : List Data) (last : Data) → o ≡ Some (ds, last)
+    → option_map {U = Operations × Data} (λ (parts : List Data × Data). (map (operation_in says) parts.0, parts.1)) o ≡ Some (map (operation_in says) ds, last)
+taken-by says o ds last e = ap (option_map {U = Operations × Data} (λ (parts : List Data × Data). (map (operation_in says) parts.0, parts.1))) e
+
+second-shape : (ds : List Data) (address : List ℕ) → list_any is_end ds ≡ false → length ds ≤ most_vertices → parts_in (whole_data 2 (ds ++ end_data address ∷ [])) ≡ Some (map (operation_in true) ds, end_data address)
+unfolding parts_in whole_data
+second-shape ds address none few = taken-by true _ ds (end_data address) (shape-few ds address none few)
+
+first-shape : (ds : List Data) (address : List ℕ) → list_any is_end ds ≡ false → length ds ≤ most_vertices → parts_in (whole_data 1 (ds ++ end_data address ∷ [])) ≡ Some (map (operation_in false) ds, end_data address)
+unfolding parts_in whole_data
+first-shape ds address none few = taken-by false _ ds (end_data address) (shape-few ds address none few)
 
 -- ---- the whole
 
@@ -168,17 +222,41 @@ all-back (v ∷ vs) before known count all are proper =
     let count' : length (known ++ vertex_address known v ∷ []) ≡ length (before ++ v ∷ []) = length_push known (vertex_address known v) ∙ ap (λ n. n + 1) count ∙ sym (length_push before v) in
     (here, all-back vs (before ++ v ∷ []) (known ++ vertex_address known v ∷ []) count' (all-more known (vertex_address known v) all (address-is (vertex_data known v))) (subst AreVertices (sym (append_assoc before (v ∷ []) vs)) are) proper.1)
 
--- What was written reads back: a text that holds the definition of a graph's vertices and their result is read as these.
-pub round-trip : (text : List ℕ) (vs : List Vertex) (wanted : ℕ) → AreVertices vs → AreProper vs → wanted < length vs → clash_after [] vs ≡ None → read text ≡ Some (definition_data vs wanted) → IsReadAs text (Ok (graph_of vs, wanted))
-round-trip text vs wanted are proper inside none is =
+-- a text whose operations are those of a graph, in either version
+text-read : (text : List ℕ) (vs : List Vertex) (places : List (List ℕ)) (wanted : ℕ) → AreVertices vs → AreProper vs → length places ≡ length vs → wanted < length vs → clash_after [] vs ≡ None
+    → parts_of text ≡ Some (beside (data_after [] vs) places, end_of vs wanted) → IsReadAs text (Ok (record { vertices = vs; places = places }, wanted))
+text-read text vs places wanted are proper long inside none shape =
     let address = slice_index_or (addresses_of vs) wanted [] in
     let all : list_all is_address (addresses_of vs) ≡ true = all-addresses [] vs refl in
     let within : wanted < length (addresses_of vs) = (let count : length (addresses_of vs) ≡ length vs = addresses-count vs in omega arith) in
-    let shape : parts_of text ≡ Some (data_after [] vs, end_data address) = ap (option_and_then parts_in) is ∙ shape-back vs address are.few in
-    let chain : IsReadAfter no_graph (data_after [] vs) (Ok (grown_by no_graph vs)) = chain-back vs no_graph [] refl none_once are none (all-back vs [] [] refl refl are proper) in
+    let chain : IsReadAfter no_graph (beside (data_after [] vs) places) (Ok (grown_by no_graph vs places)) = chain-back vs places no_graph [] long refl none_once are none (all-back vs [] [] refl refl are proper) in
     let once : AreOnce (addresses_of vs) = once-after [] vs none_once none in
     let here : place_of (addresses_of vs) address ≡ Some wanted = once.at wanted address (slice_get-get_or (addresses_of vs) wanted [] within) in
-    (data_after [] vs, (end_data address, (shape, (subst (λ (g : GraphValue). IsReadAfter no_graph (data_after [] vs) (Ok g)) (bare vs no_graph) chain, (address, (end-back address (all-at (addresses_of vs) wanted all within), here))))))
+    (beside (data_after [] vs) places, (end_data address, (shape, (subst (λ (g : GraphValue). IsReadAfter no_graph (beside (data_after [] vs) places) (Ok g)) (whole-grown vs places no_graph long) chain, (address, (end-back address (all-at (addresses_of vs) wanted all within), here))))))
+
+-- What was written reads back: a text that holds the definition of a graph and its result is read as these.
+pub round-trip : (text : List ℕ) (graph : GraphValue) (wanted : ℕ) → IsGraph graph → AreProper graph.vertices → wanted < length graph.vertices → clash_after [] graph.vertices ≡ None → read text ≡ Some (definition_data graph wanted) → IsReadAs text (Ok (graph, wanted))
+round-trip text graph wanted is proper inside none spelled =
+    let ds = data_after [] graph.vertices in
+    let count : length (lined_all graph.places ds) ≡ length graph.vertices = lined_all-length graph.places ds ∙ length-data_after [] graph.vertices in
+    let few : length (lined_all graph.places ds) ≤ most_vertices = (let most = is.vertices.few in omega (arith, count, most)) in
+    let shape : parts_of text ≡ Some (beside ds graph.places, end_of graph.vertices wanted) =
+    ap (option_and_then parts_in) spelled
+    ∙ second-shape (lined_all graph.places ds) (slice_index_or (addresses_of graph.vertices) wanted []) (lined-no_ends graph.places [] graph.vertices) few
+    ∙ ap (λ os. Some (os, end_of graph.vertices wanted)) (operations-back [] graph.vertices graph.places is.beside is.places) in
+    text-read text graph.vertices graph.places wanted is.vertices proper is.beside inside none shape
+
+-- The same of a text of version 1, which has no lines.
+pub first-round-trip : (text : List ℕ) (vs : List Vertex) (wanted : ℕ) → AreVertices vs → AreProper vs → wanted < length vs → clash_after [] vs ≡ None → read text ≡ Some (first_definition_data vs wanted) → IsReadAs text (Ok (graph_of vs, wanted))
+first-round-trip text vs wanted are proper inside none spelled =
+    let ds = data_after [] vs in
+    let count : length ds ≡ length vs = length-data_after [] vs in
+    let few : length ds ≤ most_vertices = (let most = are.few in omega (arith, count, most)) in
+    let shape : parts_of text ≡ Some (beside ds (map (λ _. []) vs), end_of vs wanted) =
+    ap (option_and_then parts_in) spelled
+    ∙ first-shape ds (slice_index_or (addresses_of vs) wanted []) (no_ends [] vs) few
+    ∙ ap (λ os. Some (os, end_of vs wanted)) (first-back [] vs) in
+    text-read text vs (map (λ _. []) vs) wanted are proper (length-map vs (λ _. [])) inside none shape
 
 -- ---- how deep a definition nests
 
@@ -186,18 +264,22 @@ end-depth : (address : List ℕ) → depth (end_data address) ≤ 2
 unfolding end_data
 end-depth address = omega arith
 
-data-depth : (known : List (List ℕ)) (vs : List Vertex) (last : Data) → depth last ≤ 3 → items_depth (items_of (data_after known vs ++ last ∷ [])) ≤ 3
-data-depth known [] last low = omega arith
-data-depth known (v ∷ vs) last low =
-    let here : depth (vertex_data known v) ≤ 3 = op-depth (addresses_at known v.inputs) v.op in
-    let rest : items_depth (items_of (data_after (known ++ vertex_address known v ∷ []) vs ++ last ∷ [])) ≤ 3 = data-depth (known ++ vertex_address known v ∷ []) vs last low in
+data-depth : (places : List (List ℕ)) (known : List (List ℕ)) (vs : List Vertex) (last : Data) → depth last ≤ 3 → items_depth (items_of (lined_all places (data_after known vs) ++ last ∷ [])) ≤ 3
+data-depth places known [] last low = omega arith
+data-depth [] known (v ∷ vs) last low =
+    let here : depth (lined [] (vertex_data known v)) ≤ 3 = lined-depth [] (vertex_data known v) (op-depth (addresses_at known v.inputs) v.op) in
+    let rest : items_depth (items_of (lined_all [] (data_after (known ++ vertex_address known v ∷ []) vs) ++ last ∷ [])) ≤ 3 = data-depth [] (known ++ vertex_address known v ∷ []) vs last low in
+    omega arith
+data-depth (lines ∷ places) known (v ∷ vs) last low =
+    let here : depth (lined lines (vertex_data known v)) ≤ 3 = lined-depth lines (vertex_data known v) (op-depth (addresses_at known v.inputs) v.op) in
+    let rest : items_depth (items_of (lined_all places (data_after (known ++ vertex_address known v ∷ []) vs) ++ last ∷ [])) ≤ 3 = data-depth places (known ++ vertex_address known v ∷ []) vs last low in
     omega arith
 
-pub whole-depth : (vs : List Vertex) (wanted : ℕ) → depth (definition_data vs wanted) ≤ 127
+pub whole-depth : (graph : GraphValue) (wanted : ℕ) → depth (definition_data graph wanted) ≤ 127
 unfolding whole_data
-whole-depth vs wanted =
-    let low : depth (end_data (slice_index_or (addresses_of vs) wanted [])) ≤ 2 = end-depth (slice_index_or (addresses_of vs) wanted []) in
-    let all : items_depth (items_of (data_after [] vs ++ end_data (slice_index_or (addresses_of vs) wanted []) ∷ [])) ≤ 3 = data-depth [] vs (end_data (slice_index_or (addresses_of vs) wanted [])) (omega arith) in
+whole-depth graph wanted =
+    let low : depth (end_of graph.vertices wanted) ≤ 2 = end-depth (slice_index_or (addresses_of graph.vertices) wanted []) in
+    let all : items_depth (items_of (lined_all graph.places (data_after [] graph.vertices) ++ end_of graph.vertices wanted ∷ [])) ≤ 3 = data-depth graph.places [] graph.vertices (end_of graph.vertices wanted) (omega arith) in
     omega arith
 
 -- ---- what the types of its parts keep
@@ -211,8 +293,8 @@ proper-more vs n item inside is all here =
     subst AreProper (sym (take_more vs n item inside ∙ (λ i. take n vs ++ sym is i ∷ []))) (proper-push (take n vs) item all here)
 
 -- a text that was written, by what the code's calls tell
-pub text-back : (text text' : List ℕ) (vs : List Vertex) (n wanted : ℕ) (whole : Data) → AreVertices vs → AreProper (take n vs) → length vs ≤ n → wanted < length vs → clash_after [] vs ≡ None → whole ≡ definition_data vs wanted → (depth whole ≤ 127 → read text ≡ Some whole) → text' ≡ text
-    → IsReadAs text' (Ok (graph_of vs, wanted))
-text-back text text' vs n wanted whole are proper past inside none is reads same =
-    let low : depth whole ≤ 127 = subst (λ (d : Data). depth d ≤ 127) (sym is) (whole-depth vs wanted) in
-    round-trip text' vs wanted are (subst AreProper (take_all n vs past) proper) inside none (ap read same ∙ reads low ∙ ap Some is)
+pub text-back : (text text' : List ℕ) (graph : GraphValue) (n wanted : ℕ) (whole : Data) → IsGraph graph → AreProper (take n graph.vertices) → length graph.vertices ≤ n → wanted < length graph.vertices → clash_after [] graph.vertices ≡ None → whole ≡ definition_data graph wanted → (depth whole ≤ 127 → read text ≡ Some whole) → text' ≡ text
+    → IsReadAs text' (Ok (graph, wanted))
+text-back text text' graph n wanted whole are proper past inside none is reads same =
+    let low : depth whole ≤ 127 = subst (λ (d : Data). depth d ≤ 127) (sym is) (whole-depth graph wanted) in
+    round-trip text' graph wanted are (subst AreProper (take_all n graph.vertices past) proper) inside none (ap read same ∙ reads low ∙ ap Some is)

@@ -1,14 +1,20 @@
 -- The shape of a definition, by what the code's steps tell.
 use Rattle.std.specs.Prelude.{◌≡◌, ◌<◌, ◌≤◌, ◌+◌, ◌-◌, ◌||◌, ℕ, suc, Bool, true, false, cond, Option, Some, None, List, [], ◌∷◌, ◌++◌, map, length, take, drop, get_or, nat_le, is_some, bytes_eq, codes, zero, Ok, Err}
 use Rattle.std.proofs.Common.{sym, ap, refl, ◌∙◌, subst, true≢false, arith, inr}
-use Rattle.std.specs.Option.{option_map, option_and_then, unwrap_or}
+use Rattle.std.specs.Option.{option_map, option_and_then, option_to_list, unwrap_or}
 use Rattle.std.specs.List.{list_any, All}
 use Rattle.std.proofs.lemmas.Bool.{leb-true}
-use Rattle.std.proofs.lemmas.List.{take_more, take_all, drop_more, map-append}
+use Rattle.std.proofs.lemmas.List.{map-append, length-map}
 use Rattle.serde_json.specs.Data.{Data, Members}
 use Rattle.serde_json.specs.Read.{read}
 use Rattle.serde_json.specs.Find.{get, as_str}
-use Rattle.serde_json.specs.View.{items_of}
+use Rattle.serde_json.specs.View.{view, items_of}
+use Rattle.serde_json.specs.declared.value.Value.{Value, Array, Object}
+use Rattle.serde_json.proofs.Views.{view-Array, view-Object, view-lookup}
+use Rattle.std.specs.Map.{lookup}
+use Rattle.std.specs.BTreeMap.{is_at}
+use Rattle.std.specs.Cmp.Lexicographic.{slice_cmp}
+use Rattle.std.proofs.Common.{String, Vec, BTreeMap, Global, string_bytes, nat_cmp}
 use Rattle.llb.specs.declared.op.Op.{Op}
 use Rattle.llb.specs.declared.vertex.Vertex.{Vertex}
 use Rattle.llb.specs.Graph.{GraphValue, IsAfterInputs}
@@ -22,13 +28,23 @@ use Rattle.operations.specs.declared.spelled.Spelled.{Spelled}
 use Rattle.definition.specs.Address.{addresses_of, place_of}
 use Rattle.strict.specs.Strict.{with_first, strict}
 use Rattle.operations.specs.Spelled.{spelled_in, op_of, inputs_in}
-use Rattle.definition.specs.Reading.{parted, parted_few, parts_in, is_end, is_first, as_list, few_of, list_of, places_of, Spells, parts_of, no_graph, IsReadAfter, IsEnd, IsReadAs}
+use Rattle.definition.specs.Lines.{operation_in}
+use Rattle.definition.specs.Reading.{Operations, parted, parted_few, parts_in, version_in, is_end, as_list, few_of, list_of, places_of, Spells, parts_of, no_graph, IsReadAfter, IsEnd, IsReadAs}
 use Rattle.definition.proofs.KeyFacts.{any-map}
 use Rattle.definition.proofs.ReadingFacts.{addresses-count}
 
 pub list-items : (ds : List Data) → list_of (items_of ds) ≡ ds
 list-items [] = refl
 list-items (d ∷ ds) = ap (λ l. d ∷ l) (list-items ds)
+
+-- the list at a key of an object, by what was taken out of it
+pub object-list : (key : List ℕ) (value : Value) (members : BTreeMap (String Global) Value) (found : Option Value) → value ≡ Object members
+    → found ≡ lookup (is_at (λ k. slice_cmp nat_cmp key (string_bytes k))) members.entries → option_and_then as_list (option_map view found) ≡ option_and_then as_list (get key (view value))
+object-list key value members found is taken =
+    ap (λ (o : Option Data). option_and_then as_list o) (ap (λ (o : Option Value). option_map view o) taken ∙ view-lookup key members.entries ∙ sym (ap (λ (d : Data). get key d) (ap view is ∙ view-Object members)))
+
+pub array-list : (value : Value) (values : Vec Value Global) → value ≡ Array values → Some (map view values.items) ≡ as_list (view value)
+array-list value values is = ap (λ (ds : List Data). Some ds) (sym (list-items (map view values.items))) ∙ sym (ap as_list (ap view is ∙ view-Array values))
 
 part-step : (b : Bool) (d : Data) (ds : List Data) (e : Data) (any last : Bool) (rest : Option (List Data × Data)) → rest ≡ cond {A = Option (List Data × Data)} any None (cond {A = Option (List Data × Data)} last (Some (ds, e)) None)
     → cond {A = Option (List Data × Data)} b None (option_map (λ (parts : List Data × Data). (d ∷ parts.0, parts.1)) rest) ≡ cond {A = Option (List Data × Data)} (b || any) None (cond {A = Option (List Data × Data)} last (Some (d ∷ ds, e)) None)
@@ -42,27 +58,25 @@ parted-last [] e = refl
 parted-last (d ∷ []) e = part-step (is_end d) d [] e false (is_end e) _ refl
 parted-last (d ∷ next ∷ ds) e = part-step (is_end d) d (next ∷ ds) e (list_any is_end (next ∷ ds)) (is_end e) _ (parted-last (next ∷ ds) e)
 
-split-last : {A : Type 0} (xs : List A) (x : A) → 1 ≤ length xs → x ≡ get_or xs (length xs - 1) x → xs ≡ take (length xs - 1) xs ++ x ∷ []
-split-last xs x more is =
-    let inside : length xs - 1 < length xs = omega arith in
-    let up : length xs - 1 + 1 ≡ length xs = omega arith in
-    sym (take_all (length xs) xs (omega arith)) ∙ (λ i. take (sym up i) xs) ∙ take_more xs (length xs - 1) x inside ∙ (λ i. take (length xs - 1) xs ++ sym is i ∷ [])
+-- a list from whose end a value was taken
+pub ended : {A : Type 0} (all xs : List A) (taken : Option A) (x : A) → all ≡ xs ++ option_to_list taken → taken ≡ Some x → all ≡ xs ++ x ∷ []
+ended all xs taken x is some = is ∙ ap (λ o. xs ++ option_to_list o) some
 
-module _ {A : Type 0} (view : A → Data) (xs : List A) (x : A) (more : 1 ≤ length xs) (is : x ≡ get_or xs (length xs - 1) x) where
-  whole : parted (map view xs) ≡ cond {A = Option (List Data × Data)} (list_any is_end (map view (take (length xs - 1) xs))) None (cond {A = Option (List Data × Data)} (is_end (view x)) (Some (map view (take (length xs - 1) xs), view x)) None)
-  whole = (λ i. parted (map view (split-last xs x more is i))) ∙ (λ i. parted (map-append view (take (length xs - 1) xs) (x ∷ []) i)) ∙ parted-last (map view (take (length xs - 1) xs)) (view x)
+module _ {A : Type 0} (view : A → Data) (all xs : List A) (x : A) (is : all ≡ xs ++ x ∷ []) where
+  whole : parted (map view all) ≡ cond {A = Option (List Data × Data)} (list_any is_end (map view xs)) None (cond {A = Option (List Data × Data)} (is_end (view x)) (Some (map view xs, view x)) None)
+  whole = (λ i. parted (map view (is i))) ∙ (λ i. parted (map-append view xs (x ∷ []) i)) ∙ parted-last (map view xs) (view x)
 
-  pub parted-has : (told : Bool) → told ≡ list_any (λ v. is_end (view v)) (take (length xs - 1) xs) → told ≡ true → ◌≡◌ {A = Option (List Data × Data)} None (parted (map view xs))
-  parted-has told said held = sym (whole ∙ (λ i. cond {A = Option (List Data × Data)} ((any-map is_end view (take (length xs - 1) xs) ∙ sym said ∙ held) i) None (cond {A = Option (List Data × Data)} (is_end (view x)) (Some (map view (take (length xs - 1) xs), view x)) None)))
+  pub parted-has : (told : Bool) → told ≡ list_any (λ v. is_end (view v)) xs → told ≡ true → ◌≡◌ {A = Option (List Data × Data)} None (parted (map view all))
+  parted-has told said held = sym (whole ∙ (λ i. cond {A = Option (List Data × Data)} ((any-map is_end view xs ∙ sym said ∙ held) i) None (cond {A = Option (List Data × Data)} (is_end (view x)) (Some (map view xs, view x)) None)))
 
-  open_part : (told : Bool) → told ≡ list_any (λ v. is_end (view v)) (take (length xs - 1) xs) → told ≡ false → parted (map view xs) ≡ cond {A = Option (List Data × Data)} (is_end (view x)) (Some (map view (take (length xs - 1) xs), view x)) None
-  open_part told said held = whole ∙ (λ i. cond {A = Option (List Data × Data)} ((any-map is_end view (take (length xs - 1) xs) ∙ sym said ∙ held) i) None (cond {A = Option (List Data × Data)} (is_end (view x)) (Some (map view (take (length xs - 1) xs), view x)) None))
+  open_part : (told : Bool) → told ≡ list_any (λ v. is_end (view v)) xs → told ≡ false → parted (map view all) ≡ cond {A = Option (List Data × Data)} (is_end (view x)) (Some (map view xs, view x)) None
+  open_part told said held = whole ∙ (λ i. cond {A = Option (List Data × Data)} ((any-map is_end view xs ∙ sym said ∙ held) i) None (cond {A = Option (List Data × Data)} (is_end (view x)) (Some (map view xs, view x)) None))
 
-  pub parted-none : (told end : Bool) → told ≡ list_any (λ v. is_end (view v)) (take (length xs - 1) xs) → told ≡ false → end ≡ is_end (view x) → end ≡ false → ◌≡◌ {A = Option (List Data × Data)} None (parted (map view xs))
-  parted-none told end said held last none = sym (open_part told said held ∙ (λ i. cond {A = Option (List Data × Data)} ((sym last ∙ none) i) (Some (map view (take (length xs - 1) xs), view x)) None))
+  pub parted-none : (told end : Bool) → told ≡ list_any (λ v. is_end (view v)) xs → told ≡ false → end ≡ is_end (view x) → end ≡ false → ◌≡◌ {A = Option (List Data × Data)} None (parted (map view all))
+  parted-none told end said held last none = sym (open_part told said held ∙ (λ i. cond {A = Option (List Data × Data)} ((sym last ∙ none) i) (Some (map view xs, view x)) None))
 
-  pub parted-some : (told end : Bool) → told ≡ list_any (λ v. is_end (view v)) (take (length xs - 1) xs) → told ≡ false → end ≡ is_end (view x) → end ≡ true → ◌≡◌ {A = Option (List Data × Data)} (Some (map view (take (length xs - 1) xs), view x)) (parted (map view xs))
-  parted-some told end said held last yes_end = sym (open_part told said held ∙ (λ i. cond {A = Option (List Data × Data)} ((sym last ∙ yes_end) i) (Some (map view (take (length xs - 1) xs), view x)) None))
+  pub parted-some : (told end : Bool) → told ≡ list_any (λ v. is_end (view v)) xs → told ≡ false → end ≡ is_end (view x) → end ≡ true → ◌≡◌ {A = Option (List Data × Data)} (Some (map view xs, view x)) (parted (map view all))
+  parted-some told end said held last yes_end = sym (open_part told said held ∙ (λ i. cond {A = Option (List Data × Data)} ((sym last ∙ yes_end) i) (Some (map view xs, view x)) None))
 
 none_some : {A : Type 0} (x : A) → None ≡ Some x → ⊥
 none_some x e = true≢false (sym (ap is_some e))
@@ -132,9 +146,6 @@ module _ (before : List Vertex) (d : Data) (vertex : Vertex) (spells : Spells be
 
 -- ---- few operations
 
-pub rest-next : {A : Type 0} (view : A → Data) (xs : List A) (i : ℕ) (x : A) → i < length xs → x ≡ get_or xs i x → map view (drop i xs) ≡ view x ∷ map view (drop (i + 1) xs)
-rest-next view xs i x inside is = ap (map view) (drop_more xs i x inside ∙ (λ j. sym is j ∷ drop (i + 1) xs))
-
 few-few : (o : Option (List Data × Data)) (p : List Data × Data) → option_and_then few_of o ≡ Some p → length p.0 ≤ most_vertices
 few-few None p e = absurd (none_some p e)
 few-few (Some parts) p e = by (nat_le (length parts.0) most_vertices) refl e
@@ -147,24 +158,35 @@ few-parted : (ds : List Data) (p : List Data × Data) → parted_few ds ≡ Some
 unfolding parted_few
 few-parted ds p e = few-few (parted ds) p e
 
-few-by : (S : Option Members) (V : Option Data) (L : Option (List Data)) (p : List Data × Data) → option_and_then (λ _. option_and_then (λ version. cond (is_first version) (option_and_then parted_few L) None) V) S ≡ Some p → length p.0 ≤ most_vertices
+few-taken : (says : Bool) (o : Option (List Data × Data)) (p : Operations × Data) → ((q : List Data × Data) → o ≡ Some q → length q.0 ≤ most_vertices)
+    → option_map {U = Operations × Data} (λ (parts : List Data × Data). (map (operation_in says) parts.0, parts.1)) o ≡ Some p → length p.0 ≤ most_vertices
+few-taken says None p few e = absurd (none_some p e)
+few-taken says (Some q) p few e =
+    let same : (map (operation_in says) q.0, q.1) ≡ p = some_same _ p e in
+    let low : length q.0 ≤ most_vertices = few q refl in
+    subst (λ (r : Operations × Data). length r.0 ≤ most_vertices) same (let count : length (map (operation_in says) q.0) ≡ length q.0 = length-map q.0 (operation_in says) in omega arith)
+
+few-listed : (L : Option (List Data)) (q : List Data × Data) → option_and_then parted_few L ≡ Some q → length q.0 ≤ most_vertices
+few-listed None q e = absurd (none_some q e)
+few-listed (Some ds) q e = few-parted ds q e
+
+few-by : (S : Option Members) (V : Option Bool) (L : Option (List Data)) (p : Operations × Data)
+    → option_and_then (λ _. option_and_then (λ says. option_map {U = Operations × Data} (λ (parts : List Data × Data). (map (operation_in says) parts.0, parts.1)) (option_and_then parted_few L)) V) S ≡ Some p → length p.0 ≤ most_vertices
 few-by None V L p e = absurd (none_some p e)
 few-by (Some ms) None L p e = absurd (none_some p e)
-few-by (Some ms) (Some v) L p e = by (is_first v) L e
-  where
-    by : (b : Bool) (L : Option (List Data)) → cond b (option_and_then parted_few L) None ≡ Some p → length p.0 ≤ most_vertices
-    by false L e = absurd (none_some p e)
-    by true None e = absurd (none_some p e)
-    by true (Some ds) e = few-parted ds p e
+few-by (Some ms) (Some says) L p e = few-taken says (option_and_then parted_few L) p (few-listed L) e
 
-pub parts-few : (d : Data) (n : ℕ) (operations : List Data) (last : Data) → Some (operations, last) ≡ parts_in d → n ≡ length operations → n ≤ most_vertices
+pub parts-few : (d : Data) (n : ℕ) (operations : Operations) (last : Data) → Some (operations, last) ≡ parts_in d → n ≡ length operations → n ≤ most_vertices
 unfolding parts_in
-parts-few d n operations last e count = let few : length operations ≤ most_vertices = few-by (strict (codes "ops" ∷ codes "version" ∷ []) d) (get (codes "version") d) (option_and_then as_list (get (codes "ops") d)) (operations, last) (sym e) in omega arith
+parts-few d n operations last e count =
+    let few : length operations ≤ most_vertices =
+    few-by (strict (codes "ops" ∷ codes "version" ∷ []) d) (option_and_then version_in (get (codes "version") d)) (option_and_then as_list (get (codes "ops") d)) (operations, last) (sym e) in
+    omega arith
 
-pub parts-of : (text : List ℕ) (d : Data) (parts : List Data × Data) → read text ≡ Some d → Some parts ≡ parts_in d → parts_of text ≡ Some parts
+pub parts-of : (text : List ℕ) (d : Data) (parts : Operations × Data) → read text ≡ Some d → Some parts ≡ parts_in d → parts_of text ≡ Some parts
 parts-of text d parts is e = ap (option_and_then parts_in) is ∙ sym e
 
-pub end-fault : (text : List ℕ) (operations : List Data) (last : Data) (graph : GraphValue) (fault : Fault Defect) → parts_of text ≡ Some (operations, last) → IsReadAfter no_graph operations (Ok graph) → IsEnd graph.vertices last (Err fault) → IsReadAs text (Err fault)
+pub end-fault : (text : List ℕ) (operations : Operations) (last : Data) (graph : GraphValue) (fault : Fault Defect) → parts_of text ≡ Some (operations, last) → IsReadAfter no_graph operations (Ok graph) → IsEnd graph.vertices last (Err fault) → IsReadAs text (Err fault)
 end-fault text operations last graph (Because (Malformed n)) is all told = inr (operations, (last, (is, inr (graph, (all, told)))))
 end-fault text operations last graph (Because (Unknown n)) is all told = inr (operations, (last, (is, inr (graph, (all, told)))))
 end-fault text operations last graph (Because (Repeated n)) is all told = absurd told

@@ -9,7 +9,7 @@ use Rattle.definition.specs.declared.fault.Defect.{Defect}
 use Rattle.definition.specs.declared.fault.Defect.TheVariants.{Malformed, Unknown, Repeated, Clash}
 use Rattle.operations.specs.declared.spelled.Spelled.{Spelled}
 use Rattle.definition.specs.Address.{addresses_of}
-use Rattle.definition.specs.Reading.{named_in, address_place, IsReadAfter, no_graph}
+use Rattle.definition.specs.Reading.{Operations, named_in, address_place, IsNext, IsReadAfter, grown, no_graph}
 
 -- what the next operation tells, of what was spelled: its vertex, which is new and has a new address, or its first fault, with its place
 abbrev pub IsPlaced : List Vertex → Spelled → Result Vertex (Fault Defect) → Type 0
@@ -25,11 +25,16 @@ abbrev pub told_next : Result (Vertex × List ℕ) (Fault Defect) → Result Ver
 told_next (Ok (vertex, address)) = Ok vertex
 told_next (Err fault) = Err fault
 
+-- what one operation tells after a graph: that graph with its vertex and its lines, or its fault
+abbrev pub IsOneRead : GraphValue → Data × List ℕ → Result GraphValue (Fault Defect) → Type 0
+IsOneRead before o (Ok after) = (vertex : Vertex) × (IsNext before.vertices o.0 (Ok vertex) × (after ≡ grown before vertex o.1))
+IsOneRead before o (Err fault) = IsNext before.vertices o.0 (Err fault)
+
 -- what all operations tell, but for want of memory
-abbrev pub IsAllRead : List Data → Result GraphValue (Fault Defect) → Type 0
-IsAllRead ds (Ok graph) = IsReadAfter no_graph ds (Ok graph)
-IsAllRead ds (Err (Because (Malformed place))) = IsReadAfter no_graph ds (Err (Because (Malformed place)))
-IsAllRead ds (Err (Because (Unknown place))) = IsReadAfter no_graph ds (Err (Because (Unknown place)))
-IsAllRead ds (Err (Because (Repeated place))) = IsReadAfter no_graph ds (Err (Because (Repeated place)))
-IsAllRead ds (Err (Because (Clash place))) = IsReadAfter no_graph ds (Err (Because (Clash place)))
-IsAllRead ds (Err Memory) = Unit {0}
+abbrev pub IsAllRead : Operations → Result GraphValue (Fault Defect) → Type 0
+IsAllRead os (Ok graph) = IsReadAfter no_graph os (Ok graph)
+IsAllRead os (Err (Because (Malformed place))) = IsReadAfter no_graph os (Err (Because (Malformed place)))
+IsAllRead os (Err (Because (Unknown place))) = IsReadAfter no_graph os (Err (Because (Unknown place)))
+IsAllRead os (Err (Because (Repeated place))) = IsReadAfter no_graph os (Err (Because (Repeated place)))
+IsAllRead os (Err (Because (Clash place))) = IsReadAfter no_graph os (Err (Because (Clash place)))
+IsAllRead os (Err Memory) = Unit {0}

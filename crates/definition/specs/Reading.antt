@@ -15,6 +15,7 @@ use Rattle.definition.specs.declared.fault.Defect.{Defect}
 use Rattle.definition.specs.declared.fault.Defect.TheVariants.{Malformed, Unknown, Repeated, Clash}
 use Rattle.operations.specs.declared.spelled.Spelled.{Spelled}
 use Rattle.definition.specs.Address.{addresses_of, vertex_address, place_of}
+use Rattle.definition.specs.Lines.{operation_in}
 use Rattle.strict.specs.Strict.{strict, with_first}
 use Rattle.operations.specs.Spelled.{spelled_in, inputs_in}
 
@@ -51,13 +52,17 @@ IsNext before d (Err Memory) = Unit {0}
 abbrev pub grown : GraphValue → Vertex → List ℕ → GraphValue
 grown graph vertex lines = record { vertices = graph.vertices ++ vertex ∷ []; places = graph.places ++ lines ∷ [] }
 
+-- operations, each with its lines beside it
+abbrev pub Operations : Type 0
+Operations = List (Data × List ℕ)
+
 -- what operations tell that are read one after another, after this graph: the graph of all, or the first fault
-abbrev pub IsReadAfter : GraphValue → List Data → Result GraphValue (Fault Defect) → Type 0
+abbrev pub IsReadAfter : GraphValue → Operations → Result GraphValue (Fault Defect) → Type 0
 IsReadAfter before [] (Ok after) = after ≡ before
 IsReadAfter before [] (Err fault) = ⊥
-IsReadAfter before (d ∷ ds) (Ok after) = (vertex : Vertex) × (IsNext before.vertices d (Ok vertex) × IsReadAfter (grown before vertex []) ds (Ok after))
-IsReadAfter before (d ∷ ds) (Err fault) =
-    IsNext before.vertices d (Err fault) ⊎ ((vertex : Vertex) × (IsNext before.vertices d (Ok vertex) × IsReadAfter (grown before vertex []) ds (Err fault)))
+IsReadAfter before (o ∷ os) (Ok after) = (vertex : Vertex) × (IsNext before.vertices o.0 (Ok vertex) × IsReadAfter (grown before vertex o.1) os (Ok after))
+IsReadAfter before (o ∷ os) (Err fault) =
+    IsNext before.vertices o.0 (Err fault) ⊎ ((vertex : Vertex) × (IsNext before.vertices o.0 (Ok vertex) × IsReadAfter (grown before vertex o.1) os (Err fault)))
 
 -- the graph without a vertex
 abbrev pub no_graph : GraphValue
@@ -112,44 +117,45 @@ list_of (item d ds) = d ∷ list_of ds
 abbrev pub as_list : Data → Option (List Data)
 as_list d = option_map list_of (as_array d)
 
-abbrev pub is_one : Option ℕ → Bool
-is_one None = false
-is_one (Some n) = n == 1
+-- whether operations have to say their lines, by the number of the version: not in version 1, in version 2 they do; there is no other
+abbrev pub says_lines : ℕ → Option Bool
+says_lines version = if version == 1 then Some false else if version == 2 then Some true else None
 
--- whether a value is the number of the version
-abbrev pub is_first : Data → Bool
-is_first d = is_one (option_and_then as_u64 (as_number d))
+-- the same by what stands for the version
+abbrev pub version_in : Data → Option Bool
+version_in d = option_and_then says_lines (option_and_then as_u64 (as_number d))
 
 -- the operations and the end of a definition, where a value has that shape
-unfoldable pub parts_in : Data → Option (List Data × Data)
+unfoldable pub parts_in : Data → Option (Operations × Data)
 parts_in d =
     option_and_then (λ _.
-    option_and_then (λ version. if is_first version then option_and_then parted_few (option_and_then as_list (get (codes "ops") d)) else None)
-    (get (codes "version") d))
+    option_and_then (λ says.
+    option_map (λ parts. (map (operation_in says) parts.0, parts.1)) (option_and_then parted_few (option_and_then as_list (get (codes "ops") d))))
+    (option_and_then version_in (get (codes "version") d)))
     (strict (codes "ops" ∷ codes "version" ∷ []) d)
 
 -- the same of a text
-abbrev pub parts_of : List ℕ → Option (List Data × Data)
+abbrev pub parts_of : List ℕ → Option (Operations × Data)
 parts_of text = option_and_then parts_in (read text)
 
 -- a fault of a text: it has another shape; or an operation tells it, or the end after all operations
 abbrev pub IsFault : List ℕ → (Fault Defect) → Type 0
 IsFault text fault =
     ((parts_of text ≡ None) × (fault ≡ Because (Malformed 0)))
-    ⊎ ((operations : List Data) × ((last : Data) × ((parts_of text ≡ Some (operations, last))
+    ⊎ ((operations : Operations) × ((last : Data) × ((parts_of text ≡ Some (operations, last))
     × (IsReadAfter no_graph operations (Err fault) ⊎ ((graph : GraphValue) × (IsReadAfter no_graph operations (Ok graph) × IsEnd graph.vertices last (Err fault)))))))
 
 -- what reading a text tells: the graph and the result, or the first fault; want of memory tells nothing
 abbrev pub IsReadAs : List ℕ → Result (GraphValue × ℕ) (Fault Defect) → Type 0
 IsReadAs text (Ok (graph, wanted)) =
-    (operations : List Data) × ((last : Data) × ((parts_of text ≡ Some (operations, last)) × (IsReadAfter no_graph operations (Ok graph) × IsEnd graph.vertices last (Ok wanted))))
+    (operations : Operations) × ((last : Data) × ((parts_of text ≡ Some (operations, last)) × (IsReadAfter no_graph operations (Ok graph) × IsEnd graph.vertices last (Ok wanted))))
 IsReadAs text (Err (Because (Malformed place))) = IsFault text (Because (Malformed place))
 IsReadAs text (Err (Because (Unknown place))) = IsFault text (Because (Unknown place))
 IsReadAs text (Err (Because (Repeated place))) = IsFault text (Because (Repeated place))
 IsReadAs text (Err (Because (Clash place))) = IsFault text (Because (Clash place))
 IsReadAs text (Err Memory) = Unit {0}
 
--- the graph of some vertices, with no lines behind them
+-- the graph of some vertices, with no lines behind them: what a definition of version 1 is read as
 abbrev pub graph_of : List Vertex → GraphValue
 graph_of vertices = record { vertices = vertices; places = map (λ _. []) vertices }
 

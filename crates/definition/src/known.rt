@@ -1,6 +1,7 @@
 ghost use Rattle.std.specs.Prelude.{◌≡◌, ◌↔◌, ◌<◌, [], Some, None, IfOk, IsTrue, length, slice_get};
 ghost use Rattle.serde_json.specs.View.{view};
 ghost use Rattle.llb.specs.Graph.{IsAfterInputs, IsNew};
+ghost use Rattle.llb.specs.Places.{AreLines};
 ghost use Rattle.plain.specs.Limits.{most_vertices};
 ghost use Rattle.llb.specs.WellFormed.{is_well_formed};
 ghost use Rattle.operations.specs.Texts.{op_data};
@@ -125,21 +126,28 @@ impl Known {
         }
     }
 
-    /// These with one vertex more, whose address this is.
-    pub(crate) fn with(self, alloc: Global, vertex: Vertex, address: Text) -> Result<Known, Memory>
+    /// These with one vertex more, whose address this is, and the lines behind it.
+    pub(crate) fn with(
+        self,
+        alloc: Global,
+        vertex: Vertex,
+        address: Text,
+        lines: &[u32],
+    ) -> Result<Known, Memory>
         requires few { length self.vertices < most_vertices }
         requires after { IsAfterInputs (length self.vertices) vertex }
         requires formed { IsTrue (is_well_formed vertex) }
         requires fresh { IsNew self.vertices vertex }
         requires place { address_place self.vertices vertex ≡ None }
         requires address { address ≡ vertex_address (addresses_of self.vertices) vertex }
-        ensures { IfOk result (λ more. more ≡ grown self vertex []) }
+        requires lines { AreLines lines.now }
+        ensures { IfOk result (λ more. more ≡ grown self vertex lines.now) }
     {
         let Known {
             mut graph,
             mut addresses,
         } = self;
-        match graph.add(alloc, vertex, None) {
+        match graph.add_all(alloc, vertex, lines) {
             Ok(_) => {}
             Err(Fault::Because(_)) => unreachable!(),
             Err(Fault::Memory) => return Err(Memory),

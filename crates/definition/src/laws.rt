@@ -3,10 +3,10 @@
 ghost use Rattle.std.specs.Prelude.{◌≡◌, ◌<◌, ℕ, List, [], Some, None, Result, Ok, length, slice_get};
 ghost use Rattle.serde_json.specs.Read.{read};
 ghost use Rattle.plain.specs.declared.fault.Fault.{Fault};
-ghost use Rattle.llb.specs.Graph.{GraphValue, AreVertices};
+ghost use Rattle.llb.specs.Graph.{GraphValue, IsGraph, AreVertices};
 ghost use Rattle.llb.specs.declared.vertex.Vertex.{Vertex};
 ghost use Rattle.definition.specs.Address.{addresses_of, vertex_address, clash_after};
-ghost use Rattle.definition.specs.Definition.{AreAlike, AreProper, definition_data};
+ghost use Rattle.definition.specs.Definition.{AreAlike, AreProper, definition_data, first_definition_data};
 ghost use Rattle.definition.specs.Reading.{IsReadAs, IsConclusive, graph_of};
 ghost use Rattle.definition.specs.declared.fault.Defect.{Defect};
 
@@ -26,9 +26,11 @@ pub fn a_text_has_one_reading()
         → IsReadAs text one → IsReadAs text other → one ≡ other }
 {}
 
-/// What was written reads back: every text that spells the definition of a graph's vertices and of their result is read as these. With the law
-/// that a text has one reading it is read as nothing else.
+/// What was written reads back: every text that spells the definition of a graph and its result is read as these, lines and all. One of version
+/// 1, which has no lines, is read as the graph without them. With the law that a text has one reading it is read as nothing else.
 pub fn what_was_written_reads_back()
-    ensures { (text : List ℕ) (vertices : List Vertex) (wanted : ℕ) → AreVertices vertices → AreProper vertices → wanted < length vertices
-        → clash_after [] vertices ≡ None → read text ≡ Some (definition_data vertices wanted) → IsReadAs text (Ok (graph_of vertices, wanted)) }
+    ensures back { (text : List ℕ) (graph : GraphValue) (wanted : ℕ) → IsGraph graph → AreProper graph.vertices → wanted < length graph.vertices
+        → clash_after [] graph.vertices ≡ None → read text ≡ Some (definition_data graph wanted) → IsReadAs text (Ok (graph, wanted)) }
+    ensures first { (text : List ℕ) (vertices : List Vertex) (wanted : ℕ) → AreVertices vertices → AreProper vertices → wanted < length vertices
+        → clash_after [] vertices ≡ None → read text ≡ Some (first_definition_data vertices wanted) → IsReadAs text (Ok (graph_of vertices, wanted)) }
 {}

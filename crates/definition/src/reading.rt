@@ -3,12 +3,14 @@ ghost use Rattle.std.specs.List.{list_any};
 ghost use Rattle.std.specs.Option.{option_and_then};
 ghost use Rattle.plain.specs.Limits.{most_vertices};
 ghost use Rattle.serde_json.specs.Find.{get};
-ghost use Rattle.serde_json.specs.View.{view, items_view};
-ghost use Rattle.definition.specs.Reading.{IsReadAs, IsEnd, parted, parted_few, parts_in, as_list, is_first, is_end, only, end_in};
-ghost use Rattle.definition.specs.PrivateReading.{IsAllRead};
+ghost use Rattle.serde_json.specs.View.{view};
+ghost use Rattle.definition.specs.Lines.{operation_in};
+ghost use Rattle.definition.specs.Reading.{IsReadAs, IsEnd, parted, parted_few, parts_in, as_list, version_in, is_end, only, end_in};
+ghost use Rattle.definition.specs.PrivateReading.{IsAllRead, IsOneRead};
 ghost use Rattle.strict.specs.Gives.{Gives};
 
 use crate::known::Known;
+use crate::lines::operation_in;
 use crate::{DefFault, Defect};
 use llb::{Graph, VertexId};
 use operations::inputs_in;
@@ -18,22 +20,30 @@ use serde_json::Value;
 use std::alloc::Global;
 use strict::{NotRead, ReadFault, is_strict};
 
-/// Reads a definition: its graph, with no lines behind its vertices, and the vertex that its end points to.
+/// Reads a definition of version 1 or 2: its graph, and the vertex that its end points to. Behind the vertices are the lines that the
+/// operations say; in version 1 they say none.
 ///
 /// The operations are gone through in their order, and the first that has a defect decides: `Malformed` where it is no operation that is
 /// well formed on its inputs, `Unknown` where an input names none before it, `Repeated` where an equal one stands before it, `Clash` where a
-/// different one before it has the same address. `Malformed(0)` where the text isn't an object of just the keys `ops` and `version`, the
-/// version 1, of which the last operation alone says that it is the end, and at most 16,384 stand before it.
+/// different one before it has the same address. Neither equality nor address knows lines. In version 2 an operation is `Malformed` also where
+/// it doesn't say its lines, as a list of numbers from 1 to `plain::limits::MOST_LINE_NUMBER` in ascending order, each once; in version 1 where it
+/// says them. `Malformed(0)` where the text isn't an object of just the keys `ops` and `version`, of version 1 or 2, of which the last operation
+/// alone says that it is the end, and at most 16,384 stand before it.
 pub fn read(alloc: Global, text: &str) -> Result<(Graph, VertexId), DefFault>
     ensures { IsReadAs text.now result }
 {
     match Value::from_str(alloc, text) {
         Ok(value) => {
-            let Some((operations, end)) = parts_in(&value) else {
+            let Some(parts) = parts_in(value) else {
                 return Err(Fault::Because(Defect::Malformed(0)));
             };
-            let known = read_operations(alloc, operations)?;
-            match read_end(alloc, end, &known) {
+            let Parts {
+                says_lines,
+                operations,
+                end,
+            } = parts;
+            let known = read_operations(alloc, says_lines, operations)?;
+            match read_end(alloc, &end, &known) {
                 Ok(wanted) => Ok((known.into_graph(), wanted)),
                 Err(fault) => Err(fault),
             }
@@ -48,54 +58,79 @@ pub fn read(alloc: Global, text: &str) -> Result<(Graph, VertexId), DefFault>
     }
 }
 
-/// The operations and the end of a definition, where a value has that shape.
-#[tactic(auto, unfolding(crate::specs::Reading::parts_in))]
-fn parts_in(value: &Value) -> Option<(&[Value], &Value)>
-    ensures { option_map (λ parts. (map view parts.0.now, view parts.1.now)) result ≡ parts_in (view value.now) }
-{
-    if !is_strict(value, &["ops", "version"]) {
-        return None;
-    }
-    let version = value.get("version")?;
-    if !is_first(version) {
-        return None;
-    }
-    let values = values_at(value, "ops")?;
-    parted_few(values)
+/// A definition taken apart: whether its operations have to say their lines, these, and the end.
+#[derive(Drop)]
+struct Parts {
+    says_lines: bool,
+    operations: Vec<Value>,
+    end: Value,
 }
 
-/// Whether a value is the number of the version.
-fn is_first(value: &Value) -> bool
-    ensures { result ≡ is_first (view value.now) }
+/// The operations and the end of a definition, where a value has that shape.
+#[tactic(auto, unfolding(crate::specs::Reading::parts_in))]
+fn parts_in(value: Value) -> Option<Parts>
+    ensures { option_map (λ parts. (map (operation_in parts.says_lines) (map view parts.operations.items), view parts.end)) result
+        ≡ parts_in (view value) }
+{
+    if !is_strict(&value, &["ops", "version"]) {
+        return None;
+    }
+    let says_lines = version_at(&value, "version")?;
+    let values = list_at(value, "ops")?;
+    let (operations, end) = parted_few(values)?;
+    Some(Parts {
+        says_lines,
+        operations,
+        end,
+    })
+}
+
+/// Whether operations have to say their lines, by the version at a key.
+fn version_at(value: &Value, key: &str) -> Option<bool>
+    ensures { result ≡ option_and_then version_in (get key.now (view value.now)) }
+{
+    let version = value.get(key)?;
+    version_in(version)
+}
+
+/// Whether operations have to say their lines, by what stands for the version.
+fn version_in(value: &Value) -> Option<bool>
+    ensures { result ≡ version_in (view value.now) }
 {
     match value.as_u64() {
-        Some(version) => version == 1,
-        None => false,
+        Some(1) => Some(false),
+        Some(2) => Some(true),
+        _ => None,
     }
 }
 
 /// The values of the list at a key.
-fn values_at<'a>(value: &'a Value, key: &str) -> Option<&'a [Value]>
-    ensures { option_map (λ values. map view values.now) result ≡ option_and_then as_list (get key.now (view value.now)) }
+fn list_at(value: Value, key: &str) -> Option<Vec<Value>>
+    ensures { option_map (λ values. map view values.items) result ≡ option_and_then as_list (get key.now (view value)) }
 {
-    let list = value.get(key)?;
-    values_of(list)
+    match value {
+        Value::Object(mut members) => {
+            let list = members.remove(key)?;
+            values_of(list)
+        }
+        _ => None,
+    }
 }
 
 /// The values of a list.
-fn values_of(value: &Value) -> Option<&[Value]>
-    ensures { option_map (λ values. map view values.now) result ≡ as_list (view value.now) }
+fn values_of(value: Value) -> Option<Vec<Value>>
+    ensures { option_map (λ values. map view values.items) result ≡ as_list (view value) }
 {
-    match value.as_array() {
-        Some(values) => Some(values.as_slice()),
-        None => None,
+    match value {
+        Value::Array(values) => Some(values),
+        _ => None,
     }
 }
 
 /// Values of which the last one alone says that it is an end, and that are no more than a graph has.
 #[tactic(auto, unfolding(crate::specs::Reading::parted_few))]
-fn parted_few(values: &[Value]) -> Option<(&[Value], &Value)>
-    ensures { option_map (λ parts. (map view parts.0.now, view parts.1.now)) result ≡ parted_few (map view values.now) }
+fn parted_few(values: Vec<Value>) -> Option<(Vec<Value>, Value)>
+    ensures { option_map (λ parts. (map view parts.0.items, view parts.1)) result ≡ parted_few (map view values.items) }
 {
     let (operations, end) = parted(values)?;
     if operations.len() <= MOST_VERTICES {
@@ -106,16 +141,15 @@ fn parted_few(values: &[Value]) -> Option<(&[Value], &Value)>
 }
 
 /// Values of which the last one alone says that it is an end: those before it, and it.
-fn parted(values: &[Value]) -> Option<(&[Value], &Value)>
-    ensures { option_map (λ parts. (map view parts.0.now, view parts.1.now)) result ≡ parted (map view values.now) }
+fn parted(values: Vec<Value>) -> Option<(Vec<Value>, Value)>
+    ensures { option_map (λ parts. (map view parts.0.items, view parts.1)) result ≡ parted (map view values.items) }
 {
-    let [operations @ .., end] = values else {
-        return None;
-    };
-    if has_end(operations) {
+    let mut operations = values;
+    let end = operations.pop()?;
+    if has_end(operations.as_slice()) {
         return None;
     }
-    if !is_end(end) {
+    if !is_end(&end) {
         return None;
     }
     Some((operations, end))
@@ -139,18 +173,42 @@ fn is_end(value: &Value) -> bool
 }
 
 /// The graph that operations make one after another.
-fn read_operations(alloc: Global, operations: &[Value]) -> Result<Known, DefFault>
-    requires { length operations.now ≤ most_vertices }
-    ensures { IsAllRead (map view operations.now) result }
+fn read_operations(
+    alloc: Global,
+    says_lines: bool,
+    operations: Vec<Value>,
+) -> Result<Known, DefFault>
+    requires { length operations.items ≤ most_vertices }
+    ensures { IsAllRead (map (operation_in says_lines) (map view operations.items)) result }
 {
     let mut known = Known::new(alloc);
     for value in operations {
-        match known.next(alloc, value) {
-            Ok((vertex, address)) => known = known.with(alloc, vertex, address)?,
+        match read_operation(alloc, says_lines, known, value) {
+            Ok(more) => known = more,
             Err(fault) => return Err(fault),
         }
     }
     Ok(known)
+}
+
+/// The graph with the vertex of one operation more, and its lines.
+fn read_operation(
+    alloc: Global,
+    says_lines: bool,
+    known: Known,
+    value: Value,
+) -> Result<Known, DefFault>
+    requires { length known.vertices < most_vertices }
+    ensures { IsOneRead known (operation_in says_lines (view value)) result }
+{
+    let (operation, lines) = operation_in(alloc, says_lines, value)?;
+    match known.next(alloc, &operation) {
+        Ok((vertex, address)) => {
+            let more = known.with(alloc, vertex, address, lines.as_slice())?;
+            Ok(more)
+        }
+        Err(fault) => Err(fault),
+    }
 }
 
 /// The vertex that an end points to.

@@ -2,15 +2,15 @@ ghost use Rattle.std.specs.Prelude.{◌≡◌, ◌<◌, false, Ok, IfOk, map, le
 ghost use Rattle.serde_json.specs.View.{view};
 ghost use Rattle.serde_json.specs.Written.{has_float};
 ghost use Rattle.definition.specs.Address.{vertex_data};
-ghost use Rattle.llb.specs.Graph.{AreVertices};
 ghost use Rattle.operations.specs.Proper.{IsProper};
 ghost use Rattle.definition.specs.Definition.{IsWritten, end_data, whole_data};
-ghost use Rattle.definition.specs.Reading.{IsReadAs, graph_of};
+ghost use Rattle.definition.specs.Reading.{IsReadAs};
 
 use crate::address::address_of;
 use crate::addresses::Addresses;
+use crate::lines::lined;
 use crate::{DefFault, Defect};
-use llb::{Vertex, VertexId};
+use llb::{Graph, Vertex, VertexId};
 use operations::op_value;
 use plain::{Fault, Memory, Text};
 use plans::Plan;
@@ -18,24 +18,25 @@ use serde_json::{Map, Value, json};
 use std::alloc::Global;
 use strict::{ToJson, put};
 
-/// The definition text of a plan's graph: its operations in their order, and an end that points to the target.
+/// The definition text of a plan's graph, in version 2: its operations in their order, each with the lines that it comes from, and an end that
+/// points to the target.
 ///
-/// `Clash` exactly where two different operations have the same address; its place is that of the later one. What was written reads back:
-/// `read` gives the plan's vertices, with no lines behind them, and its target.
+/// `Clash` exactly where two different operations have the same address; its place is that of the later one. Lines are no part of an
+/// operation's address. What was written reads back: `read` gives the plan's graph, with its lines, and its target.
 pub fn write<C>(alloc: Global, plan: &Plan<C>) -> Result<Text, DefFault>
-    ensures written { IsWritten plan.now.graph.vertices plan.now.target result }
-    ensures back { IfOk result (λ text. IsReadAs text (Ok (graph_of plan.now.graph.vertices, plan.now.target))) }
+    ensures written { IsWritten plan.now.graph plan.now.target result }
+    ensures back { IfOk result (λ text. IsReadAs text (Ok (plan.now.graph, plan.now.target))) }
 {
-    write_vertices(alloc, plan.graph().vertices(), plan.target())
+    write_graph(alloc, plan.graph(), plan.target())
 }
 
-/// The definition text of some vertices and their result.
-fn write_vertices(alloc: Global, vertices: &[Vertex], wanted: VertexId) -> Result<Text, DefFault>
-    requires are { AreVertices vertices.now }
-    requires wanted { wanted < length vertices.now }
-    ensures written { IsWritten vertices.now wanted result }
-    ensures back { IfOk result (λ text. IsReadAs text (Ok (graph_of vertices.now, wanted))) }
+/// The definition text of a graph and its result.
+fn write_graph(alloc: Global, graph: &Graph, wanted: VertexId) -> Result<Text, DefFault>
+    requires { wanted < length graph.now.vertices }
+    ensures written { IsWritten graph.now wanted result }
+    ensures back { IfOk result (λ text. IsReadAs text (Ok (graph.now, wanted))) }
 {
+    let vertices = graph.vertices();
     let mut known = Addresses::new(alloc);
     let mut values = Vec::with_capacity(alloc, vertices.len() + 1)?;
     for (place, vertex) in vertices.iter().enumerate() {
@@ -45,7 +46,8 @@ fn write_vertices(alloc: Global, vertices: &[Vertex], wanted: VertexId) -> Resul
             return Err(Fault::Because(Defect::Clash(place as u32)));
         }
         known.push(alloc, address)?;
-        values.push(value)?;
+        let lines = graph.places(VertexId::new(place as u32));
+        values.push(lined(alloc, value, lines)?)?;
     }
     let address = known.name(alloc, wanted)?;
     values.push(end_value(alloc, &address)?)?;
@@ -78,11 +80,11 @@ fn end_value(alloc: Global, address: &Text) -> Result<Value, Memory>
     Ok(Value::Object(members))
 }
 
-/// A whole definition as JSON, from its operations and its end.
+/// A whole definition as JSON, in version 2, from its operations and its end.
 #[tactic(auto, unfolding(crate::specs::Definition::whole_data))]
 fn whole_value(alloc: Global, operations: Vec<Value>) -> Result<Value, Memory>
-    ensures { IfOk result (λ v. view v ≡ whole_data (map view operations.items)) }
+    ensures { IfOk result (λ v. view v ≡ whole_data 2 (map view operations.items)) }
 {
     let operations = Value::Array(operations);
-    Ok(json!(in alloc; {"ops": operations, "version": 1u64})?)
+    Ok(json!(in alloc; {"ops": operations, "version": 2u64})?)
 }

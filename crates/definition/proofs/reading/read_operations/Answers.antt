@@ -1,22 +1,23 @@
-use Rattle.std.proofs.Common.{ap, ◌∙◌, length, ◌+◌}
-use Rattle.std.proofs.lemmas.List.{length_push}
-use Rattle.serde_json.specs.View.{view}
-use Rattle.llb.specs.Graph.{GraphValue}
-use Rattle.definition.proofs.ReadingFacts.{reading-step, reading-fault}
-use Rattle.definition.proofs.ShapeFacts.{rest-next, spells-after, spells-formed}
+use Rattle.std.proofs.Common.{length, sym, ◌∙◌}
+use Rattle.definition.proofs.ReadingFacts.{said, reading-on, reading-room, values-start, values-end, values-fault}
 use Rattle.definition.proofs.reading.read_operations.Goals as goal
 
-pub with-requires-clause-after : goal.with-requires-clause-after
-with-requires-clause-after c = spells-after _ _ _ c.in-Ok.ensures.next.0
+pub read_operation-requires : goal.read_operation-requires
+read_operation-requires c = reading-room c.loop-value.value-iterator.rest.items c.next.new.self.rest.items c.in-Some.value (length c.loop-value.known.vertices) c.loop-value.invariant.1 c.in-Some.ensures.steps.0
 
-pub with-requires-clause-formed : goal.with-requires-clause-formed
-with-requires-clause-formed c = spells-formed _ _ _ c.in-Ok.ensures.next.0
-
-pub returns-in-Err : goal.returns-in-Err
-returns-in-Err c = reading-fault _ _ _ _ _ c.in-Err.fault c.loop-value.invariant.0 (rest-next view c.args.operations.now c.loop-value.value-index c.value-item.result c.loop-value-test.true c.value-item.is) c.in-Err.ensures.next
+pub loop-value-init : goal.loop-value-init
+loop-value-init c = values-start c.args.says_lines c.into_iter-value-iterator.result.rest.items c.args.operations.items c.new-known.result c.new-known.ensures c.into_iter-value-iterator.ensures.into_iter_gives.0 c.requires
 
 pub loop-value-preserved : goal.loop-value-preserved
-loop-value-preserved c = (
-  reading-step _ _ _ _ _ _ c.in-Ok.vertex c.loop-value.invariant.0 (rest-next view c.args.operations.now c.loop-value.value-index c.value-item.result c.loop-value-test.true c.value-item.is) c.in-Ok.ensures.next c.in_ok-known-in-Ok.ensures,
-  ap (λ (g : GraphValue). length g.vertices) c.in_ok-known-in-Ok.ensures ∙ length_push _ _ ∙ ap (λ n. n + 1) c.loop-value.invariant.1,
-)
+loop-value-preserved c =
+    reading-on (said c.args.says_lines) c.loop-value.value-iterator.rest.items c.next.new.self.rest.items c.in-Some.value c.loop-value.known c.in-Ok.more _ c.loop-value.invariant c.in-Some.ensures.steps.0 c.in-Ok.ensures
+
+pub returns-in-Err : goal.returns-in-Err
+returns-in-Err c =
+    values-fault c.args.says_lines c.loop-value.value-iterator.rest.items c.next.new.self.rest.items c.into_iter-value-iterator.result.rest.items c.args.operations.items c.in-Some.value c.loop-value.known c.in-Err.fault c.loop-value.invariant c.in-Some.ensures.steps.0
+    c.into_iter-value-iterator.ensures.into_iter_gives.0 c.in-Err.ensures
+
+pub returns : goal.returns
+returns c =
+    values-end c.args.says_lines c.loop-value.value-iterator.rest.items c.into_iter-value-iterator.result.rest.items c.args.operations.items c.loop-value.known c.loop-value.invariant (sym c.loop-value.value-iterator.rest.ok.0 ∙ c.in-None.ensures.steps.0)
+    c.into_iter-value-iterator.ensures.into_iter_gives.0
