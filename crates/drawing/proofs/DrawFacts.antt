@@ -12,7 +12,7 @@ use Rattle.rewrite.specs.Flat.{MergesAreFlat}
 use Rattle.rewrite.specs.Pruned.{KeepsMeaning}
 use Rattle.definition.specs.Address.{addresses_of, clash_after}
 use Rattle.definition.specs.Definition.{AreAlike, IsWritten}
-use Rattle.definition.specs.Reading.{IsReadAs, graph_of}
+use Rattle.definition.specs.Reading.{IsReadAs}
 use Rattle.definition.specs.declared.fault.Defect.{Defect}
 use Rattle.definition.specs.declared.fault.Defect.TheVariants.{Malformed, Unknown, Repeated, Clash}
 use Rattle.drawing.specs.Drawn.{IsSimplified, HaveOneAddress, Draws, Clashes}
@@ -23,11 +23,12 @@ value_kept : {C : Type 0} (plan simple : PlanValue C) → KeepsMeaning plan simp
 unfolding vertex_value
 value_kept plan simple keeps out = ap (λ sources. value_of out sources simple.graph.vertices simple.target) (sym keeps.sources) ∙ keeps.last out
 
-pub drawn : {C : Type 0} (plan simple : PlanValue C) (text : List ℕ) → IsSimplified plan simple → MergesAreFlat simple.graph.vertices
-    → KeepsMeaning plan simple → ((out : Out) → NeedsAll (problem_of out simple)) → IsWritten simple.graph.vertices simple.target (Ok text)
-    → IsReadAs text (Ok (graph_of simple.graph.vertices, simple.target)) → Draws plan text
-drawn plan simple text is flat keeps needed written read = record {
+pub drawn : {C : Type 0} (plan simple : PlanValue C) (text : List ℕ) → IsPlan simple → IsSimplified plan simple → MergesAreFlat simple.graph.vertices
+    → KeepsMeaning plan simple → ((out : Out) → NeedsAll (problem_of out simple)) → IsWritten simple.graph simple.target (Ok text)
+    → IsReadAs text (Ok (simple.graph, simple.target)) → Draws plan text
+drawn plan simple text plans is flat keeps needed written read = record {
   simple = simple;
+  is = plans.graph;
   simplified = is;
   defines = record { written = written; read = read; reached = needed (λ request. Exited 1); flat = flat };
   value = value_kept plan simple keeps;
@@ -64,14 +65,14 @@ clashing plan simple place told plans is clash =
     }
 
 told_clashes : {C : Type 0} (plan simple : PlanValue C) (defect : Defect) → AreTold → IsPlan simple → IsSimplified plan simple
-    → IsWritten simple.graph.vertices simple.target (Err (Because defect)) → Clashes plan
+    → IsWritten simple.graph simple.target (Err (Because defect)) → Clashes plan
 told_clashes plan simple (Clash place) told plans is clash = clashing plan simple place told plans is clash
 told_clashes plan simple (Malformed place) told plans is none = absurd none
 told_clashes plan simple (Unknown place) told plans is none = absurd none
 told_clashes plan simple (Repeated place) told plans is none = absurd none
 
 pub clashes : {C : Type 0} (plan simple : PlanValue C) (fault : Fault Defect) (defect : Defect) → fault ≡ Because defect → AreTold → IsPlan simple
-    → IsSimplified plan simple → IsWritten simple.graph.vertices simple.target (Err fault) → Clashes plan
+    → IsSimplified plan simple → IsWritten simple.graph simple.target (Err fault) → Clashes plan
 clashes plan simple fault defect because told plans is written =
     told_clashes plan simple defect told plans is
-    (subst (λ (f : Fault Defect). IsWritten simple.graph.vertices simple.target (Err f)) because written)
+    (subst (λ (f : Fault Defect). IsWritten simple.graph simple.target (Err f)) because written)

@@ -4,6 +4,7 @@ use Rattle.std.specs.Prelude.{◌≡◌, ◌≢◌, ◌<◌, ℕ, Some, Result, 
 use Rattle.plain.specs.declared.fault.Fault.{Fault}
 use Rattle.plain.specs.declared.fault.Fault.TheVariants.{Because, Memory}
 use Rattle.llb.specs.declared.vertex.Vertex.{Vertex}
+use Rattle.llb.specs.Graph.{GraphValue, IsGraph}
 use Rattle.llb.specs.Reach.{Reaches}
 use Rattle.plans.specs.Plan.{PlanValue}
 use Rattle.plans.specs.Value.{Out, value_of}
@@ -11,7 +12,7 @@ use Rattle.rewrite.specs.Flat.{IsFlattened, MergesAreFlat}
 use Rattle.rewrite.specs.Pruned.{IsPruned}
 use Rattle.definition.specs.Address.{addresses_of, clash_after}
 use Rattle.definition.specs.Definition.{AreAlike, IsWritten}
-use Rattle.definition.specs.Reading.{IsReadAs, graph_of}
+use Rattle.definition.specs.Reading.{IsReadAs}
 use Rattle.drawing.specs.declared.fault.Clash.{Clash}
 
 -- a plan is another one with its links put into one, then without what its target doesn't reach
@@ -20,20 +21,21 @@ pub record IsSimplified {C : Type 0} (plan simple : PlanValue C) : Type 0 where
   pub flattened : IsFlattened plan flat
   pub pruned : IsPruned flat simple
 
--- A text defines these vertices and their result: it is what they are written as, it is read as them, each of them is the result or is
+-- A text defines a graph and its result: it is what they are written as, it is read as them, lines and all, each vertex is the result or is
 -- reached from it by inputs, and no merge is the first input of a merge.
-pub record Defines (text : List ℕ) (vertices : List Vertex) (result : ℕ) : Type 0 where
-  pub written : IsWritten vertices result (Ok text)
-  pub read : IsReadAs text (Ok (graph_of vertices, result))
-  pub reached : (vertex : ℕ) → vertex < length vertices → Reaches vertices result vertex
-  pub flat : MergesAreFlat vertices
+pub record Defines (text : List ℕ) (graph : GraphValue) (result : ℕ) : Type 0 where
+  pub written : IsWritten graph result (Ok text)
+  pub read : IsReadAs text (Ok (graph, result))
+  pub reached : (vertex : ℕ) → vertex < length graph.vertices → Reaches graph.vertices result vertex
+  pub flat : MergesAreFlat graph.vertices
 
--- A text draws a plan: it defines the graph of the simplified plan, and under every executor its result has the value of the plan's
--- target, over the plan's sources.
+-- A text draws a plan: it defines the graph of the simplified plan, with the lines behind its vertices, and under every executor its result has
+-- the value of the plan's target, over the plan's sources.
 pub record Draws {C : Type 0} (plan : PlanValue C) (text : List ℕ) : Type 0 where
   pub simple : PlanValue C
+  pub is : IsGraph simple.graph
   pub simplified : IsSimplified plan simple
-  pub defines : Defines text simple.graph.vertices simple.target
+  pub defines : Defines text simple.graph simple.target
   pub value : (out : Out)
       → value_of out plan.sources simple.graph.vertices simple.target ≡ value_of out plan.sources plan.graph.vertices plan.target
 

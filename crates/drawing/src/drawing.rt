@@ -16,8 +16,9 @@ use std::alloc::Global;
 /// The definition text of a plan's graph, with its links put into one and without what its target doesn't reach.
 ///
 /// All operations of what it is read as are reached from the result, no merge among them is the first input of a merge, and under every
-/// executor the result has the value of the plan's target, over the plan's sources. Every plan may be drawn. `Clash` exactly where two
-/// different operations of what would be written have the same address.
+/// executor the result has the value of the plan's target, over the plan's sources. Each says the lines behind it; one in which several of the
+/// plan's became one says those of all. Every plan may be drawn. `Clash` exactly where two different operations of what would be written have
+/// the same address.
 pub fn draw<C: Drop>(alloc: Global, plan: Plan<C>) -> Result<Text, DrawFault>
     ensures { IsDrawn plan result }
 {

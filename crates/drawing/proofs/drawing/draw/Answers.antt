@@ -5,7 +5,7 @@ use Rattle.drawing.proofs.drawing.draw.Goals as goal
 pub returns-in-Ok : goal.returns-in-Ok
 returns-in-Ok g c =
     let simple = c.in_ok-simple.ensures in
-    drawn c.args.plan c.in_ok-simple.simple c.in-Ok.text simple.simplified simple.flat simple.keeps simple.needed c.in-Ok.ensures.written
+    drawn c.args.plan c.in_ok-simple.simple c.in-Ok.text c.graph-known.ensures.plan simple.simplified simple.flat simple.keeps simple.needed c.in-Ok.ensures.written
     c.in-Ok.ensures.back
 
 pub returns-in-Err-Because : goal.returns-in-Err-Because
