@@ -4,6 +4,7 @@ mod BoardFacts
 mod BuildingFacts
 mod ExistFacts
 mod OneDrawingFacts
+mod OneLinesFacts
 mod OnePlanFacts
 mod PlanFacts
 mod ShowFacts

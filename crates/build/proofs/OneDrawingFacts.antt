@@ -1,14 +1,13 @@
 -- A file is drawn in one way: what is left of its graph, with links put into one and without what the target doesn't reach, has its vertices in the
--- order in which they are met first, and equal ones are one, since no text has one twice.
-use Rattle.std.proofs.Common.{◌≡◌, ◌⊎◌, inl, inr, ◌<◌, ◌≤◌, ℕ, zero, suc, List, [], ◌∷◌, ◌++◌, Some, length, refl, sym, ap, ◌∙◌, subst, arith}
-use Rattle.std.specs.Prelude.{Ok, slice_get}
+-- order in which they are met first, and equal ones are one, with the lines of all.
+use Rattle.std.proofs.Common.{◌≡◌, inl, inr, ◌<◌, ◌≤◌, ℕ, zero, suc, List, [], ◌∷◌, Some, length, refl, sym, ap, ◌∙◌, subst, arith}
+use Rattle.std.specs.Prelude.{slice_get, Contains}
 use Rattle.std.specs.List.{All, AllZip}
 use Rattle.std.proofs.lemmas.Bool.{cases_lt}
 use Rattle.std.proofs.lemmas.List.Elements.{All-head, All-tail}
-use Rattle.std.proofs.lemmas.Option.{same_Some, none-some, slice_get_within}
-use Rattle.serde_json.specs.Data.{Data}
+use Rattle.std.proofs.lemmas.Option.{same_Some, slice_get_within}
 use Rattle.runs.specs.declared.run.RunOutcome.TheVariants.{Exit}
-use Rattle.llb.specs.Graph.{GraphValue, IsAfterInputs, IsNew}
+use Rattle.llb.specs.Graph.{IsAfterInputs}
 use Rattle.llb.specs.Reach.{Reaches}
 use Rattle.llb.specs.declared.op.Op.{Op}
 use Rattle.llb.specs.declared.vertex.Vertex.{Vertex}
@@ -20,11 +19,12 @@ use Rattle.rewrite.proofs.FlatFacts.{flat_there, flat_back, flat_after}
 use Rattle.rewrite.proofs.FlattenedFacts.{flat_needs}
 use Rattle.rewrite.proofs.JoinFacts.{there_is}
 use Rattle.lowering.specs.Meaning.{Rows}
-use Rattle.lowering.specs.Means.{StandsFor}
+use Rattle.lowering.specs.Means.{StandsFor, lines_at}
+use Rattle.lowering.specs.Vertices.{Places, HasPlace}
 use Rattle.definition.specs.Definition.{definition_text}
-use Rattle.definition.specs.Reading.{IsReadAfter, no_graph}
 use Rattle.drawing.specs.Drawn.{Draws}
 use Rattle.build.proofs.OnePlanFacts.{AreOnce, same_items, one_graph}
+use Rattle.build.proofs.OneLinesFacts.{same_places}
 
 -- ---- vertices under new numbers
 
@@ -121,12 +121,13 @@ module _ (olds : List Vertex) (target : ℕ) (after : (k : ℕ) (v : Vertex) →
   ]
 
   one_naming : (A B : List Vertex) (last_a last_b : ℕ) (M N : ℕ → ℕ → Type 0) → IsNaming olds target A last_a M → IsNaming olds target B last_b N
-      → (A ≡ B) × (last_a ≡ last_b)
+      → (A ≡ B) × (last_a ≡ last_b) × ((k a b : ℕ) → M k a → N k b → a ≡ b)
   one_naming A B last_a last_b M N one other =
       let most = not_longer A B last_a last_b M N one other in
       let least = not_longer B A last_b last_a N M other one in (
         same_items A B (omega (arith, most, least)) (λ k low. (let found = same_new A B last_a last_b M N one other k low in found.1 ∙ sym found.2)),
         agree_on A B last_a last_b M N one other (suc target) target (omega arith) last_a last_b one.last_is other.last_is,
+        λ k a b named was. agree_on A B last_a last_b M N one other (suc k) k (omega arith) a b named was,
       )
 
 -- ---- a simplified plan
@@ -225,51 +226,70 @@ module _ {C : Type 0} (old flat simple : PlanValue C) (is : IsPlan old) (f : IsF
     once = once;
   }
 
--- ---- a text has no vertex twice
+-- ---- the lines
 
-once_none : AreOnce []
-once_none j k v at there = absurd (none-some v at)
+module _ {C : Type 0} (old flat simple : PlanValue C) (f : IsFlattened old flat) (p : IsPruned flat simple) where
+  -- a line behind a vertex that is left is one of a vertex that it stands for
+  line_from : (id line : ℕ) → id < length simple.graph.vertices → Contains (lines_at simple.graph id) line
+      → (k : ℕ) × Named f.names p.names k id × Contains (lines_at old.graph k) line
+  line_from id line within is =
+      let m = p.onto id within in
+      let inside : m.0 < length flat.graph.vertices = (let l = slice_get_within p.names m.0 (Some id) m.1 in omega (arith, l, p.long)) in
+      let k = (f.lines m.0 line inside).0 (subst (λ (ls : List ℕ). Contains ls line) (p.lines m.0 id m.1) is) in
+      (k.0, (m.0, k.1, m.1), k.2)
 
-get_push : (vs : List Vertex) (v x : Vertex) (n : ℕ) → slice_get (vs ++ v ∷ []) n ≡ Some x → (slice_get vs n ≡ Some x) ⊎ ((n ≡ length vs) × (v ≡ x))
-get_push [] v x zero e = inr (refl, same_Some v x e)
-get_push [] v x (suc n) e = absurd (none-some x e)
-get_push (w ∷ ws) v x zero e = inl e
-get_push (w ∷ ws) v x (suc n) e = elim (get_push ws v x n e) [ inl before ↦ inl before | inr last ↦ inr (ap suc last.0, last.1) ]
+  -- and the other way round
+  line_to : (k id line : ℕ) → Named f.names p.names k id → Contains (lines_at old.graph k) line → Contains (lines_at simple.graph id) line
+  line_to k id line named is =
+      let inside : named.0 < length flat.graph.vertices = (let l = slice_get_within p.names named.0 (Some id) named.2 in omega (arith, l, p.long)) in
+      subst (λ (ls : List ℕ). Contains ls line) (sym (p.lines named.0 id named.2)) ((f.lines named.0 line inside).1 (k, named.1, is))
 
-once_push : (vs : List Vertex) (v : Vertex) → AreOnce vs → IsNew vs v → AreOnce (vs ++ v ∷ [])
-once_push vs v once new j k x at there = by (get_push vs v x j at) (get_push vs v x k there)
-  where
-    by : (slice_get vs j ≡ Some x) ⊎ ((j ≡ length vs) × (v ≡ x)) → (slice_get vs k ≡ Some x) ⊎ ((k ≡ length vs) × (v ≡ x)) → j ≡ k
-    by (inl one) (inl other) = once j k x one other
-    by (inl one) (inr (last, same)) = absurd (new j (one ∙ ap (λ (u : Vertex). Some u) (sym same)))
-    by (inr (last, same)) (inl other) = absurd (new k (other ∙ ap (λ (u : Vertex). Some u) (sym same)))
-    by (inr one) (inr other) = one.0 ∙ sym other.0
-
-once_after : (before after : GraphValue) (ds : List Data) → AreOnce before.vertices → IsReadAfter before ds (Ok after) → AreOnce after.vertices
-once_after before after [] once read = subst (λ (g : GraphValue). AreOnce g.vertices) (sym read) once
-once_after before after (d ∷ ds) once read =
-    once_after (record { vertices = before.vertices ++ read.0 ∷ []; places = before.places ++ [] ∷ [] }) after ds
-    (once_push before.vertices read.0 once read.1.0.1.0) read.1.1
-
-drawn_once : {C : Type 0} (plan : PlanValue C) (text : List ℕ) (draws : Draws plan text) → AreOnce draws.simple.graph.vertices
-drawn_once plan text draws = once_after no_graph _ draws.defines.read.0 once_none draws.defines.read.1.1.1.0
+-- the lines behind a vertex that is left of one plan are behind that of the other
+module _ {C : Type 0} (one other flat_one flat_other simple_one simple_other : PlanValue C) (f : IsFlattened one flat_one) (p : IsPruned flat_one simple_one)
+    (g : IsFlattened other flat_other) (q : IsPruned flat_other simple_other) where
+  lines_over : ((k line : ℕ) → Contains (lines_at one.graph k) line → Contains (lines_at other.graph k) line)
+      → ((k id : ℕ) → Named f.names p.names k id → (also : ℕ) × Named g.names q.names k also)
+      → ((k a b : ℕ) → Named f.names p.names k a → Named g.names q.names k b → a ≡ b)
+      → (id line : ℕ) → id < length simple_one.graph.vertices → Contains (lines_at simple_one.graph id) line → Contains (lines_at simple_other.graph id) line
+  lines_over behind reached agree id line within is =
+      let k = line_from one flat_one simple_one f p id line within is in
+      let also = reached k.0 id k.1 in
+      subst (λ (i : ℕ). Contains (lines_at simple_other.graph i) line) (sym (agree k.0 id also.0 k.1 also.1))
+      (line_to other flat_other simple_other g q k.0 also.0 line also.1 (behind k.0 line k.2))
 
 -- ---- one text
+
+-- two plans that stand for a file have the same lines behind a vertex
+lines_stand : {C : Type 0} (one other : PlanValue C) (rows : Rows) (target : ℕ) (this : StandsFor one rows target) (that : StandsFor other rows target) → this.places ≡ that.places
+    → (k line : ℕ) → Contains (lines_at one.graph k) line → Contains (lines_at other.graph k) line
+lines_stand one other rows target this that same k line is =
+    (that.lines k line).1 (subst (λ (ps : Places). HasPlace ps line k) same ((this.lines k line).0 is))
 
 pub one_drawing : {C : Type 0} (one other : PlanValue C) (rows : Rows) (target : ℕ) (text beside : List ℕ) → IsPlan one → IsPlan other → StandsFor one rows target
     → StandsFor other rows target → Draws one text → Draws other beside → text ≡ beside
 one_drawing one other rows target text beside is was this that these those =
     let graph = one_graph one other rows target this that is.graph.vertices was.graph.vertices in
-    let N = Named these.simplified.flattened.names these.simplified.pruned.names in
-    let M = Named those.simplified.flattened.names those.simplified.pruned.names in
-    let first = simple_naming one these.simplified.flat these.simple is these.simplified.flattened these.simplified.pruned (drawn_once one text these) in
-    let second = simple_naming other those.simplified.flat those.simple was those.simplified.flattened those.simplified.pruned (drawn_once other beside those) in
+    let f = these.simplified.flattened in
+    let p = these.simplified.pruned in
+    let g = those.simplified.flattened in
+    let q = those.simplified.pruned in
+    let N = Named f.names p.names in
+    let M = Named g.names q.names in
+    let first = simple_naming one these.simplified.flat these.simple is f p these.is.vertices.once in
+    let second = simple_naming other those.simplified.flat those.simple was g q those.is.vertices.once in
     let moved : IsNaming (flat_vertices one.graph.vertices) one.target those.simple.graph.vertices those.simple.target M =
     subst (λ (t : ℕ). IsNaming (flat_vertices one.graph.vertices) t those.simple.graph.vertices those.simple.target M) (sym graph.1)
     (subst (λ (vs : List Vertex). IsNaming (flat_vertices vs) other.target those.simple.graph.vertices those.simple.target M) (sym graph.0) second) in
     let same =
     one_naming (flat_vertices one.graph.vertices) one.target (flat_after one.graph.vertices is.graph.vertices) these.simple.graph.vertices those.simple.graph.vertices
     these.simple.target those.simple.target N M first moved in
+    let places : these.simple.graph.places ≡ those.simple.graph.places =
+    same_places these.simple.graph those.simple.graph these.is those.is (ap (λ (vs : List Vertex). length vs) same.0)
+    (lines_over one other these.simplified.flat those.simplified.flat these.simple those.simple f p g q (lines_stand one other rows target this that graph.2)
+    (λ k id named. moved.reached k (first.back k id named)) same.2)
+    (lines_over other one those.simplified.flat these.simplified.flat those.simple these.simple g q f p (lines_stand other one rows target that this (sym graph.2))
+    (λ k id named. first.reached k (moved.back k id named)) (λ k a b named also. sym (same.2 k b a also named))) in
     these.defines.written.1
-    ∙ (ap (λ (vs : List Vertex). definition_text vs these.simple.target) same.0
-    ∙ (ap (λ (t : ℕ). definition_text those.simple.graph.vertices t) same.1 ∙ sym those.defines.written.1))
+    ∙ (ap (λ (vs : List Vertex). definition_text (record { vertices = vs; places = these.simple.graph.places }) these.simple.target) same.0
+    ∙ (ap (λ (ps : List (List ℕ)). definition_text (record { vertices = those.simple.graph.vertices; places = ps }) these.simple.target) places
+    ∙ (ap (λ (t : ℕ). definition_text those.simple.graph t) same.1 ∙ sym those.defines.written.1)))

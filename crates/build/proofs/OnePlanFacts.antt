@@ -1,5 +1,6 @@
--- A file has one graph: two graphs that stand for it, each with every vertex once, have the same vertices in one order, and one target. The vertices of
--- both are met in the order of their places: each place has the same operation on the same inputs in both graphs, so it has one number in both.
+-- A file has one graph: two graphs that stand for it, each with every vertex once, have the same vertices in one order, one target, and the same places.
+-- The vertices of both are met in the order of their places: each place has the same operation on the same inputs in both graphs, so it has one number
+-- in both.
 use Rattle.std.proofs.Common.{◌≡◌, ◌⊎◌, inl, inr, ◌<◌, ◌+◌, ℕ, suc, List, [], ◌∷◌, ◌++◌, true, false, Option, Some, None, length, refl, sym, ap, ◌∙◌, subst, arith, append_assoc, append-nil}
 use Rattle.std.specs.Prelude.{slice_get}
 use Rattle.std.specs.List.{AllZip}
@@ -92,16 +93,20 @@ module _ (A B : List Vertex) (once_a : AreOnce A) (once_b : AreOnce B) (end_a en
 
   -- an operation on what is there already
   one_operation : (tips : Tips) (line base : ℕ) (op : Op) (origins : List Origin) (a b : ℕ) (pa pb rest_a rest_b : Places) → IsOperation A tips line base op origins a pa
-      → IsOperation B tips line base op origins b pb → AreMet A B (pa ++ rest_a) (pb ++ rest_b) end_a end_b → (a ≡ b) × AreMet A B rest_a rest_b end_a end_b
+      → IsOperation B tips line base op origins b pb → AreMet A B (pa ++ rest_a) (pb ++ rest_b) end_a end_b → (a ≡ b) × (pa ≡ pb) × AreMet A B rest_a rest_b end_a end_b
   one_operation tips line base op origins a b pa pb rest_a rest_b here there at =
       let named =
       one_origins tips line origins here.named there.named ((line, a) ∷ rest_a) ((line, b) ∷ rest_b) here.are there.are
       (moved _ _ _ _ (ap (λ p. p ++ rest_a) here.all ∙ append_assoc (origins_places line origins here.named) ((line, a) ∷ []) rest_a)
       (ap (λ p. p ++ rest_b) there.all ∙ append_assoc (origins_places line origins there.named) ((line, b) ∷ []) rest_b) at) in
-      one_place op (base ∷ here.named) line a b rest_a rest_b here.is (subst (λ ids. IsVertex B op (base ∷ ids) b) (sym named.0) there.is) named.1
+      let last = one_place op (base ∷ here.named) line a b rest_a rest_b here.is (subst (λ ids. IsVertex B op (base ∷ ids) b) (sym named.0) there.is) named.1 in (
+        last.0,
+        here.all ∙ (ap (λ ids. origins_places line origins ids ++ (line, a) ∷ []) named.0 ∙ (ap (λ i. origins_places line origins there.named ++ (line, i) ∷ []) last.0 ∙ sym there.all)),
+        last.1,
+      )
 
   one_linked : (tips : Tips) (line base : ℕ) (files : CopyFiles) (origins : List Origin) (a b : ℕ) (pa pb rest_a rest_b : Places) → IsLinked A tips line base files origins a pa
-      → IsLinked B tips line base files origins b pb → AreMet A B (pa ++ rest_a) (pb ++ rest_b) end_a end_b → (a ≡ b) × AreMet A B rest_a rest_b end_a end_b
+      → IsLinked B tips line base files origins b pb → AreMet A B (pa ++ rest_a) (pb ++ rest_b) end_a end_b → (a ≡ b) × (pa ≡ pb) × AreMet A B rest_a rest_b end_a end_b
   one_linked tips line base files origins a b pa pb rest_a rest_b here there at =
       let begun =
       one_place (SourceOp Scratch) [] line here.scratch there.scratch ((here.copied ++ (line, a) ∷ []) ++ rest_a) ((there.copied ++ (line, b) ∷ []) ++ rest_b) here.empty there.empty
@@ -110,11 +115,18 @@ module _ (A B : List Vertex) (once_a : AreOnce A) (once_b : AreOnce B) (end_a en
       one_operation tips line here.scratch (CopyOp files) origins here.copy there.copy here.copied there.copied ((line, a) ∷ rest_a) ((line, b) ∷ rest_b) here.copies
       (subst (λ i. IsOperation B tips line i (CopyOp files) origins there.copy there.copied) (sym begun.0) there.copies)
       (moved _ _ _ _ (append_assoc here.copied ((line, a) ∷ []) rest_a) (append_assoc there.copied ((line, b) ∷ []) rest_b) begun.1) in
-      one_place MergeOp (base ∷ (here.copy ∷ [])) line a b rest_a rest_b here.merges (subst (λ i. IsVertex B MergeOp (base ∷ (i ∷ [])) b) (sym copied.0) there.merges) copied.1
+      let merged = one_place MergeOp (base ∷ (here.copy ∷ [])) line a b rest_a rest_b here.merges (subst (λ i. IsVertex B MergeOp (base ∷ (i ∷ [])) b) (sym copied.0) there.merges) copied.2 in (
+        merged.0,
+        here.all
+        ∙ (ap (λ i. (line, i) ∷ (here.copied ++ (line, a) ∷ [])) begun.0
+        ∙ (ap (λ ps. (line, there.scratch) ∷ (ps ++ (line, a) ∷ [])) copied.1
+        ∙ (ap (λ i. (line, there.scratch) ∷ (there.copied ++ (line, i) ∷ [])) merged.0 ∙ sym there.all))),
+        merged.1,
+      )
 
   -- instructions, one after another
   one_lowered : (tips : Tips) (line base : ℕ) (action : Action) (a b : ℕ) (pa pb rest_a rest_b : Places) → IsLowered A tips line base action a pa
-      → IsLowered B tips line base action b pb → AreMet A B (pa ++ rest_a) (pb ++ rest_b) end_a end_b → (a ≡ b) × AreMet A B rest_a rest_b end_a end_b
+      → IsLowered B tips line base action b pb → AreMet A B (pa ++ rest_a) (pb ++ rest_b) end_a end_b → (a ≡ b) × (pa ≡ pb) × AreMet A B rest_a rest_b end_a end_b
   one_lowered tips line base (Run exec from) a b pa pb rest_a rest_b here there at =
       one_operation tips line base (ExecOp exec) from a b pa pb rest_a rest_b here there at
   one_lowered tips line base (Copy files from false) a b pa pb rest_a rest_b here there at =
@@ -125,49 +137,59 @@ module _ (A B : List Vertex) (once_a : AreOnce A) (once_b : AreOnce B) (end_a en
       one_operation tips line base (MakeDirsOp path) [] a b pa pb rest_a rest_b here there at
 
   one_chain : (tips : Tips) (base : ℕ) (steps : List Step) (a b : ℕ) (pa pb rest_a rest_b : Places) → AreLowered A tips base steps a pa → AreLowered B tips base steps b pb
-      → AreMet A B (pa ++ rest_a) (pb ++ rest_b) end_a end_b → (a ≡ b) × AreMet A B rest_a rest_b end_a end_b
+      → AreMet A B (pa ++ rest_a) (pb ++ rest_b) end_a end_b → (a ≡ b) × (pa ≡ pb) × AreMet A B rest_a rest_b end_a end_b
   one_chain tips base [] a b pa pb rest_a rest_b here there at =
-      (here.0 ∙ sym there.0, moved _ _ _ _ (ap (λ p. p ++ rest_a) here.1) (ap (λ p. p ++ rest_b) there.1) at)
+      (here.0 ∙ sym there.0, here.1 ∙ sym there.1, moved _ _ _ _ (ap (λ p. p ++ rest_a) here.1) (ap (λ p. p ++ rest_b) there.1) at)
   one_chain tips base (step ∷ steps) a b pa pb rest_a rest_b here there at =
       let first =
       one_lowered tips step.line base step.action here.0 there.0 here.1 there.1 (here.2 ++ rest_a) (there.2 ++ rest_b) here.3 there.3
       (moved _ _ _ _ (ap (λ p. p ++ rest_a) here.5 ∙ append_assoc here.1 here.2 rest_a) (ap (λ p. p ++ rest_b) there.5 ∙ append_assoc there.1 there.2 rest_b) at) in
-      one_chain tips here.0 steps a b here.2 there.2 rest_a rest_b here.4 (subst (λ i. AreLowered B tips i steps b there.2) (sym first.0) there.4) first.1
+      let rest = one_chain tips here.0 steps a b here.2 there.2 rest_a rest_b here.4 (subst (λ i. AreLowered B tips i steps b there.2) (sym first.0) there.4) first.2 in
+      (rest.0, here.5 ∙ (ap (λ ps. ps ++ here.2) first.1 ∙ (ap (λ ps. there.1 ++ ps) rest.1 ∙ sym there.5)), rest.2)
 
   -- stages
   one_stage : (tips : Tips) (stage : Stage) (a b : ℕ) (pa pb rest_a rest_b : Places) → IsStageLowered A tips stage a pa → IsStageLowered B tips stage b pb
-      → AreMet A B (pa ++ rest_a) (pb ++ rest_b) end_a end_b → (a ≡ b) × AreMet A B rest_a rest_b end_a end_b
+      → AreMet A B (pa ++ rest_a) (pb ++ rest_b) end_a end_b → (a ≡ b) × (pa ≡ pb) × AreMet A B rest_a rest_b end_a end_b
   one_stage tips stage a b pa pb rest_a rest_b here there at =
       let begun =
       one_origin tips stage.line stage.base here.base there.base (here.others ++ rest_a) (there.others ++ rest_b) here.begins there.begins
       (moved _ _ _ _ (ap (λ p. p ++ rest_a) here.all ∙ append_assoc (origin_places stage.line stage.base here.base) here.others rest_a)
       (ap (λ p. p ++ rest_b) there.all ∙ append_assoc (origin_places stage.line stage.base there.base) there.others rest_b) at) in
+      let rest =
       one_chain tips here.base stage.steps a b here.others there.others rest_a rest_b here.steps
-      (subst (λ i. AreLowered B tips i stage.steps b there.others) (sym begun.0) there.steps) begun.1
+      (subst (λ i. AreLowered B tips i stage.steps b there.others) (sym begun.0) there.steps) begun.1 in (
+        rest.0,
+        here.all
+        ∙ (ap (λ i. origin_places stage.line stage.base i ++ here.others) begun.0 ∙ (ap (λ ps. origin_places stage.line stage.base there.base ++ ps) rest.1 ∙ sym there.all)),
+        rest.2,
+      )
 
   one_row : (tips : Tips) (row : Option Stage) (a b : Option ℕ) (pa pb rest_a rest_b : Places) → IsRowLowered A tips row a pa → IsRowLowered B tips row b pb
-      → AreMet A B (pa ++ rest_a) (pb ++ rest_b) end_a end_b → (a ≡ b) × AreMet A B rest_a rest_b end_a end_b
+      → AreMet A B (pa ++ rest_a) (pb ++ rest_b) end_a end_b → (a ≡ b) × (pa ≡ pb) × AreMet A B rest_a rest_b end_a end_b
   one_row tips None a b pa pb rest_a rest_b here there at =
-      (here.0 ∙ sym there.0, moved _ _ _ _ (ap (λ p. p ++ rest_a) here.1) (ap (λ p. p ++ rest_b) there.1) at)
+      (here.0 ∙ sym there.0, here.1 ∙ sym there.1, moved _ _ _ _ (ap (λ p. p ++ rest_a) here.1) (ap (λ p. p ++ rest_b) there.1) at)
   one_row tips (Some stage) a b pa pb rest_a rest_b here there at =
       let one = one_stage tips stage here.0 there.0 pa pb rest_a rest_b here.2 there.2 at in
-      (here.1 ∙ (ap (λ i. Some i) one.0 ∙ sym there.1), one.1)
+      (here.1 ∙ (ap (λ i. Some i) one.0 ∙ sym there.1), one.1, one.2)
 
   one_rows : (tips : Tips) (rows : Rows) (lasts_a lasts_b : Tips) (pa pb rest_a rest_b : Places) → AreRowsLowered A tips rows lasts_a pa → AreRowsLowered B tips rows lasts_b pb
-      → AreMet A B (pa ++ rest_a) (pb ++ rest_b) end_a end_b → (lasts_a ≡ lasts_b) × AreMet A B rest_a rest_b end_a end_b
+      → AreMet A B (pa ++ rest_a) (pb ++ rest_b) end_a end_b → (lasts_a ≡ lasts_b) × (pa ≡ pb) × AreMet A B rest_a rest_b end_a end_b
   one_rows tips [] lasts_a lasts_b pa pb rest_a rest_b here there at =
-      (here.0 ∙ sym there.0, moved _ _ _ _ (ap (λ p. p ++ rest_a) here.1) (ap (λ p. p ++ rest_b) there.1) at)
+      (here.0 ∙ sym there.0, here.1 ∙ sym there.1, moved _ _ _ _ (ap (λ p. p ++ rest_a) here.1) (ap (λ p. p ++ rest_b) there.1) at)
   one_rows tips (row ∷ rows) lasts_a lasts_b pa pb rest_a rest_b here there at =
       let first =
       one_row tips row here.0 there.0 here.2 there.2 (here.3 ++ rest_a) (there.3 ++ rest_b) here.4 there.4
       (moved _ _ _ _ (ap (λ p. p ++ rest_a) here.7 ∙ append_assoc here.2 here.3 rest_a) (ap (λ p. p ++ rest_b) there.7 ∙ append_assoc there.2 there.3 rest_b) at) in
       let rest =
       one_rows (tips ++ here.0 ∷ []) rows here.1 there.1 here.3 there.3 rest_a rest_b here.5
-      (subst (λ tip. AreRowsLowered B (tips ++ tip ∷ []) rows there.1 there.3) (sym first.0) there.5) first.1 in
-      (here.6 ∙ (ap (λ tip. tip ∷ here.1) first.0 ∙ (ap (λ more. there.0 ∷ more) rest.0 ∙ sym there.6)), rest.1)
+      (subst (λ tip. AreRowsLowered B (tips ++ tip ∷ []) rows there.1 there.3) (sym first.0) there.5) first.2 in (
+        here.6 ∙ (ap (λ tip. tip ∷ here.1) first.0 ∙ (ap (λ more. there.0 ∷ more) rest.0 ∙ sym there.6)),
+        here.7 ∙ (ap (λ ps. ps ++ here.3) first.1 ∙ (ap (λ ps. there.2 ++ ps) rest.1 ∙ sym there.7)),
+        rest.2,
+      )
 
-pub one_graph : {C : Type 0} (one other : PlanValue C) (rows : Rows) (target : ℕ) → StandsFor one rows target → StandsFor other rows target
-    → AreVertices one.graph.vertices → AreVertices other.graph.vertices → (one.graph.vertices ≡ other.graph.vertices) × (one.target ≡ other.target)
+pub one_graph : {C : Type 0} (one other : PlanValue C) (rows : Rows) (target : ℕ) (this : StandsFor one rows target) (that : StandsFor other rows target)
+    → AreVertices one.graph.vertices → AreVertices other.graph.vertices → (one.graph.vertices ≡ other.graph.vertices) × (one.target ≡ other.target) × (this.places ≡ that.places)
 one_graph one other rows target this that are were =
     let A = one.graph.vertices in
     let B = other.graph.vertices in
@@ -178,9 +200,10 @@ one_graph one other rows target this that are were =
       left_b = subst (λ p. AreNumbered 0 p (length B)) (sym (append-nil that.places)) that.order;
     } in
     let met = one_rows A B are.once were.once (length A) (length B) [] rows this.tips that.tips this.places that.places [] [] this.lowered that.lowered begun in
-    let end_a = met.1.left_a in
-    let end_b = met.1.left_b in
+    let end_a = met.2.left_a in
+    let end_b = met.2.left_b in
     let tips : slice_get this.tips target ≡ Some (Some other.target) = ap (λ ts. slice_get ts target) met.0 ∙ that.last in (
-      same_items A B (omega (arith, end_a, end_b)) (λ k low. met.1.agree k (omega (arith, low, end_a))),
+      same_items A B (omega (arith, end_a, end_b)) (λ k low. met.2.agree k (omega (arith, low, end_a))),
       (let f : Some (Some one.target) ≡ Some (Some other.target) = sym this.last ∙ tips in cc),
+      met.1,
     )
