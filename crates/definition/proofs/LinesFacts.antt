@@ -1,6 +1,6 @@
 -- Lines beside an operation: members but that of a key, and what was put in at the key.
-use Rattle.std.proofs.Common.{◌≡◌, ◌≤◌, ◌<◌, ◌+◌, ℕ, Bool, true, false, List, [], ◌∷◌, ◌++◌, map, Option, Some, None, String, Global, Ordering, Less, Equal, Greater, string_bytes, nat_cmp, is_eq, cond, length, drop, refl, ap, sym, ◌∙◌, true≢false, arith}
-use Rattle.std.specs.Prelude.{if◌then◌else◌, ◌&&◌, ◌||◌, codes, nat_lt, nat_le, slice_index_or, slice_get, suc, zero, is_some, Result, Ok, Err}
+use Rattle.std.proofs.Common.{◌≡◌, ◌≤◌, ◌<◌, ◌+◌, ℕ, Bool, true, false, List, [], ◌∷◌, map, Option, Some, None, String, Global, Ordering, Less, Equal, Greater, string_bytes, nat_cmp, is_eq, cond, length, drop, refl, ap, sym, ◌∙◌, true≢false, arith}
+use Rattle.std.specs.Prelude.{if◌then◌else◌, ◌&&◌, codes, nat_lt, nat_le, slice_index_or, suc, zero, is_some}
 use Rattle.std.specs.Option.{option_and_then, unwrap_or}
 use Rattle.std.specs.Ordering.{match_ordering}
 use Rattle.std.specs.Cmp.Lexicographic.{slice_cmp}
@@ -20,9 +20,9 @@ use Rattle.llb.specs.Places.{AscendFrom, AreLines}
 use Rattle.llb.specs.declared.op.Op.{Op}
 use Rattle.llb.specs.declared.op.Op.TheVariants.{Source as SourceOp, Exec as ExecOp, Copy as CopyOp, MakeDirs as MakeDirsOp, Merge as MergeOp}
 use Rattle.operations.specs.Texts.{op_data, source_data, exec_data, copy_data, mkdir_data, merge_data}
-use Rattle.strict.specs.Strict.{list_in, all_in, short_number_in, with_first}
+use Rattle.strict.specs.Strict.{list_in, all_in, short_number_in}
 use Rattle.strict.specs.Written.{list_data}
-use Rattle.definition.specs.Lines.{ascend, as_lines, lines_in, without, unlined, line_data, lined, lined_all, apart, operation_in}
+use Rattle.definition.specs.Lines.{ascend, as_lines, lines_in, without, line_data, lined, lined_all, apart, operation_in}
 
 abbrev pub Entry : Type 0
 Entry = String Global × Value

@@ -1,5 +1,5 @@
 -- What was written reads back.
-use Rattle.std.specs.Prelude.{◌≡◌, ◌<◌, ◌≤◌, ◌+◌, ◌&&◌, ℕ, zero, suc, Bool, true, false, cond, Option, Some, None, Ok, List, [], ◌∷◌, ◌++◌, map, length, slice_get, slice_index_or, get_or, take, is_some}
+use Rattle.std.specs.Prelude.{◌≡◌, ◌<◌, ◌≤◌, ◌+◌, ℕ, zero, suc, Bool, true, false, Option, Some, None, Ok, List, [], ◌∷◌, ◌++◌, map, length, slice_get, slice_index_or, get_or, take, is_some}
 use Rattle.std.proofs.Common.{sym, ap, refl, ◌∙◌, subst, true≢false, arith, append_assoc, append-nil}
 use Rattle.std.specs.Option.{option_map, option_and_then}
 use Rattle.std.specs.List.{list_any, list_all, All}
@@ -17,7 +17,6 @@ use Rattle.llb.specs.declared.vertex.Vertex.{Vertex}
 use Rattle.llb.specs.Graph.{GraphValue, IsGraph, AreVertices, IsNew, IsAfterInputs}
 use Rattle.llb.specs.Places.{AreLines}
 use Rattle.llb.specs.WellFormed.{is_well_formed_on}
-use Rattle.operations.specs.declared.spelled.Spelled.{Spelled}
 use Rattle.operations.specs.Texts.{source_data, exec_data, copy_data, mkdir_data, merge_data, op_data}
 use Rattle.operations.specs.Spelled.{is_address, inputs_in, spelled_in}
 use Rattle.operations.specs.Proper.{IsProper}

@@ -1,5 +1,5 @@
 -- A definition's data holds no float, so that its compact text is the one that is written; and what a definition's writing comes to.
-use Rattle.std.specs.Prelude.{◌≡◌, ℕ, Bool, false, List, [], ◌∷◌, ◌++◌, map, length, drop, Some, None, Option, is_some, true, cond, ◌+◌, ◌<◌, ◌≤◌, slice_index_or, get_or}
+use Rattle.std.specs.Prelude.{◌≡◌, ℕ, Bool, false, List, [], ◌∷◌, ◌++◌, length, drop, Some, None, Option, is_some, true, cond, ◌+◌, ◌<◌, ◌≤◌, slice_index_or, get_or}
 use Rattle.std.proofs.Common.{refl, ap, sym, ◌∙◌, subst, append_assoc, append-nil}
 use Rattle.std.proofs.lemmas.List.{drop_more, drop_all, length_push}
 use Rattle.serde_json.specs.Data.{Data}

@@ -1,4 +1,4 @@
-ghost use Rattle.std.specs.Prelude.{◌≡◌, ◌↔◌, ◌<◌, [], Some, None, IfOk, IsTrue, length, slice_get};
+ghost use Rattle.std.specs.Prelude.{◌≡◌, ◌↔◌, ◌<◌, Some, None, IfOk, IsTrue, length, slice_get};
 ghost use Rattle.serde_json.specs.View.{view};
 ghost use Rattle.llb.specs.Graph.{IsAfterInputs, IsNew};
 ghost use Rattle.llb.specs.Places.{AreLines};

@@ -1,5 +1,5 @@
 // The lines of the Dockerfile that an operation comes from, beside what the operation says. Its address doesn't know them.
-ghost use Rattle.std.specs.Prelude.{◌≡◌, IfOk, map};
+ghost use Rattle.std.specs.Prelude.{◌≡◌, IfOk};
 ghost use Rattle.serde_json.specs.View.{view};
 ghost use Rattle.llb.specs.Places.{AreLines};
 ghost use Rattle.strict.specs.Gives.{Gives};
