@@ -167,9 +167,11 @@ SHAPES = {
 
 def check_graph(answer):
     """That operations are spelled as the tables say, each after its inputs, none twice, and that the result needs them all."""
-    need(set(answer) == {"ops", "version"} and answer["version"] == 1, "a graph has other keys")
+    need(set(answer) == {"ops", "version"} and answer["version"] == 2, "a graph has other keys")
     *operations, end = answer["ops"]
     need(set(end) == {"inputs", "op"} and end["op"] == "end" and len(end["inputs"]) == 1, "the graph has no end")
+    for operation in operations:
+        check_lines(operation.pop("places", None))
     needed, known = set(end["inputs"]), set()
     addresses = [address_of(operation) for operation in operations]
     for operation, address in zip(operations, addresses):
@@ -180,6 +182,12 @@ def check_graph(answer):
     for operation, address in zip(reversed(operations), reversed(addresses)):
         need(address in needed, "an operation that the result does not need")
         needed.update(operation["inputs"])
+
+
+def check_lines(lines):
+    """That an operation of a file's graph comes from lines, in ascending order, each once; a file has no more bytes than the last one allows."""
+    need(isinstance(lines, list) and lines and all(type(line) is int for line in lines), "an operation comes from no line")
+    need(lines == sorted(set(lines)) and lines[0] >= 1 and lines[-1] <= 1_048_576, "an operation's lines are none")
 
 
 def address_of(operation):

@@ -26,7 +26,7 @@ const ANSWER: &str =
 
 /// The graph of the first build, its addresses computed by another program.
 const GRAPH: &str =
-    r#"{"ops":[{"inputs":[],"op":"source","source":"scratch"},{"binds":[],"caches":[],"dir":"/","env":[],"inputs":["sha256:76552e79413bf55d0c5d1deb6d66827a826db17e8dac7a4d75392760fd22987b"],"op":"exec","user":"","words":["/bin/sh","-c","put /a hi"]},{"inputs":["sha256:64900545bdba95a5dd127c7fa202375bbae70f2fb126a69abb15707c76b3b732"],"op":"end"}],"version":1}
+    r#"{"ops":[{"inputs":[],"op":"source","places":[1],"source":"scratch"},{"binds":[],"caches":[],"dir":"/","env":[],"inputs":["sha256:76552e79413bf55d0c5d1deb6d66827a826db17e8dac7a4d75392760fd22987b"],"op":"exec","places":[2],"user":"","words":["/bin/sh","-c","put /a hi"]},{"inputs":["sha256:64900545bdba95a5dd127c7fa202375bbae70f2fb126a69abb15707c76b3b732"],"op":"end"}],"version":2}
 "#;
 
 /// A build that fails.
@@ -34,7 +34,7 @@ const FAILING: &str = r#"{"dockerfile":{"text":"FROM scratch\nRUN fail 1\n"}}"#;
 
 /// Its graph, its addresses computed by another program.
 const FAILING_GRAPH: &str =
-    r#"{"ops":[{"inputs":[],"op":"source","source":"scratch"},{"binds":[],"caches":[],"dir":"/","env":[],"inputs":["sha256:76552e79413bf55d0c5d1deb6d66827a826db17e8dac7a4d75392760fd22987b"],"op":"exec","user":"","words":["/bin/sh","-c","fail 1"]},{"inputs":["sha256:21f004bc2ee7d269ffaf74623a91f977d9de6db932bde4a1d0e5bc77d9f676a4"],"op":"end"}],"version":1}
+    r#"{"ops":[{"inputs":[],"op":"source","places":[1],"source":"scratch"},{"binds":[],"caches":[],"dir":"/","env":[],"inputs":["sha256:76552e79413bf55d0c5d1deb6d66827a826db17e8dac7a4d75392760fd22987b"],"op":"exec","places":[2],"user":"","words":["/bin/sh","-c","fail 1"]},{"inputs":["sha256:21f004bc2ee7d269ffaf74623a91f977d9de6db932bde4a1d0e5bc77d9f676a4"],"op":"end"}],"version":2}
 "#;
 
 /// Gives blanks without an end.

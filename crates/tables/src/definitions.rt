@@ -11,8 +11,8 @@ use plans::{Plan, Sources};
 use std::alloc::Global;
 use trees::Tree;
 
-/// The text of an operation that stands alone, and its address.
-const SCRATCH: &str = r#"{"inputs":[],"op":"source","source":"scratch"}"#;
+/// The text of an operation that stands alone, with its line, and its address.
+const SCRATCH: &str = r#"{"inputs":[],"op":"source","places":[1],"source":"scratch"}"#;
 
 const SCRATCH_ADDRESS: &str =
     "sha256:76552e79413bf55d0c5d1deb6d66827a826db17e8dac7a4d75392760fd22987b";
@@ -132,7 +132,8 @@ fn add_images(alloc: Global, sources: &mut Sources) -> Result<(), Memory> {
     Ok(())
 }
 
-/// The definition of so many operations: the empty tree, which is the result, and directories in it.
+/// The definition of so many operations, each of a line of its own but for the first two: the empty tree, which is the result, and directories
+/// in it.
 fn many(alloc: Global, count: u32) -> Result<String, Memory> {
     let mut text = String::from_str(alloc, "{\"ops\":[")?;
     text.push_str(SCRATCH)?;
@@ -141,10 +142,12 @@ fn many(alloc: Global, count: u32) -> Result<String, Memory> {
         text.push_str(SCRATCH_ADDRESS)?;
         text.push_str("\"],\"op\":\"file\",\"path\":\"/")?;
         text.push_str(format!(in alloc; "{number}")?.as_str())?;
-        text.push_str("\"}")?;
+        text.push_str("\",\"places\":[")?;
+        text.push_str(format!(in alloc; "{number}")?.as_str())?;
+        text.push_str("]}")?;
     }
     text.push_str(",{\"inputs\":[\"")?;
     text.push_str(SCRATCH_ADDRESS)?;
-    text.push_str("\"],\"op\":\"end\"}],\"version\":1}")?;
+    text.push_str("\"],\"op\":\"end\"}],\"version\":2}")?;
     Ok(text)
 }
