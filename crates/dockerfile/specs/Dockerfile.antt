@@ -46,6 +46,12 @@ IsRead text (Ok instructions) = AreInstructions text instructions
 IsRead text (Err (Because refusal)) = IsRefused text refusal
 IsRead text (Err Memory) = Unit {0}
 
+-- what reading a text with its lines answers: its instructions and the logical lines that spell them, or why there are none
+abbrev pub IsReadWithLines : List ℕ → Result (List Instruction × List Line) (Fault Refusal) → Type 0
+IsReadWithLines text (Ok read) = AreLines text read.1 × AreSpelled read.1 read.0
+IsReadWithLines text (Err (Because refusal)) = IsRefused text refusal
+IsReadWithLines text (Err Memory) = Unit {0}
+
 -- these instructions stand on ascending lines below the line of this number
 abbrev pub AscendBelow : ℕ → List Instruction → Type 0
 AscendBelow number [] = Unit {0}

@@ -1,11 +1,11 @@
 ghost use Rattle.std.specs.Prelude.{◌≡◌};
-ghost use Rattle.dockerfile.specs.Dockerfile.{IsDockerfile, IsRead};
+ghost use Rattle.dockerfile.specs.Dockerfile.{IsDockerfile, IsRead, IsReadWithLines};
 ghost use Rattle.dockerfile.specs.Faults.{IsChecked};
 
 use crate::checking::{all_spelled, lines_or_faults};
 use crate::reading::{logical_lines, spelled};
 use instructions::Instruction;
-use lines::LineFault;
+use lines::{Line, LineFault};
 use plain::{Fault, Items, Refusal};
 use std::alloc::Global;
 use std::marker::Model;
@@ -44,9 +44,26 @@ impl Dockerfile {
     pub fn read(alloc: Global, text: &[u8]) -> Result<Dockerfile, LineFault>
         ensures { IsRead text.now result }
     {
+        let (file, lines) = Dockerfile::read_with_lines(alloc, text)?;
+        drop(lines);
+        Ok(file)
+    }
+
+    /// The instructions of a text, and the logical lines that spell them, one each and in their order. The refusals are those of `read`.
+    pub fn read_with_lines(
+        alloc: Global,
+        text: &[u8],
+    ) -> Result<(Dockerfile, Items<Line>), LineFault>
+        ensures { IsReadWithLines text.now result }
+    {
         let lines = logical_lines(alloc, text)?;
-        let instructions = spelled(alloc, lines)?;
-        Ok(Dockerfile { instructions })
+        match spelled(alloc, lines.as_slice()) {
+            Ok(instructions) => Ok((Dockerfile { instructions }, Items::from_vec(lines))),
+            Err(fault) => {
+                drop(lines);
+                Err(fault)
+            }
+        }
     }
 
     /// The instructions of a text, or all that it is refused for, in the order of the lines (own).

@@ -16,12 +16,12 @@ pub(crate) fn logical_lines(alloc: Global, text: &[u8]) -> Result<Vec<Line>, Lin
 }
 
 /// The instructions that lines spell, or the refusal of the first line that spells none.
-pub(crate) fn spelled(alloc: Global, lines: Vec<Line>) -> Result<Items<Instruction>, LineFault>
-    ensures { AreParsed lines.items result }
+pub(crate) fn spelled(alloc: Global, lines: &[Line]) -> Result<Items<Instruction>, LineFault>
+    ensures { AreParsed lines.now result }
 {
     let mut instructions = Items::new(alloc);
     for line in lines {
-        match parse(alloc, &line) {
+        match parse(alloc, line) {
             Ok(instruction) => instructions.push(instruction)?,
             Err(fault) => return Err(fault),
         }
