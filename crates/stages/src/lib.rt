@@ -16,11 +16,13 @@
 mod faults;
 pub mod laws;
 mod marks;
+mod names;
 mod naming;
 mod resolving;
 mod stage;
 mod table;
 mod target;
 
+pub use names::stage_names;
 pub use stage::{ResolvedInstruction, ResolvedStage};
 pub use table::StageTable;

@@ -15,7 +15,7 @@ use lines::LineFault;
 use plain::{Code, Fault, Refusal, Text};
 
 /// The name of the stage that an instruction begins, if it begins one.
-fn name_begun(instruction: &Instruction) -> Option<&Option<Text>>
+pub(crate) fn name_begun(instruction: &Instruction) -> Option<&Option<Text>>
     ensures { option_map (λ name. name.now) result ≡ name_begun instruction.entry.now }
 {
     match &instruction.kind {
