@@ -9,3 +9,4 @@ mod OnePlanFacts
 mod PlanFacts
 mod ShowFacts
 mod TellFacts
+mod TitledFacts

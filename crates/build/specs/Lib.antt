@@ -9,3 +9,4 @@ pub mod PrivateAsking
 pub mod PrivateShowing
 pub mod PrivateTelling
 pub mod Telling
+pub mod Titled

@@ -79,7 +79,11 @@ fn ask_stages(alloc: Global, bundle: Bundle<Config>, file: Dockerfile) -> Result
 }
 
 /// What the stages in a table ask for.
-fn ask_table(alloc: Global, bundle: Bundle<Config>, table: StageTable) -> Result<Asked, LineFault>
+pub(crate) fn ask_table(
+    alloc: Global,
+    bundle: Bundle<Config>,
+    table: StageTable,
+) -> Result<Asked, LineFault>
     requires idle { bundle.caches.holds ≡ [] }
     requires known { All (NamesKnown (names_in bundle.images)) table.stages }
     ensures asked { IsTableAsked bundle (OkOf table) result }

@@ -25,6 +25,7 @@ mod planning;
 mod showing;
 mod status;
 mod telling;
+mod titled;
 mod told;
 
 pub use asking::{Asked, ask};
@@ -33,3 +34,4 @@ pub use code::status_code;
 pub use graphing::run_graph;
 pub use planning::plan_of;
 pub use status::{BuildFault, Status};
+pub use titled::{Titled, ask_titled};

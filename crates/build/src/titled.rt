@@ -1,0 +1,128 @@
+// What a bundle asks for, with what an engine's progress calls its steps.
+ghost use Rattle.std.specs.Prelude.{◌≡◌, [], Ok as OkOf, IfOk};
+ghost use Rattle.std.specs.List.{All};
+ghost use Rattle.std.specs.FinMap.{get as arg_value};
+ghost use Rattle.lines.specs.Text.{AreLines};
+ghost use Rattle.dockerfile.specs.Dockerfile.{AreSpelled};
+ghost use Rattle.stages.specs.Naming.{names_in};
+ghost use Rattle.stages.specs.Resolved.{resolved};
+ghost use Rattle.stages.specs.Table.{NamesKnown};
+ghost use Rattle.titles.specs.Titles.{titles_of as titles_in};
+ghost use Rattle.build.specs.Lowerable.{IsLowerable};
+ghost use Rattle.build.specs.PrivateAsking.{IsFileAsked, IsTableAsked};
+ghost use Rattle.build.specs.Telling.{IsAsked};
+ghost use Rattle.build.specs.Titled.{asked_in, AreTitlesOf, HasTitlesOf};
+
+use crate::asking::{Asked, ask_table};
+use bundle::{Bundle, read_bundle};
+use dockerfile::Dockerfile;
+use imageconfig::Config;
+use lines::{Line, LineFault};
+use plain::{Fault, Items, Memory, Text};
+use stages::{StageTable, stage_names};
+use std::alloc::Global;
+use std::thread::Threads;
+use titles::titles_of;
+
+/// What a bundle asks for, with what an engine's progress calls its steps.
+#[derive(Drop)]
+pub struct Titled {
+    pub asked: Asked,
+    /// The title of each step of the Dockerfile, by the line of its instruction.
+    pub titles: Items<Option<Text>>,
+}
+
+/// What the bytes of a bundle ask for, and what an engine's progress calls the steps of its Dockerfile, by the lines of their instructions.
+/// The refusals are those of `ask`.
+pub fn ask_titled(
+    alloc: Global,
+    rt: &(impl Threads + Sync),
+    bytes: &[u8],
+) -> Result<Titled, LineFault>
+    ensures asked { IsAsked bytes.now (asked_in result) }
+    ensures lowerable { IfOk result (λ titled. IsLowerable titled.asked.evaluated) }
+    ensures titles { IfOk result (λ titled. HasTitlesOf bytes.now titled.titles) }
+{
+    match read_bundle(alloc, rt, bytes) {
+        Ok(bundle) => titled_file(alloc, bundle),
+        Err(fault) => Err(fault),
+    }
+}
+
+/// What a bundle asks for, with the titles of its Dockerfile.
+fn titled_file(alloc: Global, bundle: Bundle<Config>) -> Result<Titled, LineFault>
+    requires { bundle.caches.holds ≡ [] }
+    ensures asked { IsFileAsked bundle (asked_in result) }
+    ensures lowerable { IfOk result (λ titled. IsLowerable titled.asked.evaluated) }
+    ensures titles { IfOk result (λ titled. AreTitlesOf bundle titled.titles) }
+{
+    match Dockerfile::read_with_lines(alloc, bundle.dockerfile.as_slice()) {
+        Ok((file, lines)) => titled_stages(alloc, bundle, file, lines.as_slice()),
+        Err(fault) => Err(fault),
+    }
+}
+
+/// What the stages of a bundle's Dockerfile ask for, with their titles.
+fn titled_stages(
+    alloc: Global,
+    bundle: Bundle<Config>,
+    file: Dockerfile,
+    lines: &[Line],
+) -> Result<Titled, LineFault>
+    requires idle { bundle.caches.holds ≡ [] }
+    requires are { AreLines bundle.dockerfile lines.now }
+    requires spelled { AreSpelled lines.now file }
+    ensures asked { IsTableAsked bundle (resolved (names_in bundle.images) (arg_value bundle.args) bundle.target file) (asked_in result) }
+    ensures lowerable { IfOk result (λ titled. IsLowerable titled.asked.evaluated) }
+    ensures titles { IfOk result (λ titled. AreTitlesOf bundle titled.titles) }
+{
+    let names = match stage_names(alloc, &file) {
+        Ok(names) => names,
+        Err(_) => {
+            drop(bundle);
+            drop(file);
+            return Err(Fault::Memory);
+        }
+    };
+    match StageTable::resolve(
+        alloc,
+        file,
+        &bundle.images,
+        &bundle.args,
+        bundle.target.as_ref(),
+    ) {
+        Ok(table) => titled_table(alloc, bundle, table, lines, names.as_slice()),
+        Err(fault) => Err(fault),
+    }
+}
+
+/// What the stages in a table ask for, with the titles of these lines, the stages having these names.
+fn titled_table(
+    alloc: Global,
+    bundle: Bundle<Config>,
+    table: StageTable,
+    lines: &[Line],
+    names: &[Option<Text>],
+) -> Result<Titled, LineFault>
+    requires idle { bundle.caches.holds ≡ [] }
+    requires known { All (NamesKnown (names_in bundle.images)) table.stages }
+    ensures asked { IsTableAsked bundle (OkOf table) (asked_in result) }
+    ensures lowerable { IfOk result (λ titled. IsLowerable titled.asked.evaluated) }
+    ensures titles { IfOk result (λ titled. titled.titles ≡ titles_in lines.now names.now table.stages) }
+{
+    let titles = match titles_of(alloc, lines, names, table.stages()) {
+        Ok(titles) => titles,
+        Err(Memory) => {
+            drop(bundle);
+            drop(table);
+            return Err(Fault::Memory);
+        }
+    };
+    match ask_table(alloc, bundle, table) {
+        Ok(asked) => Ok(Titled { asked, titles }),
+        Err(fault) => {
+            drop(titles);
+            Err(fault)
+        }
+    }
+}
