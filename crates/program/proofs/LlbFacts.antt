@@ -1,5 +1,5 @@
 -- What BuildKit is told of a bundle.
-use Rattle.std.proofs.Common.{◌≡◌, ℕ, List, Result, Ok, Err, sym, ap, ◌∙◌, subst}
+use Rattle.std.proofs.Common.{◌≡◌, ℕ, List, Option, Result, Ok, Err, sym, ap, ◌∙◌, subst}
 use Rattle.std.specs.Prelude.{IfOk}
 use Rattle.plain.specs.declared.refusal.Refusal.{Refusal}
 use Rattle.plain.specs.declared.fault.Fault.{Fault}
@@ -24,6 +24,7 @@ use Rattle.build.specs.declared.status.BuildFault.{BuildFault}
 use Rattle.build.specs.declared.status.BuildFault.TheVariants.{Memory, Device, Clash}
 use Rattle.build.specs.Meaning.{Asks}
 use Rattle.build.specs.Telling.{IsAsked}
+use Rattle.build.specs.Titled.{HasTitlesOf}
 use Rattle.build.specs.Ends.{Devices}
 use Rattle.program.specs.declared.told.Told.{Told}
 use Rattle.program.specs.Llb.{HasObstacle, IsDrawnPlan, LlbEnds, TellsLlb}
@@ -70,22 +71,22 @@ drawn made plan (Err memory) is means stands sources simple_is keeps = keeps
 -- ---- what is told
 
 -- a plan has no definition
-pub obstacle_told : (options : LlbOptions) (made : Evaluated) (plan : PlanValue Config) (fault : Fault Obstacle) (obstacle : Obstacle) → fault ≡ Because obstacle
-    → IsDrawnPlan made plan → IsPlanTold options plan (Err fault) → HasObstacle options made
-obstacle_told options made plan fault obstacle because is told = record {
+pub obstacle_told : (options : LlbOptions) (made : Evaluated) (titles : List (Option (List ℕ))) (plan : PlanValue Config) (fault : Fault Obstacle) (obstacle : Obstacle)
+    → fault ≡ Because obstacle → IsDrawnPlan made plan → IsPlanTold options plan titles (Err fault) → HasObstacle options made titles
+obstacle_told options made titles plan fault obstacle because is told = record {
   plan = plan;
   drawn = is;
   obstacle = obstacle;
-  told = subst (λ f. IsPlanTold options plan (Err f)) because told;
+  told = subst (λ f. IsPlanTold options plan titles (Err f)) because told;
 }
 
 -- what is told of a file's stages is told of the bundle that asks for them
-pub file_told : (options : LlbOptions) (bytes : List ℕ) (made : Evaluated) (result : Result Told BuildFault) → Asks bytes (Ok made)
-    → IsFileTold options made result → IsLlbTold options bytes result
-file_told options bytes made (Ok told) asked is = subst (λ s. TellsLlb options bytes s told.text) (sym is.0) (made, asked, is.1)
-file_told options bytes made (Err Memory) asked is = tt
-file_told options bytes made (Err Device) asked is = absurd is
-file_told options bytes made (Err Clash) asked is = (made, asked, is)
+pub file_told : (options : LlbOptions) (bytes : List ℕ) (made : Evaluated) (titles : List (Option (List ℕ))) (result : Result Told BuildFault) → Asks bytes (Ok made)
+    → HasTitlesOf bytes titles → IsFileTold options made titles result → IsLlbTold options bytes result
+file_told options bytes made titles (Ok told) asked has is = subst (λ s. TellsLlb options bytes s told.text) (sym is.0) (made, asked, (titles, has, is.1))
+file_told options bytes made titles (Err Memory) asked has is = tt
+file_told options bytes made titles (Err Device) asked has is = absurd is
+file_told options bytes made titles (Err Clash) asked has is = (made, asked, (titles, has, is))
 
 -- the refusal of a bundle
 pub refusal_told : (options : LlbOptions) (bytes : List ℕ) (fault : Fault Refusal) (refusal : Refusal) (told : Told) → fault ≡ Because refusal
@@ -93,10 +94,15 @@ pub refusal_told : (options : LlbOptions) (bytes : List ℕ) (fault : Fault Refu
 refusal_told options bytes fault refusal told because asked status text =
     subst (λ s. TellsLlb options bytes s told.text) (sym status) (refusal, subst (λ f. IsAsked bytes (Err f)) because asked, text)
 
+-- the same titles are those of bytes that hold the same
+titles_moved : (bytes bundle : List ℕ) (titles : List (Option (List ℕ))) → held bytes ≡ held bundle → HasTitlesOf bytes titles → HasTitlesOf bundle titles
+titles_moved bytes bundle titles same has = (has.0, (has.1.0, (sym same ∙ has.1.1.0, has.1.1.1)), has.2)
+
 -- the same is told by bytes that hold the same
 pub moved : (options : LlbOptions) (bytes bundle : List ℕ) (status : Status) (text : List ℕ) → held bytes ≡ held bundle
     → TellsLlb options bytes status text → TellsLlb options bundle status text
-moved options bytes bundle Built text same told = (told.0, asks bytes bundle (Ok told.0) same told.1, told.2)
+moved options bytes bundle Built text same told =
+    (told.0, asks bytes bundle (Ok told.0) same told.1, (told.2.0, titles_moved bytes bundle told.2.0 same told.2.1, told.2.2))
 moved options bytes bundle Failed text same told = told
 moved options bytes bundle Refused text same told = (told.0, asks bytes bundle (Err told.0) same told.1, told.2)
 
@@ -108,7 +114,8 @@ faulted options old new bytes Device read told written reads writes = absurd tol
 faulted options old new bytes Clash read told written reads writes = record {
   bundle = read.bundle;
   is = read.is;
-  clash = (told.0, asks bytes read.bundle (Ok told.0) read.same told.1, told.2);
+  clash =
+    (told.0, asks bytes read.bundle (Ok told.0) read.same told.1, (told.2.0, titles_moved bytes read.bundle told.2.0 read.same told.2.1, told.2.2));
   unwritten = (written, writes);
   failed_reads = reads;
 }

@@ -1,5 +1,5 @@
 -- What is written of a bundle for BuildKit, and how that ends (own; BuildKit's LLB).
-use Rattle.std.specs.Prelude.{◌≡◌, ℕ, None, List, [], Result, Ok, Err}
+use Rattle.std.specs.Prelude.{◌≡◌, ℕ, Option, None, List, Result, Ok, Err}
 use Rattle.plain.specs.declared.refusal.Refusal.{Refusal}
 use Rattle.counted.specs.Edges.{line_of}
 use Rattle.command.specs.declared.task.LlbOptions.{LlbOptions}
@@ -24,6 +24,7 @@ use Rattle.build.specs.declared.status.Status.{Status}
 use Rattle.build.specs.declared.status.Status.TheVariants.{Built, Failed, Refused}
 use Rattle.build.specs.declared.status.BuildFault.{BuildFault}
 use Rattle.build.specs.Meaning.{Asks}
+use Rattle.build.specs.Titled.{HasTitlesOf}
 use Rattle.build.specs.Ends.{Devices}
 use Rattle.program.specs.Telling.{TellingEnds}
 
@@ -51,29 +52,31 @@ pub record IsDrawnPlan (made : Evaluated) (simple : PlanValue Config) : Type 0 w
   pub tree : (out : Out)
       → tree_of (value_of out made.sources simple.graph.vertices simple.target) ≡ tree_of_stage (world out made.sources) made.rows made.target
 
--- bytes are the definition of the plan that is drawn of what a file's stages give, and are read as it and nothing else
-pub record IsDefinitionOf (options : LlbOptions) (made : Evaluated) (text : List ℕ) : Type 0 where
+-- bytes are the definition of the plan that is drawn of what a file's stages give, whose lines have these titles, and are read as it and nothing else
+pub record IsDefinitionOf (options : LlbOptions) (made : Evaluated) (titles : List (Option (List ℕ))) (text : List ℕ) : Type 0 where
   pub plan : PlanValue Config
   pub drawn : IsDrawnPlan made plan
-  pub written : IsExported (exported (chosen options) [] plan.graph plan.target) (Ok text)
+  pub written : IsExported (exported (chosen options) titles plan.graph plan.target) (Ok text)
 
--- What is written of a bundle of these bytes: the definition of its graph, whether or not a build of it would fail; or the refusal of the bundle as
--- a line.
+-- What is written of a bundle of these bytes: the definition of its graph, with the titles of its Dockerfile's steps, whether or not a build of it
+-- would fail; or the refusal of the bundle as a line.
 abbrev pub TellsLlb : LlbOptions → List ℕ → Status → List ℕ → Type 0
-TellsLlb options bytes Built text = (made : Evaluated) × Asks bytes (Ok made) × IsDefinitionOf options made text
+TellsLlb options bytes Built text =
+    (made : Evaluated) × Asks bytes (Ok made) × ((titles : List (Option (List ℕ))) × HasTitlesOf bytes titles × IsDefinitionOf options made titles text)
 TellsLlb options bytes Failed text = ⊥
 TellsLlb options bytes Refused text = (refusal : Refusal) × Asks bytes (Err refusal) × (text ≡ line_of (refused_text refusal))
 
--- the plan that is drawn of what a file's stages give has no definition
-pub record HasObstacle (options : LlbOptions) (made : Evaluated) : Type 0 where
+-- the plan that is drawn of what a file's stages give, whose lines have these titles, has no definition
+pub record HasObstacle (options : LlbOptions) (made : Evaluated) (titles : List (Option (List ℕ))) : Type 0 where
   pub plan : PlanValue Config
   pub drawn : IsDrawnPlan made plan
   pub obstacle : Obstacle
-  pub told : exported (chosen options) [] plan.graph plan.target ≡ Err obstacle
+  pub told : exported (chosen options) titles plan.graph plan.target ≡ Err obstacle
 
 -- the same of what a bundle of these bytes asks for
 abbrev pub LlbClashes : LlbOptions → List ℕ → Type 0
-LlbClashes options bytes = (made : Evaluated) × Asks bytes (Ok made) × HasObstacle options made
+LlbClashes options bytes =
+    (made : Evaluated) × Asks bytes (Ok made) × ((titles : List (Option (List ℕ))) × HasTitlesOf bytes titles × HasObstacle options made titles)
 
 -- how writing it ends
 abbrev pub LlbEnds : LlbOptions → Devices → Devices → Result Status BuildFault → Type 0

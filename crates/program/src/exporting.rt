@@ -10,7 +10,7 @@ ghost use Rattle.program.specs.Llb.{IsDrawnPlan, LlbEnds, chosen, network_of, pl
 ghost use Rattle.program.specs.PrivateLlb.{IsFileTold, IsLlbTold, IsPlanTold};
 
 use crate::told::{Told, tell_refusal};
-use build::{Asked, BuildFault, Status, ask};
+use build::{Asked, BuildFault, Status, Titled, ask_titled};
 use command::{LlbOptions, NetworkName, PlatformName};
 use counted::{CountedRead, CountedWrite, read_all, write_all};
 use evaluation::Evaluated;
@@ -19,7 +19,7 @@ use imageconfig::Config;
 use llbmessages::{Network, Platform};
 use lowering::lower_program;
 use plain::limits::MOST_BUNDLE_BYTES;
-use plain::{Bytes, Exact, Fault, Memory};
+use plain::{Bytes, Exact, Fault, Memory, Text};
 use plans::Plan;
 use rewrite::{flatten_links, prune};
 use std::alloc::Global;
@@ -27,9 +27,10 @@ use std::thread::Threads;
 
 /// Reads a bundle, and writes its graph as a definition of BuildKit's LLB, or its refusal.
 ///
-/// The graph is the one that `graph` prints. `Built` where it was written, also where a build would fail, `Refused` where the refusal was, and
-/// never `Failed`. `Clash` only where two different operations have one digest; nothing was written then. Nothing was written after `Memory`
-/// either. After `Device` a read failed, and nothing was written, or a write failed, and a beginning was.
+/// The graph is the one that `graph` prints, and progress calls each of its steps by the title of its instruction. `Built` where it was written,
+/// also where a build would fail, `Refused` where the refusal was, and never `Failed`. `Clash` only where two different operations have one
+/// digest; nothing was written then. Nothing was written after `Memory` either. After `Device` a read failed, and nothing was written, or a
+/// write failed, and a beginning was.
 #[tactic(auto, unfolding(plain::specs::Limits::most_bundle_bytes))]
 pub(crate) fn run_llb<R: CountedRead, W: CountedWrite>(
     alloc: Global,
@@ -87,26 +88,32 @@ fn tell_llb(
 ) -> Result<Told, BuildFault>
     ensures { IsLlbTold options.now bundle.now result }
 {
-    match ask(alloc, rt, bundle) {
-        Ok(asked) => {
+    match ask_titled(alloc, rt, bundle) {
+        Ok(titled) => {
+            let Titled { asked, titles } = titled;
             let Asked {
                 evaluated,
                 caches: _,
             } = asked;
-            tell_file(alloc, evaluated, options)
+            tell_file(alloc, evaluated, titles.as_slice(), options)
         }
         Err(Fault::Because(refusal)) => Ok(tell_refusal(alloc, refusal)?),
         Err(Fault::Memory) => Err(BuildFault::Memory),
     }
 }
 
-/// The definition of a file's needed stages.
-fn tell_file(alloc: Global, evaluated: Evaluated, options: &LlbOptions) -> Result<Told, BuildFault>
+/// The definition of a file's needed stages, whose lines have these titles.
+fn tell_file(
+    alloc: Global,
+    evaluated: Evaluated,
+    titles: &[Option<Text>],
+    options: &LlbOptions,
+) -> Result<Told, BuildFault>
     requires { IsLowerable evaluated }
-    ensures { IsFileTold options.now evaluated result }
+    ensures { IsFileTold options.now evaluated titles.now result }
 {
     let plan = drawn_plan(alloc, evaluated)?;
-    let told = tell_plan(alloc, &plan, options);
+    let told = tell_plan(alloc, &plan, titles, options);
     drop(plan);
     match told {
         Ok(text) => Ok(Told {
@@ -144,12 +151,17 @@ fn simplify(alloc: Global, plan: Plan<Config>) -> Result<Plan<Config>, Memory>
     prune(alloc, flat)
 }
 
-/// The definition of a plan, as the words choose it.
-fn tell_plan(alloc: Global, plan: &Plan<Config>, options: &LlbOptions) -> Result<Bytes, ExportFault>
-    ensures { IsPlanTold options.now plan.now result }
+/// The definition of a plan, whose lines have these titles, as the words choose it.
+fn tell_plan(
+    alloc: Global,
+    plan: &Plan<Config>,
+    titles: &[Option<Text>],
+    options: &LlbOptions,
+) -> Result<Bytes, ExportFault>
+    ensures { IsPlanTold options.now plan.now titles.now result }
 {
     let options = chosen(alloc, options)?;
-    export(alloc, plan, &options, &[])
+    export(alloc, plan, &options, titles)
 }
 
 /// What the words choose of a definition. It has no patterns of files that BuildKit isn't given.
