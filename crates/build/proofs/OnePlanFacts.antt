@@ -118,9 +118,9 @@ module _ (A B : List Vertex) (once_a : AreOnce A) (once_b : AreOnce B) (end_a en
       let merged = one_place MergeOp (base ∷ (here.copy ∷ [])) line a b rest_a rest_b here.merges (subst (λ i. IsVertex B MergeOp (base ∷ (i ∷ [])) b) (sym copied.0) there.merges) copied.2 in (
         merged.0,
         here.all
-        ∙ (ap (λ i. (line, i) ∷ (here.copied ++ (line, a) ∷ [])) begun.0
-        ∙ (ap (λ ps. (line, there.scratch) ∷ (ps ++ (line, a) ∷ [])) copied.1
-        ∙ (ap (λ i. (line, there.scratch) ∷ (there.copied ++ (line, i) ∷ [])) merged.0 ∙ sym there.all))),
+            ∙ (ap (λ i. (line, i) ∷ (here.copied ++ (line, a) ∷ [])) begun.0
+            ∙ (ap (λ ps. (line, there.scratch) ∷ (ps ++ (line, a) ∷ [])) copied.1
+            ∙ (ap (λ i. (line, there.scratch) ∷ (there.copied ++ (line, i) ∷ [])) merged.0 ∙ sym there.all))),
         merged.1,
       )
 
@@ -160,7 +160,7 @@ module _ (A B : List Vertex) (once_a : AreOnce A) (once_b : AreOnce B) (end_a en
       (subst (λ i. AreLowered B tips i stage.steps b there.others) (sym begun.0) there.steps) begun.1 in (
         rest.0,
         here.all
-        ∙ (ap (λ i. origin_places stage.line stage.base i ++ here.others) begun.0 ∙ (ap (λ ps. origin_places stage.line stage.base there.base ++ ps) rest.1 ∙ sym there.all)),
+            ∙ (ap (λ i. origin_places stage.line stage.base i ++ here.others) begun.0 ∙ (ap (λ ps. origin_places stage.line stage.base there.base ++ ps) rest.1 ∙ sym there.all)),
         rest.2,
       )
 

@@ -115,7 +115,7 @@ faulted options old new bytes Clash read told written reads writes = record {
   bundle = read.bundle;
   is = read.is;
   clash =
-    (told.0, asks bytes read.bundle (Ok told.0) read.same told.1, (told.2.0, titles_moved bytes read.bundle told.2.0 read.same told.2.1, told.2.2));
+      (told.0, asks bytes read.bundle (Ok told.0) read.same told.1, (told.2.0, titles_moved bytes read.bundle told.2.0 read.same told.2.1, told.2.2));
   unwritten = (written, writes);
   failed_reads = reads;
 }
