@@ -3,5 +3,6 @@ mod CheckFacts
 mod ConfigFacts
 mod FirstFacts
 mod LlbFacts
+mod TaskFacts
 mod TellFacts
 mod WhyFacts
