@@ -1,10 +1,8 @@
 -- What is told of the faults of a bundle.
-use Rattle.std.proofs.Common.{◌≡◌, inl, inr, ℕ, List, Option, Result, Ok, Err, refl, sym, ap, ◌∙◌}
+use Rattle.std.proofs.Common.{◌≡◌, inl, inr, ℕ, List, sym, ap, ◌∙◌}
 use Rattle.plain.specs.declared.refusal.Refusal.{Refusal}
-use Rattle.plain.specs.declared.fault.Fault.TheVariants.{Because}
-use Rattle.imageconfig.specs.Reading.{config_in}
 use Rattle.checks.specs.Checks.{AreFaultsOf}
-use Rattle.checks.specs.Checked.{IsCheckOf, faulty_text, faulty_text_in}
+use Rattle.checks.specs.Checked.{IsCheckOf, faulty_text_in}
 use Rattle.checks.specs.Shown.{readable_lines, shown_faults}
 use Rattle.checks.specs.declared.checked.Checked.{Checked}
 use Rattle.build.specs.declared.status.Status.{Status}
