@@ -19,7 +19,7 @@ use Rattle.clap.specs.declared.error.kind.ErrorKind.TheVariants.{ValueValidation
 use Rattle.clap.proofs.ValueTestLemmas.{accepts-Accepts}
 use Rattle.plain.specs.Limits.{most_workers}
 use Rattle.command.specs.CommandLine.{least_workers, whole_command}
-use Rattle.command.specs.Tasks.{IsTaskOf, IsWorkers, argument_faults, arguments_of, bundle_file, faults_of, has_bare_argument, has_wrong_choice, pack_of, pack_with, why_of}
+use Rattle.command.specs.Tasks.{IsTaskOf, IsWorkers, argument_faults, arguments_of, bundle_file, faults_of, graph_of, has_bare_argument, has_wrong_choice, pack_of, pack_with, why_of}
 use Rattle.command.specs.Llb.{llb_of}
 use Rattle.command.specs.declared.task.LlbOptions.{LlbOptions}
 use Rattle.command.specs.declared.task.PackOptions.{PackOptions}
@@ -82,7 +82,7 @@ one_fault (Some found) some = go (has_bare_argument found || has_wrong_choice fo
 task_args : (found : Option (Text × List Row)) (task : Task) → IsTaskOf found task → argument_faults found ≡ []
 task_args None task asked = absurd asked
 task_args (Some found) (Build n) asked = rw asked.0 refl
-task_args (Some found) (Graph file) asked = rw asked.0 refl
+task_args (Some found) (Graph options) asked = rw asked.0 refl
 task_args (Some found) (Pack words) asked = rw asked.0 (go (first_of (codes "DIR") found.1) (arguments_of found.1) asked.1)
   where
     go : (folder : Option Text) (args : Option (List (Text × Text)))
@@ -149,7 +149,7 @@ met_at : (p : Text × List Text) (x y k w l c h z : Bool) → answers_to p.0 (la
 met_at p true y k w l c h z help not_help some e args =
     let found = workers_of _ (leaf_ok p.1 e) in
     (Build (record { workers = found.0; file = bundle_file (rows_at leaf p.1).1 }), (refl, record { workers = found.1; file = refl }))
-met_at p false true k w l c h z help not_help some e args = (Graph (bundle_file (rows_at graph_leaf p.1).1), (refl, refl))
+met_at p false true k w l c h z help not_help some e args = (Graph (graph_of (rows_at graph_leaf p.1).1), (refl, refl))
 met_at p false false true w l c h z help not_help some e args =
     let folder = folder_ok p.1 e in
     let found = pack_at (finished pack_leaf.rules (walk pack_leaf.rules [] nothing_held p.1).held) folder.0 folder.1 args in

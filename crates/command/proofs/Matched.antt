@@ -55,7 +55,7 @@ read_out E G only rows one w is value out n h =
 pub no_task : (o : Option (Text × List Row)) (name : Text) (rows : List Row) → o ≡ Some (name, rows) → name ≡ codes "build"
     → ((options : BuildOptions) → IsBuild rows options → ⊥) → (task : Task) → IsTaskOf o task → ⊥
 no_task o name rows is build none (Build options) h = none options (subst (λ found. IsTaskOf found (Build options)) is h).1
-no_task o name rows is build none (Graph file) h = let graph : name ≡ codes "graph" = (subst (λ found. IsTaskOf found (Graph file)) is h).0 in absurd (true≢false (ap (λ t. bytes_eq t (codes "build")) (sym build ∙ graph)))
+no_task o name rows is build none (Graph options) h = let graph : name ≡ codes "graph" = (subst (λ found. IsTaskOf found (Graph options)) is h).0 in absurd (true≢false (ap (λ t. bytes_eq t (codes "build")) (sym build ∙ graph)))
 no_task o name rows is build none (Pack words) h = let pack : name ≡ codes "pack" = (subst (λ found. IsTaskOf found (Pack words)) is h).0 in absurd (true≢false (ap (λ t. bytes_eq t (codes "build")) (sym build ∙ pack)))
 no_task o name rows is build none (Why options) h = let why : name ≡ codes "why" = (subst (λ found. IsTaskOf found (Why options)) is h).0 in absurd (true≢false (ap (λ t. bytes_eq t (codes "build")) (sym build ∙ why)))
 no_task o name rows is build none (Llb options) h = let llb : name ≡ codes "llb" = (subst (λ found. IsTaskOf found (Llb options)) is h).0 in absurd (true≢false (ap (λ t. bytes_eq t (codes "build")) (sym build ∙ llb)))

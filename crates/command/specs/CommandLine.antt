@@ -31,9 +31,13 @@ bundle_argument = new_rule (codes "FILE")
 abbrev pub build_command : App
 build_command = with_rule (with_rule (new_app (codes "build")) workers_option) bundle_argument
 
--- `graph [FILE]` (own)
+-- `--dot` (own)
+abbrev pub dot_flag : Rule
+dot_flag = record (new_rule (codes "dot")) { long = Some (codes "dot"); action = Some SetTrue }
+
+-- `graph [--dot] [FILE]` (own)
 abbrev pub graph_command : App
-graph_command = with_rule (new_app (codes "graph")) bundle_argument
+graph_command = with_rule (with_rule (new_app (codes "graph")) dot_flag) bundle_argument
 
 -- DIR, which has to be given (own)
 abbrev pub folder_argument : Rule

@@ -11,6 +11,7 @@ use Rattle.plain.specs.Limits.{most_workers}
 use Rattle.command.specs.CommandLine.{least_workers, whole_command}
 use Rattle.command.specs.Llb.{llb_of}
 use Rattle.command.specs.declared.task.BuildOptions.{BuildOptions}
+use Rattle.command.specs.declared.task.GraphOptions.{GraphOptions}
 use Rattle.command.specs.declared.task.PackOptions.{PackOptions}
 use Rattle.command.specs.declared.task.WhyOptions.{WhyOptions}
 use Rattle.command.specs.declared.task.Task.{Task}
@@ -55,6 +56,10 @@ arguments_of rows = if list_all has_equals (argument_texts rows) then Some (map 
 abbrev pub is_set : Text → List Row → Bool
 is_set flag rows = option_map_or (λ text. bytes_eq text (codes "true")) (first_of flag rows) false
 
+-- what `graph` is asked for by its matches (own)
+abbrev pub graph_of : List Row → GraphOptions
+graph_of rows = record { file = bundle_file rows; dot = is_set (codes "dot") rows }
+
 -- what `pack` is asked for by its matches, with this folder and these build arguments (own)
 abbrev pub pack_with : List Row → Text → List (Text × Text) → PackOptions
 pack_with rows folder args = record {
@@ -82,7 +87,7 @@ why_of rows = record { file = first_of (codes "bundle") rows; paths = paths_of r
 abbrev pub IsTaskOf : Option (Text × List Row) → Task → Type 0
 IsTaskOf None task = ⊥
 IsTaskOf (Some found) (Build options) = (found.0 ≡ codes "build") × IsBuild found.1 options
-IsTaskOf (Some found) (Graph file) = (found.0 ≡ codes "graph") × (file ≡ bundle_file found.1)
+IsTaskOf (Some found) (Graph options) = (found.0 ≡ codes "graph") × (options ≡ graph_of found.1)
 IsTaskOf (Some found) (Pack options) = (found.0 ≡ codes "pack") × (pack_of found.1 ≡ Some options)
 IsTaskOf (Some found) (Why options) = (found.0 ≡ codes "why") × (options ≡ why_of found.1)
 IsTaskOf (Some found) (Llb options) = (found.0 ≡ codes "llb") × (llb_of found.1 ≡ Some options)

@@ -1,7 +1,7 @@
 ghost use Rattle.std.specs.Prelude.{◌≡◌, IfOk, false};
 ghost use Rattle.clap.specs.Words.{app_of, rule_of};
 ghost use Rattle.clap.specs.declared.builder.command.Command.TheViews.{out-Command};
-ghost use Rattle.command.specs.CommandLine.{argument_option, asking_command, build_command, bundle_argument, bundle_command, check_command, config_command, folder_argument, graph_command, ignore_flag, llb_command, llb_options, pack_command, pack_from, pack_to, paths_argument, text_option, whole_command, why_command, workers_option};
+ghost use Rattle.command.specs.CommandLine.{argument_option, asking_command, build_command, bundle_argument, bundle_command, check_command, config_command, dot_flag, folder_argument, graph_command, ignore_flag, llb_command, llb_options, pack_command, pack_from, pack_to, paths_argument, text_option, whole_command, why_command, workers_option};
 
 use clap::{Arg, ArgAction, Command, value_parser};
 use plain::limits::MOST_WORKERS;
@@ -30,6 +30,9 @@ pub const OUTPUT: &str = "output";
 
 pub const APPLY_IGNORE: &str = "apply-ignore";
 
+/// The flag of `graph`.
+pub const DOT: &str = "dot";
+
 /// The option of `why` that names the bundle's file.
 pub const BUNDLE_FILE: &str = "bundle";
 
@@ -54,7 +57,7 @@ const BUILD_HELP: &str =
     "Status: 0 if a tree was built, 1 if an instruction failed, 2 if the bundle or the command line is refused, 3 if there was no memory or a device failed.\nExample: dfsolve pack . | dfsolve build";
 
 const GRAPH_HELP: &str =
-    "Status: 0 if the graph was printed, 2 if the bundle or the command line is refused, 3 if there was no memory, a device failed or two addresses are the same.\nExample: dfsolve pack . | dfsolve graph";
+    "Status: 0 if the graph was printed, 2 if the bundle or the command line is refused, 3 if there was no memory, a device failed or two addresses are the same.\nExample: dfsolve pack . | dfsolve graph --dot | dot -Tsvg >graph.svg";
 
 const PACK_HELP: &str =
     "Status: 0 if the folder was packed, 2 if it has no Dockerfile or the command line is refused, 3 if there was no memory, a device failed or the folder can't be packed.\nExample: dfsolve pack . --apply-ignore --output bundle.json";
@@ -124,7 +127,7 @@ fn build_command<'a>(alloc: Global) -> Result<Command<'a>, AllocError>
         .arg(bundle_argument(alloc))
 }
 
-/// `graph [FILE]`.
+/// `graph [--dot] [FILE]`.
 fn graph_command<'a>(alloc: Global) -> Result<Command<'a>, AllocError>
     ensures app { IfOk result (λ command. app_of command ≡ graph_command) }
     ensures local { IfOk result (λ command. (out-Command command).has_globals ≡ false) }
@@ -134,6 +137,7 @@ fn graph_command<'a>(alloc: Global) -> Result<Command<'a>, AllocError>
             "Prints the graph of the bundle of a file, or on standard input, by content addresses",
         )
         .after_help(GRAPH_HELP)
+        .arg(dot_flag(alloc))?
         .arg(bundle_argument(alloc))
 }
 
@@ -316,6 +320,17 @@ fn ignore_flag<'a>(alloc: Global) -> Arg<'a>
     Arg::new(alloc, APPLY_IGNORE)
         .long(APPLY_IGNORE)
         .help("Leave out what the ignore file leaves out")
+        .action(ArgAction::SetTrue)
+}
+
+/// `--dot`.
+fn dot_flag<'a>(alloc: Global) -> Arg<'a>
+    ensures rule { rule_of result ≡ dot_flag }
+    ensures local { result.global ≡ false }
+{
+    Arg::new(alloc, DOT)
+        .long(DOT)
+        .help("Print it in the DOT language of Graphviz, with the instructions and their lines")
         .action(ArgAction::SetTrue)
 }
 

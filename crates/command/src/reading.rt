@@ -4,16 +4,16 @@ ghost use Rattle.clap.specs.Walk.{all_of};
 ghost use Rattle.clap.specs.Words.{FailsBy, first_of, found_of, rows_of, subcommand_of, subcommand_rows_of};
 ghost use Rattle.clap.specs.declared.error.kind.ErrorKind.TheVariants.{ValueValidation};
 ghost use Rattle.command.specs.CommandLine.{whole_command};
-ghost use Rattle.command.specs.Tasks.{IsBuild, IsTaskOf, IsWorkers, argument_of, arguments_of, bundle_file, faults_of, has_equals, is_set, pack_of, paths_of, why_of};
+ghost use Rattle.command.specs.Tasks.{IsBuild, IsTaskOf, IsWorkers, argument_of, arguments_of, bundle_file, faults_of, graph_of, has_equals, is_set, pack_of, paths_of, why_of};
 ghost use Rattle.command.specs.declared.task.BuildOptions.{BuildOptions};
 ghost use Rattle.command.specs.declared.task.Task.{Task};
 
 use crate::commands::{
-    APPLY_IGNORE, BUILD_ARGUMENT, BUNDLE, BUNDLE_FILE, FILE, FOLDER, LEAST_WORKERS, OUTPUT, PATH,
-    TARGET, whole_command,
+    APPLY_IGNORE, BUILD_ARGUMENT, BUNDLE, BUNDLE_FILE, DOT, FILE, FOLDER, LEAST_WORKERS, OUTPUT,
+    PATH, TARGET, whole_command,
 };
 use crate::llb::{llb_of, wrong_choice};
-use crate::{BuildOptions, PackOptions, Task, WhyOptions};
+use crate::{BuildOptions, GraphOptions, PackOptions, Task, WhyOptions};
 use clap::error::ErrorKind;
 use clap::{ArgMatches, Error};
 use plain::limits::MOST_WORKERS;
@@ -23,7 +23,7 @@ use std::alloc::{AllocError, Global};
 /// The task that the words ask for. The first word is the program's name, as in what `env::args` gives,
 /// and is passed over.
 ///
-/// `graph` is a command with a word FILE that may be left out, and `build` one with that word and `--workers N` or `--workers=N` once at most; N is
+/// `graph` is a command with a word FILE that may be left out, and with `--dot` once at most. `build` is one with that word and `--workers N` or `--workers=N` once at most; N is
 /// decimal digits, of which a `+` may stand in front, and its value is 1 to 64; the default is 4. `pack` is one with a word DIR, with
 /// `--file F`, `--target T`, `--output FILE` and `--apply-ignore` once at most, and with `--build-arg N=V` any number of times, each of which has a `=`.
 /// `why` is one with a word PATH once or more, and with `--bundle FILE` once at most.
@@ -106,8 +106,8 @@ fn task_of(alloc: Global, matches: &ArgMatches) -> Result<Option<Task>, AllocErr
         return Ok(Some(Task::Build(options)));
     }
     if name == "graph" {
-        let file = text_of(alloc, found, BUNDLE)?;
-        return Ok(Some(Task::Graph(file)));
+        let options = graph_of(alloc, found)?;
+        return Ok(Some(Task::Graph(options)));
     }
     if name == "pack" {
         let Some(options) = pack_of(alloc, found)? else {
@@ -147,6 +147,16 @@ fn build_of(alloc: Global, matches: &ArgMatches) -> Result<Option<BuildOptions>,
     };
     let file = text_of(alloc, matches, BUNDLE)?;
     Ok(Some(BuildOptions { workers, file }))
+}
+
+/// What the matches of `graph` ask for.
+fn graph_of(alloc: Global, matches: &ArgMatches) -> Result<GraphOptions, AllocError>
+    ensures { IfOk result (λ options. options ≡ graph_of (rows_of (found_of matches.now))) }
+{
+    Ok(GraphOptions {
+        file: text_of(alloc, matches, BUNDLE)?,
+        dot: is_set(matches, DOT),
+    })
 }
 
 /// What the matches of `pack` ask for; `None` where they hold no folder, or a build argument without a `=`.

@@ -5,8 +5,8 @@ use plain::{Items, Text};
 pub enum Task {
     /// `build`: solve a bundle.
     Build(BuildOptions),
-    /// `graph`: write the graph of a bundle, of the file that is named, or on standard input.
-    Graph(Option<Text>),
+    /// `graph`: write the graph of a bundle.
+    Graph(GraphOptions),
     /// `pack`: write the bundle of a folder.
     Pack(PackOptions),
     /// `why`: tell why paths of a bundle's context are kept or left out.
@@ -35,6 +35,22 @@ impl Drop for BuildOptions {
             workers: _,
             file: _,
         } = self;
+    }
+}
+
+/// What `graph` is asked for.
+#[derive(Debug)]
+pub struct GraphOptions {
+    /// The bundle's file, if one is named; else it is on standard input.
+    pub file: Option<Text>,
+    /// Whether it is written in the DOT language of Graphviz.
+    pub dot: bool,
+}
+
+/// It ends by a call, as `PackOptions` does.
+impl Drop for GraphOptions {
+    fn drop(self) {
+        let GraphOptions { file: _, dot: _ } = self;
     }
 }
 

@@ -1,6 +1,7 @@
 mod AskFacts
 mod CheckFacts
 mod ConfigFacts
+mod DotFacts
 mod FirstFacts
 mod LlbFacts
 mod TaskFacts

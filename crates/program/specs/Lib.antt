@@ -1,5 +1,6 @@
 pub mod Check
 pub mod Config
+pub mod Dot
 pub mod Llb
 pub mod PrivateFiles
 pub mod PrivateLlb

@@ -16,7 +16,7 @@ use Rattle.plans.specs.Value.{Out}
 use Rattle.build.specs.declared.status.Status.{Status}
 use Rattle.build.specs.declared.status.BuildFault.{BuildFault}
 use Rattle.build.specs.declared.status.BuildFault.TheVariants.{Clash, Device, Memory as NoMemory}
-use Rattle.build.specs.Ends.{Devices, Ends, GraphEnds, devices}
+use Rattle.build.specs.Ends.{Devices, Ends, devices}
 use Rattle.build.specs.Faults.{exit_status}
 use Rattle.build.specs.Messages.{fault_text}
 use Rattle.packing.specs.Ends.{PacksFolder, fault_text as pack_fault_text}
@@ -28,6 +28,7 @@ use Rattle.packing.specs.declared.packing.Status.TheVariants.{Built as Packed, R
 use Rattle.program.specs.declared.arguments.NotText.{NotText}
 use Rattle.program.specs.Check.{CheckEnds}
 use Rattle.program.specs.Config.{ConfigEnds}
+use Rattle.program.specs.Dot.{DrawingEnds}
 use Rattle.program.specs.Llb.{LlbEnds}
 use Rattle.program.specs.Saying.{Stream, Says}
 use Rattle.program.specs.Why.{WhyEnds}
@@ -181,7 +182,7 @@ CallsBy (Some name) EndsSo old new status = OnWriters (CallsFile name EndsSo) ol
 -- faults of a bundle, or why paths are kept or left out
 abbrev pub Does : Out → Task → Streams → Streams → ℕ → Type 0
 Does out (Build options) old new status = CallsBy options.file (Ends out) old new status
-Does out (Graph file) old new status = CallsBy file GraphEnds old new status
+Does out (Graph options) old new status = CallsBy options.file (DrawingEnds options.dot) old new status
 Does out (Pack options) old new status = OnWriters (Packs options) old new status
 Does out (Why options) old new status = CallsBy options.file (WhyEnds options.paths) old new status
 Does out (Llb options) old new status = CallsBy options.file (LlbEnds options) old new status

@@ -3,12 +3,13 @@
 ghost use Rattle.std.specs.Prelude.{◌≡◌, ◌<◌, ◌≤◌, ◌+◌, ◌++◌, ℕ, List, IfOk};
 ghost use Rattle.counted.specs.Edges.{LosesBeginning, line_of};
 ghost use Rattle.plain.specs.Limits.{most_bundle_bytes, most_workers};
-ghost use Rattle.build.specs.Ends.{Ends, GraphEnds, devices};
+ghost use Rattle.build.specs.Ends.{Ends, devices};
 ghost use Rattle.build.specs.Faults.{exit_status};
 ghost use Rattle.build.specs.Messages.{fault_text};
 ghost use Rattle.build.specs.declared.status.BuildFault.TheVariants.{Device};
 ghost use Rattle.program.specs.Check.{CheckEnds};
 ghost use Rattle.program.specs.Config.{ConfigEnds};
+ghost use Rattle.program.specs.Dot.{DrawingEnds};
 ghost use Rattle.program.specs.Llb.{LlbEnds};
 ghost use Rattle.program.specs.Runs.{CallsBy, CallsFile, IsOpenFault, IsTold, SaysEnd, SaysFileEnd, SaysNamed, streams};
 ghost use Rattle.program.specs.Saying.{stream};
@@ -18,10 +19,11 @@ use crate::bundle_file::{open_bundle, why_of};
 use crate::checking::run_check;
 use crate::config::run_config;
 use crate::exporting::run_llb;
+use crate::picturing::run_dot;
 use crate::saying::{NO_MEMORY_LINE, say};
 use crate::why::run_why;
 use build::{BuildFault, Status, run_build, run_graph, status_code};
-use command::{BuildOptions, LlbOptions, WhyOptions};
+use command::{BuildOptions, GraphOptions, LlbOptions, WhyOptions};
 use counted::{CountedRead, CountedWrite};
 use executor::Executor;
 use plain::Text;
@@ -78,7 +80,7 @@ pub(crate) fn draw_bundle<F: Files, R: CountedRead, W: CountedWrite, S: CountedW
     alloc: Global,
     rt: &(impl Threads + Wait + Sync),
     files: &F,
-    file: &Option<Text>,
+    options: &GraphOptions,
     input: &mut R,
     output: &mut W,
     errors: &mut S,
@@ -86,16 +88,16 @@ pub(crate) fn draw_bundle<F: Files, R: CountedRead, W: CountedWrite, S: CountedW
     requires reads { R.failures input.old < u64.MAX }
     requires writes { W.failures output.old < u64.MAX }
     requires says { S.failures errors.old < u64.MAX }
-    ensures calls { CallsBy file.now GraphEnds
+    ensures calls { CallsBy options.now.file (DrawingEnds options.now.dot)
         (streams (devices (R.remaining input.old) (R.failures input.old) (W.contents output.old) (W.failures output.old)) (stream (S.contents errors.old) (S.failures errors.old)))
         (streams (devices (R.remaining input.new) (R.failures input.new) (W.contents output.new) (W.failures output.new)) (stream (S.contents errors.new) (S.failures errors.new)))
         result }
     ensures taken { LosesBeginning (most_bundle_bytes + 1) (R.remaining input.old) (R.remaining input.new) }
 {
-    match file {
-        Some(name) => draw_file(alloc, rt, files, name.as_str(), output, errors),
+    match &options.file {
+        Some(name) => draw_file(alloc, rt, files, name.as_str(), options.dot, output, errors),
         None => {
-            let ended = run_graph(alloc, rt, input, output);
+            let ended = run_drawing(alloc, rt, options.dot, input, output);
             finish(errors, ended)
         }
     }
@@ -243,24 +245,47 @@ fn build_file<F: Files, W: CountedWrite, S: CountedWrite, E: Executor>(
     }
 }
 
+/// Reads a bundle, and writes its graph: in the DOT language, or by content addresses.
+fn run_drawing<R: CountedRead, W: CountedWrite>(
+    alloc: Global,
+    rt: &(impl Threads + Sync),
+    dot: bool,
+    input: &mut R,
+    output: &mut W,
+) -> Result<Status, BuildFault>
+    requires reads { R.failures input.old < u64.MAX }
+    requires writes { W.failures output.old < u64.MAX }
+    ensures ends { DrawingEnds dot
+        (devices (R.remaining input.old) (R.failures input.old) (W.contents output.old) (W.failures output.old))
+        (devices (R.remaining input.new) (R.failures input.new) (W.contents output.new) (W.failures output.new))
+        result }
+    ensures taken { LosesBeginning (most_bundle_bytes + 1) (R.remaining input.old) (R.remaining input.new) }
+{
+    match dot {
+        true => run_dot(alloc, rt, input, output),
+        false => run_graph(alloc, rt, input, output),
+    }
+}
+
 /// Draws the graph of the bundle of a file.
 fn draw_file<F: Files, W: CountedWrite, S: CountedWrite>(
     alloc: Global,
     rt: &(impl Threads + Wait + Sync),
     files: &F,
     name: &str,
+    dot: bool,
     output: &mut W,
     errors: &mut S,
 ) -> u8
     requires writes { W.failures output.old < u64.MAX }
     requires says { S.failures errors.old < u64.MAX }
-    ensures { CallsFile name.now GraphEnds
+    ensures { CallsFile name.now (DrawingEnds dot)
         (stream (W.contents output.old) (W.failures output.old)) (stream (W.contents output.new) (W.failures output.new))
         (stream (S.contents errors.old) (S.failures errors.old)) (stream (S.contents errors.new) (S.failures errors.new)) result }
 {
     match open_bundle(files, name) {
         Ok(mut file) => {
-            let ended = run_graph(alloc, rt, &mut file, output);
+            let ended = run_drawing(alloc, rt, dot, &mut file, output);
             finish_file(alloc, errors, ended, name, file.why)
         }
         Err(error) => {

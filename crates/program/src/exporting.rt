@@ -126,7 +126,7 @@ fn tell_file(
 }
 
 /// The plan whose graph is drawn of a file's needed stages.
-fn drawn_plan(alloc: Global, evaluated: Evaluated) -> Result<Plan<Config>, Memory>
+pub(crate) fn drawn_plan(alloc: Global, evaluated: Evaluated) -> Result<Plan<Config>, Memory>
     requires { IsLowerable evaluated }
     ensures { IfOk result (IsDrawnPlan evaluated) }
 {

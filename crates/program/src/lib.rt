@@ -17,6 +17,7 @@ mod checking;
 mod config;
 mod exporting;
 pub mod laws;
+mod picturing;
 mod running;
 mod saying;
 mod told;

@@ -91,9 +91,9 @@ pub fn run_program<
             drop(options);
             status
         }
-        Ok(Task::Graph(file)) => {
-            let status = draw_bundle(alloc, rt, files, &file, input, output, errors);
-            drop(file);
+        Ok(Task::Graph(options)) => {
+            let status = draw_bundle(alloc, rt, files, &options, input, output, errors);
+            drop(options);
             status
         }
         Ok(Task::Pack(options)) => {

@@ -2,7 +2,9 @@
 // stands a part of what is told of the fault.
 
 use clap::Error;
-use command::{BuildOptions, LlbOptions, PackOptions, Task, WhyOptions, read_command};
+use command::{
+    BuildOptions, GraphOptions, LlbOptions, PackOptions, Task, WhyOptions, read_command,
+};
 use plain::{Memory, Text};
 use std::alloc::Global;
 
@@ -27,9 +29,9 @@ fn task_text(alloc: Global, task: Task) -> Result<String, Memory> {
             drop(options);
             told
         }
-        Task::Graph(file) => {
-            let told = graph_text(alloc, &file);
-            drop(file);
+        Task::Graph(options) => {
+            let told = graph_text(alloc, &options);
+            drop(options);
             told
         }
         Task::Pack(options) => {
@@ -67,10 +69,17 @@ fn build_text(alloc: Global, options: &BuildOptions) -> Result<String, Memory> {
     Ok(told)
 }
 
-/// What `graph` is asked for.
-fn graph_text(alloc: Global, file: &Option<Text>) -> Result<String, Memory> {
-    let mut told = String::from_str(alloc, "graph")?;
-    add_text(alloc, &mut told, "of", file)?;
+/// What `graph` is asked for: whether it is for Graphviz, and after that the bundle's file, if one is named.
+fn graph_text(alloc: Global, options: &GraphOptions) -> Result<String, Memory> {
+    let mut told = String::from_str(
+        alloc,
+        if options.dot {
+            "graph for dot"
+        } else {
+            "graph"
+        },
+    )?;
+    add_text(alloc, &mut told, "of", &options.file)?;
     Ok(told)
 }
 
