@@ -22,5 +22,6 @@ mod task;
 
 pub use reading::read_command;
 pub use task::{
-    BuildOptions, LlbOptions, NetworkName, PackOptions, PlatformName, Task, WhyOptions,
+    BuildOptions, CheckOptions, LlbOptions, NetworkName, PackOptions, PlatformName, Task,
+    WhyOptions,
 };

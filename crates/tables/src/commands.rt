@@ -2,7 +2,7 @@
 // stands a part of what is told of the fault.
 
 use clap::Error;
-use command::{BuildOptions, LlbOptions, PackOptions, Task, WhyOptions, read_command};
+use command::{BuildOptions, CheckOptions, LlbOptions, PackOptions, Task, WhyOptions, read_command};
 use plain::{Memory, Text};
 use std::alloc::Global;
 
@@ -52,9 +52,9 @@ fn task_text(alloc: Global, task: Task) -> Result<String, Memory> {
             drop(file);
             told
         }
-        Task::Check(file) => {
-            let told = check_text(alloc, &file);
-            drop(file);
+        Task::Check(options) => {
+            let told = check_text(alloc, &options);
+            drop(options);
             told
         }
     }
@@ -122,10 +122,13 @@ fn config_text(alloc: Global, file: &Option<Text>) -> Result<String, Memory> {
     Ok(told)
 }
 
-/// What `check` is asked for.
-fn check_text(alloc: Global, file: &Option<Text>) -> Result<String, Memory> {
+/// What `check` is asked for: the bundle's file, if one is named, and whether lines of JSON are.
+fn check_text(alloc: Global, options: &CheckOptions) -> Result<String, Memory> {
     let mut told = String::from_str(alloc, "check")?;
-    add_text(alloc, &mut told, "of", file)?;
+    add_text(alloc, &mut told, "of", &options.file)?;
+    if options.json {
+        told.push_str(" as JSON")?;
+    }
     Ok(told)
 }
 
