@@ -18,6 +18,7 @@ use Rattle.checks.specs.Checked.{faulty_part, faulty_text_in, faulty_text, IsChe
 use Rattle.checks.specs.Shown.{readable_lines, shown_faults}
 use Rattle.checks.specs.declared.checked.Checked.{Checked}
 use Rattle.checks.specs.declared.checking.Findings.{Findings}
+use Rattle.checks.specs.declared.form.Form.{Form}
 
 -- the bytes of an ignore file, none where there is no bundle
 abbrev ignored : Option (Parts Config) → List ℕ
@@ -47,12 +48,12 @@ found_text (Ok found) one other same is = is ∙ same
 found_text (Err memory) one other same is = tt
 
 -- what is found and shown is what a check gives
-pub checked : (bytes : List ℕ) (found : Findings) (made : Checked) → AreFaultsOf bytes found.faults → found.text ≡ faulty_text bytes
-    → made.text ≡ shown_faults (readable_lines found.text) found.faults → made.is_sound ≡ (length found.faults == 0) → IsCheckOf bytes made
-checked bytes found made are text shown sound = record {
+pub checked : (bytes : List ℕ) (form : Form) (found : Findings) (made : Checked) → AreFaultsOf bytes found.faults → found.text ≡ faulty_text bytes
+    → made.text ≡ shown_faults form (readable_lines found.text) found.faults → made.is_sound ≡ (length found.faults == 0) → IsCheckOf bytes form made
+checked bytes form found made are text shown sound = record {
   faults = found.faults;
   are = are;
-  text = shown ∙ ap (λ t. shown_faults (readable_lines t) found.faults) text;
+  text = shown ∙ ap (λ t. shown_faults form (readable_lines t) found.faults) text;
   is_sound = sound;
 }
 
@@ -63,19 +64,25 @@ HaveFaults = (bytes : List ℕ) → (faults : List Refusal) × AreFaultsOf bytes
 abbrev pub HaveOneList : Type 0
 HaveOneList = (bytes : List ℕ) (faults others : List Refusal) → AreFaultsOf bytes faults → AreFaultsOf bytes others → faults ≡ others
 
-pub some_check : HaveFaults → (bytes : List ℕ) → (made : Checked) × IsCheckOf bytes made
-some_check some bytes =
+pub some_check : HaveFaults → (bytes : List ℕ) (form : Form) → (made : Checked) × IsCheckOf bytes form made
+some_check some bytes form =
     let found = some bytes in (
-      record { text = shown_faults (readable_lines (faulty_text bytes)) found.0; is_sound = length found.0 == 0 },
+      record { text = shown_faults form (readable_lines (faulty_text bytes)) found.0; is_sound = length found.0 == 0 },
       record { faults = found.0; are = found.1; text = refl; is_sound = refl },
     )
 
 same_checked : (one other : Checked) → one.text ≡ other.text → one.is_sound ≡ other.is_sound → one ≡ other
 same_checked one other text sound = λ i. record { text = text i; is_sound = sound i }
 
-pub one_check : HaveOneList → (bytes : List ℕ) (one other : Checked) → IsCheckOf bytes one → IsCheckOf bytes other → one ≡ other
-one_check unique bytes one other these those =
+pub one_sound : HaveOneList → (bytes : List ℕ) (form another : Form) (one other : Checked) → IsCheckOf bytes form one → IsCheckOf bytes another other
+    → one.is_sound ≡ other.is_sound
+one_sound unique bytes form another one other these those =
+    let same = unique bytes these.faults those.faults these.are those.are in
+    these.is_sound ∙ ap (λ (faults : List Refusal). length faults == 0) same ∙ sym those.is_sound
+
+pub one_check : HaveOneList → (bytes : List ℕ) (form : Form) (one other : Checked) → IsCheckOf bytes form one → IsCheckOf bytes form other → one ≡ other
+one_check unique bytes form one other these those =
     let same = unique bytes these.faults those.faults these.are those.are in
     same_checked one other
-    (these.text ∙ ap (shown_faults (readable_lines (faulty_text bytes))) same ∙ sym those.text)
-    (these.is_sound ∙ ap (λ (faults : List Refusal). length faults == 0) same ∙ sym those.is_sound)
+    (these.text ∙ ap (shown_faults form (readable_lines (faulty_text bytes))) same ∙ sym those.text)
+    (one_sound unique bytes form form one other these those)

@@ -1,4 +1,4 @@
--- What checking a bundle gives: what a person reads of all its faults (own).
+-- What checking a bundle gives: what is shown of all its faults (own).
 use Rattle.std.specs.Prelude.{◌≡◌, ◌==◌, ℕ, List, [], Option, Some, None, Result, Ok, Err, length}
 use Rattle.plain.specs.declared.refusal.Refusal.{Refusal}
 use Rattle.ignorefile.specs.File.{ignore_of}
@@ -11,6 +11,7 @@ use Rattle.bundle.specs.declared.parts.Parts.{Parts}
 use Rattle.checks.specs.Checks.{AreFaultsOf}
 use Rattle.checks.specs.Shown.{readable_lines, shown_faults}
 use Rattle.checks.specs.declared.checked.Checked.{Checked}
+use Rattle.checks.specs.declared.form.Form.{Form}
 
 -- the text that the faults of a bundle with this ignore file are in: if a line of that is bad, it is the ignore file, and else the Dockerfile
 abbrev pub faulty_part : Parts Config → Result (List Line) ℕ → List ℕ
@@ -26,9 +27,9 @@ faulty_text_in (Some parts) = faulty_part parts (ignore_of (ignore_bytes parts.f
 abbrev pub faulty_text : List ℕ → List ℕ
 faulty_text bytes = faulty_text_in (parts_of config_in bytes)
 
--- what checking bytes gives: all their faults as a person reads them, with the lines that they are about, and whether there is none
-pub record IsCheckOf (bytes : List ℕ) (checked : Checked) : Type 0 where
+-- what checking bytes gives: all their faults in a form, with the lines that they are about, and whether there is none
+pub record IsCheckOf (bytes : List ℕ) (form : Form) (checked : Checked) : Type 0 where
   pub faults : List Refusal
   pub are : AreFaultsOf bytes faults
-  pub text : checked.text ≡ shown_faults (readable_lines (faulty_text bytes)) faults
+  pub text : checked.text ≡ shown_faults form (readable_lines (faulty_text bytes)) faults
   pub is_sound : checked.is_sound ≡ (length faults == 0)

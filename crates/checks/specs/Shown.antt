@@ -1,4 +1,4 @@
--- What a person reads of faults, with the lines that they are about (own).
+-- What a person or a program reads of faults, with the lines that they are about (own).
 use Rattle.std.specs.Prelude.{◌++◌, ◌-◌, ◌/◌, ◌%◌, ◌==◌, ◌&&◌, not, ℕ, Bool, false, List, [], ◌∷◌, chars, codes, encode_utf8, slice_get, unwrap_or, if◌then◌else◌}
 use Rattle.std.specs.Char.{is_control}
 use Rattle.std.specs.Fmt.{digit_glyph}
@@ -8,7 +8,10 @@ use Rattle.plain.specs.declared.refusal.Code.{Code}
 use Rattle.plain.specs.declared.refusal.Code.TheVariants.{R19, R20}
 use Rattle.plain.specs.declared.refusal.Refusal.{Refusal}
 use Rattle.lines.specs.Text.{text_lines}
+use Rattle.sentences.specs.Json.{json_line}
 use Rattle.sentences.specs.Showing.{shown}
+use Rattle.checks.specs.declared.form.Form.{Form}
+use Rattle.checks.specs.declared.form.Form.TheVariants.{Plain, Json}
 
 -- what a fault of this code is in: the ignore file, the whole input, or the Dockerfile
 abbrev pub place_of : Code → List ℕ
@@ -44,10 +47,15 @@ visible_char c = if is_obeyed c then escaped c else encode_utf8 c
 abbrev pub visible : List ℕ → List ℕ
 visible line = flat_map visible_char (chars line)
 
+-- what is shown of a fault that is about this line: a person gets the line as a terminal may have it, and a program as it stands
+abbrev pub shown_with : Form → Refusal → List ℕ → List ℕ
+shown_with Plain refusal line = shown (place_of refusal.code) refusal (visible line)
+shown_with Json refusal line = json_line (place_of refusal.code) refusal line
+
 -- what is shown of a fault of a text with these lines
-abbrev pub shown_fault : List (List ℕ) → Refusal → List ℕ
-shown_fault lines refusal = shown (place_of refusal.code) refusal (visible (line_at lines refusal.line))
+abbrev pub shown_fault : Form → List (List ℕ) → Refusal → List ℕ
+shown_fault form lines refusal = shown_with form refusal (line_at lines refusal.line)
 
 -- what is shown of faults, one after another
-abbrev pub shown_faults : List (List ℕ) → List Refusal → List ℕ
-shown_faults lines faults = flat_map (shown_fault lines) faults
+abbrev pub shown_faults : Form → List (List ℕ) → List Refusal → List ℕ
+shown_faults form lines faults = flat_map (shown_fault form lines) faults

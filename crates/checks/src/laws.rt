@@ -4,6 +4,7 @@ ghost use Rattle.plain.specs.declared.refusal.Refusal.{Refusal};
 ghost use Rattle.checks.specs.Checked.{IsCheckOf};
 ghost use Rattle.checks.specs.Checks.{AreFaultsOf};
 ghost use Rattle.checks.specs.declared.checked.Checked.{Checked};
+ghost use Rattle.checks.specs.declared.form.Form.{Form};
 
 /// Each bundle has one list of faults.
 pub fn each_bundle_has_its_faults()
@@ -20,10 +21,13 @@ pub fn each_bundle_has_its_faults()
     evaluation::laws::every_table_is_evaluated_or_refused();
 }
 
-/// Checking gives one text for each bundle, and says one thing of whether it is sound: what is shown is a function of the bytes.
+/// Checking gives one text for each bundle in each form, and says one thing of whether it is sound, whatever the form: what is shown is a function
+/// of the bytes and the form.
 pub fn each_bundle_has_its_check()
-    ensures exists { (bytes : List ℕ) → (checked : Checked) × IsCheckOf bytes checked }
-    ensures unique { (bytes : List ℕ) (one other : Checked) → IsCheckOf bytes one → IsCheckOf bytes other → one ≡ other }
+    ensures exists { (bytes : List ℕ) (form : Form) → (checked : Checked) × IsCheckOf bytes form checked }
+    ensures unique { (bytes : List ℕ) (form : Form) (one other : Checked) → IsCheckOf bytes form one → IsCheckOf bytes form other → one ≡ other }
+    ensures sound { (bytes : List ℕ) (form another : Form) (one other : Checked) → IsCheckOf bytes form one → IsCheckOf bytes another other
+        → one.is_sound ≡ other.is_sound }
 {
     each_bundle_has_its_faults();
 }

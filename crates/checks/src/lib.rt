@@ -1,16 +1,16 @@
-// All faults of a bundle, and how a person reads them.
+// All faults of a bundle, and how a person or a program reads them.
 //
 // A build answers one refusal. `check_bundle` lists all of the first phase that has one: the bundle and its ignore file, the Dockerfile's text
 // and lines, its instructions, its stages, and the evaluation of those that the target needs. Of the evaluation it lists the first fault alone, since
 // the lines after one that is refused have no values to be judged by. It runs nothing, so it doesn't tell whether a build would fail.
 //
-// `shown_faults` shows faults, each with the line that it is about. It is given the faults and their text. One fault is shown in one walk through
-// the text. Where there are several, the lines are listed first, so each is found at once. `check` does both.
+// `shown_faults` shows faults, each with the line that it is about, to a person or as lines of JSON. It is given the faults and their text. One
+// fault is shown in one walk through the text. Where there are several, the lines are listed first, so each is found at once. `check` does both.
 //
 // The central definitions are `AreFaultsOf` in specs/Checks.antt, `shown_faults` in specs/Shown.antt, and `IsCheckOf` in specs/Checked.antt.
 //
 // ```
-// let checked = check(alloc, &rt, bytes)?; // of a bundle with the Dockerfile FROM scratch\nRUNN make
+// let checked = check(alloc, &rt, bytes, Form::Plain)?; // of a bundle with the Dockerfile FROM scratch\nRUNN make
 // // Dockerfile:2: R04: there is no such instruction here
 // //     2 | RUNN make
 // //       | use FROM, ARG, ENV, ..
@@ -19,10 +19,12 @@
 
 mod checked;
 mod checking;
+mod form;
 pub mod laws;
 mod showing;
 mod visible;
 
 pub use checked::{Checked, check};
 pub use checking::{Findings, check_bundle};
+pub use form::Form;
 pub use showing::shown_faults;

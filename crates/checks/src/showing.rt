@@ -1,57 +1,79 @@
 ghost use Rattle.std.specs.Prelude.{◌≡◌, ◌-◌, map, IfOk};
 ghost use Rattle.std.specs.String.{string_bytes};
 ghost use Rattle.lines.specs.Text.{without_byte_order_mark, text_lines};
-ghost use Rattle.sentences.specs.Showing.{shown};
-ghost use Rattle.checks.specs.Shown.{place_of, readable_lines, line_at, visible, shown_faults};
+ghost use Rattle.checks.specs.Shown.{place_of, readable_lines, line_at, shown_with, shown_faults};
 
+use crate::Form;
 use crate::visible::visible;
 use plain::{Code, Memory, Refusal, Text};
-use sentences::shown;
+use sentences::{json_line, shown};
 use std::alloc::{AllocError, Global};
 
-/// What is shown of faults, in their order, each as `sentences::shown` gives it, whose lines are counted in this text: a Dockerfile's, or that
-/// of its ignore file. It need not be UTF-8: what isn't is shown as U+FFFD. A control character of a line, other than a tab, is shown by its
-/// number, as `\x1b`, so no line gives orders to a terminal. The line of a number that the text hasn't is shown as an empty one.
-pub fn shown_faults(alloc: Global, faults: &[Refusal], text: &[u8]) -> Result<Text, Memory>
-    ensures { IfOk result (λ shown. shown ≡ shown_faults (readable_lines text.now) faults.now) }
+/// What is shown of faults, in their order and in this form, whose lines are counted in this text: a Dockerfile's, or that of its ignore file. It
+/// need not be UTF-8: what isn't is shown as U+FFFD. The line of a number that the text hasn't is shown as an empty one.
+///
+/// To a person a control character of a line, other than a tab, is shown by its number, as `\x1b`, so no line gives orders to a terminal. A program
+/// gets the line as it stands.
+pub fn shown_faults(
+    alloc: Global,
+    faults: &[Refusal],
+    text: &[u8],
+    form: Form,
+) -> Result<Text, Memory>
+    ensures { IfOk result (λ shown. shown ≡ shown_faults form (readable_lines text.now) faults.now) }
 {
     let readable = String::from_utf8_lossy(alloc, text)?;
-    let shown = shown_in(alloc, faults, readable.as_str())?;
+    let shown = shown_in(alloc, faults, readable.as_str(), form)?;
     Ok(Text::from_string(shown))
 }
 
 /// The same of a text that is UTF-8. The lines are listed only where there are several faults: one is found without memory for each line.
-fn shown_in(alloc: Global, faults: &[Refusal], text: &str) -> Result<String, Memory>
-    ensures { IfOk result (λ shown. string_bytes shown ≡ shown_faults (text_lines text.now) faults.now) }
+fn shown_in(
+    alloc: Global,
+    faults: &[Refusal],
+    text: &str,
+    form: Form,
+) -> Result<String, Memory>
+    ensures { IfOk result (λ shown. string_bytes shown ≡ shown_faults form (text_lines text.now) faults.now) }
 {
     match faults {
         [] => Ok(String::new(alloc)),
-        [fault] => shown_fault(alloc, *fault, found_line(text, fault.line)),
+        [fault] => shown_fault(alloc, *fault, found_line(text, fault.line), form),
         [_, _, ..] => {
             let lines = lines_of(alloc, text)?;
-            shown_each(alloc, faults, &lines)
+            shown_each(alloc, faults, &lines, form)
         }
     }
 }
 
 /// What is shown of faults, one after another, their lines being among these.
-fn shown_each(alloc: Global, faults: &[Refusal], lines: &[&str]) -> Result<String, Memory>
-    ensures { IfOk result (λ shown. string_bytes shown ≡ shown_faults (map (λ line. line.now) lines.now) faults.now) }
+fn shown_each(
+    alloc: Global,
+    faults: &[Refusal],
+    lines: &[&str],
+    form: Form,
+) -> Result<String, Memory>
+    ensures { IfOk result (λ shown. string_bytes shown ≡ shown_faults form (map (λ line. line.now) lines.now) faults.now) }
 {
     let mut text = String::new(alloc);
     for fault in faults {
-        let shown = shown_fault(alloc, *fault, listed_line(lines, fault.line))?;
+        let shown = shown_fault(alloc, *fault, listed_line(lines, fault.line), form)?;
         text.push_str(shown.as_str())?;
     }
     Ok(text)
 }
 
 /// What is shown of a fault that is about this line.
-fn shown_fault(alloc: Global, fault: Refusal, line: &str) -> Result<String, Memory>
-    ensures { IfOk result (λ text. string_bytes text ≡ shown (place_of fault.code) fault (visible line.now)) }
+fn shown_fault(alloc: Global, fault: Refusal, line: &str, form: Form) -> Result<String, Memory>
+    ensures { IfOk result (λ text. string_bytes text ≡ shown_with form fault line.now) }
 {
-    let line = visible(alloc, line)?;
-    shown(alloc, place_of(fault.code), fault, line.as_str())
+    match form {
+        Form::Plain => {
+            let line = visible(alloc, line)?;
+            shown(alloc, place_of(fault.code), fault, line.as_str())
+        }
+        Form::Json => json_line(alloc, place_of(fault.code), fault, line),
+    }
 }
 
 /// What a fault of this code is in.

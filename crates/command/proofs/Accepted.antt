@@ -19,7 +19,7 @@ use Rattle.clap.specs.declared.error.kind.ErrorKind.TheVariants.{ValueValidation
 use Rattle.clap.proofs.ValueTestLemmas.{accepts-Accepts}
 use Rattle.plain.specs.Limits.{most_workers}
 use Rattle.command.specs.CommandLine.{least_workers, whole_command}
-use Rattle.command.specs.Tasks.{IsTaskOf, IsWorkers, argument_faults, arguments_of, bundle_file, faults_of, graph_of, has_bare_argument, has_wrong_choice, pack_of, pack_with, why_of}
+use Rattle.command.specs.Tasks.{IsTaskOf, IsWorkers, argument_faults, arguments_of, bundle_file, check_of, faults_of, graph_of, has_bare_argument, has_wrong_choice, pack_of, pack_with, why_of}
 use Rattle.command.specs.Llb.{llb_of}
 use Rattle.command.specs.declared.task.LlbOptions.{LlbOptions}
 use Rattle.command.specs.declared.task.PackOptions.{PackOptions}
@@ -94,7 +94,7 @@ task_args (Some found) (Pack words) asked = rw asked.0 (go (first_of (codes "DIR
 task_args (Some found) (Why options) asked = rw asked.0 refl
 task_args (Some found) (Llb options) asked = rw (asked.0, asked.1) refl
 task_args (Some found) (Config file) asked = rw asked.0 refl
-task_args (Some found) (Check file) asked = rw asked.0 refl
+task_args (Some found) (Check options) asked = rw asked.0 refl
 
 -- the other commands as clap builds them
 abbrev graph_leaf : Shape
@@ -159,7 +159,7 @@ met_at p false false false false true c h z help not_help some e args =
     let found = llb_at (finished llb_leaf.rules (walk llb_leaf.rules [] nothing_held p.1).held) args in
     (Llb found.0, (refl, found.1))
 met_at p false false false false false true h z help not_help some e args = (Config (bundle_file (rows_at config_leaf p.1).1), (refl, refl))
-met_at p false false false false false false true z help not_help some e args = (Check (bundle_file (rows_at check_leaf p.1).1), (refl, refl))
+met_at p false false false false false false true z help not_help some e args = (Check (check_of (rows_at check_leaf p.1).1), (refl, refl))
 met_at p false false false false false false false true help not_help some e args =
     let same = (bytes_eq-Decides (codes "help") p.0).0 (or_false _ help) in
     absurd (true≢false (sym ((bytes_eq-Decides p.0 (codes "help")).1 (sym same)) ∙ not_help))

@@ -60,4 +60,4 @@ no_task o name rows is build none (Pack words) h = let pack : name ≡ codes "pa
 no_task o name rows is build none (Why options) h = let why : name ≡ codes "why" = (subst (λ found. IsTaskOf found (Why options)) is h).0 in absurd (true≢false (ap (λ t. bytes_eq t (codes "build")) (sym build ∙ why)))
 no_task o name rows is build none (Llb options) h = let llb : name ≡ codes "llb" = (subst (λ found. IsTaskOf found (Llb options)) is h).0 in absurd (true≢false (ap (λ t. bytes_eq t (codes "build")) (sym build ∙ llb)))
 no_task o name rows is build none (Config file) h = let config : name ≡ codes "config" = (subst (λ found. IsTaskOf found (Config file)) is h).0 in absurd (true≢false (ap (λ t. bytes_eq t (codes "build")) (sym build ∙ config)))
-no_task o name rows is build none (Check file) h = let check : name ≡ codes "check" = (subst (λ found. IsTaskOf found (Check file)) is h).0 in absurd (true≢false (ap (λ t. bytes_eq t (codes "build")) (sym build ∙ check)))
+no_task o name rows is build none (Check options) h = let check : name ≡ codes "check" = (subst (λ found. IsTaskOf found (Check options)) is h).0 in absurd (true≢false (ap (λ t. bytes_eq t (codes "build")) (sym build ∙ check)))

@@ -67,12 +67,13 @@ pack_to = with_rule (with_rule pack_from argument_option) (text_option (codes "o
 abbrev pub pack_command : App
 pack_command = with_rule pack_to ignore_flag
 
--- `dfsolve COMMAND` of the commands that read a bundle; a command has to be given, and the program has a version to tell (own)
+-- `dfsolve COMMAND` with no command yet; one has to be given, and the program has a version to tell (own)
+abbrev pub bare_command : App
+bare_command = on_top (λ top. record top { subcommand_required = true; has_version = true }) (new_app (codes "dfsolve"))
+
+-- `dfsolve COMMAND` of the commands that read a bundle (own)
 abbrev pub bundle_command : App
-bundle_command =
-    with_subcommand
-    (with_subcommand (on_top (λ top. record top { subcommand_required = true; has_version = true }) (new_app (codes "dfsolve"))) build_command.top)
-    graph_command.top
+bundle_command = with_subcommand (with_subcommand bare_command build_command.top) graph_command.top
 
 -- PATH, once or more (own)
 abbrev pub paths_argument : Rule
@@ -98,9 +99,13 @@ llb_command = with_rule llb_options bundle_argument
 abbrev pub config_command : App
 config_command = with_rule (new_app (codes "config")) bundle_argument
 
--- `check [FILE]` (own)
+-- `--json` (own)
+abbrev pub json_flag : Rule
+json_flag = record (new_rule (codes "json")) { long = Some (codes "json"); action = Some SetTrue }
+
+-- `check [--json] [FILE]` (own)
 abbrev pub check_command : App
-check_command = with_rule (new_app (codes "check")) bundle_argument
+check_command = with_rule (with_rule (new_app (codes "check")) json_flag) bundle_argument
 
 -- `dfsolve COMMAND` (own)
 abbrev pub whole_command : App

@@ -11,6 +11,7 @@ use Rattle.plain.specs.Limits.{most_workers}
 use Rattle.command.specs.CommandLine.{least_workers, whole_command}
 use Rattle.command.specs.Llb.{llb_of}
 use Rattle.command.specs.declared.task.BuildOptions.{BuildOptions}
+use Rattle.command.specs.declared.task.CheckOptions.{CheckOptions}
 use Rattle.command.specs.declared.task.GraphOptions.{GraphOptions}
 use Rattle.command.specs.declared.task.PackOptions.{PackOptions}
 use Rattle.command.specs.declared.task.WhyOptions.{WhyOptions}
@@ -83,6 +84,10 @@ paths_of rows = unwrap_or (all_of (codes "PATH") rows) []
 abbrev pub why_of : List Row → WhyOptions
 why_of rows = record { file = first_of (codes "bundle") rows; paths = paths_of rows }
 
+-- what `check` is asked for by its matches: the bundle's file, if one is named, and whether lines of JSON are (own)
+abbrev pub check_of : List Row → CheckOptions
+check_of rows = record { file = bundle_file rows; json = is_set (codes "json") rows }
+
 -- the task that a subcommand, by its name and its matches, asks for (own)
 abbrev pub IsTaskOf : Option (Text × List Row) → Task → Type 0
 IsTaskOf None task = ⊥
@@ -92,7 +97,7 @@ IsTaskOf (Some found) (Pack options) = (found.0 ≡ codes "pack") × (pack_of fo
 IsTaskOf (Some found) (Why options) = (found.0 ≡ codes "why") × (options ≡ why_of found.1)
 IsTaskOf (Some found) (Llb options) = (found.0 ≡ codes "llb") × (llb_of found.1 ≡ Some options)
 IsTaskOf (Some found) (Config file) = (found.0 ≡ codes "config") × (file ≡ bundle_file found.1)
-IsTaskOf (Some found) (Check file) = (found.0 ≡ codes "check") × (file ≡ bundle_file found.1)
+IsTaskOf (Some found) (Check options) = (found.0 ≡ codes "check") × (options ≡ check_of found.1)
 
 -- `pack` with a build argument without a `=` (own)
 abbrev pub has_bare_argument : Text × List Row → Bool

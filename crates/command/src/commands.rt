@@ -1,7 +1,7 @@
 ghost use Rattle.std.specs.Prelude.{◌≡◌, IfOk, false};
-ghost use Rattle.clap.specs.Words.{app_of, rule_of};
+ghost use Rattle.clap.specs.Words.{app_of, rule_of, with_subcommand};
 ghost use Rattle.clap.specs.declared.builder.command.Command.TheViews.{out-Command};
-ghost use Rattle.command.specs.CommandLine.{argument_option, asking_command, build_command, bundle_argument, bundle_command, check_command, config_command, dot_flag, folder_argument, graph_command, ignore_flag, llb_command, llb_options, pack_command, pack_from, pack_to, paths_argument, text_option, whole_command, why_command, workers_option};
+ghost use Rattle.command.specs.CommandLine.{argument_option, asking_command, bare_command, build_command, bundle_argument, bundle_command, check_command, config_command, dot_flag, folder_argument, graph_command, ignore_flag, json_flag, llb_command, llb_options, pack_command, pack_from, pack_to, paths_argument, text_option, whole_command, why_command, workers_option};
 
 use clap::{Arg, ArgAction, Command, value_parser};
 use plain::limits::MOST_WORKERS;
@@ -38,6 +38,9 @@ pub const BUNDLE_FILE: &str = "bundle";
 
 /// A path of `why`, as it is called in help.
 pub const PATH: &str = "PATH";
+
+/// The flag of `check` that asks for lines of JSON.
+pub const JSON: &str = "json";
 
 /// The options of `llb`.
 pub const PLATFORM: &str = "platform";
@@ -81,38 +84,128 @@ const VERSION: &str = "0.1.0";
 pub fn whole_command<'a>(alloc: Global) -> Result<Command<'a>, AllocError>
     ensures { IfOk result (λ command. app_of command ≡ whole_command) }
 {
-    let asking = asking_command(alloc)?;
-    let llb = llb_command(alloc)?;
-    let config = config_command(alloc)?;
-    let check = check_command(alloc)?;
-    asking
-        .subcommand(llb)?
-        .subcommand(config)?
-        .subcommand(check)
+    let command = asking_command(alloc)?;
+    let command = with_llb(alloc, command)?;
+    let command = with_config(alloc, command)?;
+    with_check(alloc, command)
 }
 
 /// `dfsolve COMMAND` with the commands that have to do with no engine but the program's own.
 fn asking_command<'a>(alloc: Global) -> Result<Command<'a>, AllocError>
     ensures { IfOk result (λ command. app_of command ≡ asking_command) }
 {
-    let bundle = bundle_command(alloc)?;
-    let pack = pack_command(alloc)?;
-    let why = why_command(alloc)?;
-    bundle.subcommand(pack)?.subcommand(why)
+    let command = bundle_command(alloc)?;
+    let command = with_pack(alloc, command)?;
+    with_why(alloc, command)
 }
 
 /// `dfsolve COMMAND` with the commands that read a bundle.
 fn bundle_command<'a>(alloc: Global) -> Result<Command<'a>, AllocError>
     ensures { IfOk result (λ command. app_of command ≡ bundle_command) }
 {
-    let build = build_command(alloc)?;
-    let graph = graph_command(alloc)?;
+    let command = with_build(alloc, bare_command(alloc))?;
+    with_graph(alloc, command)
+}
+
+/// `dfsolve COMMAND` with no command yet.
+fn bare_command<'a>(alloc: Global) -> Command<'a>
+    ensures { app_of result ≡ bare_command }
+{
     Command::new(alloc, "dfsolve")
         .version(VERSION)
         .about("Compiles a Dockerfile and solves it")
         .subcommand_required(true)
-        .subcommand(build)?
-        .subcommand(graph)
+}
+
+/// The command with the subcommand `build`. Like those below it lets the command go by a call, so that no proof goes by its parts.
+fn with_build<'a>(alloc: Global, command: Command<'a>) -> Result<Command<'a>, AllocError>
+    ensures { IfOk result (λ whole. app_of whole ≡ with_subcommand (app_of command.entry) build_command.top) }
+{
+    match build_command(alloc) {
+        Ok(build) => command.subcommand(build),
+        Err(memory) => {
+            drop(command);
+            Err(memory)
+        }
+    }
+}
+
+/// The same with `graph`.
+fn with_graph<'a>(alloc: Global, command: Command<'a>) -> Result<Command<'a>, AllocError>
+    ensures { IfOk result (λ whole. app_of whole ≡ with_subcommand (app_of command.entry) graph_command.top) }
+{
+    match graph_command(alloc) {
+        Ok(graph) => command.subcommand(graph),
+        Err(memory) => {
+            drop(command);
+            Err(memory)
+        }
+    }
+}
+
+/// The same with `pack`.
+fn with_pack<'a>(alloc: Global, command: Command<'a>) -> Result<Command<'a>, AllocError>
+    ensures { IfOk result (λ whole. app_of whole ≡ with_subcommand (app_of command.entry) pack_command.top) }
+{
+    match pack_command(alloc) {
+        Ok(pack) => command.subcommand(pack),
+        Err(memory) => {
+            drop(command);
+            Err(memory)
+        }
+    }
+}
+
+/// The same with `why`.
+fn with_why<'a>(alloc: Global, command: Command<'a>) -> Result<Command<'a>, AllocError>
+    ensures { IfOk result (λ whole. app_of whole ≡ with_subcommand (app_of command.entry) why_command.top) }
+{
+    match why_command(alloc) {
+        Ok(why) => command.subcommand(why),
+        Err(memory) => {
+            drop(command);
+            Err(memory)
+        }
+    }
+}
+
+/// The same with `llb`.
+fn with_llb<'a>(alloc: Global, command: Command<'a>) -> Result<Command<'a>, AllocError>
+    ensures { IfOk result (λ whole. app_of whole ≡ with_subcommand (app_of command.entry) llb_command.top) }
+{
+    match llb_command(alloc) {
+        Ok(llb) => command.subcommand(llb),
+        Err(memory) => {
+            drop(command);
+            Err(memory)
+        }
+    }
+}
+
+/// The same with `config`.
+fn with_config<'a>(alloc: Global, command: Command<'a>) -> Result<Command<'a>, AllocError>
+    ensures { IfOk result (λ whole. app_of whole ≡ with_subcommand (app_of command.entry) config_command.top) }
+{
+    match config_command(alloc) {
+        Ok(config) => command.subcommand(config),
+        Err(memory) => {
+            drop(command);
+            Err(memory)
+        }
+    }
+}
+
+/// The same with `check`.
+fn with_check<'a>(alloc: Global, command: Command<'a>) -> Result<Command<'a>, AllocError>
+    ensures { IfOk result (λ whole. app_of whole ≡ with_subcommand (app_of command.entry) check_command.top) }
+{
+    match check_command(alloc) {
+        Ok(check) => command.subcommand(check),
+        Err(memory) => {
+            drop(command);
+            Err(memory)
+        }
+    }
 }
 
 /// `build [--workers N] [FILE]`.
@@ -247,7 +340,7 @@ fn config_command<'a>(alloc: Global) -> Result<Command<'a>, AllocError>
         .arg(bundle_argument(alloc))
 }
 
-/// `check [FILE]`.
+/// `check [--json] [FILE]`.
 fn check_command<'a>(alloc: Global) -> Result<Command<'a>, AllocError>
     ensures app { IfOk result (λ command. app_of command ≡ check_command) }
     ensures local { IfOk result (λ command. (out-Command command).has_globals ≡ false) }
@@ -255,6 +348,7 @@ fn check_command<'a>(alloc: Global) -> Result<Command<'a>, AllocError>
     Command::new(alloc, "check")
         .about("Prints all faults of a bundle, with what helps, and builds nothing")
         .after_help(CHECK_HELP)
+        .arg(json_flag(alloc))?
         .arg(bundle_argument(alloc))
 }
 
@@ -331,6 +425,17 @@ fn dot_flag<'a>(alloc: Global) -> Arg<'a>
     Arg::new(alloc, DOT)
         .long(DOT)
         .help("Print it in the DOT language of Graphviz, with the instructions and their lines")
+        .action(ArgAction::SetTrue)
+}
+
+/// `--json`.
+fn json_flag<'a>(alloc: Global) -> Arg<'a>
+    ensures rule { rule_of result ≡ json_flag }
+    ensures local { result.global ≡ false }
+{
+    Arg::new(alloc, JSON)
+        .long(JSON)
+        .help("Print each fault as a line of JSON")
         .action(ArgAction::SetTrue)
 }
 

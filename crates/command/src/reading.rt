@@ -4,16 +4,16 @@ ghost use Rattle.clap.specs.Walk.{all_of};
 ghost use Rattle.clap.specs.Words.{FailsBy, first_of, found_of, rows_of, subcommand_of, subcommand_rows_of};
 ghost use Rattle.clap.specs.declared.error.kind.ErrorKind.TheVariants.{ValueValidation};
 ghost use Rattle.command.specs.CommandLine.{whole_command};
-ghost use Rattle.command.specs.Tasks.{IsBuild, IsTaskOf, IsWorkers, argument_of, arguments_of, bundle_file, faults_of, graph_of, has_equals, is_set, pack_of, paths_of, why_of};
+ghost use Rattle.command.specs.Tasks.{IsBuild, IsTaskOf, IsWorkers, argument_of, arguments_of, bundle_file, check_of, faults_of, graph_of, has_equals, is_set, pack_of, paths_of, why_of};
 ghost use Rattle.command.specs.declared.task.BuildOptions.{BuildOptions};
 ghost use Rattle.command.specs.declared.task.Task.{Task};
 
 use crate::commands::{
-    APPLY_IGNORE, BUILD_ARGUMENT, BUNDLE, BUNDLE_FILE, DOT, FILE, FOLDER, LEAST_WORKERS, OUTPUT,
-    PATH, TARGET, whole_command,
+    APPLY_IGNORE, BUILD_ARGUMENT, BUNDLE, BUNDLE_FILE, DOT, FILE, FOLDER, JSON, LEAST_WORKERS,
+    OUTPUT, PATH, TARGET, whole_command,
 };
 use crate::llb::{llb_of, wrong_choice};
-use crate::{BuildOptions, GraphOptions, PackOptions, Task, WhyOptions};
+use crate::{BuildOptions, CheckOptions, GraphOptions, PackOptions, Task, WhyOptions};
 use clap::error::ErrorKind;
 use clap::{ArgMatches, Error};
 use plain::limits::MOST_WORKERS;
@@ -29,7 +29,7 @@ use std::alloc::{AllocError, Global};
 /// `why` is one with a word PATH once or more, and with `--bundle FILE` once at most.
 /// `llb` is one with a word FILE that may be left out, with `--unique TEXT` just once, and with `--platform P` and `--network N` once at most; P is
 /// `OS/ARCH` or `OS/ARCH/VARIANT`, and `linux/amd64` by default; N is `default`, `none` or `host`, and the first of these by default.
-/// `config` and `check` are commands with a word FILE that may be left out.
+/// `config` and `check` are commands with a word FILE that may be left out, and `check` with `--json` once at most.
 /// `help` alone or before the name of a command, `--help` and `-h`, before a command or after it, ask for help, and `--version` or `-V`
 /// before it for the program's name and version.
 ///
@@ -130,8 +130,8 @@ fn task_of(alloc: Global, matches: &ArgMatches) -> Result<Option<Task>, AllocErr
         return Ok(Some(Task::Config(file)));
     }
     if name == "check" {
-        let file = text_of(alloc, found, BUNDLE)?;
-        return Ok(Some(Task::Check(file)));
+        let options = check_of(alloc, found)?;
+        return Ok(Some(Task::Check(options)));
     }
     Ok(None)
 }
@@ -186,6 +186,17 @@ fn why_of(alloc: Global, matches: &ArgMatches) -> Result<WhyOptions, AllocError>
     let file = text_of(alloc, matches, BUNDLE_FILE)?;
     let paths = paths_of(alloc, matches)?;
     Ok(WhyOptions { file, paths })
+}
+
+/// What the matches of `check` ask for.
+fn check_of(alloc: Global, matches: &ArgMatches) -> Result<CheckOptions, AllocError>
+    ensures { IfOk result (λ options. options ≡ check_of (rows_of (found_of matches.now))) }
+{
+    let file = text_of(alloc, matches, BUNDLE)?;
+    Ok(CheckOptions {
+        file,
+        json: is_set(matches, JSON),
+    })
 }
 
 /// The text that the matches hold for an id.

@@ -15,8 +15,8 @@ pub enum Task {
     Llb(LlbOptions),
     /// `config`: write the configuration of a bundle's target, of the file that is named, or on standard input.
     Config(Option<Text>),
-    /// `check`: write all faults of a bundle, of the file that is named, or on standard input.
-    Check(Option<Text>),
+    /// `check`: write all faults of a bundle.
+    Check(CheckOptions),
 }
 
 /// What `build` is asked for.
@@ -98,6 +98,22 @@ pub struct WhyOptions {
 impl Drop for WhyOptions {
     fn drop(self) {
         let WhyOptions { file: _, paths: _ } = self;
+    }
+}
+
+/// What `check` is asked for.
+#[derive(Debug)]
+pub struct CheckOptions {
+    /// The bundle's file, if one is named; else it is on standard input.
+    pub file: Option<Text>,
+    /// Whether each fault is a line of JSON, and not for a person to read.
+    pub json: bool,
+}
+
+/// It ends by a call, as `PackOptions` does.
+impl Drop for CheckOptions {
+    fn drop(self) {
+        let CheckOptions { file: _, json: _ } = self;
     }
 }
 

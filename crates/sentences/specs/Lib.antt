@@ -1,3 +1,4 @@
+pub mod Json
 pub mod Showing
 pub mod Subject
 pub mod Table

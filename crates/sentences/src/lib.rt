@@ -1,10 +1,11 @@
-// What a person reads of a refusal: a sentence that says what is wrong, one that says what helps, and the form in which both are shown.
+// What a person or a program reads of a refusal: a sentence that says what is wrong, one that says what helps, and the forms in which both are
+// shown.
 //
 // It knows the codes, and of a line the name of its instruction, since some codes have several causes. It reads no instruction: a line
 // that is refused may spell none.
 //
-// The central definitions are the table in specs/Table.antt, which has one sentence and one remedy for each code and instruction, and
-// `shown` in specs/Showing.antt.
+// The central definitions are the table in specs/Table.antt, which has one sentence and one remedy for each code and instruction, `shown` in
+// specs/Showing.antt, and `json_line` in specs/Json.antt.
 //
 // ```
 // shown(alloc, "Dockerfile", Refusal { code: Code::R16, line: 9 }, "COPY --chown=node:node a b")?
@@ -14,10 +15,12 @@
 // ```
 #![tactic(auto)]
 
+mod json;
 mod showing;
 mod subject;
 mod table;
 
+pub use json::json_line;
 pub use showing::shown;
 pub use subject::Subject;
 pub use table::{remedy, sentence};

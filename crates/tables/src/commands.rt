@@ -3,7 +3,8 @@
 
 use clap::Error;
 use command::{
-    BuildOptions, GraphOptions, LlbOptions, PackOptions, Task, WhyOptions, read_command,
+    BuildOptions, CheckOptions, GraphOptions, LlbOptions, PackOptions, Task, WhyOptions,
+    read_command,
 };
 use plain::{Memory, Text};
 use std::alloc::Global;
@@ -54,9 +55,9 @@ fn task_text(alloc: Global, task: Task) -> Result<String, Memory> {
             drop(file);
             told
         }
-        Task::Check(file) => {
-            let told = check_text(alloc, &file);
-            drop(file);
+        Task::Check(options) => {
+            let told = check_text(alloc, &options);
+            drop(options);
             told
         }
     }
@@ -131,10 +132,13 @@ fn config_text(alloc: Global, file: &Option<Text>) -> Result<String, Memory> {
     Ok(told)
 }
 
-/// What `check` is asked for.
-fn check_text(alloc: Global, file: &Option<Text>) -> Result<String, Memory> {
+/// What `check` is asked for: the bundle's file, if one is named, and whether lines of JSON are.
+fn check_text(alloc: Global, options: &CheckOptions) -> Result<String, Memory> {
     let mut told = String::from_str(alloc, "check")?;
-    add_text(alloc, &mut told, "of", file)?;
+    add_text(alloc, &mut told, "of", &options.file)?;
+    if options.json {
+        told.push_str(" as JSON")?;
+    }
     Ok(told)
 }
 
