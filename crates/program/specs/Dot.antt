@@ -14,7 +14,7 @@ use Rattle.build.specs.Meaning.{Asks}
 use Rattle.build.specs.Titled.{HasTitlesOf}
 use Rattle.build.specs.Ends.{Devices, GraphEnds}
 use Rattle.program.specs.Llb.{IsDrawnPlan}
-use Rattle.program.specs.Telling.{TellingEnds}
+use Rattle.program.specs.Telling.{TellingEnds, never}
 
 -- a text is the plan that is drawn of what a file's stages give, whose lines have these titles, in the DOT language
 pub record IsPictureOf (made : Evaluated) (titles : List (Option (List ℕ))) (text : List ℕ) : Type 0 where
@@ -30,9 +30,9 @@ TellsDot bytes Built text =
 TellsDot bytes Failed text = ⊥
 TellsDot bytes Refused text = (refusal : Refusal) × Asks bytes (Err refusal) × (text ≡ line_of (refused_text refusal))
 
--- how writing it ends; there is no clash, since no operation is named by an address
+-- how writing it ends; it never stops, since no operation is named by an address
 abbrev pub DotEnds : Devices → Devices → Result Status BuildFault → Type 0
-DotEnds old new ended = TellingEnds TellsDot (λ bundle. ⊥) old new ended
+DotEnds old new ended = TellingEnds TellsDot never old new ended
 
 -- how writing a graph ends: in the DOT language, or by content addresses
 abbrev pub DrawingEnds : Bool → Devices → Devices → Result Status BuildFault → Type 0

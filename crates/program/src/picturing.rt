@@ -22,7 +22,7 @@ use std::thread::Threads;
 ///
 /// The graph is the one that `graph` prints, and each of its steps has the title of its instruction. `Built` where it was written, also where a
 /// build would fail, `Refused` where the refusal was, and never `Failed`. Nothing was written after `Memory`. After `Device` a read failed, and
-/// nothing was written, or a write failed, and a beginning was. It never ends with `Clash`.
+/// nothing was written, or a write failed, and a beginning was. It never ends with `Clash` or `Unspeakable`.
 #[tactic(auto, unfolding(plain::specs::Limits::most_bundle_bytes))]
 pub(crate) fn run_dot<R: CountedRead, W: CountedWrite>(
     alloc: Global,
@@ -75,7 +75,11 @@ fn tell_dot(alloc: Global, rt: &(impl Threads + Sync), bundle: &[u8]) -> Result<
 {
     match ask_titled(alloc, rt, bundle) {
         Ok(titled) => {
-            let Titled { asked, titles } = titled;
+            let Titled {
+                asked,
+                titles,
+                left_out: _,
+            } = titled;
             let Asked {
                 evaluated,
                 caches: _,
