@@ -15,18 +15,22 @@
 
 mod character;
 mod expanding;
+mod fault;
 mod kind;
 pub mod laws;
 mod lookup;
 mod operator;
 mod output;
 mod reading;
+mod reason;
 mod scan;
 mod state;
 mod token;
 mod word;
 
-pub use expanding::expand;
+pub use expanding::{expand, expand_next};
+pub use fault::{ExpandFault, Unexpanded};
 pub use kind::Kind;
 pub use lookup::Lookup;
+pub use reason::{Reason, ReasonFault, Rejection, RejectionFault};
 pub use word::Word;
