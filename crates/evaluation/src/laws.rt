@@ -48,7 +48,7 @@ pub fn the_least_refusal_is_told()
     ensures evaluated { (args : Values) (images : ImagesValue Config) (needed : List Bool) (table : TableValue) (walk : Walk)
         → evaluated args images needed table ≡ Ok walk → All IsFree (needed_lines args images needed table) }
 {
-    instructions::laws::the_least_reason_is_told();
+    instructions::laws::the_least_reason_is_reported();
 }
 
 /// What a stage says that isn't needed changes nothing: where all needed stages of a file are the same, the same are needed, and they are
@@ -59,7 +59,7 @@ pub fn stages_that_are_not_needed_change_nothing()
     ensures evaluated { (args : Values) (images : ImagesValue Config) (needed : List Bool) (table other : TableValue) → table.outer ≡ other.outer
         → SameWhereMarked needed table.stages other.stages → evaluated args images needed table ≡ evaluated args images needed other }
 {
-    instructions::laws::the_least_reason_is_told();
+    instructions::laws::the_least_reason_is_reported();
 }
 
 /// The configuration that the instructions of a stage leave is what their lines make of the one before them, one line after another, each
