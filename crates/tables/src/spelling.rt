@@ -14,14 +14,6 @@ pub fn lines_of(alloc: Global, text: &str) -> Result<Vec<Line>, LineFault> {
     reader.finish(alloc)
 }
 
-/// Why a line is refused, without its number.
-pub fn reason(fault: LineFault) -> TextFault {
-    match fault {
-        Fault::Because(refusal) => Fault::Because(refusal.code),
-        Fault::Memory => Fault::Memory,
-    }
-}
-
 /// A refusal, as `R06 at line 1`.
 fn refusal_text(alloc: Global, fault: &LineFault) -> Result<String, Memory> {
     match fault {
