@@ -1,6 +1,7 @@
 ghost use Rattle.std.specs.Prelude.{◌≡◌, Some, None as NoneOf};
 ghost use Rattle.std.specs.FinMap.{get as arg_value};
 ghost use Rattle.instructions.specs.Instruction.{IsInstruction};
+ghost use Rattle.instructions.specs.Least.{Meets};
 ghost use Rattle.instructions.specs.Reason.{Evaluates};
 ghost use Rattle.instructions.specs.declared.instruction.InstructionKind.TheVariants as spelled;
 ghost use Rattle.scopes.specs.Scope.{value_in};
@@ -140,6 +141,26 @@ fn first_of(origins: Items<Origin>) -> Origin
 }
 
 /// A RUN, under what is set where it stands.
+fn run_coded(
+    alloc: Global,
+    state: &State,
+    mounts: Items<Mount>,
+    command: Command,
+    origins: Items<Origin>,
+) -> Result<Action, TextFault>
+    ensures { Meets (Some (of_run.run_action state.now.scope (dir_in state.now) state.now.config.user state.now.config.shell mounts command origins)) (of_run.run_due (dir_in state.now) mounts) result }
+{
+    let dir = state.config.dir(alloc)?;
+    let at = Surroundings {
+        scope: &state.scope,
+        dir: &dir,
+        user: &state.config.user,
+        shell: state.config.shell.as_slice(),
+    };
+    run_action(alloc, mounts, command, origins, &at)
+}
+
+/// The same with its refusals as reasons: a RUN expands nothing.
 fn run(
     alloc: Global,
     state: &State,
@@ -149,14 +170,7 @@ fn run(
 ) -> Result<Action, ReasonFault>
     ensures { Evaluates (Some (of_run.run_action state.now.scope (dir_in state.now) state.now.config.user state.now.config.shell mounts command origins)) (of_run.run_due (dir_in state.now) mounts) NoneOf result }
 {
-    let dir = state.config.dir(alloc)?;
-    let at = Surroundings {
-        scope: &state.scope,
-        dir: &dir,
-        user: &state.config.user,
-        shell: state.config.shell.as_slice(),
-    };
-    match run_action(alloc, mounts, command, origins, &at) {
+    match run_coded(alloc, state, mounts, command, origins) {
         Ok(action) => Ok(action),
         Err(fault) => Err(code_fault(fault)),
     }
