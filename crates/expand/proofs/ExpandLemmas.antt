@@ -1,11 +1,11 @@
 -- What the value of tokens is: that of the word that they stand for; and what they are refused with.
-use Rattle.std.proofs.Common.{◌≡◌, ◌<◌, ◌≤◌, ℕ, zero, suc, Bool, true, false, List, [], ◌∷◌, ◌++◌, Option, Some, None, length, refl, ap, ap₂, subst, ◌∙◌, sym, append_assoc, append-nil, arith}
+use Rattle.std.proofs.Common.{◌≡◌, ◌<◌, ◌≤◌, ℕ, zero, suc, Bool, true, false, List, [], ◌∷◌, ◌++◌, Option, Some, None, length, refl, ap, subst, ◌∙◌, sym, append_assoc, append-nil, arith}
 use Rattle.std.specs.Prelude.{if◌then◌else◌, nat_lt, option_map, Result, Ok, Err}
 use Rattle.std.specs.Option.{unwrap_or}
 use Rattle.std.proofs.lemmas.Bool.Decides.{nat_tests}
 use Rattle.plain.specs.declared.fault.Fault.{Fault}
 use Rattle.plain.specs.declared.fault.Fault.TheVariants.{Because, Memory}
-use Rattle.expand.specs.Value.{Parts, byte, chosen, choice_of, passes, text_of, value, first_of, chosen_refusal, refusal}
+use Rattle.expand.specs.Value.{Parts, chosen, choice_of, passes, text_of, value, first_of, chosen_refusal, refusal}
 use Rattle.expand.specs.PrivateTokens.{innermost, around, with_plain, levels, word_of}
 use Rattle.expand.specs.PrivateExpanding.{run, run_chosen, sought, sought_chosen, IsWithin}
 use Rattle.expand.specs.Expanding.{Gives, fault_of, unexpanded}

@@ -1,5 +1,5 @@
 -- One variable more of a line.
-use Rattle.std.proofs.Common.{◌≡◌, ℕ, ◌+◌, ◌<◌, Bool, List, [], ◌∷◌, ◌++◌, map, Option, Some, None, length, get_or, drop, refl, ap, ap₂, sym, subst, ◌∙◌, append_assoc, append-nil}
+use Rattle.std.proofs.Common.{◌≡◌, ℕ, ◌+◌, ◌<◌, List, [], ◌∷◌, ◌++◌, map, Option, None, length, get_or, drop, ap, sym, subst, ◌∙◌, append_assoc, append-nil}
 use Rattle.std.specs.Prelude.{Result, Ok, Err}
 use Rattle.std.proofs.lemmas.List.{at_drop_more}
 use Rattle.plain.specs.declared.fault.Fault.{Fault}
@@ -28,9 +28,9 @@ pub so_far-more : {X : Type 0} (say : X → Declaration) (fault : X → Option U
     → IsLonger saying (say x) (fault x) more → IsSoFar say fault all (drop i all) saying → IsSoFar say fault all (drop (i + 1) all) more
 so_far-more {X} say fault all i x saying more lt is h b =
     let faults : worst (map fault (drop i all)) ≡ worse (fault x) (worst (map fault (drop (i + 1) all))) =
-        at_drop_more (λ (xs : List X). worst (map fault xs)) all i x lt ∙ ap (λ (u : X). worse (fault u) (worst (map fault (drop (i + 1) all)))) (sym is) in
+    at_drop_more (λ (xs : List X). worst (map fault xs)) all i x lt ∙ ap (λ (u : X). worse (fault u) (worst (map fault (drop (i + 1) all)))) (sym is) in
     let line : map say (drop i all) ≡ say x ∷ map say (drop (i + 1) all) =
-        at_drop_more (λ (xs : List X). map say xs) all i x lt ∙ ap (λ (u : X). say u ∷ map say (drop (i + 1) all)) (sym is) in
+    at_drop_more (λ (xs : List X). map say xs) all i x lt ∙ ap (λ (u : X). say u ∷ map say (drop (i + 1) all)) (sym is) in
     record {
       faults = ap (λ t. worse t (worst (map fault (drop (i + 1) all)))) h.0 ∙ worse-assoc saying.fault (fault x) (worst (map fault (drop (i + 1) all))) ∙ ap (λ t. worse saying.fault t) (sym faults) ∙ b.faults;
       said = λ n. ap (λ (ds : List Declaration). ds ++ map say (drop (i + 1) all)) (h.1 n) ∙ append_assoc saying.line (say x ∷ []) (map say (drop (i + 1) all))

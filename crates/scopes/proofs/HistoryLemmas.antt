@@ -2,7 +2,6 @@
 use Rattle.std.proofs.Common.{◌≡◌, ℕ, List, [], ◌∷◌, ◌++◌, map, Option, Some, None, refl, ap, ap₂, ◌∙◌}
 use Rattle.expand.specs.Value.{Parts, no_part, byte, variable, with_word, value, refusal}
 use Rattle.expand.specs.Expanding.{fault_of, unexpanded, worst}
-use Rattle.expand.specs.declared.fault.Unexpanded.{Unexpanded}
 use Rattle.plain.specs.Limits.{most_text_bytes}
 use Rattle.instructions.specs.declared.instruction.Argument.{Argument}
 use Rattle.instructions.specs.declared.instruction.Assignment.{Assignment}
