@@ -9,3 +9,4 @@ mod ScanLemmas
 mod SyntaxLaws
 pub mod ValueLaws
 mod WordLaws
+pub mod WorseLaws

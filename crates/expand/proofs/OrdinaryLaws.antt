@@ -1,5 +1,5 @@
 -- Laws of texts of ordinary characters alone: such a text is the word of its own bytes, and has itself as its value.
-use Rattle.std.specs.Prelude.{◌≡◌, ◌≤◌, ◌<◌, ℕ, ◌==◌, ◌||◌, not, nat_lt, Bool, true, false, List, [], ◌∷◌, ◌++◌, if◌then◌else◌, Option, Some, map, refl}
+use Rattle.std.specs.Prelude.{◌≡◌, ◌≤◌, ◌<◌, ℕ, ◌==◌, ◌||◌, not, nat_lt, Bool, true, false, List, [], ◌∷◌, ◌++◌, if◌then◌else◌, Option, Some, None, map, refl}
 use Rattle.std.specs.Str.{IsUtf8, chars}
 use Rattle.std.proofs.Common.{sym, ◌∙◌, ap, ap₂, subst, arith}
 use Rattle.std.proofs.lemmas.Bool.{true≢false}
@@ -15,11 +15,11 @@ use Rattle.words.specs.declared.class.Class.TheVariants.{Blank, SingleQuote, Dou
 use Rattle.words.specs.Class.{class_of}
 use Rattle.words.specs.Parts.{Held, kept, Part, blank, plain, held_text, part_text, IsPlain, written as parts_text, Stands as PartStands, AllStand}
 use Rattle.words.specs.Cutting.{is_bare, has_open}
-use Rattle.expand.specs.Value.{Parts, no_part, byte, with_text, value}
+use Rattle.expand.specs.Value.{Parts, no_part, byte, with_text, value, refusal}
 use Rattle.expand.specs.Scan.{marked_held, marked_part, marked, is_freed, AreFreed, IsScanned, IsScannedBare, IsScannedQuoted}
 use Rattle.expand.specs.Syntax.{Syntax, ended, standing, active, written, Stands, parts_of}
 use Rattle.expand.specs.Word.{IsWord, is_ordinary, AreOrdinary}
-use Rattle.expand.proofs.ValueLaws.{value-text}
+use Rattle.expand.proofs.ValueLaws.{value-text, refusal-text}
 use Rattle.expand.proofs.WordLaws.{word-only}
 use Rattle.expand.specs.declared.character.Character.{Character}
 use Rattle.expand.specs.declared.character.Character.TheVariants.{Active}
@@ -213,3 +213,9 @@ pub ordinary-value : (kind : Kind) (e : Escape) (text : List ℕ) → IsUtf8 tex
 ordinary-value kind e text u h found i s =
     ap (value s) (same_word found (with_text text no_part) (sym (word-only kind e text found i) ∙ word-only kind e text (with_text text no_part) (ordinary-word kind e text u h)))
     ∙ value-text s text
+
+pub ordinary-refusal : (kind : Kind) (e : Escape) (text : List ℕ) → IsUtf8 text → AreOrdinary kind e text
+    → (found : Parts) → IsWord kind e text found → (s : List ℕ → Option (List ℕ)) → refusal s found ≡ None
+ordinary-refusal kind e text u h found i s =
+    ap (refusal s) (same_word found (with_text text no_part) (sym (word-only kind e text found i) ∙ word-only kind e text (with_text text no_part) (ordinary-word kind e text u h)))
+    ∙ refusal-text s text

@@ -11,9 +11,9 @@ use Rattle.expand.specs.PrivateReading.{sign_at, sign_of, code_point, Step, bad,
 use Rattle.expand.specs.declared.character.Character.{Character}
 use Rattle.expand.specs.declared.character.Character.TheVariants.{Active, Literal}
 use Rattle.expand.specs.declared.character.Sign.{Sign}
-use Rattle.expand.specs.declared.character.Sign.TheVariants.{Dollar, OpenBrace, CloseBrace, Colon, Dash, Plus, Letter, Digit, Other}
+use Rattle.expand.specs.declared.character.Sign.TheVariants.{Dollar, OpenBrace, CloseBrace, Colon, Dash, Plus, Question, Letter, Digit, Other}
 use Rattle.expand.specs.declared.operator.Operator.{Operator}
-use Rattle.expand.specs.declared.operator.Operator.TheVariants.{Default, Alternative}
+use Rattle.expand.specs.declared.operator.Operator.TheVariants.{Default, Alternative, Required}
 use Rattle.expand.specs.declared.operator.Test.{Test}
 use Rattle.expand.specs.declared.operator.Test.TheVariants.{IsSet, IsFilled}
 use Rattle.expand.specs.declared.state.Begun.{Begun}
@@ -44,6 +44,7 @@ SignIs CloseBrace (Active c) = c ≡ 125
 SignIs Colon (Active c) = c ≡ 58
 SignIs Dash (Active c) = c ≡ 45
 SignIs Plus (Active c) = c ≡ 43
+SignIs Question (Active c) = c ≡ 63
 SignIs Letter (Active c) = IsLetter c
 SignIs Digit (Active c) = IsDigit c
 SignIs Other (Active c) = IsOther c
@@ -57,21 +58,22 @@ goes_on_by : (c : ℕ) (d : Bool) → begins_name c ≡ false → (nat_le 48 c &
 goes_on_by c true h i = grind (arith, nat_tests)
 goes_on_by c false h i = grind (arith, nat_tests)
 
-sign_by : (c : ℕ) (m o e n d p l g : Bool) → (c == 36) ≡ m → (c == 123) ≡ o → (c == 125) ≡ e → (c == 58) ≡ n → (c == 45) ≡ d → (c == 43) ≡ p → begins_name c ≡ l → (nat_le 48 c && nat_le c 57) ≡ g
-    → SignIs (if m then Dollar else (if o then OpenBrace else (if e then CloseBrace else (if n then Colon else (if d then Dash else (if p then Plus else (if l then Letter else (if g then Digit else Other)))))))) (Active c)
-sign_by c true o e n d p l g hm ho he hn hd hp hl hg = eqb_equal c 36 hm
-sign_by c false true e n d p l g hm ho he hn hd hp hl hg = eqb_equal c 123 ho
-sign_by c false false true n d p l g hm ho he hn hd hp hl hg = eqb_equal c 125 he
-sign_by c false false false true d p l g hm ho he hn hd hp hl hg = eqb_equal c 58 hn
-sign_by c false false false false true p l g hm ho he hn hd hp hl hg = eqb_equal c 45 hd
-sign_by c false false false false false true l g hm ho he hn hd hp hl hg = eqb_equal c 43 hp
-sign_by c false false false false false false true g hm ho he hn hd hp hl hg = (hl, letter_goes_on c hl, (hm, he, ho))
-sign_by c false false false false false false false true hm ho he hn hd hp hl hg = (hl, goes_on_by c true hl hg, (hm, he, ho))
-sign_by c false false false false false false false false hm ho he hn hd hp hl hg = (hl, goes_on_by c false hl hg, (hm, he, ho))
+sign_by : (c : ℕ) (m o e n d p q l g : Bool) → (c == 36) ≡ m → (c == 123) ≡ o → (c == 125) ≡ e → (c == 58) ≡ n → (c == 45) ≡ d → (c == 43) ≡ p → (c == 63) ≡ q → begins_name c ≡ l → (nat_le 48 c && nat_le c 57) ≡ g
+    → SignIs (if m then Dollar else (if o then OpenBrace else (if e then CloseBrace else (if n then Colon else (if d then Dash else (if p then Plus else (if q then Question else (if l then Letter else (if g then Digit else Other))))))))) (Active c)
+sign_by c true o e n d p q l g hm ho he hn hd hp hq hl hg = eqb_equal c 36 hm
+sign_by c false true e n d p q l g hm ho he hn hd hp hq hl hg = eqb_equal c 123 ho
+sign_by c false false true n d p q l g hm ho he hn hd hp hq hl hg = eqb_equal c 125 he
+sign_by c false false false true d p q l g hm ho he hn hd hp hq hl hg = eqb_equal c 58 hn
+sign_by c false false false false true p q l g hm ho he hn hd hp hq hl hg = eqb_equal c 45 hd
+sign_by c false false false false false true q l g hm ho he hn hd hp hq hl hg = eqb_equal c 43 hp
+sign_by c false false false false false false true l g hm ho he hn hd hp hq hl hg = eqb_equal c 63 hq
+sign_by c false false false false false false false true g hm ho he hn hd hp hq hl hg = (hl, letter_goes_on c hl, (hm, he, ho))
+sign_by c false false false false false false false false true hm ho he hn hd hp hq hl hg = (hl, goes_on_by c true hl hg, (hm, he, ho))
+sign_by c false false false false false false false false false hm ho he hn hd hp hq hl hg = (hl, goes_on_by c false hl hg, (hm, he, ho))
 
 sign_is : (c : Character) → SignIs (sign_of c) c
 unfolding sign_at
-sign_is (Active c) = sign_by c (c == 36) (c == 123) (c == 125) (c == 58) (c == 45) (c == 43) (begins_name c) (nat_le 48 c && nat_le c 57) refl refl refl refl refl refl refl refl
+sign_is (Active c) = sign_by c (c == 36) (c == 123) (c == 125) (c == 58) (c == 45) (c == 43) (c == 63) (begins_name c) (nat_le 48 c && nat_le c 57) refl refl refl refl refl refl refl refl refl
 sign_is (Literal c) = tt
 
 -- a step, and what follows it
@@ -229,6 +231,10 @@ Plus_is : (c : Character) → SignIs Plus c → c ≡ Active 43
 Plus_is (Active c) h = ap (λ x. Active x) h
 Plus_is (Literal c) h = absurd h
 
+Question_is : (c : Character) → SignIs Question c → c ≡ Active 63
+Question_is (Active c) h = ap (λ x. Active x) h
+Question_is (Literal c) h = absurd h
+
 Letter_is : (c : Character) → SignIs Letter c → (c ≡ Active (code_point c)) × (is_in_name (code_point c) ≡ true)
 Letter_is (Active c) h = (refl, h.1)
 Letter_is (Literal c) h = absurd h
@@ -327,9 +333,11 @@ step_good n (InBracedName v) c cs Letter h i f = good_same n _ _ _ (sym (taken-o
 step_good n (InBracedName v) c cs Digit h i f = good_same n _ _ _ (sym (taken-on n (InBracedName (v ++ code_point c ∷ [])) cs)) (good_text n _ _ _ (ap (λ (t : List Character). Active 36 ∷ Active 123 ∷ t) (name_more v c cs (Digit_is c h).0)) (f n (InBracedName (v ++ code_point c ∷ [])) (is_name-more v (code_point c) i.0 (Digit_is c h).1, i.1)))
 step_good n (InBracedName v) c cs Dash h i f = open_good n Default IsSet v cs _ (set_text Default v c cs (Dash_is c h)) i f
 step_good n (InBracedName v) c cs Plus h i f = open_good n Alternative IsSet v cs _ (set_text Alternative v c cs (Plus_is c h)) i f
+step_good n (InBracedName v) c cs Question h i f = open_good n Required IsSet v cs _ (set_text Required v c cs (Question_is c h)) i f
 step_good n (InBracedName v) c cs _ h i f = tt
 step_good n (AfterColon v) c cs Dash h i f = open_good n Default IsFilled v cs _ (filled_text Default v c cs (Dash_is c h)) i f
 step_good n (AfterColon v) c cs Plus h i f = open_good n Alternative IsFilled v cs _ (filled_text Alternative v c cs (Plus_is c h)) i f
+step_good n (AfterColon v) c cs Question h i f = open_good n Required IsFilled v cs _ (filled_text Required v c cs (Question_is c h)) i f
 step_good n (AfterColon v) c cs _ h i f = tt
 
 end_good : (n : ℕ) (b : Begun) → IsSound n b → IsGood n (begun_text b ++ []) (ended_at_end n b)
@@ -381,6 +389,10 @@ sign-45 = refl
 sign-43 : sign_of (Active 43) ≡ Plus
 unfolding sign_at
 sign-43 = refl
+
+sign-63 : sign_of (Active 63) ≡ Question
+unfolding sign_at
+sign-63 = refl
 
 sign_letter : (c : ℕ) → begins_name c ≡ true → (k : Sign) → SignIs k (Active c) → k ≡ Letter
 sign_letter c h Letter i = refl
@@ -512,8 +524,10 @@ coloned_read n v cs = pieces_from-at n (InBracedName v) (Active 58) cs Colon sig
 opened_reads : (n : ℕ) (o : Operator) (t : Test) (v : List ℕ) (cs : List Character) → pieces_from n (InBracedName v) (operator_text o t ++ cs) ≡ taken (step_open o t v n) cs
 opened_reads n Default IsSet v cs = pieces_from-at n (InBracedName v) (Active 45) cs Dash sign-45
 opened_reads n Alternative IsSet v cs = pieces_from-at n (InBracedName v) (Active 43) cs Plus sign-43
+opened_reads n Required IsSet v cs = pieces_from-at n (InBracedName v) (Active 63) cs Question sign-63
 opened_reads n Default IsFilled v cs = coloned_read n v (Active 45 ∷ cs) ∙ pieces_from-at n (AfterColon v) (Active 45) cs Dash sign-45
 opened_reads n Alternative IsFilled v cs = coloned_read n v (Active 43 ∷ cs) ∙ pieces_from-at n (AfterColon v) (Active 43) cs Plus sign-43
+opened_reads n Required IsFilled v cs = coloned_read n v (Active 63 ∷ cs) ∙ pieces_from-at n (AfterColon v) (Active 63) cs Question sign-63
 
 all_read : (n : ℕ) (ps : List Piece) → AllStand n ps → pieces_from n Nothing (written ps) ≡ Some ps
 all_read n [] h = ap (λ m. ended_at_end m Nothing) h

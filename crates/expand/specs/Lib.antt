@@ -6,6 +6,7 @@ pub mod PrivateReading
 pub mod PrivateScan
 pub mod PrivateState
 pub mod PrivateTokens
+pub mod Reasons
 pub mod Scan
 pub mod Syntax
 pub mod Value

@@ -7,8 +7,8 @@ use Rattle.expand.specs.declared.token.Token.TheVariants.{Plain, Variable, Open,
 use Rattle.expand.specs.declared.operator.Operator.{Operator}
 use Rattle.expand.specs.declared.operator.Test.{Test}
 
--- a piece of a word: a character that stands for itself, `$v`, `${v}`, the opening of a word within the word (`${v-`,
--- `${v:-`, `${v+` or `${v:+`), or the `}` that closes the one that was opened last
+-- a piece of a word: a character that stands for itself, `$v`, `${v}`, the opening of a word within the word (`${v-` or
+-- `${v:-`, and so with `+` and `?`), or the `}` that closes the one that was opened last
 pub data Piece : Type 0 where
   itself : Character → Piece
   bare : List ℕ → Piece

@@ -2,13 +2,13 @@
 use Rattle.std.specs.Prelude.{◌≡◌, ℕ, zero, suc, Bool, true, false, List, [], ◌∷◌, ◌++◌, ◌==◌, nat_lt, if◌then◌else◌, Option, Some, None, option_map}
 use Rattle.ascii.specs.Names.{begins_name, is_digit}
 use Rattle.expand.specs.PrivatePieces.{Piece, itself, bare, braced, opening, close, tokens}
-use Rattle.expand.specs.Syntax.{dollar, open_brace, close_brace, colon, dash, plus, most_nested}
+use Rattle.expand.specs.Syntax.{dollar, open_brace, close_brace, colon, dash, plus, question, most_nested}
 use Rattle.expand.specs.declared.character.Character.{Character}
 use Rattle.expand.specs.declared.character.Character.TheVariants.{Active, Literal}
 use Rattle.expand.specs.declared.character.Sign.{Sign}
-use Rattle.expand.specs.declared.character.Sign.TheVariants.{Dollar, OpenBrace, CloseBrace, Colon, Dash, Plus, Letter, Digit, Other}
+use Rattle.expand.specs.declared.character.Sign.TheVariants.{Dollar, OpenBrace, CloseBrace, Colon, Dash, Plus, Question, Letter, Digit, Other}
 use Rattle.expand.specs.declared.operator.Operator.{Operator}
-use Rattle.expand.specs.declared.operator.Operator.TheVariants.{Default, Alternative}
+use Rattle.expand.specs.declared.operator.Operator.TheVariants.{Default, Alternative, Required}
 use Rattle.expand.specs.declared.operator.Test.{Test}
 use Rattle.expand.specs.declared.operator.Test.TheVariants.{IsSet, IsFilled}
 use Rattle.expand.specs.declared.state.Begun.{Begun}
@@ -24,8 +24,9 @@ sign_at c = if c == dollar then Dollar
     else (if c == colon then Colon
     else (if c == dash then Dash
     else (if c == plus then Plus
+    else (if c == question then Question
     else (if begins_name c then Letter
-    else (if is_digit c then Digit else Other)))))))
+    else (if is_digit c then Digit else Other))))))))
 
 -- what a character is to the syntax: one that isn't active is none of it
 abbrev pub sign_of : Character → Sign
@@ -95,6 +96,7 @@ step_in_braced_name v n CloseBrace c = on (braced v ∷ []) n Nothing
 step_in_braced_name v n Colon c = on [] n (AfterColon v)
 step_in_braced_name v n Dash c = step_open Default IsSet v n
 step_in_braced_name v n Plus c = step_open Alternative IsSet v n
+step_in_braced_name v n Question c = step_open Required IsSet v n
 step_in_braced_name v n Letter c = on [] n (InBracedName (v ++ code_point c ∷ []))
 step_in_braced_name v n Digit c = on [] n (InBracedName (v ++ code_point c ∷ []))
 step_in_braced_name v n _ c = bad
@@ -103,6 +105,7 @@ step_in_braced_name v n _ c = bad
 abbrev pub step_after_colon : List ℕ → ℕ → Sign → Character → Step
 step_after_colon v n Dash c = step_open Default IsFilled v n
 step_after_colon v n Plus c = step_open Alternative IsFilled v n
+step_after_colon v n Question c = step_open Required IsFilled v n
 step_after_colon v n _ c = bad
 
 -- the step of one more character, where so many words are open and this is begun

@@ -5,7 +5,7 @@ use Rattle.expand.specs.Value.{Parts, no_part, variable, with_word, with_text}
 use Rattle.expand.specs.declared.character.Character.{Character}
 use Rattle.expand.specs.declared.character.Character.TheVariants.{Active, Literal}
 use Rattle.expand.specs.declared.operator.Operator.{Operator}
-use Rattle.expand.specs.declared.operator.Operator.TheVariants.{Default, Alternative}
+use Rattle.expand.specs.declared.operator.Operator.TheVariants.{Default, Alternative, Required}
 use Rattle.expand.specs.declared.operator.Test.{Test}
 use Rattle.expand.specs.declared.operator.Test.TheVariants.{IsSet, IsFilled}
 
@@ -29,9 +29,12 @@ dash = 45
 abbrev pub plus : ℕ
 plus = 43
 
--- what is written in a word: a character that stands for itself, `$v`, `${v}`, `${v-word}`, `${v:-word}`, `${v+word}` or
--- `${v:+word}`, each followed by the rest; the words within it are such syntax too (Dockerfile reference, environment
--- replacement; POSIX shell, parameter expansion)
+abbrev pub question : ℕ
+question = 63
+
+-- what is written in a word: a character that stands for itself, `$v`, `${v}`, or `${v-word}` or `${v:-word}` and so with `+`
+-- and `?`, each followed by the rest; the words within it are such syntax too (Dockerfile reference, environment replacement;
+-- POSIX shell, parameter expansion)
 pub data Syntax : Type 0 where
   ended : Syntax
   standing : Character → Syntax → Syntax
@@ -47,6 +50,7 @@ active characters = map (λ character. Active character) characters
 abbrev pub sign_text : Operator → ℕ
 sign_text Default = dash
 sign_text Alternative = plus
+sign_text Required = question
 
 -- an operator and a test as they are written: a `:` before the sign asks whether the variable is filled, and without one
 -- it has to be set alone (POSIX shell, parameter expansion)

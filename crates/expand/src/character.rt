@@ -43,6 +43,7 @@ pub enum Sign {
     Colon,
     Dash,
     Plus,
+    Question,
     /// A letter of ASCII or `_`, with which a name begins.
     Letter,
     Digit,
@@ -62,6 +63,7 @@ fn sign_at(character: char) -> Sign
         ':' => Sign::Colon,
         '-' => Sign::Dash,
         '+' => Sign::Plus,
+        '?' => Sign::Question,
         'A'..='Z' | 'a'..='z' | '_' => Sign::Letter,
         '0'..='9' => Sign::Digit,
         _ => Sign::Other,

@@ -1,40 +1,110 @@
-ghost use Rattle.std.specs.Prelude.{◌≡◌, ◌≤◌};
+ghost use Rattle.std.specs.Prelude.{◌≡◌, ◌≤◌, None, IfOk, option_map};
 ghost use Rattle.std.specs.String.{string_bytes, string_len};
 ghost use Rattle.plain.specs.Limits.{most_text_bytes};
-ghost use Rattle.expand.specs.Expanding.{Expands};
-ghost use Rattle.expand.specs.PrivateExpanding.{IsPushed, run};
-ghost use Rattle.expand.specs.Value.{choice_of, passes, value, text_of};
+ghost use Rattle.expand.specs.Expanding.{Gives, fault_of, unexpanded, valued, worse};
+ghost use Rattle.expand.specs.PrivateExpanding.{IsPushed, IsWithin, run, sought};
+ghost use Rattle.expand.specs.PrivateTokens.{word_of};
+ghost use Rattle.expand.specs.Value.{choice_of, passes, refusal, value, text_of};
 
+use crate::fault::{ExpandFault, Unexpanded};
 use crate::lookup::Lookup;
 use crate::operator::{Choice, Operator, Test};
 use crate::token::Token;
 use crate::word::Word;
 use plain::limits::MOST_TEXT_BYTES;
-use plain::{Code, Exact, Fault, Text};
+use plain::{Exact, Fault, Memory, Text};
 use std::alloc::Global;
-use words::TextFault;
 
 /// The value of a word under a scope: the values of its parts, joined.
 ///
 /// A variable that is unset has the empty text. The word of `${v-word}` stands in for v where v is unset, that of `${v+word}`
-/// where it is set, and with a `:` before the sign an empty v counts as unset. A word that isn't chosen is gone past. R18
-/// exactly where the value has more than 1,048,576 bytes; no text longer than that is built to find out.
-pub fn expand<S: Lookup>(alloc: Global, word: &Word, scope: &S) -> Result<Text, TextFault>
-    ensures { Expands most_text_bytes (value (S.value_of scope.now) word.now) result }
+/// where it is set, and with a `:` before the sign an empty v counts as unset. Where v of `${v?word}` is unset, the text is
+/// refused, and `word` says why. A word that isn't chosen is gone past.
+///
+/// `Required` exactly where a variable that is required doesn't pass its test: with the value of the first such word in reading
+/// order, and of one within another the inner one's. `TooLong` exactly where that text, or else the value, has more than
+/// 1,048,576 bytes; no text longer than that is built to find out.
+pub fn expand<S: Lookup>(alloc: Global, word: &Word, scope: &S) -> Result<Text, ExpandFault>
+    ensures { Gives (unexpanded (S.value_of scope.now) word.now) (value (S.value_of scope.now) word.now) result }
 {
     expand_tokens(alloc, word.tokens(), scope, MOST_TEXT_BYTES)
 }
 
-/// The value of tokens, if it has no more bytes than a limit.
-///
-/// A text of several pieces is built here, and shared from then on: a variable that is the whole of another line's word is there once.
+/// The value of the next word of a line, if it has one, and what is reported of the line so far: `fault` is what was before.
+/// `TooLong` comes before `Required`, and of several that are required the first.
+pub fn expand_next<S: Lookup>(
+    alloc: Global,
+    word: &Word,
+    scope: &S,
+    fault: Option<Unexpanded>,
+) -> Result<(Option<Text>, Option<Unexpanded>), Memory>
+    ensures value { IfOk result (λ found. found.0 ≡ valued (S.value_of scope.now) word.now) }
+    ensures fault { IfOk result (λ found. found.1 ≡ worse fault (unexpanded (S.value_of scope.now) word.now)) }
+{
+    match expand(alloc, word, scope) {
+        Ok(text) => Ok((Some(text), fault)),
+        Err(Fault::Because(why)) => Ok((None, Some(why.after(fault)))),
+        Err(Fault::Memory) => Err(Memory),
+    }
+}
+
+/// The value of tokens, unless they are refused, if it has no more bytes than a limit.
 fn expand_tokens<S: Lookup>(
     alloc: Global,
     tokens: &[Token],
     scope: &S,
     limit: usize,
-) -> Result<Text, TextFault>
-    ensures { Expands limit (run (S.value_of scope.now) 0 tokens.now) result }
+) -> Result<Text, ExpandFault>
+    ensures { Gives (fault_of limit (refusal (S.value_of scope.now) (word_of tokens.now)) (value (S.value_of scope.now) (word_of tokens.now))) (value (S.value_of scope.now) (word_of tokens.now)) result }
+{
+    match sought(tokens, scope) {
+        None => joined(alloc, tokens, scope, limit),
+        Some(refusing) => match joined(alloc, refusing, scope, limit) {
+            Ok(text) => Err(Fault::Because(Unexpanded::Required(text))),
+            Err(fault) => Err(fault),
+        },
+    }
+}
+
+/// The tokens after the `?` of the word that tokens are refused with, if they are: of one within another the inner one's.
+fn sought<'a, S: Lookup>(tokens: &'a [Token], scope: &S) -> Option<&'a [Token]>
+    ensures { option_map (λ refusing. refusing.now) result ≡ sought (S.value_of scope.now) 0 0 None tokens.now }
+{
+    let mut skipped = 0usize;
+    let mut open = 0usize;
+    let mut found = None;
+    let mut rest = tokens;
+    for token in tokens {
+        rest = &rest[1..];
+        match token {
+            Token::Plain(_) | Token::Variable(_) => {}
+            Token::Close if skipped > 0 => skipped -= 1,
+            Token::Close if open == 0 => return found,
+            Token::Close => open -= 1,
+            Token::Open(_, _, _) if skipped > 0 => skipped += 1,
+            Token::Open(operator, test, name) => match choice(scope, *operator, *test, name) {
+                Choice::Own | Choice::Nothing => skipped = 1,
+                Choice::Word => open += 1,
+                Choice::Refusal => {
+                    open = 0;
+                    found = Some(rest);
+                }
+            },
+        }
+    }
+    found
+}
+
+/// The value of what tokens begin with, up to the close of the word that they stand in, if it has no more bytes than a limit.
+///
+/// A text of several pieces is built here, and shared from then on: a variable that is the whole of another line's word is there once.
+fn joined<S: Lookup>(
+    alloc: Global,
+    tokens: &[Token],
+    scope: &S,
+    limit: usize,
+) -> Result<Text, ExpandFault>
+    ensures { IsWithin limit (run (S.value_of scope.now) 0 0 tokens.now) result }
 {
     if let [Token::Variable(name)] = tokens {
         return expand_variable(alloc, name, scope, limit);
@@ -58,11 +128,11 @@ fn expand_variable<S: Lookup>(
     name: &Text,
     scope: &S,
     limit: usize,
-) -> Result<Text, TextFault>
-    ensures { Expands limit (text_of (S.value_of scope.now name.now)) result }
+) -> Result<Text, ExpandFault>
+    ensures { IsWithin limit (text_of (S.value_of scope.now name.now)) result }
 {
     match scope.find(name.as_str()) {
-        Some(text) if text.len() > limit => Err(Fault::Because(Code::R18)),
+        Some(text) if text.len() > limit => Err(Fault::Because(Unexpanded::TooLong)),
         Some(text) => {
             let text = text.copy(alloc)?;
             Ok(text)
@@ -71,23 +141,26 @@ fn expand_variable<S: Lookup>(
     }
 }
 
-/// Adds the value of tokens to a text: R18 where the whole would be longer than the limit.
+/// Adds the value of what tokens begin with to a text, up to the close of the word that they stand in: `TooLong` where the whole
+/// would be longer than the limit.
 ///
-/// A word that isn't chosen is gone past: `skipped` is how many such words are open.
+/// A word that isn't chosen is gone past: `skipped` is how many such words are open, `open` how many others.
 fn push_tokens<S: Lookup>(
     text: &mut String,
     tokens: &[Token],
     scope: &S,
     limit: usize,
-) -> Result<(), TextFault>
+) -> Result<(), ExpandFault>
     requires { string_len text.old ≤ limit }
-    ensures { IsPushed limit (string_bytes text.old) (run (S.value_of scope.now) 0 tokens.now) (string_bytes text.new) result }
+    ensures { IsPushed limit (string_bytes text.old) (run (S.value_of scope.now) 0 0 tokens.now) (string_bytes text.new) result }
 {
     let mut skipped = 0usize;
+    let mut open = 0usize;
     for token in tokens {
         match token {
-            // a close where nothing is skipped ends a word that was chosen
-            Token::Close => skipped = skipped.saturating_sub(1),
+            Token::Close if skipped > 0 => skipped -= 1,
+            Token::Close if open == 0 => return Ok(()),
+            Token::Close => open -= 1,
             Token::Plain(_) | Token::Variable(_) if skipped > 0 => {}
             Token::Open(_, _, _) if skipped > 0 => skipped += 1,
             Token::Plain(plain) => push_within(text, plain.as_str(), limit)?,
@@ -97,8 +170,8 @@ fn push_tokens<S: Lookup>(
                     push_within(text, value_at(scope, name), limit)?;
                     skipped = 1;
                 }
-                Choice::Word => {}
-                Choice::Nothing => skipped = 1,
+                Choice::Word => open += 1,
+                Choice::Nothing | Choice::Refusal => skipped = 1,
             },
         }
     }
@@ -127,13 +200,13 @@ fn value_at<'a, S: Lookup>(scope: &'a S, name: &Text) -> &'a str
     }
 }
 
-/// Adds a piece of text: R18 where the whole would be longer than the limit.
-fn push_within(text: &mut String, piece: &str, limit: usize) -> Result<(), TextFault>
+/// Adds a piece of text: `TooLong` where the whole would be longer than the limit.
+fn push_within(text: &mut String, piece: &str, limit: usize) -> Result<(), ExpandFault>
     requires { string_len text.old ≤ limit }
     ensures { IsPushed limit (string_bytes text.old) piece.now (string_bytes text.new) result }
 {
     if piece.len() > limit - text.len() {
-        return Err(Fault::Because(Code::R18));
+        return Err(Fault::Because(Unexpanded::TooLong));
     }
     text.push_str(piece)?;
     Ok(())

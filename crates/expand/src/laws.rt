@@ -1,15 +1,19 @@
 // What is proved of the definitions alone. The functions do nothing: their contracts are laws.
 
 ghost use Rattle.std.specs.Prelude.{◌≡◌, ◌≢◌, ◌↔◌, ◌++◌, [], ℕ, true, List, Option, Some, None};
+ghost use Rattle.std.specs.Option.{unwrap_or};
 ghost use Rattle.std.specs.Str.{IsUtf8, chars};
 ghost use Rattle.lines.specs.declared.escape.Escape.{Escape};
 ghost use Rattle.words.specs.Cutting.{ends_open};
-ghost use Rattle.expand.specs.Value.{Parts, no_part, variable, with_word, with_text, value};
+ghost use Rattle.expand.specs.Expanding.{worse, worst};
+ghost use Rattle.expand.specs.Value.{Parts, no_part, variable, with_word, with_text, passes, choice_of, value, first_of, refusal};
 ghost use Rattle.expand.specs.Syntax.{Syntax, Stands, written};
 ghost use Rattle.expand.specs.Word.{IsWord, AreOrdinary, word};
 ghost use Rattle.expand.specs.Scan.{IsScanned};
 ghost use Rattle.expand.specs.declared.character.Character.{Character};
+ghost use Rattle.expand.specs.declared.fault.Unexpanded.{Unexpanded};
 ghost use Rattle.expand.specs.declared.kind.Kind.{Kind};
+ghost use Rattle.expand.specs.declared.operator.Choice.{Choice};
 ghost use Rattle.expand.specs.declared.operator.Operator.{Operator};
 ghost use Rattle.expand.specs.declared.operator.Test.{Test};
 
@@ -61,4 +65,35 @@ pub fn alternatives_have_values()
     ensures empty_set { (scope : List ℕ → Option (List ℕ)) (name : List ℕ) (alternative rest : Parts) → scope name ≡ Some [] → value scope (with_word Operator.Alternative Test.IsSet name alternative rest) ≡ value scope alternative ++ value scope rest }
     ensures empty_filled { (scope : List ℕ → Option (List ℕ)) (name : List ℕ) (alternative rest : Parts) → scope name ≡ Some [] → value scope (with_word Operator.Alternative Test.IsFilled name alternative rest) ≡ value scope rest }
     ensures unset { (scope : List ℕ → Option (List ℕ)) (test : Test) (name : List ℕ) (alternative rest : Parts) → scope name ≡ None → value scope (with_word Operator.Alternative test name alternative rest) ≡ value scope rest }
+{}
+
+/// `${v?word}` and `${v:?word}` before the rest of a word: they stand for the text of `v` and refuse nothing where it is set and
+/// not empty. Where `v` is unset, the text is refused: with the word's value, or, if the word is refused itself, with what that one
+/// is refused with. An empty `v` is set, but not filled: `${v?word}` stands for it then, and `${v:?word}` is refused.
+pub fn required_variables_refuse()
+    ensures filled { (scope : List ℕ → Option (List ℕ)) (test : Test) (name text : List ℕ) (word rest : Parts) → scope name ≡ Some text → text ≢ [] → (value scope (with_word Operator.Required test name word rest) ≡ text ++ value scope rest) × (refusal scope (with_word Operator.Required test name word rest) ≡ refusal scope rest) }
+    ensures empty_set { (scope : List ℕ → Option (List ℕ)) (name : List ℕ) (word rest : Parts) → scope name ≡ Some [] → (value scope (with_word Operator.Required Test.IsSet name word rest) ≡ value scope rest) × (refusal scope (with_word Operator.Required Test.IsSet name word rest) ≡ refusal scope rest) }
+    ensures empty_filled { (scope : List ℕ → Option (List ℕ)) (name : List ℕ) (word rest : Parts) → scope name ≡ Some [] → refusal scope (with_word Operator.Required Test.IsFilled name word rest) ≡ Some (unwrap_or (refusal scope word) (value scope word)) }
+    ensures unset { (scope : List ℕ → Option (List ℕ)) (test : Test) (name : List ℕ) (word rest : Parts) → scope name ≡ None → refusal scope (with_word Operator.Required test name word rest) ≡ Some (unwrap_or (refusal scope word) (value scope word)) }
+{}
+
+/// The word of a variable that stands for its own text or for nothing refuses nothing: only the rest may. If the word is chosen,
+/// what it is refused with comes first.
+pub fn words_that_are_not_chosen_refuse_nothing()
+    ensures own { (scope : List ℕ → Option (List ℕ)) (operator : Operator) (test : Test) (name : List ℕ) (word rest : Parts) → choice_of operator (passes test (scope name)) ≡ Choice.Own → refusal scope (with_word operator test name word rest) ≡ refusal scope rest }
+    ensures nothing { (scope : List ℕ → Option (List ℕ)) (operator : Operator) (test : Test) (name : List ℕ) (word rest : Parts) → choice_of operator (passes test (scope name)) ≡ Choice.Nothing → refusal scope (with_word operator test name word rest) ≡ refusal scope rest }
+    ensures chosen { (scope : List ℕ → Option (List ℕ)) (operator : Operator) (test : Test) (name : List ℕ) (word rest : Parts) → choice_of operator (passes test (scope name)) ≡ Choice.Word → refusal scope (with_word operator test name word rest) ≡ first_of (refusal scope word) (refusal scope rest) }
+{}
+
+/// A text without `$`, escape character and, where there are quotes, without quotes is refused under no look-up.
+pub fn ordinary_texts_are_not_refused()
+    ensures { (kind : Kind) (escape : Escape) (text : List ℕ) → IsUtf8 text → AreOrdinary kind escape text → (found : Parts) → IsWord kind escape text found → (scope : List ℕ → Option (List ℕ)) → refusal scope found ≡ None }
+{}
+
+/// What is reported of a line: to what is against its texts so far what is against the next is added, so it doesn't matter how
+/// they are grouped, and a text with a value adds nothing.
+pub fn what_is_against_a_line_adds_up()
+    ensures grouped { (one two three : Option Unexpanded) → worse (worse one two) three ≡ worse one (worse two three) }
+    ensures nothing { (fault : Option Unexpanded) → worse fault None ≡ fault }
+    ensures lists { (one two : List (Option Unexpanded)) → worst (one ++ two) ≡ worse (worst one) (worst two) }
 {}

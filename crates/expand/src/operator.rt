@@ -8,6 +8,8 @@ pub enum Operator {
     Default,
     /// `+`: it stands in for a variable that passes the test.
     Alternative,
+    /// `?`: it says why the text is refused if the variable doesn't pass the test.
+    Required,
 }
 
 /// What is asked of a variable with a word.
@@ -28,6 +30,8 @@ pub enum Choice {
     Word,
     /// The empty text.
     Nothing,
+    /// None: the text is refused.
+    Refusal,
 }
 
 impl Operator {
@@ -36,10 +40,11 @@ impl Operator {
         ensures { result ≡ choice_of self passes }
     {
         match (self, passes) {
-            (Operator::Default, true) => Choice::Own,
+            (Operator::Default | Operator::Required, true) => Choice::Own,
             (Operator::Default, false) => Choice::Word,
             (Operator::Alternative, true) => Choice::Word,
             (Operator::Alternative, false) => Choice::Nothing,
+            (Operator::Required, false) => Choice::Refusal,
         }
     }
 }

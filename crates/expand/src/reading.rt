@@ -166,6 +166,7 @@ fn step_in_braced_name(
             Test::IsSet,
             name,
         ),
+        Sign::Question => open(alloc, output, depth, Operator::Required, Test::IsSet, name),
         _ => Ok(None),
     }
 }
@@ -184,6 +185,7 @@ fn step_after_colon(
     let operator = match character.sign() {
         Sign::Dash => Operator::Default,
         Sign::Plus => Operator::Alternative,
+        Sign::Question => Operator::Required,
         _ => return Ok(None),
     };
     open(alloc, output, depth, operator, Test::IsFilled, name)

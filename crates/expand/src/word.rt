@@ -41,8 +41,8 @@ impl Model for Word {
 impl Word {
     /// The word of a text.
     ///
-    /// R09 exactly where the text is none: a quote is open, a `${` doesn't go on with a name and then `}`, `-`, `:-`, `+` or
-    /// `:+`, a word within it has no `}` of its own, or more than 32 `${` stand within one another.
+    /// R09 exactly where the text is none: a quote is open, a `${` doesn't go on with a name and then `}`, or `-`, `+` or `?`
+    /// and a `:` before it or not, a word within it has no `}` of its own, or more than 32 `${` stand within one another.
     pub fn read(alloc: Global, kind: Kind, escape: Escape, text: &str) -> Result<Word, TextFault>
         ensures word { Reads kind escape text.now result }
         ensures found { Finds (word kind escape text.now) result }

@@ -1,5 +1,6 @@
 mod CutLemmas
 pub mod InstructionLaws
 mod LeastLaws
+mod ReasonLaws
 mod SpellsLaws
 mod TextLemmas

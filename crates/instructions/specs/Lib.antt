@@ -14,6 +14,7 @@ pub mod OneWord
 pub mod Parsing
 pub mod PrivateCopy
 pub mod PrivateLent
+pub mod Reason
 pub mod Run
 pub mod Shell
 pub mod Volume

@@ -1,10 +1,13 @@
 // What is proved of the definitions alone. The functions do nothing: their contracts are laws.
 
-ghost use Rattle.std.specs.Prelude.{◌≡◌, ◌⊎◌, Bool, false, Some, None};
+ghost use Rattle.std.specs.Prelude.{◌≡◌, ◌⊎◌, Bool, false, Option, Some, None};
 ghost use Rattle.plain.specs.declared.refusal.Code.{Code};
 ghost use Rattle.lines.specs.declared.line.Line.{Line};
+ghost use Rattle.expand.specs.declared.fault.Unexpanded.{Unexpanded};
+ghost use Rattle.expand.specs.declared.reason.Reason.{Reason};
 ghost use Rattle.instructions.specs.Instruction.{IsInstruction};
 ghost use Rattle.instructions.specs.Least.{least, IsLeast};
+ghost use Rattle.instructions.specs.Reason.{reason, IsReason, IsLeastReason};
 ghost use Rattle.instructions.specs.Parsing.{is_due, Spells};
 ghost use Rattle.instructions.specs.declared.instruction.Instruction.{Instruction};
 
@@ -23,6 +26,12 @@ pub fn lines_are_spelled_or_refused()
 pub fn the_least_code_is_told()
     ensures least { (due : Code → Bool) (c : Code) → least due ≡ Some c → IsLeast due c }
     ensures none { (due : Code → Bool) → least due ≡ None → (c : Code) → due c ≡ false }
+{}
+
+/// Of the reasons that there are to refuse a line whose texts are expanded the least is reported, and if none is, there is none.
+pub fn the_least_reason_is_reported()
+    ensures least { (due : Code → Bool) (fault : Option Unexpanded) (found : Reason) → reason due fault ≡ Some found → IsLeastReason due fault found }
+    ensures none { (due : Code → Bool) (fault : Option Unexpanded) → reason due fault ≡ None → (other : Reason) → IsReason due fault other → ⊥ }
 {}
 
 /// What each instruction keeps that a line spells: names are names, there are as many arguments as there have to be, and no more

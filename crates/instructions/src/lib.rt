@@ -10,6 +10,7 @@
 // a line spells is `IsInstruction` in specs/Instruction.antt (`laws`).
 //
 // A file for each instruction: src/env.rt has what the code reads of ENV, and specs/Env.antt what that is.
+// specs/Reason.antt says why a line is refused whose texts are expanded, for the crates above, which expand them.
 //
 // ```
 // parse(alloc, &line)?        // of `COPY --link a /b`: COPY with the source `a`, the destination `/b`, linked

@@ -1,48 +1,49 @@
--- One variable more of an ENV line.
-use Rattle.std.proofs.Common.{◌≡◌, ℕ, ◌+◌, ◌<◌, ◌≤◌, Bool, List, [], ◌∷◌, ◌++◌, length, get_or, drop, refl, ap, ap₂, sym, subst, ◌∙◌, append_assoc}
+-- One variable more of a line.
+use Rattle.std.proofs.Common.{◌≡◌, ℕ, ◌+◌, ◌<◌, List, [], ◌∷◌, ◌++◌, map, Option, None, length, get_or, drop, ap, sym, subst, ◌∙◌, append_assoc, append-nil}
 use Rattle.std.specs.Prelude.{Result, Ok, Err}
-use Rattle.std.specs.Result.{IsErrAnd}
-use Rattle.std.proofs.lemmas.Bool.{lt-ltb, le-ltb}
 use Rattle.std.proofs.lemmas.List.{at_drop_more}
 use Rattle.plain.specs.declared.fault.Fault.{Fault}
-use Rattle.plain.specs.declared.refusal.Code.{Code}
 use Rattle.plain.specs.declared.fault.Fault.TheVariants.{Because, Memory}
-use Rattle.expand.specs.Value.{value}
-use Rattle.expand.specs.Expanding.{Expands}
-use Rattle.plain.specs.Limits.{most_text_bytes}
-use Rattle.instructions.specs.declared.instruction.Assignment.{Assignment}
-use Rattle.scopes.specs.PrivateEvaluate.{Says}
-use Rattle.scopes.specs.Evaluate.{Values, env_line, env_texts, is_one_long}
+use Rattle.expand.specs.Expanding.{worse, worst}
+use Rattle.expand.specs.declared.fault.Unexpanded.{Unexpanded}
+use Rattle.expand.proofs.WorseLaws.{worse-assoc, worse-none, worse_none-left}
+use Rattle.scopes.specs.PrivateEvaluate.{Says, IsLonger}
 use Rattle.scopes.specs.declared.declaration.Declaration.{Declaration}
-use Rattle.scopes.specs.declared.declaration.Declaration.TheVariants.{Env}
+use Rattle.scopes.specs.declared.evaluate.Saying.{Saying}
 
-texts-step : (b : Values) (vs : List Assignment) (i : ℕ) (v : Assignment) → i < length vs → v ≡ get_or vs i v → env_texts b (drop i vs) ≡ value b v.value ∷ env_texts b (drop (i + 1) vs)
-texts-step b vs i v lt is = at_drop_more (env_texts b) vs i v lt ∙ ap (λ (u : Assignment). value b u.value ∷ env_texts b (drop (i + 1) vs)) (sym is)
+-- a loop along a line
 
-line-step : (b : Values) (vs : List Assignment) (i : ℕ) (v : Assignment) → i < length vs → v ≡ get_or vs i v → env_line b (drop i vs) ≡ Env v.name (value b v.value) ∷ env_line b (drop (i + 1) vs)
-line-step b vs i v lt is = at_drop_more (env_line b) vs i v lt ∙ ap (λ (u : Assignment). Env u.name (value b u.value) ∷ env_line b (drop (i + 1) vs)) (sym is)
+-- what a line says so far, of items each of which says something and has something against it
+pub record IsSoFar {X : Type 0} (say : X → Declaration) (fault : X → Option Unexpanded) (all rest : List X) (saying : Saying) : Type 0 where
+  pub faults : worse saying.fault (worst (map fault rest)) ≡ worst (map fault all)
+  pub said : saying.fault ≡ None → saying.line ++ map say rest ≡ map say all
 
--- a text that isn't too long is passed
-pub long-step : (b : Values) (vs : List Assignment) (i : ℕ) (v : Assignment) (all : Bool) → i < length vs → v ≡ get_or vs i v → length (value b v.value) ≤ most_text_bytes
-    → is_one_long (env_texts b (drop i vs)) ≡ all → is_one_long (env_texts b (drop (i + 1) vs)) ≡ all
-long-step b vs i v all lt is le h =
-    let short : is_one_long (value b v.value ∷ env_texts b (drop (i + 1) vs)) ≡ is_one_long (env_texts b (drop (i + 1) vs)) = rw (le-ltb most_text_bytes (length (value b v.value)) le) refl in
-    sym short ∙ ap is_one_long (sym (texts-step b vs i v lt is)) ∙ h
+pub so_far-begun : {X : Type 0} (say : X → Declaration) (fault : X → Option Unexpanded) (all : List X) (saying : Saying) → saying.line ≡ [] → saying.fault ≡ None → IsSoFar say fault all all saying
+so_far-begun say fault all saying h i = record {
+  faults = ap (λ t. worse t (worst (map fault all))) i;
+  said = λ _. ap (λ (ds : List Declaration). ds ++ map say all) h;
+}
 
-pub said-step : (b : Values) (vs : List Assignment) (i : ℕ) (v : Assignment) (line new all : List Declaration) (n t : List ℕ) → i < length vs → v ≡ get_or vs i v → n ≡ v.name → t ≡ value b v.value
-    → new ≡ line ++ Env n t ∷ [] → line ++ env_line b (drop i vs) ≡ all → new ++ env_line b (drop (i + 1) vs) ≡ all
-said-step b vs i v line new all n t lt is h j k m =
-    ap (λ (ds : List Declaration). ds ++ env_line b (drop (i + 1) vs)) (k ∙ ap₂ (λ (x y : List ℕ). line ++ Env x y ∷ []) h j)
-    ∙ append_assoc line (Env v.name (value b v.value) ∷ []) (env_line b (drop (i + 1) vs)) ∙ ap (λ (ds : List Declaration). line ++ ds) (sym (line-step b vs i v lt is)) ∙ m
+pub so_far-more : {X : Type 0} (say : X → Declaration) (fault : X → Option Unexpanded) (all : List X) (i : ℕ) (x : X) (saying more : Saying) → i < length all → x ≡ get_or all i x
+    → IsLonger saying (say x) (fault x) more → IsSoFar say fault all (drop i all) saying → IsSoFar say fault all (drop (i + 1) all) more
+so_far-more {X} say fault all i x saying more lt is h b =
+    let faults : worst (map fault (drop i all)) ≡ worse (fault x) (worst (map fault (drop (i + 1) all))) =
+    at_drop_more (λ (xs : List X). worst (map fault xs)) all i x lt ∙ ap (λ (u : X). worse (fault u) (worst (map fault (drop (i + 1) all)))) (sym is) in
+    let line : map say (drop i all) ≡ say x ∷ map say (drop (i + 1) all) =
+    at_drop_more (λ (xs : List X). map say xs) all i x lt ∙ ap (λ (u : X). say u ∷ map say (drop (i + 1) all)) (sym is) in
+    record {
+      faults = ap (λ t. worse t (worst (map fault (drop (i + 1) all)))) h.0 ∙ worse-assoc saying.fault (fault x) (worst (map fault (drop (i + 1) all))) ∙ ap (λ t. worse saying.fault t) (sym faults) ∙ b.faults;
+      said = λ n. ap (λ (ds : List Declaration). ds ++ map say (drop (i + 1) all)) (h.1 n) ∙ append_assoc saying.line (say x ∷ []) (map say (drop (i + 1) all))
+          ∙ ap (λ (ds : List Declaration). saying.line ++ ds) (sym line) ∙ b.said (worse_none-left saying.fault (fault x) (sym h.0 ∙ n));
+    }
 
--- one that is ends the line
-says-long : (line : List Declaration) (texts rest : List (List ℕ)) (text : List ℕ) (f : Fault Code) → Expands most_text_bytes text (Err f) → is_one_long (text ∷ rest) ≡ is_one_long texts → Says line texts (Err f)
-says-long line texts rest text (Because code) h i = (h.0, sym i ∙ rw (lt-ltb most_text_bytes (length text) h.1) refl)
-says-long line texts rest text Memory h i = tt
+says-by : (line more : List Declaration) (fault other : Option Unexpanded) (r : Result (List Declaration) (Fault Unexpanded)) → fault ≡ other → (fault ≡ None → line ≡ more) → Says line fault r → Says more other r
+says-by line more fault other (Ok found) h i s = (s.0 ∙ i s.1, sym h ∙ s.1)
+says-by line more fault other (Err (Because why)) h i s = sym h ∙ s
+says-by line more fault other (Err Memory) h i s = tt
 
-pub says-refused : (b : Values) (vs : List Assignment) (i : ℕ) (v : Assignment) (line : List Declaration) (f : Fault Code) (r : Result (List Declaration) (Fault Code)) → IsErrAnd r (λ e. e ≡ f) → i < length vs → v ≡ get_or vs i v
-    → Expands most_text_bytes (value b v.value) (Err f) → is_one_long (env_texts b (drop i vs)) ≡ is_one_long (env_texts b vs) → Says line (env_texts b vs) r
-says-refused b vs i v line f (Ok found) same lt is h j = absurd same
-says-refused b vs i v line f (Err e) same lt is h j =
-    subst (λ (d : Fault Code). Says line (env_texts b vs) (Err d)) (sym same)
-    (says-long line (env_texts b vs) (env_texts b (drop (i + 1) vs)) (value b v.value) f h (ap is_one_long (sym (texts-step b vs i v lt is)) ∙ j))
+pub so_far-ended : {X : Type 0} (say : X → Declaration) (fault : X → Option Unexpanded) (all rest : List X) (saying : Saying) (r : Result (List Declaration) (Fault Unexpanded)) → rest ≡ []
+    → IsSoFar say fault all rest saying → Says saying.line saying.fault r → Says (map say all) (worst (map fault all)) r
+so_far-ended {X} say fault all rest saying r e b s =
+    let last : IsSoFar say fault all [] saying = subst (λ (xs : List X). IsSoFar say fault all xs saying) e b in
+    says-by saying.line (map say all) saying.fault (worst (map fault all)) r (sym (worse-none saying.fault) ∙ last.faults) (λ n. sym (append-nil saying.line) ∙ last.said n) s

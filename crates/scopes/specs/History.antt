@@ -1,9 +1,10 @@
 -- What the ENV and ARG lines of a stage say, line after line.
-use Rattle.std.specs.Prelude.{ℕ, List, [], ◌∷◌, ◌++◌}
+use Rattle.std.specs.Prelude.{List, [], ◌∷◌, ◌++◌, Option}
+use Rattle.expand.specs.declared.fault.Unexpanded.{Unexpanded}
 use Rattle.instructions.specs.declared.instruction.Argument.{Argument}
 use Rattle.instructions.specs.declared.instruction.Assignment.{Assignment}
 use Rattle.scopes.specs.Scope.{value_in, kept}
-use Rattle.scopes.specs.Evaluate.{Values, env_line, env_texts, arg_line, arg_texts}
+use Rattle.scopes.specs.Evaluate.{Values, env_line, env_fault, arg_line, arg_fault}
 use Rattle.scopes.specs.declared.declaration.Declaration.{Declaration}
 
 -- a line that says something of names: an ENV with its assignments, or an ARG with its arguments
@@ -16,10 +17,10 @@ abbrev pub said : Values → Values → Values → ScopeLine → List Declaratio
 said before args outer (sets assignments) = env_line before assignments
 said before args outer (declares arguments) = arg_line before args outer arguments
 
--- the texts that a line expands under the scope before it, with these build arguments
-abbrev pub texts : Values → Values → ScopeLine → List (List ℕ)
-texts before args (sets assignments) = env_texts before assignments
-texts before args (declares arguments) = arg_texts before args arguments
+-- what is against the texts that a line expands under the scope before it, with these build arguments
+abbrev pub line_fault : Values → Values → ScopeLine → Option Unexpanded
+line_fault before args (sets assignments) = env_fault before assignments
+line_fault before args (declares arguments) = arg_fault before args arguments
 
 -- all that lines say, one after another and below what was said before them: each line under what was said above it
 -- (Dockerfile reference, environment replacement)

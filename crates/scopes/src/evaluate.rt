@@ -1,77 +1,141 @@
+ghost use Rattle.std.specs.Prelude.{◌≡◌, None, IfOk};
 ghost use Rattle.std.specs.FinMap.{get as arg_value};
+ghost use Rattle.expand.specs.Expanding.{unexpanded, worse};
+ghost use Rattle.expand.specs.Value.{value};
 ghost use Rattle.scopes.specs.Scope.{or_else, value_in};
-ghost use Rattle.scopes.specs.Evaluate.{env_line, env_texts, arg_line, arg_texts, fallback, expanded_default};
-ghost use Rattle.scopes.specs.PrivateEvaluate.{Says, Gives};
+ghost use Rattle.scopes.specs.Evaluate.{env_line, env_fault, arg_line, arg_fault, fallback, default_fault};
+ghost use Rattle.scopes.specs.PrivateEvaluate.{Says, IsLonger};
+ghost use Rattle.scopes.specs.declared.declaration.Declaration.TheVariants.{Env, Arg};
 
 use crate::args::Args;
 use crate::declaration::Declaration;
 use crate::scope::Scope;
-use expand::expand;
+use expand::{ExpandFault, Unexpanded, expand_next};
 use instructions::{Argument, Assignment};
-use plain::{Exact, Items, Text};
+use plain::{Exact, Fault, Items, Memory, Text};
 use std::alloc::Global;
-use words::TextFault;
 
-/// What an ENV line says under the scope before it; R18 where a value is too long, and there alone.
+/// What a line says so far, and what is against its texts: if something is, what it says doesn't count.
+#[derive(Drop)]
+pub(crate) struct Saying {
+    pub(crate) line: Items<Declaration>,
+    pub(crate) fault: Option<Unexpanded>,
+}
+
+/// What an ENV line says under the scope before it, unless something is against its texts.
 pub(crate) fn assignment_declarations(
     alloc: Global,
     assignments: &[Assignment],
     before: &Scope,
-) -> Result<Items<Declaration>, TextFault>
-    ensures { Says (env_line (value_in before.now) assignments.now) (env_texts (value_in before.now) assignments.now) result }
+) -> Result<Items<Declaration>, ExpandFault>
+    ensures { Says (env_line (value_in before.now) assignments.now) (env_fault (value_in before.now) assignments.now) result }
 {
-    let mut line = Items::new(alloc);
+    let mut saying = Saying {
+        line: Items::new(alloc),
+        fault: None,
+    };
     for assignment in assignments {
-        let name = assignment.name.copy(alloc)?;
-        let value = expand(alloc, &assignment.value, before)?;
-        line.push(Declaration::Env { name, value })?;
+        saying = assigned(alloc, saying, assignment, before)?;
     }
-    Ok(line)
+    said(saying)
 }
 
-/// What an ARG line says under the scope before it; R18 where a default that counts is too long, and there alone.
+/// What a line says, unless something is against its texts.
+fn said(saying: Saying) -> Result<Items<Declaration>, ExpandFault>
+    ensures { Says saying.line saying.fault result }
+{
+    let Saying { line, fault } = saying;
+    match fault {
+        None => Ok(line),
+        Some(why) => {
+            drop(line);
+            Err(Fault::Because(why))
+        }
+    }
+}
+
+/// A line with one variable more of an ENV.
+fn assigned(
+    alloc: Global,
+    saying: Saying,
+    assignment: &Assignment,
+    before: &Scope,
+) -> Result<Saying, Memory>
+    ensures { IfOk result (λ more. IsLonger saying (Env assignment.now.name (value (value_in before.now) assignment.now.value)) (unexpanded (value_in before.now) assignment.now.value) more) }
+{
+    let Saying { mut line, fault } = saying;
+    let name = assignment.name.copy(alloc)?;
+    let (value, fault) = expand_next(alloc, &assignment.value, before, fault)?;
+    if let Some(value) = value {
+        line.push(Declaration::Env { name, value })?;
+    }
+    Ok(Saying { line, fault })
+}
+
+/// What an ARG line says under the scope before it, unless something is against its defaults that count.
 pub(crate) fn argument_declarations(
     alloc: Global,
     arguments: &[Argument],
     before: &Scope,
     args: &Args,
     outer: &Scope,
-) -> Result<Items<Declaration>, TextFault>
-    ensures { Says (arg_line (value_in before.now) (arg_value args.now) (value_in outer.now) arguments.now) (arg_texts (value_in before.now) (arg_value args.now) arguments.now) result }
+) -> Result<Items<Declaration>, ExpandFault>
+    ensures { Says (arg_line (value_in before.now) (arg_value args.now) (value_in outer.now) arguments.now) (arg_fault (value_in before.now) (arg_value args.now) arguments.now) result }
 {
-    let mut line = Items::new(alloc);
+    let mut saying = Saying {
+        line: Items::new(alloc),
+        fault: None,
+    };
     for argument in arguments {
-        let name = argument.name.copy(alloc)?;
-        let value = argument_value(alloc, argument, before, args, outer)?;
-        line.push(Declaration::Arg { name, value })?;
+        saying = argued(alloc, saying, argument, before, args, outer)?;
     }
-    Ok(line)
+    said(saying)
 }
 
-/// The value that an argument has: the build argument, else its default, else what it has before the first FROM.
+/// A line with one argument more of an ARG.
+fn argued(
+    alloc: Global,
+    saying: Saying,
+    argument: &Argument,
+    before: &Scope,
+    args: &Args,
+    outer: &Scope,
+) -> Result<Saying, Memory>
+    ensures { IfOk result (λ more. IsLonger saying (Arg argument.now.name (or_else (arg_value args.now argument.now.name) (fallback (value_in before.now) (value_in outer.now argument.now.name) argument.now.default))) (default_fault (value_in before.now) (arg_value args.now argument.now.name) argument.now.default) more) }
+{
+    let Saying { mut line, fault } = saying;
+    let name = argument.name.copy(alloc)?;
+    let (value, fault) = argument_value(alloc, argument, before, args, outer, fault)?;
+    line.push(Declaration::Arg { name, value })?;
+    Ok(Saying { line, fault })
+}
+
+/// The value that an argument has: the build argument, else its default, else what it has before the first FROM. With it what is
+/// reported of the line so far; if something is, the value doesn't count.
 fn argument_value(
     alloc: Global,
     argument: &Argument,
     before: &Scope,
     args: &Args,
     outer: &Scope,
-) -> Result<Option<Text>, TextFault>
-    ensures { Gives (expanded_default (value_in before.now) (arg_value args.now argument.now.name) argument.now.default) (or_else (arg_value args.now argument.now.name) (fallback (value_in before.now) (value_in outer.now argument.now.name) argument.now.default)) result }
+    fault: Option<Unexpanded>,
+) -> Result<(Option<Text>, Option<Unexpanded>), Memory>
+    ensures fault { IfOk result (λ found. found.1 ≡ worse fault (default_fault (value_in before.now) (arg_value args.now argument.now.name) argument.now.default)) }
+    ensures value { IfOk result (λ found. found.1 ≡ None → found.0 ≡ or_else (arg_value args.now argument.now.name) (fallback (value_in before.now) (value_in outer.now argument.now.name) argument.now.default)) }
 {
     let name = argument.name.as_str();
     if let Some(value) = args.get(name) {
         let value = value.copy(alloc)?;
-        return Ok(Some(value));
+        return Ok((Some(value), fault));
     }
     if let Some(word) = &argument.default {
-        let value = expand(alloc, word, before)?;
-        return Ok(Some(value));
+        return expand_next(alloc, word, before, fault);
     }
     match outer.get(name) {
         Some(value) => {
             let value = value.copy(alloc)?;
-            Ok(Some(value))
+            Ok((Some(value), fault))
         }
-        None => Ok(None),
+        None => Ok((None, fault)),
     }
 }

@@ -5,7 +5,7 @@ ghost use Rattle.std.specs.List.{list_all};
 ghost use Rattle.ascii.specs.Names.{is_name};
 ghost use Rattle.instructions.specs.declared.instruction.Argument.{Argument};
 ghost use Rattle.instructions.specs.declared.instruction.Assignment.{Assignment};
-ghost use Rattle.scopes.specs.History.{ScopeLine, texts, history, scope_after};
+ghost use Rattle.scopes.specs.History.{ScopeLine, line_fault, history, scope_after};
 ghost use Rattle.scopes.specs.Evaluate.{Values, env_line, arg_line};
 ghost use Rattle.scopes.specs.Scope.{last_env, last_arg, value_in, run_env, kept, names_in, names_of, names_differ, is_environment_name};
 ghost use Rattle.scopes.specs.declared.declaration.Declaration.{Declaration};
@@ -23,8 +23,8 @@ pub fn kept_declarations_mean_the_same()
 pub fn scopes_mean_their_history()
     ensures scopes { (args : Values) (outer above : List Declaration) (lines : List ScopeLine)
         → scope_after args (value_in (kept outer)) (kept above) lines ≡ kept (history args (value_in outer) above lines) }
-    ensures texts { (args : Values) (above : List Declaration) (line : ScopeLine)
-        → texts (value_in (kept above)) args line ≡ texts (value_in above) args line }
+    ensures faults { (args : Values) (above : List Declaration) (line : ScopeLine)
+        → line_fault (value_in (kept above)) args line ≡ line_fault (value_in above) args line }
 {}
 
 /// What more declarations do to the value of a name: an ENV of the name sets it, an ARG of it sets it where no ENV did and it

@@ -8,8 +8,8 @@
 // the value that all declarations so far give it, and does so after any further lines too (`laws`): so the contract of a call on a line
 // says which declarations the line adds, and what is kept then.
 //
-// A line of which a text is too long is refused with R18 (`TextFault`, of the crate `words`, holds a code). Tests are in `language_tests` and
-// `language_rows`.
+// A line adds nothing if one of its texts is too long, or is refused since a variable is required: the call says why
+// (`ExpandFault`, of the crate `expand`). Tests are in `language_tests` and `tables`.
 //
 // ```
 // scope.declare(alloc, arguments, &args, &outer)?;   // ARG abc=default, with the build arguments and the scope before the first FROM

@@ -1,20 +1,19 @@
 ghost use Rattle.std.specs.Prelude.{◌≡◌, [], ◌∷◌, ◌++◌, option_map, OnOk, OnErr, IfOk};
 ghost use Rattle.std.specs.FinMap.{get as arg_value};
 ghost use Rattle.scopes.specs.Scope.{value_in, kept, run_env};
-ghost use Rattle.scopes.specs.Evaluate.{env_line, env_texts, arg_line, arg_texts, Declares};
+ghost use Rattle.scopes.specs.Evaluate.{env_line, env_fault, arg_line, arg_fault, Declares};
 ghost use Rattle.scopes.specs.declared.declaration.Declaration.TheVariants.{Env};
 
 use crate::args::Args;
 use crate::declaration::Declaration;
 use crate::evaluate::{argument_declarations, assignment_declarations};
 use crate::maps::{env_count, listed, push_arguments, push_variables, put_all, with_keys};
-use expand::Lookup;
+use expand::{ExpandFault, Lookup};
 use indexmap::IndexMap;
 use instructions::{Argument, Assignment};
 use plain::{Exact, Items, Memory, Text, Variable};
 use std::alloc::Global;
 use std::marker::Model;
-use words::TextFault;
 
 /// What names have values by the ENV and ARG lines so far.
 ///
@@ -55,16 +54,17 @@ impl Scope {
     /// where it has no default, the value that it has in `outer`, the scope before the first FROM (Dockerfile reference, ARG).
     /// One that has no value by this leaves the name as it was (own).
     ///
-    /// R18 where a default whose name has no build argument has a value of more than 1,048,576 bytes, and there alone. After a
-    /// fault the scope is as it was. For a line before the first FROM, `outer` is the empty scope.
+    /// `TooLong` where a default whose name has no build argument can't be expanded for that reason; else `Required` with the
+    /// first text that such a default is refused with. After a fault the scope is as it was. For a line before the first FROM,
+    /// `outer` is the empty scope.
     pub fn declare(
         &mut self,
         alloc: Global,
         arguments: &[Argument],
         args: &Args,
         outer: &Scope,
-    ) -> Result<(), TextFault>
-        ensures { Declares self.old (arg_line (value_in self.old) (arg_value args.now) (value_in outer.now) arguments.now) (arg_texts (value_in self.old) (arg_value args.now) arguments.now) self.new result }
+    ) -> Result<(), ExpandFault>
+        ensures { Declares self.old (arg_line (value_in self.old) (arg_value args.now) (value_in outer.now) arguments.now) (arg_fault (value_in self.old) (arg_value args.now) arguments.now) self.new result }
     {
         let line = argument_declarations(alloc, arguments, self, args, outer)?;
         self.add(alloc, line)?;
@@ -74,9 +74,10 @@ impl Scope {
     /// Adds an ENV line: each variable has the value of its word under the scope before the line (Dockerfile reference,
     /// environment replacement).
     ///
-    /// R18 where a value has more than 1,048,576 bytes, and there alone. After a fault the scope is as it was.
-    pub fn set_env(&mut self, alloc: Global, assignments: &[Assignment]) -> Result<(), TextFault>
-        ensures { Declares self.old (env_line (value_in self.old) assignments.now) (env_texts (value_in self.old) assignments.now) self.new result }
+    /// `TooLong` where a value can't be expanded for that reason; else `Required` with the first text that one is refused with.
+    /// After a fault the scope is as it was.
+    pub fn set_env(&mut self, alloc: Global, assignments: &[Assignment]) -> Result<(), ExpandFault>
+        ensures { Declares self.old (env_line (value_in self.old) assignments.now) (env_fault (value_in self.old) assignments.now) self.new result }
     {
         let line = assignment_declarations(alloc, assignments, self)?;
         self.add(alloc, line)?;

@@ -1,8 +1,8 @@
-use Rattle.scopes.proofs.HistoryLemmas.{scope-history, texts-kept}
+use Rattle.scopes.proofs.HistoryLemmas.{scope-history, fault-kept}
 use Rattle.scopes.proofs.laws.scopes_mean_their_history.Goals as goal
 
 pub returns-clause-scopes : goal.returns-clause-scopes
 returns-clause-scopes c = scope-history
 
-pub returns-clause-texts : goal.returns-clause-texts
-returns-clause-texts c = texts-kept
+pub returns-clause-faults : goal.returns-clause-faults
+returns-clause-faults c = fault-kept
