@@ -4,6 +4,7 @@ use Rattle.std.specs.Prelude.{unwrap_or}
 use Rattle.plain.specs.declared.fault.Fault.TheVariants.{Because}
 use Rattle.plain.specs.declared.memory.Memory.{Memory}
 use Rattle.plain.specs.declared.refusal.Refusal.{Refusal}
+use Rattle.expand.specs.declared.reason.Rejection.{Rejection}
 use Rattle.ignorefile.specs.File.{ignore_of}
 use Rattle.imageconfig.specs.Reading.{config_in}
 use Rattle.imageconfig.specs.declared.config.Config.{Config}
@@ -59,10 +60,10 @@ checked bytes form found made are text shown sound = record {
 
 -- a check gives one thing
 abbrev pub HaveFaults : Type 0
-HaveFaults = (bytes : List ℕ) → (faults : List Refusal) × AreFaultsOf bytes faults
+HaveFaults = (bytes : List ℕ) → (faults : List Rejection) × AreFaultsOf bytes faults
 
 abbrev pub HaveOneList : Type 0
-HaveOneList = (bytes : List ℕ) (faults others : List Refusal) → AreFaultsOf bytes faults → AreFaultsOf bytes others → faults ≡ others
+HaveOneList = (bytes : List ℕ) (faults others : List Rejection) → AreFaultsOf bytes faults → AreFaultsOf bytes others → faults ≡ others
 
 pub some_check : HaveFaults → (bytes : List ℕ) (form : Form) → (made : Checked) × IsCheckOf bytes form made
 some_check some bytes form =
@@ -78,7 +79,7 @@ pub one_sound : HaveOneList → (bytes : List ℕ) (form another : Form) (one ot
     → one.is_sound ≡ other.is_sound
 one_sound unique bytes form another one other these those =
     let same = unique bytes these.faults those.faults these.are those.are in
-    these.is_sound ∙ ap (λ (faults : List Refusal). length faults == 0) same ∙ sym those.is_sound
+    these.is_sound ∙ ap (λ (faults : List Rejection). length faults == 0) same ∙ sym those.is_sound
 
 pub one_check : HaveOneList → (bytes : List ℕ) (form : Form) (one other : Checked) → IsCheckOf bytes form one → IsCheckOf bytes form other → one ≡ other
 one_check unique bytes form one other these those =

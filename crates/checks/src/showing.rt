@@ -1,22 +1,24 @@
 ghost use Rattle.std.specs.Prelude.{◌≡◌, ◌-◌, map, IfOk};
 ghost use Rattle.std.specs.String.{string_bytes};
 ghost use Rattle.lines.specs.Text.{without_byte_order_mark, text_lines};
-ghost use Rattle.checks.specs.Shown.{place_of, readable_lines, line_at, shown_with, shown_faults};
+ghost use Rattle.sentences.specs.Showing.{shown};
+ghost use Rattle.checks.specs.Shown.{place_of, readable_lines, line_at, visible, visible_reason, shown_with, shown_faults};
 
 use crate::Form;
 use crate::visible::visible;
-use plain::{Code, Memory, Refusal, Text};
+use expand::{Reason, Rejection};
+use plain::{Code, Memory, Text};
 use sentences::{json_line, shown};
 use std::alloc::{AllocError, Global};
 
 /// What is shown of faults, in their order and in this form, whose lines are counted in this text: a Dockerfile's, or that of its ignore file. It
 /// need not be UTF-8: what isn't is shown as U+FFFD. The line of a number that the text hasn't is shown as an empty one.
 ///
-/// To a person a control character of a line, other than a tab, is shown by its number, as `\x1b`, so no line gives orders to a terminal. A program
-/// gets the line as it stands.
+/// To a person a control character of a line, other than a tab, is shown by its number, as `\x1b`, and so is one of the text of R21, so none gives
+/// orders to a terminal. A program gets both as they stand.
 pub fn shown_faults(
     alloc: Global,
-    faults: &[Refusal],
+    faults: &[Rejection],
     text: &[u8],
     form: Form,
 ) -> Result<Text, Memory>
@@ -27,10 +29,10 @@ pub fn shown_faults(
     Ok(Text::from_string(shown))
 }
 
-/// The same of a text that is UTF-8. The lines are listed only where there are several faults: one is found without memory for each line.
+/// The same of a text that is UTF-8. The lines are listed only if there are several faults: one is found without memory for each line.
 fn shown_in(
     alloc: Global,
-    faults: &[Refusal],
+    faults: &[Rejection],
     text: &str,
     form: Form,
 ) -> Result<String, Memory>
@@ -38,7 +40,7 @@ fn shown_in(
 {
     match faults {
         [] => Ok(String::new(alloc)),
-        [fault] => shown_fault(alloc, *fault, found_line(text, fault.line), form),
+        [fault] => shown_fault(alloc, fault, found_line(text, fault.line), form),
         [_, _, ..] => {
             let lines = lines_of(alloc, text)?;
             shown_each(alloc, faults, &lines, form)
@@ -49,7 +51,7 @@ fn shown_in(
 /// What is shown of faults, one after another, their lines being among these.
 fn shown_each(
     alloc: Global,
-    faults: &[Refusal],
+    faults: &[Rejection],
     lines: &[&str],
     form: Form,
 ) -> Result<String, Memory>
@@ -57,33 +59,56 @@ fn shown_each(
 {
     let mut text = String::new(alloc);
     for fault in faults {
-        let shown = shown_fault(alloc, *fault, listed_line(lines, fault.line), form)?;
+        let shown = shown_fault(alloc, fault, listed_line(lines, fault.line), form)?;
         text.push_str(shown.as_str())?;
     }
     Ok(text)
 }
 
 /// What is shown of a fault that is about this line.
-fn shown_fault(alloc: Global, fault: Refusal, line: &str, form: Form) -> Result<String, Memory>
-    ensures { IfOk result (λ text. string_bytes text ≡ shown_with form fault line.now) }
+fn shown_fault(alloc: Global, fault: &Rejection, line: &str, form: Form) -> Result<String, Memory>
+    ensures { IfOk result (λ text. string_bytes text ≡ shown_with form fault.now line.now) }
 {
     match form {
-        Form::Plain => {
-            let line = visible(alloc, line)?;
-            shown(alloc, place_of(fault.code), fault, line.as_str())
-        }
-        Form::Json => json_line(alloc, place_of(fault.code), fault, line),
+        Form::Plain => shown_plain(alloc, fault, line),
+        Form::Json => json_line(alloc, place_of(&fault.reason), fault, line),
     }
 }
 
-/// What a fault of this code is in.
-fn place_of(code: Code) -> &'static str
-    ensures { result.now ≡ place_of code }
+/// What is shown to a person of a fault that is about this line.
+fn shown_plain(alloc: Global, fault: &Rejection, line: &str) -> Result<String, Memory>
+    ensures { IfOk result (λ text. string_bytes text ≡ shown (place_of fault.now.reason) (record { reason = visible_reason fault.now.reason; line = fault.now.line }) (visible line.now)) }
 {
-    match code {
-        Code::R19 => ".dockerignore",
-        Code::R20 => "bundle",
-        _ => "Dockerfile",
+    let line = visible(alloc, line)?;
+    let reason = visible_reason(alloc, &fault.reason)?;
+    let seen = Rejection {
+        reason,
+        line: fault.line,
+    };
+    shown(alloc, place_of(&fault.reason), &seen, line.as_str())
+}
+
+/// A reason with its text as it is shown.
+fn visible_reason(alloc: Global, reason: &Reason) -> Result<Reason, Memory>
+    ensures { IfOk result (λ seen. seen ≡ visible_reason reason.now) }
+{
+    match reason {
+        Reason::Coded(code) => Ok(Reason::Coded(*code)),
+        Reason::Required(text) => {
+            let seen = visible(alloc, text.as_str())?;
+            Ok(Reason::Required(Text::from_string(seen)))
+        }
+    }
+}
+
+/// What a line is in that is refused for this reason.
+fn place_of(reason: &Reason) -> &'static str
+    ensures { result.now ≡ place_of reason.now }
+{
+    match reason {
+        Reason::Coded(Code::R19) => ".dockerignore",
+        Reason::Coded(Code::R20) => "bundle",
+        Reason::Coded(_) | Reason::Required(_) => "Dockerfile",
     }
 }
 

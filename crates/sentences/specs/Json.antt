@@ -1,27 +1,48 @@
 -- A refusal as a program reads it (own): a line of compact JSON, the keys in the order of their bytes.
-use Rattle.std.specs.Prelude.{◌++◌, ◌==◌, List, ℕ, [], codes, if◌then◌else◌}
+use Rattle.std.specs.Prelude.{◌++◌, ◌==◌, ℕ, List, [], codes, if◌then◌else◌}
 use Rattle.serde_json.specs.Data.{Data, number, unsigned, string, object, no_members, member}
 use Rattle.serde_json.specs.Written.{compact_text}
 use Rattle.plain.specs.Codes.{code_text}
-use Rattle.plain.specs.declared.refusal.Refusal.{Refusal}
+use Rattle.expand.specs.declared.reason.Reason.{Reason}
+use Rattle.expand.specs.declared.reason.Reason.TheVariants.{Coded, Required}
+use Rattle.expand.specs.declared.reason.Rejection.{Rejection}
 use Rattle.sentences.specs.Subject.{subject_of}
-use Rattle.sentences.specs.Table.{sentence, remedy}
+use Rattle.sentences.specs.Table.{sentence, remedy, required_sentence, required_remedy}
 use Rattle.sentences.specs.declared.subject.Subject.{Subject}
 
--- the line that a refusal is about, of the file's line of its number: none where the number is 0
-abbrev pub line_about : Refusal → List ℕ → List ℕ
-line_about refusal line = if refusal.line == 0 then [] else line
+-- the line that a refusal is about, of the file's line of its number: none if the number is 0
+abbrev pub line_about : ℕ → List ℕ → List ℕ
+line_about number line = if number == 0 then [] else line
 
--- a refusal of the file of this name, about this text, whose instruction is the subject
-unfoldable pub refusal_data : List ℕ → Refusal → Subject → List ℕ → Data
-refusal_data file refusal subject text = object (member (codes "code") (string (code_text refusal.code))
+-- the code of a refusal
+abbrev pub code_of : Reason → List ℕ
+code_of (Coded code) = code_text code
+code_of (Required text) = codes "R21"
+
+-- what is wrong with a line of this instruction: if a variable is required in it, with the text that it is refused with
+abbrev pub message_of : Reason → Subject → List ℕ
+message_of (Coded code) subject = sentence code subject
+message_of (Required text) subject = required_sentence ++ (codes ": " ++ text)
+
+-- what helps against it
+abbrev pub remedy_of : Reason → Subject → List ℕ
+remedy_of (Coded code) subject = remedy code subject
+remedy_of (Required text) subject = required_remedy
+
+-- a refusal by its parts
+unfoldable pub refusal_data : List ℕ → List ℕ → ℕ → List ℕ → List ℕ → List ℕ → Data
+refusal_data code file line message helps text = object (member (codes "code") (string code)
     (member (codes "file") (string file)
-    (member (codes "line") (number (unsigned refusal.line))
-    (member (codes "message") (string (sentence refusal.code subject))
-    (member (codes "remedy") (string (remedy refusal.code subject))
+    (member (codes "line") (number (unsigned line))
+    (member (codes "message") (string message)
+    (member (codes "remedy") (string helps)
     (member (codes "text") (string text) no_members))))))
 
--- the line of JSON of a refusal of the file of this name, with the LF that ends it, and the file's line of the refusal's number
-abbrev pub json_line : List ℕ → Refusal → List ℕ → List ℕ
-json_line file refusal line =
-    compact_text (refusal_data file refusal (subject_of (line_about refusal line)) (line_about refusal line)) ++ codes "\n"
+-- a refusal of the file of this name that is about this text
+abbrev pub data_of : List ℕ → Rejection → List ℕ → Data
+data_of file refusal text =
+    refusal_data (code_of refusal.reason) file refusal.line (message_of refusal.reason (subject_of text)) (remedy_of refusal.reason (subject_of text)) text
+
+-- its line of JSON, with the LF that ends it, of the file's line of the refusal's number
+abbrev pub json_line : List ℕ → Rejection → List ℕ → List ℕ
+json_line file refusal line = compact_text (data_of file refusal (line_about refusal.line line)) ++ codes "\n"

@@ -1,47 +1,103 @@
 ghost use Rattle.std.specs.Prelude.{◌≡◌, IfOk};
 ghost use Rattle.std.specs.String.{string_bytes};
 ghost use Rattle.serde_json.specs.View.{view};
-ghost use Rattle.sentences.specs.Json.{json_line, line_about, refusal_data};
+ghost use Rattle.sentences.specs.Json.{code_of, data_of, json_line, line_about, message_of, refusal_data, remedy_of};
 
+use crate::table::{required_remedy, required_sentence};
 use crate::{Subject, remedy, sentence};
-use plain::{Memory, Refusal};
+use expand::{Reason, Rejection};
+use plain::Memory;
 use serde_json::{Value, json};
 use std::alloc::{AllocError, Global};
 
 /// The line that a refusal is about, of the file's line of its number; the empty one if it is about none.
-fn line_about(refusal: Refusal, line: &str) -> &str
-    ensures { result.now ≡ line_about refusal line.now }
+fn line_about(number: u32, line: &str) -> &str
+    ensures { result.now ≡ line_about number line.now }
 {
-    if refusal.line == 0 { "" } else { line }
+    if number == 0 { "" } else { line }
 }
 
-/// A refusal as JSON.
+/// The code of a refusal.
+fn code_of(alloc: Global, reason: &Reason) -> Result<String, AllocError>
+    ensures { IfOk result (λ text. string_bytes text ≡ code_of reason.now) }
+{
+    match reason {
+        Reason::Coded(code) => code.to_string(alloc),
+        Reason::Required(_) => String::from_str(alloc, "R21"),
+    }
+}
+
+/// What is wrong with a line of this instruction.
+fn message_of(alloc: Global, reason: &Reason, subject: Subject) -> Result<String, AllocError>
+    ensures { IfOk result (λ text. string_bytes text ≡ message_of reason.now subject) }
+{
+    match reason {
+        Reason::Coded(code) => String::from_str(alloc, sentence(*code, subject)),
+        Reason::Required(text) => {
+            let (wrong, text) = (required_sentence(), text.as_str());
+            format!(in alloc; "{wrong}: {text}")
+        }
+    }
+}
+
+/// What helps against it.
+fn remedy_of(reason: &Reason, subject: Subject) -> &'static str
+    ensures { result.now ≡ remedy_of reason.now subject }
+{
+    match reason {
+        Reason::Coded(code) => remedy(*code, subject),
+        Reason::Required(_) => required_remedy(),
+    }
+}
+
+/// A refusal as JSON, by its parts.
 #[tactic(auto, unfolding(crate::specs::Json::refusal_data))]
 fn refusal_value(
     alloc: Global,
+    code: String,
     file: &str,
-    refusal: Refusal,
-    subject: Subject,
+    line: u32,
+    message: String,
+    helps: &str,
     text: &str,
 ) -> Result<Value, AllocError>
-    ensures { IfOk result (λ v. view v ≡ refusal_data file.now refusal subject text.now) }
+    ensures { IfOk result (λ v. view v ≡ refusal_data (string_bytes code) file.now line (string_bytes message) helps.now text.now) }
 {
-    let code = refusal.code.to_string(alloc)?;
-    let line = u64::from(refusal.line);
-    let message = sentence(refusal.code, subject);
-    let remedy = remedy(refusal.code, subject);
-    json!(in alloc; {"code": code, "file": file, "line": line, "message": message, "remedy": remedy, "text": text})
+    let line = u64::from(line);
+    json!(in alloc; {"code": code, "file": file, "line": line, "message": message, "remedy": helps, "text": text})
+}
+
+/// A refusal of the file of this name that is about this text, as JSON.
+fn value_of(
+    alloc: Global,
+    file: &str,
+    refusal: &Rejection,
+    text: &str,
+) -> Result<Value, AllocError>
+    ensures { IfOk result (λ v. view v ≡ data_of file.now refusal.now text.now) }
+{
+    let subject = Subject::of_line(text);
+    let code = code_of(alloc, &refusal.reason)?;
+    let message = message_of(alloc, &refusal.reason, subject)?;
+    let helps = remedy_of(&refusal.reason, subject);
+    refusal_value(alloc, code, file, refusal.line, message, helps, text)
 }
 
 /// What a program reads of a refusal of the file of this name, where `line` is the file's line of the refusal's number: one line of compact
-/// JSON, with the LF that ends it. Its keys are `code`, `file`, `line`, `message`, `remedy` and `text`, which is the line.
+/// JSON, with the LF that ends it. Its keys are `code`, `file`, `line`, `message`, `remedy` and `text`, which is the line. By R21 the message
+/// ends with the text that the line is refused with.
 ///
 /// The text is empty if the refusal is about no line, having number 0.
-pub fn json_line(alloc: Global, file: &str, refusal: Refusal, line: &str) -> Result<String, Memory>
-    ensures { IfOk result (λ text. string_bytes text ≡ json_line file.now refusal line.now) }
+pub fn json_line(
+    alloc: Global,
+    file: &str,
+    refusal: &Rejection,
+    line: &str,
+) -> Result<String, Memory>
+    ensures { IfOk result (λ text. string_bytes text ≡ json_line file.now refusal.now line.now) }
 {
-    let text = line_about(refusal, line);
-    let value = refusal_value(alloc, file, refusal, Subject::of_line(text), text)?;
+    let text = line_about(refusal.line, line);
+    let value = value_of(alloc, file, refusal, text)?;
     let written = value.to_string(alloc);
     drop(value);
     let mut written = written?;
