@@ -1,6 +1,6 @@
 -- A refusal as a program reads it (own): a line of compact JSON, the keys in the order of their bytes.
 use Rattle.std.specs.Prelude.{◌++◌, ◌==◌, ℕ, List, [], codes, if◌then◌else◌}
-use Rattle.serde_json.specs.Data.{Data, number, unsigned, string, object, no_members, member}
+use Rattle.serde_json.specs.Data.{Data, number as numeral, unsigned, string, object, no_members, member}
 use Rattle.serde_json.specs.Written.{compact_text}
 use Rattle.plain.specs.Codes.{code_text}
 use Rattle.expand.specs.declared.reason.Reason.{Reason}
@@ -33,7 +33,7 @@ remedy_of (Required text) subject = required_remedy
 unfoldable pub refusal_data : List ℕ → List ℕ → ℕ → List ℕ → List ℕ → List ℕ → Data
 refusal_data code file line message helps text = object (member (codes "code") (string code)
     (member (codes "file") (string file)
-    (member (codes "line") (number (unsigned line))
+    (member (codes "line") (numeral (unsigned line))
     (member (codes "message") (string message)
     (member (codes "remedy") (string helps)
     (member (codes "text") (string text) no_members))))))
