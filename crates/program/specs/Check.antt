@@ -1,20 +1,27 @@
 -- What is written of the faults of a bundle, and how that ends (own).
-use Rattle.std.specs.Prelude.{◌≡◌, ℕ, true, false, List, Result}
+use Rattle.std.specs.Prelude.{◌≡◌, ℕ, Bool, true, false, List, Result}
 use Rattle.checks.specs.Checked.{IsCheckOf}
 use Rattle.checks.specs.declared.checked.Checked.{Checked}
+use Rattle.checks.specs.declared.form.Form.{Form}
+use Rattle.checks.specs.declared.form.Form.TheVariants.{Plain, Json}
 use Rattle.build.specs.declared.status.Status.{Status}
 use Rattle.build.specs.declared.status.Status.TheVariants.{Built, Failed, Refused}
 use Rattle.build.specs.declared.status.BuildFault.{BuildFault}
 use Rattle.build.specs.Ends.{Devices}
 use Rattle.program.specs.Telling.{TellingEnds, never}
 
--- What is written of a bundle of these bytes: all its faults as a person reads them, which is nothing if there is none. What a build refuses is such
--- a fault, so no bundle is refused.
-abbrev pub TellsFaults : List ℕ → Status → List ℕ → Type 0
-TellsFaults bytes Built text = (checked : Checked) × IsCheckOf bytes checked × (checked.is_sound ≡ true) × (text ≡ checked.text)
-TellsFaults bytes Failed text = (checked : Checked) × IsCheckOf bytes checked × (checked.is_sound ≡ false) × (text ≡ checked.text)
-TellsFaults bytes Refused text = ⊥
+-- the form of faults by the flag `--json`: a line of JSON for each, or as a person reads them
+abbrev pub form_by : Bool → Form
+form_by true = Json
+form_by false = Plain
+
+-- What is written of a bundle of these bytes: all its faults in a form, which is nothing if there is none. What a build refuses is such a fault, so
+-- no bundle is refused.
+abbrev pub TellsFaults : Form → List ℕ → Status → List ℕ → Type 0
+TellsFaults form bytes Built text = (checked : Checked) × IsCheckOf bytes form checked × (checked.is_sound ≡ true) × (text ≡ checked.text)
+TellsFaults form bytes Failed text = (checked : Checked) × IsCheckOf bytes form checked × (checked.is_sound ≡ false) × (text ≡ checked.text)
+TellsFaults form bytes Refused text = ⊥
 
 -- how writing it ends; it never stops
-abbrev pub CheckEnds : Devices → Devices → Result Status BuildFault → Type 0
-CheckEnds old new ended = TellingEnds TellsFaults never old new ended
+abbrev pub CheckEnds : Form → Devices → Devices → Result Status BuildFault → Type 0
+CheckEnds form old new ended = TellingEnds (TellsFaults form) never old new ended

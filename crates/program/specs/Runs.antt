@@ -26,7 +26,7 @@ use Rattle.packing.specs.declared.fault.PackFault.TheVariants.{Device as PackDev
 use Rattle.packing.specs.declared.packing.Status.{Status as PackStatus}
 use Rattle.packing.specs.declared.packing.Status.TheVariants.{Built as Packed, Refused as Unpacked}
 use Rattle.program.specs.declared.arguments.NotText.{NotText}
-use Rattle.program.specs.Check.{CheckEnds}
+use Rattle.program.specs.Check.{CheckEnds, form_by}
 use Rattle.program.specs.Config.{ConfigEnds}
 use Rattle.program.specs.Dot.{DrawingEnds}
 use Rattle.program.specs.Llb.{LlbEnds}
@@ -188,7 +188,7 @@ Does out (Pack options) old new status = OnWriters (Packs options) old new statu
 Does out (Why options) old new status = CallsBy options.file (WhyEnds options.paths) old new status
 Does out (Llb options) old new status = CallsBy options.file (LlbEnds options) old new status
 Does out (Config file) old new status = CallsBy file ConfigEnds old new status
-Does out (Check file) old new status = CallsBy file CheckEnds old new status
+Does out (Check options) old new status = CallsBy options.file (CheckEnds (form_by options.json)) old new status
 
 -- a mistake in the words
 abbrev pub Mistakes : Stream → Stream → Stream → Stream → ℕ → Type 0

@@ -7,7 +7,7 @@ ghost use Rattle.build.specs.Ends.{Ends, devices};
 ghost use Rattle.build.specs.Faults.{exit_status};
 ghost use Rattle.build.specs.Messages.{fault_text};
 ghost use Rattle.build.specs.declared.status.BuildFault.TheVariants.{Device};
-ghost use Rattle.program.specs.Check.{CheckEnds};
+ghost use Rattle.program.specs.Check.{CheckEnds, form_by};
 ghost use Rattle.program.specs.Config.{ConfigEnds};
 ghost use Rattle.program.specs.Dot.{DrawingEnds};
 ghost use Rattle.program.specs.Llb.{LlbEnds};
@@ -23,7 +23,8 @@ use crate::picturing::run_dot;
 use crate::saying::{NO_MEMORY_LINE, say};
 use crate::why::run_why;
 use build::{BuildFault, Status, run_build, run_graph, status_code};
-use command::{BuildOptions, GraphOptions, LlbOptions, WhyOptions};
+use checks::Form;
+use command::{BuildOptions, CheckOptions, GraphOptions, LlbOptions, WhyOptions};
 use counted::{CountedRead, CountedWrite};
 use executor::Executor;
 use plain::Text;
@@ -192,7 +193,7 @@ pub(crate) fn check_bundle<F: Files, R: CountedRead, W: CountedWrite, S: Counted
     alloc: Global,
     rt: &(impl Threads + Wait + Sync),
     files: &F,
-    file: &Option<Text>,
+    options: &CheckOptions,
     input: &mut R,
     output: &mut W,
     errors: &mut S,
@@ -200,19 +201,27 @@ pub(crate) fn check_bundle<F: Files, R: CountedRead, W: CountedWrite, S: Counted
     requires reads { R.failures input.old < u64.MAX }
     requires writes { W.failures output.old < u64.MAX }
     requires says { S.failures errors.old < u64.MAX }
-    ensures calls { CallsBy file.now CheckEnds
+    ensures calls { CallsBy options.now.file (CheckEnds (form_by options.now.json))
         (streams (devices (R.remaining input.old) (R.failures input.old) (W.contents output.old) (W.failures output.old)) (stream (S.contents errors.old) (S.failures errors.old)))
         (streams (devices (R.remaining input.new) (R.failures input.new) (W.contents output.new) (W.failures output.new)) (stream (S.contents errors.new) (S.failures errors.new)))
         result }
     ensures taken { LosesBeginning (most_bundle_bytes + 1) (R.remaining input.old) (R.remaining input.new) }
 {
-    match file {
-        Some(name) => check_file(alloc, rt, files, name.as_str(), output, errors),
+    let form = form_by(options.json);
+    match &options.file {
+        Some(name) => check_file(alloc, rt, files, name.as_str(), form, output, errors),
         None => {
-            let ended = run_check(alloc, rt, input, output);
+            let ended = run_check(alloc, rt, form, input, output);
             finish(errors, ended)
         }
     }
+}
+
+/// The form of faults by the flag `--json`.
+fn form_by(json: bool) -> Form
+    ensures { result ≡ form_by json }
+{
+    if json { Form::Json } else { Form::Plain }
 }
 
 /// Builds the bundle of a file.
@@ -383,18 +392,19 @@ fn check_file<F: Files, W: CountedWrite, S: CountedWrite>(
     rt: &(impl Threads + Wait + Sync),
     files: &F,
     name: &str,
+    form: Form,
     output: &mut W,
     errors: &mut S,
 ) -> u8
     requires writes { W.failures output.old < u64.MAX }
     requires says { S.failures errors.old < u64.MAX }
-    ensures { CallsFile name.now CheckEnds
+    ensures { CallsFile name.now (CheckEnds form)
         (stream (W.contents output.old) (W.failures output.old)) (stream (W.contents output.new) (W.failures output.new))
         (stream (S.contents errors.old) (S.failures errors.old)) (stream (S.contents errors.new) (S.failures errors.new)) result }
 {
     match open_bundle(files, name) {
         Ok(mut file) => {
-            let ended = run_check(alloc, rt, &mut file, output);
+            let ended = run_check(alloc, rt, form, &mut file, output);
             finish_file(alloc, errors, ended, name, file.why)
         }
         Err(error) => {

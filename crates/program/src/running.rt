@@ -116,9 +116,9 @@ pub fn run_program<
             drop(file);
             status
         }
-        Ok(Task::Check(file)) => {
-            let status = check_bundle(alloc, rt, files, &file, input, output, errors);
-            drop(file);
+        Ok(Task::Check(options)) => {
+            let status = check_bundle(alloc, rt, files, &options, input, output, errors);
+            drop(options);
             status
         }
         Err(error) => refuse_words(alloc, output, errors, &error),
