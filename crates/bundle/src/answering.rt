@@ -3,11 +3,12 @@ ghost use Rattle.counted.specs.Gathering.{sink, Says, HasRoom};
 ghost use Rattle.serde_json.specs.Data.{Data};
 ghost use Rattle.serde_json.specs.Written.{compact_text};
 ghost use Rattle.serde_json.specs.View.{view};
-ghost use Rattle.bundle.specs.Answer.{failed_data, refused_data, built_text, failed_text, refused_text};
+ghost use Rattle.bundle.specs.Answer.{failed_data, coded_data, required_data, refused_data, built_text, failed_text, refused_text};
 
 use counted::{CountedWrite, Gathered, gather};
 use entries::put_tree;
-use plain::{Memory, Refusal, Text};
+use expand::{Reason, Rejection};
+use plain::{Code, Memory, Text};
 use serde_json::{Value, json};
 use std::alloc::Global;
 use trees::{Cause, Walk};
@@ -43,8 +44,8 @@ pub fn failed_answer(alloc: Global, line: u32, cause: Cause) -> Result<Text, Mem
     Ok(Text::from_string(text))
 }
 
-/// The answer for an input that is refused.
-pub fn refused_answer(alloc: Global, refusal: Refusal) -> Result<Text, Memory>
+/// The answer for an input that is refused; by R21 with the text that the line is refused with.
+pub fn refused_answer(alloc: Global, refusal: Rejection) -> Result<Text, Memory>
     ensures { IfOk result (λ text. text ≡ refused_text refusal) }
 {
     let answer = refused_value(alloc, refusal)?;
@@ -63,11 +64,32 @@ fn failed_value(alloc: Global, line: u32, cause: Cause) -> Result<Value, Memory>
 }
 
 /// The answer for an input that is refused, as JSON.
-#[tactic(auto, unfolding(crate::specs::Answer::refused_data))]
-fn refused_value(alloc: Global, refusal: Refusal) -> Result<Value, Memory>
+fn refused_value(alloc: Global, refusal: Rejection) -> Result<Value, Memory>
     ensures { IfOk result (λ v. view v ≡ refused_data refusal) }
 {
-    let line = u64::from(refusal.line);
-    let name = refusal.code.to_string(alloc)?;
+    let Rejection { reason, line } = refusal;
+    match reason {
+        Reason::Coded(code) => coded_value(alloc, code, line),
+        Reason::Required(text) => required_value(alloc, text, line),
+    }
+}
+
+/// The answer for an input that is refused by a code alone, as JSON.
+#[tactic(auto, unfolding(crate::specs::Answer::coded_data))]
+fn coded_value(alloc: Global, code: Code, line: u32) -> Result<Value, Memory>
+    ensures { IfOk result (λ v. view v ≡ coded_data code line) }
+{
+    let line = u64::from(line);
+    let name = code.to_string(alloc)?;
     Ok(json!(in alloc; {"code": name, "line": line, "result": "refused"})?)
+}
+
+/// The answer for an input with a variable that is required, as JSON.
+#[tactic(auto, unfolding(crate::specs::Answer::required_data))]
+fn required_value(alloc: Global, text: Text, line: u32) -> Result<Value, Memory>
+    ensures { IfOk result (λ v. view v ≡ required_data text line) }
+{
+    let line = u64::from(line);
+    let text = text.into_string(alloc)?;
+    Ok(json!(in alloc; {"code": "R21", "line": line, "result": "refused", "text": text})?)
 }

@@ -1,16 +1,18 @@
 -- What each phase of checking a bundle tells are the bundle's faults.
-use Rattle.std.proofs.Common.{◌≡◌, ◌≢◌, ◌==◌, ◌∙◌, inl, inr, ℕ, Bool, true, false, List, [], ◌∷◌, length, Option, Result, Ok, Err, refl, sym, ap, subst, IfOk, true≢false}
+use Rattle.std.proofs.Common.{◌≡◌, ◌≢◌, ◌==◌, ◌∙◌, inl, inr, ℕ, Bool, true, false, List, [], ◌∷◌, map, length, Option, Result, Ok, Err, refl, sym, ap, subst, IfOk, true≢false}
 use Rattle.std.proofs.Math.Dec.{eqb-suc-zero}
 use Rattle.std.specs.FinMap.{get}
 use Rattle.plain.specs.declared.fault.Fault.{Fault}
 use Rattle.plain.specs.declared.fault.Fault.TheVariants.{Because}
 use Rattle.plain.specs.declared.memory.Memory.{Memory}
 use Rattle.plain.specs.declared.refusal.Refusal.{Refusal}
+use Rattle.expand.specs.Reasons.{rejection_of}
+use Rattle.expand.specs.declared.reason.Rejection.{Rejection}
 use Rattle.trees.specs.TreeMap.{TreeMap}
 use Rattle.plans.specs.Images.{ImagesValue}
 use Rattle.instructions.specs.declared.instruction.Instruction.{Instruction}
 use Rattle.dockerfile.specs.Dockerfile.{AreInstructions}
-use Rattle.dockerfile.specs.Faults.{IsChecked}
+use Rattle.dockerfile.specs.Faults.{AreFaults, IsChecked}
 use Rattle.scopes.specs.Evaluate.{Values}
 use Rattle.stages.specs.Naming.{Known, names_in}
 use Rattle.stages.specs.Resolved.{resolved, Returns as Resolves}
@@ -26,18 +28,18 @@ use Rattle.checks.specs.declared.checking.Findings.{Findings}
 use Rattle.checks.specs.Checks.{refusals_in, AreTableFaults, AreStageFaults, AreFileFaults, AreFaultsOf}
 
 -- the faults of a bundle's Dockerfile, of its stages, and of those that are in a table
-abbrev pub OfFile : Bundle Config → List Refusal → Type 0
+abbrev pub OfFile : Bundle Config → List Rejection → Type 0
 OfFile bundle faults = AreFileFaults bundle.images (get bundle.args) bundle.target bundle.dockerfile faults
 
-abbrev pub OfStages : Bundle Config → List Instruction → List Refusal → Type 0
+abbrev pub OfStages : Bundle Config → List Instruction → List Rejection → Type 0
 OfStages bundle is faults = AreStageFaults bundle.images (get bundle.args) bundle.target is faults
 
-abbrev pub OfTable : Bundle Config → TableValue → List Refusal → Type 0
+abbrev pub OfTable : Bundle Config → TableValue → List Rejection → Type 0
 OfTable bundle table faults = AreTableFaults bundle.images (get bundle.args) table faults
 
 -- the bytes are refused before their Dockerfile is read
 pub bundle_refused : (bytes : List ℕ) (refusal : Refusal) (result : Result Findings Memory) → ReadsBundle config_in bytes (Err (Because refusal))
-    → IfOk result (λ found. found.faults ≡ refusal ∷ []) → IfOk result (λ found. AreFaultsOf bytes found.faults)
+    → IfOk result (λ found. found.faults ≡ rejection_of refusal ∷ []) → IfOk result (λ found. AreFaultsOf bytes found.faults)
 bundle_refused bytes refusal (Ok found) told is = inl (refusal, told, is)
 bundle_refused bytes refusal (Err memory) told is = tt
 
@@ -48,39 +50,52 @@ bundle_checked bytes bundle (Ok found) read are = inr (bundle, read, are)
 bundle_checked bytes bundle (Err memory) read are = tt
 
 -- the Dockerfile's text has faults
-pub text_faulty : (bundle : Bundle Config) (text : List ℕ) (fault : Fault (List Refusal)) (faults : List Refusal) → text ≡ bundle.dockerfile
-    → fault ≡ Because faults → IsChecked text (Err fault) → OfFile bundle faults
-text_faulty bundle text fault faults same e told =
-    inl (subst (λ t. IsChecked t (Err (Because faults))) same (subst (λ f. IsChecked text (Err f)) e told))
+text_checked : (text : List ℕ) (fault : Fault (List Refusal)) (refusals : List Refusal) → fault ≡ Because refusals → IsChecked text (Err fault) → IsChecked text (Err (Because refusals))
+text_checked text fault refusals e told = subst (λ f. IsChecked text (Err f)) e told
+
+some_listed : (refusals : List Refusal) (faults : List Rejection) → faults ≡ map rejection_of refusals → refusals ≢ [] → faults ≢ []
+some_listed [] faults is some none = some refl
+some_listed (refusal ∷ more) faults is some none = let bad : [] ≡ rejection_of refusal ∷ map rejection_of more = sym none ∙ is in absurd (cc)
+
+text_listed : (bundle : Bundle Config) (text : List ℕ) (refusals : List Refusal) (faults : List Rejection) → text ≡ bundle.dockerfile
+    → IsChecked text (Err (Because refusals)) → faults ≡ map rejection_of refusals → OfFile bundle faults
+text_listed bundle text refusals faults same told is =
+    inl (refusals, subst (λ t. AreFaults t refusals) same told.0, is, some_listed refusals faults is told.1)
+
+pub text_faulty : (bundle : Bundle Config) (text : List ℕ) (fault : Fault (List Refusal)) (refusals : List Refusal) (result : Result (List Rejection) Memory)
+    → text ≡ bundle.dockerfile → fault ≡ Because refusals → IsChecked text (Err fault) → IfOk result (λ faults. faults ≡ map rejection_of refusals)
+    → IfOk result (λ faults. OfFile bundle faults)
+text_faulty bundle text fault refusals (Ok faults) same e told is = text_listed bundle text refusals faults same (text_checked text fault refusals e told) is
+text_faulty bundle text fault refusals (Err memory) same e told is = tt
 
 -- it has none
-pub text_sound : (bundle : Bundle Config) (text : List ℕ) (is : List Instruction) (result : Result (List Refusal) Memory) → text ≡ bundle.dockerfile
+pub text_sound : (bundle : Bundle Config) (text : List ℕ) (is : List Instruction) (result : Result (List Rejection) Memory) → text ≡ bundle.dockerfile
     → IsChecked text (Ok is) → IfOk result (λ faults. OfStages bundle is faults) → IfOk result (λ faults. OfFile bundle faults)
 text_sound bundle text is (Ok faults) same spelled are = inr (is, subst (λ t. AreInstructions t is) same spelled, are)
 text_sound bundle text is (Err memory) same spelled are = tt
 
 -- names are refused
-empty_short : (faults : List Refusal) (b : Bool) → b ≡ (length faults == 0) → b ≡ false → faults ≢ []
+empty_short : (faults : List Rejection) (b : Bool) → b ≡ (length faults == 0) → b ≡ false → faults ≢ []
 empty_short [] true e f is = cc
 empty_short [] false e f is = cc
 empty_short (fault ∷ more) b e f is = cc
 
-pub names_refused : (bundle : Bundle Config) (is : List Instruction) (faults : List Refusal) (is_empty : Bool)
+pub names_refused : (bundle : Bundle Config) (is : List Instruction) (faults : List Rejection) (is_empty : Bool)
     → faults ≡ stage_refusals (names_in bundle.images) (get bundle.args) bundle.target is → is_empty ≡ (length faults == 0) → is_empty ≡ false
     → OfStages bundle is faults
 names_refused bundle is faults is_empty told e some = inl (told, empty_short faults is_empty e some)
 
 -- none is
-none_there : (faults : List Refusal) (b : Bool) → b ≡ (length faults == 0) → b ≡ true → faults ≡ []
+none_there : (faults : List Rejection) (b : Bool) → b ≡ (length faults == 0) → b ≡ true → faults ≡ []
 none_there [] b e f = refl
 none_there (fault ∷ more) true e f = absurd (true≢false (e ∙ eqb-suc-zero (length more)))
 none_there (fault ∷ more) false e f = cc
 
-pub names_sound : (faults told : List Refusal) (is_empty : Bool) → faults ≡ told → is_empty ≡ (length faults == 0) → is_empty ≡ true → told ≡ []
+pub names_sound : (faults told : List Rejection) (is_empty : Bool) → faults ≡ told → is_empty ≡ (length faults == 0) → is_empty ≡ true → told ≡ []
 names_sound faults told is_empty same e none = sym same ∙ none_there faults is_empty e none
 
 -- so they lead to a table
-pub names_lead : (bundle : Bundle Config) (there : Option (List ℕ)) (is : List Instruction) (table : TableValue) (result : Result (List Refusal) Memory)
+pub names_lead : (bundle : Bundle Config) (there : Option (List ℕ)) (is : List Instruction) (table : TableValue) (result : Result (List Rejection) Memory)
     → there ≡ bundle.target → Resolves (resolved (names_in bundle.images) (get bundle.args) there is) (Ok table)
     → IfOk result (λ faults. OfTable bundle table faults) → IfOk result (λ faults. OfStages bundle is faults)
 names_lead bundle there is table (Ok faults) same led are =
@@ -88,14 +103,14 @@ names_lead bundle there is table (Ok faults) same led are =
 names_lead bundle there is table (Err memory) same led are = tt
 
 -- and aren't refused
-ok_or_err : (made : Result TableValue Refusal) (table : TableValue) (refusal : Refusal) → made ≡ Ok table → made ≡ Err refusal → ⊥
+ok_or_err : (made : Result TableValue Rejection) (table : TableValue) (refusal : Rejection) → made ≡ Ok table → made ≡ Err refusal → ⊥
 ok_or_err made table refusal led told = cc
 
 abbrev pub Leads : Type 0
 Leads = (known : Known) (args : Values) (target : Option (List ℕ)) (is : List Instruction)
     → stage_refusals known args target is ≡ [] → (table : TableValue) × (resolved known args target is ≡ Ok table)
 
-pub never_refused : Leads → (known : Known) (args : Values) (target there : Option (List ℕ)) (is : List Instruction) (fault : Fault Refusal) (refusal : Refusal)
+pub never_refused : Leads → (known : Known) (args : Values) (target there : Option (List ℕ)) (is : List Instruction) (fault : Fault Rejection) (refusal : Rejection)
     → stage_refusals known args target is ≡ [] → there ≡ target → fault ≡ Because refusal → Resolves (resolved known args there is) (Err fault) → ⊥
 never_refused leads known args target there is fault refusal none same e told =
     let led = leads known args target is none in
@@ -103,13 +118,13 @@ never_refused leads known args target there is fault refusal none same e told =
     ok_or_err (resolved known args target is) led.0 refusal led.1 (subst (λ t. resolved known args t is ≡ Err refusal) same refused)
 
 -- the needed stages are evaluated
-pub stages_sound : (images : ImagesValue Config) (args : Values) (context : TreeMap) (table : TableValue) (made : Evaluated) (faults : List Refusal)
+pub stages_sound : (images : ImagesValue Config) (args : Values) (context : TreeMap) (table : TableValue) (made : Evaluated) (faults : List Rejection)
     → EvaluatesTable args images context table (Ok made) → faults ≡ [] → AreTableFaults images args table faults
 stages_sound images args context table made faults evaluates is = (evaluates.0, evaluates.1, is ∙ sym (ap refusals_in evaluates.2.1))
 
 -- one of their lines is refused
-pub stages_refused : (images : ImagesValue Config) (args : Values) (context : TreeMap) (table : TableValue) (fault : Fault Refusal) (refusal : Refusal)
-    (result : Result (List Refusal) Memory) → fault ≡ Because refusal → EvaluatesTable args images context table (Err fault)
+pub stages_refused : (images : ImagesValue Config) (args : Values) (context : TreeMap) (table : TableValue) (fault : Fault Rejection) (refusal : Rejection)
+    (result : Result (List Rejection) Memory) → fault ≡ Because refusal → EvaluatesTable args images context table (Err fault)
     → IfOk result (λ faults. faults ≡ refusal ∷ []) → IfOk result (λ faults. AreTableFaults images args table faults)
 stages_refused images args context table fault refusal (Ok faults) e told is =
     let refused = subst (λ f. EvaluatesTable args images context table (Err f)) e told in

@@ -1,10 +1,12 @@
 -- A bundle has one list of faults.
-use Rattle.std.proofs.Common.{◌≡◌, ◌≢◌, ◌⊎◌, ◌∙◌, inl, inr, ℕ, Bool, true, false, List, [], ◌∷◌, Option, Some, None, Result, Ok, Err, refl, sym, ap, subst}
+use Rattle.std.proofs.Common.{◌≡◌, ◌≢◌, ◌⊎◌, ◌∙◌, inl, inr, ℕ, Bool, true, false, List, [], ◌∷◌, map, Option, Some, None, Result, Ok, Err, refl, sym, ap, subst}
 use Rattle.std.proofs.lemmas.List.{ext_get_or}
 use Rattle.std.specs.FinMap.{get}
 use Rattle.plain.specs.declared.fault.Fault.TheVariants.{Because}
 use Rattle.plain.specs.declared.refusal.Code.TheVariants.{R19}
 use Rattle.plain.specs.declared.refusal.Refusal.{Refusal}
+use Rattle.expand.specs.Reasons.{rejection_of}
+use Rattle.expand.specs.declared.reason.Rejection.{Rejection}
 use Rattle.trees.specs.TreeMap.{TreeMap}
 use Rattle.ignorefile.specs.File.{ignore_of}
 use Rattle.ignorefile.specs.declared.line.Line.{Line}
@@ -37,7 +39,7 @@ pub record TextLaws : Type 0 where
   pub read : (text : List ℕ) (found : List Instruction) (faults : List Refusal) → AreInstructions text found → AreFaults text faults → faults ≡ []
 
 pub record NameLaws : Type 0 where
-  pub first : (known : Known) (args : Values) (target : Option (List ℕ)) (is : List Instruction) (refusal : Refusal) (more : List Refusal)
+  pub first : (known : Known) (args : Values) (target : Option (List ℕ)) (is : List Instruction) (refusal : Rejection) (more : List Rejection)
       → stage_refusals known args target is ≡ refusal ∷ more → resolved known args target is ≡ Err refusal
   pub free : (known : Known) (args : Values) (target : Option (List ℕ)) (is : List Instruction)
       → stage_refusals known args target is ≡ [] → (table : TableValue) × (resolved known args target is ≡ Ok table)
@@ -49,7 +51,7 @@ pub record StageLaws : Type 0 where
   pub table : (known : Known) (args : Values) (target : Option (List ℕ)) (is : List Instruction) (table : TableValue) → IsDockerfile is
       → resolved known args target is ≡ Ok table → IsTable table
   pub evaluates : (args : Values) (images : ImagesValue Config) (context : TreeMap) (table : TableValue) → IsTable table
-      → ((made : Evaluated) × evaluation.EvaluatesTable args images context table (Ok made)) ⊎ ((refusal : Refusal) × evaluation.EvaluatesTable args images context table (Err (Because refusal)))
+      → ((made : Evaluated) × evaluation.EvaluatesTable args images context table (Ok made)) ⊎ ((refusal : Rejection) × evaluation.EvaluatesTable args images context table (Err (Because refusal)))
 
 -- needed stages have one list of marks
 
@@ -98,10 +100,10 @@ apart bytes bundle refusal these (inr those) =
 
 -- all that a bundle's faults go by is what the bundle's parts say, so not its filtered context
 
-abbrev AreBundlesFaults : List Refusal → Bundle Config → Type 0
+abbrev AreBundlesFaults : List Rejection → Bundle Config → Type 0
 AreBundlesFaults faults bundle = AreFileFaults bundle.images (get bundle.args) bundle.target bundle.dockerfile faults
 
-faults_within : (parts : Parts Config) (lines others : List Line) (a b : Bundle Config) (faults : List Refusal) → IsBundle parts lines a → IsBundle parts others b
+faults_within : (parts : Parts Config) (lines others : List Line) (a b : Bundle Config) (faults : List Rejection) → IsBundle parts lines a → IsBundle parts others b
     → AreBundlesFaults faults a → AreBundlesFaults faults b
 faults_within parts lines others a b faults these those are =
     subst (λ text. AreFileFaults b.images (get b.args) b.target text faults) (these.dockerfile ∙ sym those.dockerfile)
@@ -109,7 +111,7 @@ faults_within parts lines others a b faults these those are =
     (subst (λ args. AreFileFaults b.images (get args) a.target a.dockerfile faults) (these.args ∙ sym those.args)
     (subst (λ images. AreFileFaults images (get a.args) a.target a.dockerfile faults) (these.images ∙ sym those.images) are)))
 
-faults_alike : (bytes : List ℕ) (a b : Bundle Config) (faults : List Refusal) → ReadsBundle config_in bytes (Ok a) → ReadsBundle config_in bytes (Ok b)
+faults_alike : (bytes : List ℕ) (a b : Bundle Config) (faults : List Rejection) → ReadsBundle config_in bytes (Ok a) → ReadsBundle config_in bytes (Ok b)
     → AreBundlesFaults faults a → AreBundlesFaults faults b
 faults_alike bytes a b faults these those are =
     let parts : those.0 ≡ these.0 = same_some (parts_of config_in bytes) those.0 these.0 those.1.0 these.1.0 in
@@ -118,15 +120,15 @@ faults_alike bytes a b faults these those are =
 
 -- there is one list
 
-table_one : (images : ImagesValue Config) (args : Values) (table : TableValue) (a b : List Refusal) → AreTableFaults images args table a → AreTableFaults images args table b → a ≡ b
+table_one : (images : ImagesValue Config) (args : Values) (table : TableValue) (a b : List Rejection) → AreTableFaults images args table a → AreTableFaults images args table b → a ≡ b
 table_one images args table a b these those =
     let same = same_marks table.stages table.target these.0 those.0 these.1 those.1 in
     these.2 ∙ (ap (λ marks. refusals_in (evaluated args images marks table)) same ∙ sym those.2)
 
-same_table : (made : Result TableValue Refusal) (a b : TableValue) → made ≡ Ok a → made ≡ Ok b → a ≡ b
+same_table : (made : Result TableValue Rejection) (a b : TableValue) → made ≡ Ok a → made ≡ Ok b → a ≡ b
 same_table made a b p q = cc
 
-stage_one : NameLaws → (images : ImagesValue Config) (args : Values) (target : Option (List ℕ)) (is : List Instruction) (a b : List Refusal)
+stage_one : NameLaws → (images : ImagesValue Config) (args : Values) (target : Option (List ℕ)) (is : List Instruction) (a b : List Rejection)
     → AreStageFaults images args target is a → AreStageFaults images args target is b → a ≡ b
 stage_one names images args target is a b (inl these) (inl those) = these.0 ∙ sym those.0
 stage_one names images args target is a b (inl these) (inr those) = absurd (these.1 (these.0 ∙ names.resolved (names_in images) args target is those.0 those.1))
@@ -140,18 +142,21 @@ pub record OneText : Type 0 where
   pub faults : (text : List ℕ) (faults others : List Refusal) → AreFaults text faults → AreFaults text others → faults ≡ others
   pub instructions : (text : List ℕ) (found others : List Instruction) → AreInstructions text found → AreInstructions text others → found ≡ others
 
-file_one : TextLaws → OneText → NameLaws → (images : ImagesValue Config) (args : Values) (target : Option (List ℕ)) (text : List ℕ) (a b : List Refusal)
+file_one : TextLaws → OneText → NameLaws → (images : ImagesValue Config) (args : Values) (target : Option (List ℕ)) (text : List ℕ) (a b : List Rejection)
     → AreFileFaults images args target text a → AreFileFaults images args target text b → a ≡ b
-file_one texts unique names images args target text a b (inl these) (inl those) = unique.faults text a b these.0 those.0
-file_one texts unique names images args target text a b (inl these) (inr those) = absurd (these.1 (texts.read text those.0 a those.1 these.0))
-file_one texts unique names images args target text a b (inr these) (inl those) = absurd (those.1 (texts.read text these.0 b these.1 those.0))
+file_one texts unique names images args target text a b (inl these) (inl those) =
+    these.2.0 ∙ (ap (map rejection_of) (unique.faults text these.0 those.0 these.1 those.1) ∙ sym those.2.0)
+file_one texts unique names images args target text a b (inl these) (inr those) =
+    absurd (these.2.1 (these.2.0 ∙ ap (map rejection_of) (texts.read text those.0 these.0 those.1 these.1)))
+file_one texts unique names images args target text a b (inr these) (inl those) =
+    absurd (those.2.1 (those.2.0 ∙ ap (map rejection_of) (texts.read text these.0 those.0 these.1 those.1)))
 file_one texts unique names images args target text a b (inr these) (inr those) =
     let same = unique.instructions text those.0 these.0 those.1 these.1 in
     stage_one names images args target these.0 a b these.2 (subst (λ (is : List Instruction). AreStageFaults images args target is b) same those.2)
 
-pub one_list : TextLaws → OneText → NameLaws → (bytes : List ℕ) (a b : List Refusal) → AreFaultsOf bytes a → AreFaultsOf bytes b → a ≡ b
+pub one_list : TextLaws → OneText → NameLaws → (bytes : List ℕ) (a b : List Rejection) → AreFaultsOf bytes a → AreFaultsOf bytes b → a ≡ b
 one_list texts unique names bytes a b (inl these) (inl those) =
-    these.2 ∙ (ap (λ r. r ∷ []) (refusals bytes these.0 those.0 these.1 those.1) ∙ sym those.2)
+    these.2 ∙ (ap (λ r. rejection_of r ∷ []) (refusals bytes these.0 those.0 these.1 those.1) ∙ sym those.2)
 one_list texts unique names bytes a b (inl these) (inr those) = absurd (apart bytes those.0 these.0 those.1 these.1)
 one_list texts unique names bytes a b (inr these) (inl those) = absurd (apart bytes these.0 those.0 these.1 those.1)
 one_list texts unique names bytes a b (inr these) (inr those) =
@@ -160,19 +165,19 @@ one_list texts unique names bytes a b (inr these) (inr those) =
 
 -- and there is a list
 
-some_more : (refusal : Refusal) (more : List Refusal) → refusal ∷ more ≢ []
+some_more : (refusal : Rejection) (more : List Rejection) → refusal ∷ more ≢ []
 some_more refusal more e = cc
 
 table_some : StageLaws → (images : ImagesValue Config) (args : Values) (context : TreeMap) (table : TableValue) → IsTable table
-    → (faults : List Refusal) × AreTableFaults images args table faults
+    → (faults : List Rejection) × AreTableFaults images args table faults
 table_some stages images args context table whole = elim (stages.evaluates args images context table whole) [
   | inl (made, (needed, marked, went)) ↦ (refusals_in (evaluated args images needed table), (needed, marked, refl))
   | inr (refusal, (needed, marked, told)) ↦ (refusals_in (evaluated args images needed table), (needed, marked, refl))
 ]
 
 stage_some : NameLaws → StageLaws → (images : ImagesValue Config) (args : Values) (context : TreeMap) (target : Option (List ℕ)) (is : List Instruction) → IsDockerfile is
-    → (named : List Refusal) → stage_refusals (names_in images) args target is ≡ named
-    → (faults : List Refusal) × AreStageFaults images args target is faults
+    → (named : List Rejection) → stage_refusals (names_in images) args target is ≡ named
+    → (faults : List Rejection) × AreStageFaults images args target is faults
 stage_some names stages images args context target is file [] e =
     let led = names.free (names_in images) args target is e in
     let found = table_some stages images args context led.0 (stages.table (names_in images) args target is led.0 file led.1) in
@@ -180,22 +185,23 @@ stage_some names stages images args context target is file [] e =
 stage_some names stages images args context target is file (refusal ∷ more) e = (refusal ∷ more, inl (sym e, some_more refusal more))
 
 file_some : TextLaws → NameLaws → StageLaws → (images : ImagesValue Config) (args : Values) (context : TreeMap) (target : Option (List ℕ)) (text : List ℕ)
-    → (spelled : List Refusal) → AreFaults text spelled → (faults : List Refusal) × AreFileFaults images args target text faults
+    → (spelled : List Refusal) → AreFaults text spelled → (faults : List Rejection) × AreFileFaults images args target text faults
 file_some texts names stages images args context target text [] are =
     let read = texts.free text are in
     let found = stage_some names stages images args context target read.0 (stages.file text read.0 read.1) (stage_refusals (names_in images) args target read.0) refl in
     (found.0, inr (read.0, read.1, found.1))
-file_some texts names stages images args context target text (refusal ∷ more) are = (refusal ∷ more, inl (are, some_more refusal more))
+file_some texts names stages images args context target text (refusal ∷ more) are =
+    let faults = map rejection_of (refusal ∷ more) in (faults, inl (refusal ∷ more, are, refl, some_more (rejection_of refusal) (map rejection_of more)))
 
 abbrev pub AreRead : Type 0
 AreRead = (bytes : List ℕ) → ((bundle : Bundle Config) × ReadsBundle config_in bytes (Ok bundle)) ⊎ ((refusal : Refusal) × ReadsBundle config_in bytes (Err (Because refusal)))
 
 pub some_list : AreRead → ((text : List ℕ) → (faults : List Refusal) × AreFaults text faults) → TextLaws → NameLaws → StageLaws
-    → (bytes : List ℕ) → (faults : List Refusal) × AreFaultsOf bytes faults
+    → (bytes : List ℕ) → (faults : List Rejection) × AreFaultsOf bytes faults
 some_list read checked texts names stages bytes = elim (read bytes) [
   | inl (bundle, is) ↦
       let spelled = checked bundle.dockerfile in
       let found = file_some texts names stages bundle.images (get bundle.args) bundle.context bundle.target bundle.dockerfile spelled.0 spelled.1 in
       (found.0, inr (bundle, is, found.1))
-  | inr (refusal, is) ↦ (refusal ∷ [], inl (refusal, is, refl))
+  | inr (refusal, is) ↦ (rejection_of refusal ∷ [], inl (refusal, is, refl))
 ]

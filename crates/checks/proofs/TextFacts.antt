@@ -4,6 +4,7 @@ use Rattle.std.specs.Prelude.{unwrap_or}
 use Rattle.plain.specs.declared.fault.Fault.TheVariants.{Because}
 use Rattle.plain.specs.declared.memory.Memory.{Memory}
 use Rattle.plain.specs.declared.refusal.Refusal.{Refusal}
+use Rattle.expand.specs.declared.reason.Rejection.{Rejection}
 use Rattle.ignorefile.specs.File.{ignore_of}
 use Rattle.imageconfig.specs.Reading.{config_in}
 use Rattle.imageconfig.specs.declared.config.Config.{Config}
@@ -58,10 +59,10 @@ checked bytes found made are text shown sound = record {
 
 -- a check gives one thing
 abbrev pub HaveFaults : Type 0
-HaveFaults = (bytes : List ℕ) → (faults : List Refusal) × AreFaultsOf bytes faults
+HaveFaults = (bytes : List ℕ) → (faults : List Rejection) × AreFaultsOf bytes faults
 
 abbrev pub HaveOneList : Type 0
-HaveOneList = (bytes : List ℕ) (faults others : List Refusal) → AreFaultsOf bytes faults → AreFaultsOf bytes others → faults ≡ others
+HaveOneList = (bytes : List ℕ) (faults others : List Rejection) → AreFaultsOf bytes faults → AreFaultsOf bytes others → faults ≡ others
 
 pub some_check : HaveFaults → (bytes : List ℕ) → (made : Checked) × IsCheckOf bytes made
 some_check some bytes =
@@ -78,4 +79,4 @@ one_check unique bytes one other these those =
     let same = unique bytes these.faults those.faults these.are those.are in
     same_checked one other
     (these.text ∙ ap (shown_faults (readable_lines (faulty_text bytes))) same ∙ sym those.text)
-    (these.is_sound ∙ ap (λ (faults : List Refusal). length faults == 0) same ∙ sym those.is_sound)
+    (these.is_sound ∙ ap (λ (faults : List Rejection). length faults == 0) same ∙ sym those.is_sound)

@@ -1,6 +1,6 @@
 -- What checking a bundle gives: what a person reads of all its faults (own).
 use Rattle.std.specs.Prelude.{◌≡◌, ◌==◌, ℕ, List, [], Option, Some, None, Result, Ok, Err, length}
-use Rattle.plain.specs.declared.refusal.Refusal.{Refusal}
+use Rattle.expand.specs.declared.reason.Rejection.{Rejection}
 use Rattle.ignorefile.specs.File.{ignore_of}
 use Rattle.ignorefile.specs.declared.line.Line.{Line}
 use Rattle.imageconfig.specs.Reading.{config_in}
@@ -28,7 +28,7 @@ faulty_text bytes = faulty_text_in (parts_of config_in bytes)
 
 -- what checking bytes gives: all their faults as a person reads them, with the lines that they are about, and whether there is none
 pub record IsCheckOf (bytes : List ℕ) (checked : Checked) : Type 0 where
-  pub faults : List Refusal
+  pub faults : List Rejection
   pub are : AreFaultsOf bytes faults
   pub text : checked.text ≡ shown_faults (readable_lines (faulty_text bytes)) faults
   pub is_sound : checked.is_sound ≡ (length faults == 0)

@@ -1,8 +1,10 @@
 -- All faults of a bundle: where a build answers one refusal, the least, these are all of the first phase of reading that has one (own).
-use Rattle.std.specs.Prelude.{◌≡◌, ◌≢◌, ◌⊎◌, ℕ, List, [], ◌∷◌, Bool, Option, Result, Ok, Err}
+use Rattle.std.specs.Prelude.{◌≡◌, ◌≢◌, ◌⊎◌, ℕ, List, [], ◌∷◌, map, Bool, Option, Result, Ok, Err}
 use Rattle.std.specs.FinMap.{get}
 use Rattle.plain.specs.declared.fault.Fault.TheVariants.{Because}
 use Rattle.plain.specs.declared.refusal.Refusal.{Refusal}
+use Rattle.expand.specs.Reasons.{rejection_of}
+use Rattle.expand.specs.declared.reason.Rejection.{Rejection}
 use Rattle.plans.specs.Images.{ImagesValue}
 use Rattle.instructions.specs.declared.instruction.Instruction.{Instruction}
 use Rattle.dockerfile.specs.Dockerfile.{AreInstructions}
@@ -21,32 +23,32 @@ use Rattle.bundle.specs.Reading.{ReadsBundle}
 use Rattle.bundle.specs.declared.whole.Bundle.{Bundle}
 
 -- the refusal that an evaluation ends with, if it does
-abbrev pub refusals_in : Result Walk Refusal → List Refusal
+abbrev pub refusals_in : Result Walk Rejection → List Rejection
 refusals_in (Ok walk) = []
 refusals_in (Err refusal) = refusal ∷ []
 
--- the faults of stages that are in a table: the refusal of the first line of a needed stage for which a code is due, and none where no code is
-abbrev pub AreTableFaults : ImagesValue Config → Values → TableValue → List Refusal → Type 0
+-- the faults of stages that are in a table: the refusal of the first line of a needed stage that is refused, if one is
+abbrev pub AreTableFaults : ImagesValue Config → Values → TableValue → List Rejection → Type 0
 AreTableFaults images args table faults =
     (needed : List Bool) × AreNeeded table.stages table.target needed × (faults ≡ refusals_in (evaluated args images needed table))
 
 -- the faults of a file's stages: all that the names of the file are refused for; where there is nothing, those of the needed stages
-abbrev pub AreStageFaults : ImagesValue Config → Values → Option (List ℕ) → List Instruction → List Refusal → Type 0
+abbrev pub AreStageFaults : ImagesValue Config → Values → Option (List ℕ) → List Instruction → List Rejection → Type 0
 AreStageFaults images args target is faults =
     ((faults ≡ stage_refusals (names_in images) args target is) × (faults ≢ []))
     ⊎ ((table : TableValue) × (resolved (names_in images) args target is ≡ Ok table) × AreTableFaults images args table faults)
 
 -- the faults of a Dockerfile with these images, build arguments and target: those of its text; where it has none, those of its stages
-abbrev pub AreFileFaults : ImagesValue Config → Values → Option (List ℕ) → List ℕ → List Refusal → Type 0
+abbrev pub AreFileFaults : ImagesValue Config → Values → Option (List ℕ) → List ℕ → List Rejection → Type 0
 AreFileFaults images args target text faults =
-    (AreFaults text faults × (faults ≢ []))
+    ((refusals : List Refusal) × AreFaults text refusals × (faults ≡ map rejection_of refusals) × (faults ≢ []))
     ⊎ ((is : List Instruction) × AreInstructions text is × AreStageFaults images args target is faults)
 
 -- The faults of the bytes of a bundle, in the order of their lines: the one that they are refused for as a bundle, or for their ignore file; else
 -- all of the Dockerfile's text, which are those of the first phase that has one: the whole text and its lines, or its instructions; else all of
 -- its stages; else the first one of the evaluation of the needed stages. An accepted bundle has none.
-abbrev pub AreFaultsOf : List ℕ → List Refusal → Type 0
+abbrev pub AreFaultsOf : List ℕ → List Rejection → Type 0
 AreFaultsOf bytes faults =
-    ((refusal : Refusal) × ReadsBundle config_in bytes (Err (Because refusal)) × (faults ≡ refusal ∷ []))
+    ((refusal : Refusal) × ReadsBundle config_in bytes (Err (Because refusal)) × (faults ≡ rejection_of refusal ∷ []))
     ⊎ ((bundle : Bundle Config) × ReadsBundle config_in bytes (Ok bundle)
     × AreFileFaults bundle.images (get bundle.args) bundle.target bundle.dockerfile faults)

@@ -4,17 +4,19 @@ use Rattle.std.specs.Char.{is_control}
 use Rattle.std.specs.Fmt.{digit_glyph}
 use Rattle.std.specs.List.{flat_map}
 use Rattle.std.specs.Str.Lossy.{utf8_lossy}
-use Rattle.plain.specs.declared.refusal.Code.{Code}
 use Rattle.plain.specs.declared.refusal.Code.TheVariants.{R19, R20}
-use Rattle.plain.specs.declared.refusal.Refusal.{Refusal}
+use Rattle.expand.specs.declared.reason.Reason.{Reason}
+use Rattle.expand.specs.declared.reason.Reason.TheVariants.{Coded, Required}
+use Rattle.expand.specs.declared.reason.Rejection.{Rejection}
 use Rattle.lines.specs.Text.{text_lines}
 use Rattle.sentences.specs.Showing.{shown}
 
--- what a fault of this code is in: the ignore file, the whole input, or the Dockerfile
-abbrev pub place_of : Code → List ℕ
-place_of R19 = codes ".dockerignore"
-place_of R20 = codes "bundle"
-place_of code = codes "Dockerfile"
+-- what a line is in that is refused for this reason: the ignore file, the whole input, or the Dockerfile
+abbrev pub place_of : Reason → List ℕ
+place_of (Coded R19) = codes ".dockerignore"
+place_of (Coded R20) = codes "bundle"
+place_of (Coded code) = codes "Dockerfile"
+place_of (Required text) = codes "Dockerfile"
 
 -- the lines of a text that need not be UTF-8: what isn't is replaced by U+FFFD
 abbrev pub readable_lines : List ℕ → List (List ℕ)
@@ -44,10 +46,16 @@ visible_char c = if is_obeyed c then escaped c else encode_utf8 c
 abbrev pub visible : List ℕ → List ℕ
 visible line = flat_map visible_char (chars line)
 
+-- a reason whose text a terminal doesn't obey
+abbrev pub visible_reason : Reason → Reason
+visible_reason (Coded code) = Coded code
+visible_reason (Required text) = Required (visible text)
+
 -- what is shown of a fault of a text with these lines
-abbrev pub shown_fault : List (List ℕ) → Refusal → List ℕ
-shown_fault lines refusal = shown (place_of refusal.code) refusal (visible (line_at lines refusal.line))
+abbrev pub shown_fault : List (List ℕ) → Rejection → List ℕ
+shown_fault lines refusal =
+    shown (place_of refusal.reason) (record { reason = visible_reason refusal.reason; line = refusal.line }) (visible (line_at lines refusal.line))
 
 -- what is shown of faults, one after another
-abbrev pub shown_faults : List (List ℕ) → List Refusal → List ℕ
+abbrev pub shown_faults : List (List ℕ) → List Rejection → List ℕ
 shown_faults lines faults = flat_map (shown_fault lines) faults

@@ -1,5 +1,6 @@
-ghost use Rattle.std.specs.Prelude.{◌≡◌, [], ◌∷◌, Err, IfOk, unwrap_or};
+ghost use Rattle.std.specs.Prelude.{◌≡◌, [], ◌∷◌, map, Err, IfOk, unwrap_or};
 ghost use Rattle.std.specs.FinMap.{get as arg_value};
+ghost use Rattle.expand.specs.Reasons.{rejection_of};
 ghost use Rattle.stages.specs.Faults.{stage_refusals};
 ghost use Rattle.stages.specs.Naming.{names_in};
 ghost use Rattle.plain.specs.declared.fault.Fault.TheVariants.{Because};
@@ -12,6 +13,7 @@ ghost use Rattle.checks.specs.Checked.{faulty_text};
 use bundle::{Bundle, read_bundle, read_ignore_bytes};
 use dockerfile::Dockerfile;
 use evaluation::evaluate;
+use expand::Rejection;
 use imageconfig::Config;
 use plain::{Bytes, Fault, Items, Memory, Refusal};
 use stages::StageTable;
@@ -22,7 +24,7 @@ use std::thread::Threads;
 #[derive(Drop)]
 pub struct Findings {
     /// The faults, in the order of their lines.
-    pub faults: Items<Refusal>,
+    pub faults: Items<Rejection>,
     /// The bytes of the file whose lines they count: those of the ignore file if a line of it is bad, and else of the Dockerfile. There are
     /// none if there is no bundle.
     pub text: Bytes,
@@ -30,8 +32,8 @@ pub struct Findings {
 
 /// All faults of the bytes of a bundle, of the first phase that has one, in the order of their lines (own).
 ///
-/// There is one where the bytes are no bundle (R20), where the ignore file has a bad line (R19), and where the evaluation of the stages that the
-/// target needs is refused, which stops there. The faults of the Dockerfile's text are those of `Dockerfile::check`, and the faults of its stages
+/// There is one if the bytes are no bundle (R20), if the ignore file has a bad line (R19), and if the evaluation of the stages that the target
+/// needs is refused, which stops there. The faults of the Dockerfile's text are those of `Dockerfile::check`, and the faults of its stages
 /// are those of `StageTable::faults`. An accepted bundle has none.
 pub fn check_bundle(
     alloc: Global,
@@ -51,11 +53,11 @@ pub fn check_bundle(
 /// The fault of bytes that are refused before their Dockerfile is read.
 fn refused(alloc: Global, bytes: &[u8], refusal: Refusal) -> Result<Findings, Memory>
     requires { ReadsBundle config_in bytes.now (Err (Because refusal)) }
-    ensures faults { IfOk result (λ found. found.faults ≡ refusal ∷ []) }
+    ensures faults { IfOk result (λ found. found.faults ≡ rejection_of refusal ∷ []) }
     ensures text { IfOk result (λ found. found.text ≡ faulty_text bytes.now) }
 {
     let text = ignore_file_or_none(alloc, bytes)?;
-    let faults = alone(alloc, refusal)?;
+    let faults = alone(alloc, Rejection::of(refusal))?;
     Ok(Findings { faults, text })
 }
 
@@ -88,7 +90,7 @@ fn check_whole(alloc: Global, bundle: Bundle<Config>) -> Result<Findings, Memory
 }
 
 /// A list of one fault.
-fn alone(alloc: Global, refusal: Refusal) -> Result<Items<Refusal>, Memory>
+fn alone(alloc: Global, refusal: Rejection) -> Result<Items<Rejection>, Memory>
     ensures { IfOk result (λ faults. faults ≡ refusal ∷ []) }
 {
     let mut faults = Items::new(alloc);
@@ -96,15 +98,26 @@ fn alone(alloc: Global, refusal: Refusal) -> Result<Items<Refusal>, Memory>
     Ok(faults)
 }
 
+/// Refusals of lines of which no text is expanded.
+fn rejections(alloc: Global, refusals: &[Refusal]) -> Result<Items<Rejection>, Memory>
+    ensures { IfOk result (λ faults. faults ≡ map rejection_of refusals.now) }
+{
+    let mut faults = Items::new(alloc);
+    for refusal in refusals {
+        faults.push(Rejection::of(*refusal))?;
+    }
+    Ok(faults)
+}
+
 /// The faults of a bundle's Dockerfile.
-fn check_file(alloc: Global, bundle: Bundle<Config>) -> Result<Items<Refusal>, Memory>
+fn check_file(alloc: Global, bundle: Bundle<Config>) -> Result<Items<Rejection>, Memory>
     ensures { IfOk result (λ faults. AreFileFaults bundle.images (arg_value bundle.args) bundle.target bundle.dockerfile faults) }
 {
     match Dockerfile::check(alloc, bundle.dockerfile.as_slice()) {
         Ok(file) => check_stages(alloc, bundle, file),
-        Err(Fault::Because(faults)) => {
+        Err(Fault::Because(refusals)) => {
             drop(bundle);
-            Ok(faults)
+            rejections(alloc, refusals.as_slice())
         }
         Err(Fault::Memory) => {
             drop(bundle);
@@ -118,7 +131,7 @@ fn check_stages(
     alloc: Global,
     bundle: Bundle<Config>,
     file: Dockerfile,
-) -> Result<Items<Refusal>, Memory>
+) -> Result<Items<Rejection>, Memory>
     ensures { IfOk result (λ faults. AreStageFaults bundle.images (arg_value bundle.args) bundle.target file faults) }
 {
     match StageTable::faults(
@@ -142,8 +155,8 @@ fn check_names(
     alloc: Global,
     bundle: Bundle<Config>,
     file: Dockerfile,
-    faults: Items<Refusal>,
-) -> Result<Items<Refusal>, Memory>
+    faults: Items<Rejection>,
+) -> Result<Items<Rejection>, Memory>
     requires { faults ≡ stage_refusals (names_in bundle.images) (arg_value bundle.args) bundle.target file }
     ensures { IfOk result (λ found. AreStageFaults bundle.images (arg_value bundle.args) bundle.target file found) }
 {
@@ -162,7 +175,7 @@ fn check_named(
     alloc: Global,
     bundle: Bundle<Config>,
     file: Dockerfile,
-) -> Result<Items<Refusal>, Memory>
+) -> Result<Items<Rejection>, Memory>
     requires { stage_refusals (names_in bundle.images) (arg_value bundle.args) bundle.target file ≡ [] }
     ensures { IfOk result (λ faults. AreStageFaults bundle.images (arg_value bundle.args) bundle.target file faults) }
 {
@@ -188,7 +201,7 @@ fn check_table(
     alloc: Global,
     bundle: Bundle<Config>,
     table: StageTable,
-) -> Result<Items<Refusal>, Memory>
+) -> Result<Items<Rejection>, Memory>
     ensures { IfOk result (λ faults. AreTableFaults bundle.images (arg_value bundle.args) table faults) }
 {
     let Bundle {

@@ -1,14 +1,14 @@
 // The laws of a bundle's faults and of its check, claimed: each function's contract is one law, and its body names the laws of crates below that it rests on.
 ghost use Rattle.std.specs.Prelude.{◌≡◌, ℕ, List};
-ghost use Rattle.plain.specs.declared.refusal.Refusal.{Refusal};
+ghost use Rattle.expand.specs.declared.reason.Rejection.{Rejection};
 ghost use Rattle.checks.specs.Checked.{IsCheckOf};
 ghost use Rattle.checks.specs.Checks.{AreFaultsOf};
 ghost use Rattle.checks.specs.declared.checked.Checked.{Checked};
 
 /// Each bundle has one list of faults.
 pub fn each_bundle_has_its_faults()
-    ensures exists { (bytes : List ℕ) → (faults : List Refusal) × AreFaultsOf bytes faults }
-    ensures unique { (bytes : List ℕ) (faults others : List Refusal) → AreFaultsOf bytes faults → AreFaultsOf bytes others → faults ≡ others }
+    ensures exists { (bytes : List ℕ) → (faults : List Rejection) × AreFaultsOf bytes faults }
+    ensures unique { (bytes : List ℕ) (faults others : List Rejection) → AreFaultsOf bytes faults → AreFaultsOf bytes others → faults ≡ others }
 {
     bundle::laws::bytes_are_read_or_refused::<imageconfig::Config>();
     dockerfile::laws::each_text_has_its_faults();

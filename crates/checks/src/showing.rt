@@ -2,17 +2,18 @@ ghost use Rattle.std.specs.Prelude.{◌≡◌, ◌-◌, map, IfOk};
 ghost use Rattle.std.specs.String.{string_bytes};
 ghost use Rattle.lines.specs.Text.{without_byte_order_mark, text_lines};
 ghost use Rattle.sentences.specs.Showing.{shown};
-ghost use Rattle.checks.specs.Shown.{place_of, readable_lines, line_at, visible, shown_faults};
+ghost use Rattle.checks.specs.Shown.{place_of, readable_lines, line_at, visible, visible_reason, shown_faults};
 
 use crate::visible::visible;
-use plain::{Code, Memory, Refusal, Text};
+use expand::{Reason, Rejection};
+use plain::{Code, Memory, Text};
 use sentences::shown;
 use std::alloc::{AllocError, Global};
 
 /// What is shown of faults, in their order, each as `sentences::shown` gives it, whose lines are counted in this text: a Dockerfile's, or that
 /// of its ignore file. It need not be UTF-8: what isn't is shown as U+FFFD. A control character of a line, other than a tab, is shown by its
-/// number, as `\x1b`, so no line gives orders to a terminal. The line of a number that the text hasn't is shown as an empty one.
-pub fn shown_faults(alloc: Global, faults: &[Refusal], text: &[u8]) -> Result<Text, Memory>
+/// number, as `\x1b`, and so is one of the text of R21, so none gives orders to a terminal. The line of a number that the text hasn't is shown as an empty one.
+pub fn shown_faults(alloc: Global, faults: &[Rejection], text: &[u8]) -> Result<Text, Memory>
     ensures { IfOk result (λ shown. shown ≡ shown_faults (readable_lines text.now) faults.now) }
 {
     let readable = String::from_utf8_lossy(alloc, text)?;
@@ -20,13 +21,13 @@ pub fn shown_faults(alloc: Global, faults: &[Refusal], text: &[u8]) -> Result<Te
     Ok(Text::from_string(shown))
 }
 
-/// The same of a text that is UTF-8. The lines are listed only where there are several faults: one is found without memory for each line.
-fn shown_in(alloc: Global, faults: &[Refusal], text: &str) -> Result<String, Memory>
+/// The same of a text that is UTF-8. The lines are listed only if there are several faults: one is found without memory for each line.
+fn shown_in(alloc: Global, faults: &[Rejection], text: &str) -> Result<String, Memory>
     ensures { IfOk result (λ shown. string_bytes shown ≡ shown_faults (text_lines text.now) faults.now) }
 {
     match faults {
         [] => Ok(String::new(alloc)),
-        [fault] => shown_fault(alloc, *fault, found_line(text, fault.line)),
+        [fault] => shown_fault(alloc, fault, found_line(text, fault.line)),
         [_, _, ..] => {
             let lines = lines_of(alloc, text)?;
             shown_each(alloc, faults, &lines)
@@ -35,33 +36,51 @@ fn shown_in(alloc: Global, faults: &[Refusal], text: &str) -> Result<String, Mem
 }
 
 /// What is shown of faults, one after another, their lines being among these.
-fn shown_each(alloc: Global, faults: &[Refusal], lines: &[&str]) -> Result<String, Memory>
+fn shown_each(alloc: Global, faults: &[Rejection], lines: &[&str]) -> Result<String, Memory>
     ensures { IfOk result (λ shown. string_bytes shown ≡ shown_faults (map (λ line. line.now) lines.now) faults.now) }
 {
     let mut text = String::new(alloc);
     for fault in faults {
-        let shown = shown_fault(alloc, *fault, listed_line(lines, fault.line))?;
+        let shown = shown_fault(alloc, fault, listed_line(lines, fault.line))?;
         text.push_str(shown.as_str())?;
     }
     Ok(text)
 }
 
 /// What is shown of a fault that is about this line.
-fn shown_fault(alloc: Global, fault: Refusal, line: &str) -> Result<String, Memory>
-    ensures { IfOk result (λ text. string_bytes text ≡ shown (place_of fault.code) fault (visible line.now)) }
+fn shown_fault(alloc: Global, fault: &Rejection, line: &str) -> Result<String, Memory>
+    ensures { IfOk result (λ text. string_bytes text ≡ shown (place_of fault.now.reason) (record { reason = visible_reason fault.now.reason; line = fault.now.line }) (visible line.now)) }
 {
     let line = visible(alloc, line)?;
-    shown(alloc, place_of(fault.code), fault, line.as_str())
+    let reason = visible_reason(alloc, &fault.reason)?;
+    let seen = Rejection {
+        reason,
+        line: fault.line,
+    };
+    shown(alloc, place_of(&fault.reason), &seen, line.as_str())
 }
 
-/// What a fault of this code is in.
-fn place_of(code: Code) -> &'static str
-    ensures { result.now ≡ place_of code }
+/// A reason with its text as it is shown.
+fn visible_reason(alloc: Global, reason: &Reason) -> Result<Reason, Memory>
+    ensures { IfOk result (λ seen. seen ≡ visible_reason reason.now) }
 {
-    match code {
-        Code::R19 => ".dockerignore",
-        Code::R20 => "bundle",
-        _ => "Dockerfile",
+    match reason {
+        Reason::Coded(code) => Ok(Reason::Coded(*code)),
+        Reason::Required(text) => {
+            let seen = visible(alloc, text.as_str())?;
+            Ok(Reason::Required(Text::from_string(seen)))
+        }
+    }
+}
+
+/// What a line is in that is refused for this reason.
+fn place_of(reason: &Reason) -> &'static str
+    ensures { result.now ≡ place_of reason.now }
+{
+    match reason {
+        Reason::Coded(Code::R19) => ".dockerignore",
+        Reason::Coded(Code::R20) => "bundle",
+        Reason::Coded(_) | Reason::Required(_) => "Dockerfile",
     }
 }
 

@@ -4,7 +4,7 @@ use Rattle.std.specs.FinMap.{get}
 use Rattle.std.proofs.Common.{sym, ◌∙◌, ap}
 use Rattle.std.proofs.lemmas.Option.{slice_get_within, get_or_from_slice_get}
 use Rattle.plain.specs.Marks.{is_marked}
-use Rattle.plain.specs.declared.refusal.Refusal.{Refusal}
+use Rattle.expand.specs.declared.reason.Rejection.{Rejection}
 use Rattle.llb.specs.declared.op.Source.{Source}
 use Rattle.llb.specs.declared.op.Source.TheVariants.{Scratch, Context, Image}
 use Rattle.plans.specs.Images.{ImagesValue}
@@ -60,10 +60,10 @@ record Begins (args : Values) (images : ImagesValue Config) (needed : List Bool)
   pub comes : ComesTo args images needed table number [] (start images walk.states stage.base)
   pub made : stage_config (base_config images walk.states stage.base) (in_scope args (value_in table.outer) (start images walk.states stage.base) stage.instructions) ≡ Ok (config_at walk.states number)
 
-abbrev well_of : State → Result Config Refusal
+abbrev well_of : State → Result Config Rejection
 well_of s = Ok s.config
 
-abbrev well_end : Option State → Result Config Refusal
+abbrev well_end : Option State → Result Config Rejection
 well_end o = Ok (config_of o)
 
 made_by : (args outer : Values) (rs : List ResolvedInstruction) (p q : Progress) (first last : State) (config : Config) → instructions_from args outer (Ok p) rs ≡ Ok q → p.state ≡ first

@@ -6,7 +6,7 @@ use Rattle.std.proofs.Common.{sym, ◌∙◌, ap, subst}
 use Rattle.std.proofs.lemmas.Option.{slice_get-get_or}
 use Rattle.plain.specs.declared.fault.Fault.{Fault}
 use Rattle.plain.specs.declared.fault.Fault.TheVariants.{Because, Memory}
-use Rattle.plain.specs.declared.refusal.Refusal.{Refusal}
+use Rattle.expand.specs.declared.reason.Rejection.{Rejection}
 use Rattle.trees.specs.TreeMap.{TreeMap}
 use Rattle.plans.specs.Images.{ImagesValue}
 use Rattle.plans.specs.Sources.{SourcesValue}
@@ -39,7 +39,7 @@ all_whole table stages are same =
 pub answers_none : (args : Values) (images : ImagesValue Config) (context : TreeMap) (table : TableValue) → EvaluatesTable args images context table (Err Memory)
 answers_none args images context table = tt
 
-pub answers_told : (args : Values) (images : ImagesValue Config) (context : TreeMap) (table : TableValue) (outer : List Declaration) (stages : List ResolvedStage) (needed : List Bool) (fault : Fault Refusal)
+pub answers_told : (args : Values) (images : ImagesValue Config) (context : TreeMap) (table : TableValue) (outer : List Declaration) (stages : List ResolvedStage) (needed : List Bool) (fault : Fault Rejection)
     → outer ≡ table.outer → stages ≡ table.stages → AreNeeded table.stages table.target needed → AreStages args (value_in outer) images needed stages (Err fault)
     → EvaluatesTable args images context table (Err fault)
 unfolding AreStages
@@ -66,7 +66,7 @@ pub made_none : (images : ImagesValue Config) (context : TreeMap) (number : ℕ)
 unfolding Makes
 made_none images context number walk = tt
 
-pub made_of : (images : ImagesValue Config) (context : TreeMap) (number : ℕ) (walk : Walk) (states : List (Option State)) (config : Config) (result : Result Evaluated (Fault Refusal)) → states ≡ walk.states → config ≡ config_at states number
+pub made_of : (images : ImagesValue Config) (context : TreeMap) (number : ℕ) (walk : Walk) (states : List (Option State)) (config : Config) (result : Result Evaluated (Fault Rejection)) → states ≡ walk.states → config ≡ config_at states number
     → MakesWith images context number walk.rows walk.names config result → Makes images context number walk result
 unfolding MakesWith Makes
 made_of images context number walk states config (Ok made) same is h =
@@ -74,7 +74,7 @@ made_of images context number walk states config (Ok made) same is h =
 made_of images context number walk states config (Err (Because refusal)) same is h = absurd h
 made_of images context number walk states config (Err Memory) same is h = tt
 
-pub answers_made : (args : Values) (images : ImagesValue Config) (context : TreeMap) (table : TableValue) (outer : List Declaration) (stages : List ResolvedStage) (target : ℕ) (needed : List Bool) (walk : Walk) (result : Result Evaluated (Fault Refusal))
+pub answers_made : (args : Values) (images : ImagesValue Config) (context : TreeMap) (table : TableValue) (outer : List Declaration) (stages : List ResolvedStage) (target : ℕ) (needed : List Bool) (walk : Walk) (result : Result Evaluated (Fault Rejection))
     → outer ≡ table.outer → stages ≡ table.stages → target ≡ table.target → AreNeeded table.stages table.target needed → AreStages args (value_in outer) images needed stages (Ok walk)
     → Makes images context target walk result → EvaluatesTable args images context table result
 unfolding AreStages Makes

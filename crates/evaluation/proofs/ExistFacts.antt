@@ -10,7 +10,7 @@ use Rattle.std.proofs.lemmas.List.Folds.{Any-from_list_any, list_any_at}
 use Rattle.plain.specs.Marks.{is_marked, IsPath}
 use Rattle.plain.proofs.MarkFacts.{reached_more}
 use Rattle.plain.specs.declared.fault.Fault.TheVariants.{Because}
-use Rattle.plain.specs.declared.refusal.Refusal.{Refusal}
+use Rattle.expand.specs.declared.reason.Rejection.{Rejection}
 use Rattle.trees.specs.TreeMap.{TreeMap}
 use Rattle.plans.specs.Images.{ImagesValue}
 use Rattle.plans.specs.Sources.{SourcesValue}
@@ -250,9 +250,9 @@ sources_are context all names =
 
 abbrev pub HasAnswer : Values → ImagesValue Config → TreeMap → TableValue → Type 0
 HasAnswer args images context table =
-    ((made : Evaluated) × EvaluatesTable args images context table (Ok made)) ⊎ ((refusal : Refusal) × EvaluatesTable args images context table (Err (Because refusal)))
+    ((made : Evaluated) × EvaluatesTable args images context table (Ok made)) ⊎ ((refusal : Rejection) × EvaluatesTable args images context table (Err (Because refusal)))
 
-answer_by : (args : Values) (images : ImagesValue Config) (context : TreeMap) (table : TableValue) (needed : List Bool) (result : Result Walk Refusal)
+answer_by : (args : Values) (images : ImagesValue Config) (context : TreeMap) (table : TableValue) (needed : List Bool) (result : Result Walk Rejection)
     → AreNeeded table.stages table.target needed → evaluated args images needed table ≡ result → HasAnswer args images context table
 answer_by args images context table needed (Ok walk) are is =
     let held = sources_are context images walk.names in

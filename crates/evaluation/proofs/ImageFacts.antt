@@ -21,7 +21,7 @@ use Rattle.plans.specs.Sources.{name_cmp, SourcesValue}
 use Rattle.plans.specs.declared.images.Image as image
 use Rattle.rows.specs.declared.row.Origin.{Origin}
 use Rattle.rows.specs.declared.row.Origin.TheVariants.{Source as SourceOf, Stage as StageOf}
-use Rattle.evaluation.specs.Images.{ImageNames, is_among, with_name, with_origin, with_origins, many_due, named_tree, AreSources}
+use Rattle.evaluation.specs.Images.{ImageNames, is_among, with_name, with_origin, with_origins, named_tree, AreSources}
 
 -- a text that is added to a set of texts is a name that is added to theirs
 
@@ -118,17 +118,13 @@ origins_there names (origin ∷ origins) =
     (has_stays (with_origin names origin) (with_origins (with_origin names origin) origins) (origins_stay (with_origin names origin) origins) origin (origin_there names origin))
     (origins_there (with_origin names origin) origins)
 
--- where no code is due for the number of images, they are no more than may be named
+-- images that aren't more than may be named
 
-none_or_some : {X : Type 0} (x : X) → None ≡ Some x → ⊥
-none_or_some x e = cc
+few_by : (most many : ℕ) → nat_lt most many ≡ false → many ≤ most
+few_by most many h = grind (arith, nat_tests)
 
-few_by : (most many : ℕ) (b : Bool) → nat_lt most many ≡ b → (if b then Some R18 else None) ≡ None → many ≤ most
-few_by most many true e h = absurd (none_or_some R18 (sym h))
-few_by most many false e h = grind (arith, nat_tests)
-
-pub few_named : (names : ImageNames) → many_due names ≡ None → length names ≤ most_images
-few_named names h = few_by most_images (length names) (nat_lt most_images (length names)) refl h
+pub few_named : (names : ImageNames) → nat_lt most_images (length names) ≡ false → length names ≤ most_images
+few_named names h = few_by most_images (length names) h
 
 -- the trees of the images that are named
 

@@ -1,19 +1,19 @@
--- What an instruction does is what it leaves and what it does to the tree by that; so it is with the codes that are due.
+-- What an instruction does is what it leaves and what it does to the tree by that; so it is with the reasons to refuse it.
 use Rattle.std.specs.Prelude.{◌≡◌, ℕ, List, Option, Some, None, Result, Ok, Err, refl}
 use Rattle.std.proofs.Common.{◌∙◌, ap, ap₂, subst}
 use Rattle.plain.specs.declared.fault.Fault.{Fault}
 use Rattle.plain.specs.declared.fault.Fault.TheVariants.{Because, Memory}
-use Rattle.plain.specs.declared.refusal.Code.{Code}
-use Rattle.plain.specs.declared.refusal.Refusal.{Refusal}
+use Rattle.expand.specs.declared.reason.Rejection.{Rejection}
 use Rattle.rows.specs.declared.row.Action.{Action}
 use Rattle.rows.specs.declared.row.Origin.{Origin}
-use Rattle.instructions.specs.Least.{least}
+use Rattle.expand.specs.declared.reason.Reason.{Reason}
+use Rattle.instructions.specs.Reason.{reason}
 use Rattle.instructions.specs.declared.instruction.InstructionKind.{InstructionKind}
 use Rattle.instructions.specs.declared.instruction.InstructionKind.TheVariants.{From, Arg, Env, Label, Expose, User, Workdir, StopSignal, Volume, Shell, Cmd, Entrypoint, Run, Copy}
 use Rattle.scopes.specs.Evaluate.{Values}
-use Rattle.evaluation.specs.Instruction.{after, action_in, due}
+use Rattle.evaluation.specs.Instruction.{after, action_in, due, fault}
 use Rattle.evaluation.specs.PrivateRefusals.{EvaluatesTo}
-use Rattle.evaluation.specs.PrivateInstruction.{left_due, acted, acted_due, finished, done}
+use Rattle.evaluation.specs.PrivateInstruction.{left_due, left_fault, acted, acted_due, acted_fault, finished, done}
 use Rattle.evaluation.specs.declared.instruction.Done.{Done}
 use Rattle.evaluation.specs.declared.state.State.{State}
 
@@ -33,10 +33,10 @@ acted_is args outer s (Entrypoint command) origins = refl
 acted_is args outer s (Run mounts command) origins = refl
 acted_is args outer s (Copy sources destination flags) origins = refl
 
-nothing_or : (code : Code) → None ≡ Some code → ⊥
-nothing_or code e = cc
+nothing_or : (told : Reason) → None ≡ Some told → ⊥
+nothing_or told e = cc
 
-due_none : (args outer : Values) (s : State) (kind : InstructionKind) → least (left_due args s kind) ≡ None → least (acted_due (after args outer s kind) kind) ≡ None → least (due args s kind) ≡ None
+due_none : (args outer : Values) (s : State) (kind : InstructionKind) → reason (left_due args s kind) (left_fault args s kind) ≡ None → reason (acted_due (after args outer s kind) kind) (acted_fault (after args outer s kind) kind) ≡ None → reason (due args s kind) (fault args s kind) ≡ None
 due_none args outer s (From image name) h k = h
 due_none args outer s (Arg arguments) h k = h
 due_none args outer s (Env assignments) h k = h
@@ -52,54 +52,56 @@ due_none args outer s (Entrypoint command) h k = h
 due_none args outer s (Run mounts command) h k = k
 due_none args outer s (Copy sources destination flags) h k = k
 
-due_left : (args : Values) (s : State) (kind : InstructionKind) (code : Code) → least (left_due args s kind) ≡ Some code → least (due args s kind) ≡ Some code
-due_left args s (From image name) code h = h
-due_left args s (Arg arguments) code h = h
-due_left args s (Env assignments) code h = h
-due_left args s (Label labels) code h = h
-due_left args s (Expose ports) code h = h
-due_left args s (User user) code h = h
-due_left args s (Workdir path) code h = h
-due_left args s (StopSignal signal) code h = h
-due_left args s (Volume paths) code h = h
-due_left args s (Shell words) code h = h
-due_left args s (Cmd command) code h = h
-due_left args s (Entrypoint command) code h = h
-due_left args s (Run mounts command) code h = absurd (nothing_or code h)
-due_left args s (Copy sources destination flags) code h = absurd (nothing_or code h)
+due_left : (args : Values) (s : State) (kind : InstructionKind) (told : Reason) → reason (left_due args s kind) (left_fault args s kind) ≡ Some told → reason (due args s kind) (fault args s kind) ≡ Some told
+due_left args s (From image name) told h = h
+due_left args s (Arg arguments) told h = h
+due_left args s (Env assignments) told h = h
+due_left args s (Label labels) told h = h
+due_left args s (Expose ports) told h = h
+due_left args s (User user) told h = h
+due_left args s (Workdir path) told h = h
+due_left args s (StopSignal signal) told h = h
+due_left args s (Volume paths) told h = h
+due_left args s (Shell words) told h = h
+due_left args s (Cmd command) told h = h
+due_left args s (Entrypoint command) told h = h
+due_left args s (Run mounts command) told h = absurd (nothing_or told h)
+due_left args s (Copy sources destination flags) told h = absurd (nothing_or told h)
 
-due_acted : (args outer : Values) (s : State) (kind : InstructionKind) (code : Code) → least (acted_due (after args outer s kind) kind) ≡ Some code → least (due args s kind) ≡ Some code
-due_acted args outer s (From image name) code h = absurd (nothing_or code h)
-due_acted args outer s (Arg arguments) code h = absurd (nothing_or code h)
-due_acted args outer s (Env assignments) code h = absurd (nothing_or code h)
-due_acted args outer s (Label labels) code h = absurd (nothing_or code h)
-due_acted args outer s (Expose ports) code h = absurd (nothing_or code h)
-due_acted args outer s (User user) code h = absurd (nothing_or code h)
-due_acted args outer s (Workdir path) code h = absurd (nothing_or code h)
-due_acted args outer s (StopSignal signal) code h = absurd (nothing_or code h)
-due_acted args outer s (Volume paths) code h = absurd (nothing_or code h)
-due_acted args outer s (Shell words) code h = absurd (nothing_or code h)
-due_acted args outer s (Cmd command) code h = absurd (nothing_or code h)
-due_acted args outer s (Entrypoint command) code h = absurd (nothing_or code h)
-due_acted args outer s (Run mounts command) code h = h
-due_acted args outer s (Copy sources destination flags) code h = h
+due_acted : (args outer : Values) (s : State) (kind : InstructionKind) (told : Reason) → reason (acted_due (after args outer s kind) kind) (acted_fault (after args outer s kind) kind) ≡ Some told → reason (due args s kind) (fault args s kind) ≡ Some told
+due_acted args outer s (From image name) told h = absurd (nothing_or told h)
+due_acted args outer s (Arg arguments) told h = absurd (nothing_or told h)
+due_acted args outer s (Env assignments) told h = absurd (nothing_or told h)
+due_acted args outer s (Label labels) told h = absurd (nothing_or told h)
+due_acted args outer s (Expose ports) told h = absurd (nothing_or told h)
+due_acted args outer s (User user) told h = absurd (nothing_or told h)
+due_acted args outer s (Workdir path) told h = absurd (nothing_or told h)
+due_acted args outer s (StopSignal signal) told h = absurd (nothing_or told h)
+due_acted args outer s (Volume paths) told h = absurd (nothing_or told h)
+due_acted args outer s (Shell words) told h = absurd (nothing_or told h)
+due_acted args outer s (Cmd command) told h = absurd (nothing_or told h)
+due_acted args outer s (Entrypoint command) told h = absurd (nothing_or told h)
+due_acted args outer s (Run mounts command) told h = h
+due_acted args outer s (Copy sources destination flags) told h = h
 
 done_of : State → Option Action → Done
 done_of state action = record { state = state; action = action }
 
-pub told_left : (args outer : Values) (s : State) (kind : InstructionKind) (origins : List Origin) (line : ℕ) (fault : Fault Refusal)
-    → EvaluatesTo (after args outer s kind) (left_due args s kind) line (Err fault) → EvaluatesTo (done args outer s kind origins) (due args s kind) line (Err fault)
-told_left args outer s kind origins line (Because refusal) h = (h.0, due_left args s kind refusal.code h.1)
+pub told_left : (args outer : Values) (s : State) (kind : InstructionKind) (origins : List Origin) (line : ℕ) (out : Fault Rejection)
+    → EvaluatesTo (after args outer s kind) (left_due args s kind) (left_fault args s kind) line (Err out)
+    → EvaluatesTo (done args outer s kind origins) (due args s kind) (fault args s kind) line (Err out)
+told_left args outer s kind origins line (Because refusal) h = (h.0, due_left args s kind refusal.reason h.1)
 told_left args outer s kind origins line Memory h = tt
 
-pub told_both : (args outer : Values) (s next : State) (kind : InstructionKind) (origins : List Origin) (line : ℕ) (result : Result Done (Fault Refusal))
-    → EvaluatesTo (after args outer s kind) (left_due args s kind) line (Ok next) → EvaluatesTo (finished next kind origins) (acted_due next kind) line result
-    → EvaluatesTo (done args outer s kind origins) (due args s kind) line result
+pub told_both : (args outer : Values) (s next : State) (kind : InstructionKind) (origins : List Origin) (line : ℕ) (result : Result Done (Fault Rejection))
+    → EvaluatesTo (after args outer s kind) (left_due args s kind) (left_fault args s kind) line (Ok next)
+    → EvaluatesTo (finished next kind origins) (acted_due next kind) (acted_fault next kind) line result
+    → EvaluatesTo (done args outer s kind origins) (due args s kind) (fault args s kind) line result
 unfolding done_of
 told_both args outer s next kind origins line (Ok made) left act =
     let acts = ap (λ (t : State). acted t kind origins) left.0 ∙ acted_is args outer s kind origins in
-    let none = subst (λ (t : State). least (acted_due t kind) ≡ None) left.0 act.1 in
+    let none = subst (λ (t : State). reason (acted_due t kind) (acted_fault t kind) ≡ None) left.0 act.1 in
     (act.0 ∙ ap₂ done_of left.0 acts, due_none args outer s kind left.1 none)
 told_both args outer s next kind origins line (Err (Because refusal)) left act =
-    (act.0, due_acted args outer s kind refusal.code (subst (λ (t : State). least (acted_due t kind) ≡ Some refusal.code) left.0 act.1))
+    (act.0, due_acted args outer s kind refusal.reason (subst (λ (t : State). reason (acted_due t kind) (acted_fault t kind) ≡ Some refusal.reason) left.0 act.1))
 told_both args outer s next kind origins line (Err Memory) left act = tt

@@ -1,21 +1,17 @@
--- What evaluating lines answers, by all lines judged: refused is the first for which a code is due.
-use Rattle.std.specs.Prelude.{◌≡◌, ◌<◌, ◌≤◌, ◌⊎◌, ◌||◌, ℕ, Bool, true, false, List, [], ◌∷◌, ◌++◌, map, Option, Some, None, Result, Ok, Err, Contains, length, nat_lt, refl, if◌then◌else◌}
+-- What evaluating lines answers, by all lines judged: refused is the first that there is a reason to refuse.
+use Rattle.std.specs.Prelude.{◌≡◌, ◌<◌, ◌≤◌, ◌⊎◌, ℕ, Bool, true, false, List, [], ◌∷◌, ◌++◌, map, Option, Some, None, Result, Ok, Err, Contains, length, refl, if◌then◌else◌}
 use Rattle.std.specs.List.{All}
 use Rattle.std.proofs.Common.{sym, ◌∙◌, ap, subst, arith, append_assoc, inl, inr}
-use Rattle.std.proofs.lemmas.Bool.{true≢false}
 use Rattle.std.proofs.lemmas.List.{map-append}
 use Rattle.std.proofs.lemmas.List.Elements.{All-nil, All-cons, All-append, All-weaker, Contains-append_right}
-use Rattle.plain.specs.Codes.{number_of}
-use Rattle.plain.specs.Limits.{most_images}
 use Rattle.plain.specs.Marks.{is_marked}
 use Rattle.plain.specs.declared.refusal.Code.{Code}
-use Rattle.plain.specs.declared.refusal.Code.TheVariants.{R18, R19, R20}
-use Rattle.plain.specs.declared.refusal.Refusal.{Refusal}
+use Rattle.expand.specs.declared.fault.Unexpanded.{Unexpanded}
+use Rattle.expand.specs.declared.reason.Reason.{Reason}
+use Rattle.expand.specs.declared.reason.Rejection.{Rejection}
 use Rattle.llb.specs.Places.{AscendFrom}
 use Rattle.plans.specs.Images.{ImagesValue}
-use Rattle.instructions.specs.Least.{least, IsLeast}
-use Rattle.instructions.specs.declared.instruction.InstructionKind.{InstructionKind}
-use Rattle.instructions.specs.declared.instruction.InstructionKind.TheVariants.{From, Arg, Env, Label, Expose, User, Workdir, StopSignal, Volume, Shell, Cmd, Entrypoint, Run, Copy}
+use Rattle.instructions.specs.Reason.{reason, IsReason, IsLeastReason}
 use Rattle.scopes.specs.Evaluate.{Values}
 use Rattle.scopes.specs.Scope.{value_in}
 use Rattle.stages.specs.Table.{TableValue, IsTable, stage_lines, lines_of}
@@ -23,44 +19,39 @@ use Rattle.stages.specs.declared.stage.ResolvedInstruction.{ResolvedInstruction}
 use Rattle.stages.specs.declared.stage.ResolvedStage.{ResolvedStage}
 use Rattle.imageconfig.specs.declared.config.Config.{Config}
 use Rattle.evaluation.specs.Evaluated.{no_stage, evaluated}
-use Rattle.evaluation.specs.Images.{ImageNames, with_origin, with_origins}
-use Rattle.evaluation.specs.Instruction.{due}
-use Rattle.evaluation.specs.NeededLines.{JudgedLine, many_codes, judged, lines_judged, behind_all, stage_judged, behind_stage, stages_judged, needed_lines, IsUpTo, IsLeastRefusal}
+use Rattle.evaluation.specs.Images.{with_origin, many_codes}
+use Rattle.evaluation.specs.NeededLines.{JudgedLine, judged, lines_judged, behind_all, stage_judged, behind_stage, stages_judged, needed_lines, IsFree, IsUpTo, IsLeastRefusal}
 use Rattle.imageconfig.specs.Stage.{unless_due}
 use Rattle.evaluation.specs.Refusals.{all_from}
 use Rattle.evaluation.specs.Stages.{with_instruction, next_instruction, instructions_from, begun, with_stage, with_ended, with_none, stage_from, next_stage, stages_from}
 use Rattle.evaluation.specs.declared.stage.Progress.{Progress}
-use Rattle.evaluation.specs.declared.state.State.{State}
 use Rattle.evaluation.specs.declared.walk.Walk.{Walk}
 use Rattle.evaluation.proofs.FoldFacts.{refused_stays}
 
--- the law of the least code, as a premise
+-- the law of the least reason, as a premise
 pub record LeastLaws : Type 0 where
-  pub is_least : (codes : Code → Bool) (c : Code) → least codes ≡ Some c → IsLeast codes c
-  pub is_free : (codes : Code → Bool) → least codes ≡ None → (c : Code) → codes c ≡ false
+  pub is_least : (codes : Code → Bool) (against : Option Unexpanded) (told : Reason) → reason codes against ≡ Some told → IsLeastReason codes against told
+  pub is_free : (codes : Code → Bool) (against : Option Unexpanded) → reason codes against ≡ None → (other : Reason) → IsReason codes against other → ⊥
 
-abbrev pub IsFree : JudgedLine → Type 0
-IsFree j = (code : Code) → j.codes code ≡ false
-
--- the first of some lines for which a code is due
-pub record IsFirst (lines : List JudgedLine) (refusal : Refusal) : Type 0 where
+-- the first of some lines that there is a reason to refuse
+pub record IsFirst (lines : List JudgedLine) (refusal : Rejection) : Type 0 where
   pub before : List JudgedLine
   pub at : JudgedLine
   pub after : List JudgedLine
   pub split : lines ≡ before ++ at ∷ after
   pub free : All IsFree before
   pub line : at.line ≡ refusal.line
-  pub is : IsLeast at.codes refusal.code
+  pub is : IsLeastReason at.codes at.fault refusal.reason
 
--- what lines come to: nothing is due, and this is behind them, or the first of them is refused
-abbrev pub ComeTo : {X : Type 0} → List JudgedLine → Result X Refusal → X → Type 0
+-- what lines come to: there is no reason to refuse any, and this comes after them, or the first of them is refused
+abbrev pub ComeTo : {X : Type 0} → List JudgedLine → Result X Rejection → X → Type 0
 ComeTo lines (Ok x) last = All IsFree lines × (x ≡ last)
 ComeTo lines (Err refusal) last = IsFirst lines refusal
 
-first_here : (j : JudgedLine) (rest : List JudgedLine) (refusal : Refusal) → j.line ≡ refusal.line → IsLeast j.codes refusal.code → IsFirst (j ∷ rest) refusal
+first_here : (j : JudgedLine) (rest : List JudgedLine) (refusal : Rejection) → j.line ≡ refusal.line → IsLeastReason j.codes j.fault refusal.reason → IsFirst (j ∷ rest) refusal
 first_here j rest refusal line is = record { before = []; at = j; after = rest; split = refl; free = All-nil IsFree; line = line; is = is }
 
-front_free : {X : Type 0} (first rest : List JudgedLine) (result : Result X Refusal) (last : X) → All IsFree first → ComeTo rest result last → ComeTo (first ++ rest) result last
+front_free : {X : Type 0} (first rest : List JudgedLine) (result : Result X Rejection) (last : X) → All IsFree first → ComeTo rest result last → ComeTo (first ++ rest) result last
 front_free first rest (Ok x) last free k = (All-append IsFree first rest free k.0, k.1)
 front_free first rest (Err refusal) last free k = record {
   before = first ++ k.before;
@@ -72,7 +63,7 @@ front_free first rest (Err refusal) last free k = record {
   is = k.is;
 }
 
-first_more : (first rest : List JudgedLine) (refusal : Refusal) → IsFirst first refusal → IsFirst (first ++ rest) refusal
+first_more : (first rest : List JudgedLine) (refusal : Rejection) → IsFirst first refusal → IsFirst (first ++ rest) refusal
 first_more first rest refusal h = record {
   before = h.before;
   at = h.at;
@@ -83,106 +74,27 @@ first_more first rest refusal h = record {
   is = h.is;
 }
 
-come_then : {X S : Type 0} (step : X → S → Result X Refusal) (first rest : List JudgedLine) (result : Result X Refusal) (now : X) (ss : List S) (last : X)
+come_then : {X S : Type 0} (step : X → S → Result X Rejection) (first rest : List JudgedLine) (result : Result X Rejection) (now : X) (ss : List S) (last : X)
     → ComeTo first result now → ComeTo rest (all_from step (Ok now) ss) last → ComeTo (first ++ rest) (all_from step result ss) last
 come_then {X = X} step first rest (Ok x) now ss last h k =
     front_free first rest (all_from step (Ok x) ss) last h.0 (subst (λ (y : X). ComeTo rest (all_from step (Ok y) ss) last) (sym h.1) k)
 come_then {X = X} step first rest (Err refusal) now ss last h k =
-    subst (λ (r : Result X Refusal). ComeTo (first ++ rest) r last) (sym (refused_stays step refusal ss)) (first_more first rest refusal h)
+    subst (λ (r : Result X Rejection). ComeTo (first ++ rest) r last) (sym (refused_stays step refusal ss)) (first_more first rest refusal h)
 
--- one instruction
+-- one line
 
-many_is : (names : ImageNames) (code : Code) → many_codes names code ≡ true → code ≡ R18
-many_is names R18 h = refl
-many_is names code h = absurd (true≢false (sym h))
+line_by : {X : Type 0} (laws : LeastLaws) (j : JudgedLine) (lines : List JudgedLine) (rest : Result X Rejection) (last : X) (told : Option Reason) → reason j.codes j.fault ≡ told
+    → ComeTo lines rest last → ComeTo (j ∷ lines) (unless_due told j.line rest) last
+line_by laws j lines rest last (Some told) e h = first_here j lines (record { reason = told; line = j.line }) refl (laws.is_least j.codes j.fault told e)
+line_by laws j lines rest last None e h =
+    front_free (j ∷ []) lines rest last (All-cons IsFree j [] (laws.is_free j.codes j.fault e) (All-nil IsFree)) h
 
-few_free : (names : ImageNames) → nat_lt most_images (length names) ≡ false → (code : Code) → many_codes names code ≡ false
-few_free names h R18 = h
-few_free names h code = refl
-
-many_least : (names : ImageNames) → nat_lt most_images (length names) ≡ true → IsLeast (many_codes names) R18
-many_least names h = (h, λ code is. (let same = ap number_of (many_is names code is) in omega (arith, same)))
-
-or_first : (a b : Bool) → a ≡ true → (a || b) ≡ true
-or_first true b h = refl
-or_first false b h = absurd (true≢false (sym h))
-
-or_second : (a b : Bool) → b ≡ true → (a || b) ≡ true
-or_second true b h = refl
-or_second false b h = h
-
-or_none : (a b : Bool) → a ≡ false → b ≡ false → (a || b) ≡ false
-or_none true b h k = absurd (true≢false h)
-or_none false b h k = k
-
-or_cases : (a b : Bool) → (a || b) ≡ true → (a ≡ true) ⊎ (b ≡ true)
-or_cases true b h = inl refl
-or_cases false b h = inr h
-
--- a limit is the last thing that is told of a line
-abbrev AreSmall : (Code → Bool) → Type 0
-AreSmall codes = (codes R19 ≡ false) × (codes R20 ≡ false)
-
-small_due : (args : Values) (s : State) (kind : InstructionKind) → AreSmall (due args s kind)
-small_due args s (From image name) = (refl, refl)
-small_due args s (Arg arguments) = (refl, refl)
-small_due args s (Env assignments) = (refl, refl)
-small_due args s (Label labels) = (refl, refl)
-small_due args s (Expose ports) = (refl, refl)
-small_due args s (User user) = (refl, refl)
-small_due args s (Workdir path) = (refl, refl)
-small_due args s (StopSignal signal) = (refl, refl)
-small_due args s (Volume paths) = (refl, refl)
-small_due args s (Shell words) = (refl, refl)
-small_due args s (Cmd command) = (refl, refl)
-small_due args s (Entrypoint command) = (refl, refl)
-small_due args s (Run mounts command) = (refl, refl)
-small_due args s (Copy sources destination flags) = (refl, refl)
-
-small_code : (codes : Code → Bool) (code : Code) → AreSmall codes → codes code ≡ true → number_of code ≤ 18
-small_code codes R19 small h = absurd (true≢false (sym h ∙ small.0))
-small_code codes R20 small h = absurd (true≢false (sym h ∙ small.1))
-small_code codes code small h = omega arith
-
-both_least : (codes : Code → Bool) (names : ImageNames) (code : Code) → AreSmall codes → IsLeast codes code → IsLeast (λ c. codes c || many_codes names c) code
-both_least codes names code small is = (
-  or_first (codes code) (many_codes names code) is.0,
-  λ other due_is. elim (or_cases (codes other) (many_codes names other) due_is) [
-    | inl said ↦ is.1 other said
-    | inr many ↦
-        let below = small_code codes code small is.0 in
-        let same = ap number_of (many_is names other many) in
-        omega (arith, below, same)
-  ],
-)
-
-many_both : (codes : Code → Bool) (names : ImageNames) → ((c : Code) → codes c ≡ false) → nat_lt most_images (length names) ≡ true → IsLeast (λ c. codes c || many_codes names c) R18
-many_both codes names none many = (
-  or_second (codes R18) (many_codes names R18) many,
-  λ other due_is. elim (or_cases (codes other) (many_codes names other) due_is) [
-    | inl said ↦ absurd (true≢false (sym said ∙ none other))
-    | inr there ↦ (let same = ap number_of (many_is names other there) in omega (arith, same))
-  ],
-)
-
-step_by : (laws : LeastLaws) (line : ℕ) (codes : Code → Bool) (names : ImageNames) (made : Progress) (code : Option Code) (many : Bool) → AreSmall codes → least codes ≡ code
-    → nat_lt most_images (length names) ≡ many
-    → ComeTo (record { line = line; codes = λ c. codes c || many_codes names c } ∷ []) (unless_due code line (unless_due (if many then Some R18 else None) line (Ok made))) made
-step_by laws line codes names made (Some code) many small e f =
-    first_here (record { line = line; codes = λ c. codes c || many_codes names c }) [] (record { code = code; line = line }) refl
-    (both_least codes names code small (laws.is_least codes code e))
-step_by laws line codes names made None true small e f =
-    first_here (record { line = line; codes = λ c. codes c || many_codes names c }) [] (record { code = R18; line = line }) refl (many_both codes names (laws.is_free codes e) f)
-step_by laws line codes names made None false small e f = (
-  All-cons IsFree (record { line = line; codes = λ c. codes c || many_codes names c }) []
-      (λ c. or_none (codes c) (many_codes names c) (laws.is_free codes e c) (few_free names f c)) (All-nil IsFree),
-  refl,
-)
+line_come : {X : Type 0} (laws : LeastLaws) (j : JudgedLine) (lines : List JudgedLine) (rest : Result X Rejection) (last : X) → ComeTo lines rest last
+    → ComeTo (j ∷ lines) (unless_due (reason j.codes j.fault) j.line rest) last
+line_come laws j lines rest last h = line_by laws j lines rest last (reason j.codes j.fault) refl h
 
 step_come : (laws : LeastLaws) (args outer : Values) (p : Progress) (r : ResolvedInstruction) → ComeTo (judged args p r ∷ []) (next_instruction args outer p r) (with_instruction args outer p r)
-step_come laws args outer p r =
-    step_by laws r.instruction.line (due args p.state r.instruction.kind) (with_origins p.names r.origins) (with_instruction args outer p r) (least (due args p.state r.instruction.kind))
-    (nat_lt most_images (length (with_origins p.names r.origins))) (small_due args p.state r.instruction.kind) refl refl
+step_come laws args outer p r = line_come laws (judged args p r) [] (Ok (with_instruction args outer p r)) (with_instruction args outer p r) (All-nil IsFree, refl)
 
 -- the instructions of a stage
 
@@ -195,19 +107,10 @@ lines_come laws args outer (r ∷ rs) p =
 
 -- a needed stage
 
-ended_come : (walk : Walk) (stage : ResolvedStage) (lines : List JudgedLine) (ended : Result Progress Refusal) (last : Progress) → ComeTo lines ended last
+ended_come : (walk : Walk) (stage : ResolvedStage) (lines : List JudgedLine) (ended : Result Progress Rejection) (last : Progress) → ComeTo lines ended last
     → ComeTo lines (with_ended walk stage ended) (with_stage walk stage last)
 ended_come walk stage lines (Ok p) last h = (h.0, ap (with_stage walk stage) h.1)
 ended_come walk stage lines (Err refusal) last h = h
-
-stage_by : (walk : Walk) (stage : ResolvedStage) (names : ImageNames) (lines : List JudgedLine) (ended : Result Walk Refusal) (last : Walk) (many : Bool)
-    → nat_lt most_images (length names) ≡ many → ComeTo lines ended last
-    → ComeTo (record { line = stage.line; codes = many_codes names } ∷ lines) (unless_due (if many then Some R18 else None) stage.line ended) last
-stage_by walk stage names lines ended last true f h =
-    first_here (record { line = stage.line; codes = many_codes names }) lines (record { code = R18; line = stage.line }) refl (many_least names f)
-stage_by walk stage names lines ended last false f h =
-    front_free (record { line = stage.line; codes = many_codes names } ∷ []) lines ended last
-    (All-cons IsFree (record { line = stage.line; codes = many_codes names }) [] (few_free names f) (All-nil IsFree)) h
 
 stage_come : (laws : LeastLaws) (args outer : Values) (images : ImagesValue Config) (walk : Walk) (stage : ResolvedStage)
     → ComeTo (stage_judged args outer images walk stage) (stage_from args outer images walk stage) (with_stage walk stage (behind_all args outer (begun images walk stage) stage.instructions))
@@ -216,8 +119,7 @@ stage_come laws args outer images walk stage =
     let ended = instructions_from args outer (Ok first) stage.instructions in
     let last = behind_all args outer first stage.instructions in
     let lines = lines_judged args outer first stage.instructions in
-    stage_by walk stage (with_origin walk.names stage.base) lines (with_ended walk stage ended) (with_stage walk stage last)
-    (nat_lt most_images (length (with_origin walk.names stage.base))) refl
+    line_come laws (record { line = stage.line; codes = many_codes (with_origin walk.names stage.base); fault = None }) lines (with_ended walk stage ended) (with_stage walk stage last)
     (ended_come walk stage lines ended last (lines_come laws args outer stage.instructions first))
 
 -- all stages
@@ -293,36 +195,36 @@ all_above low (j ∷ lines) a =
     All-cons (λ (i : JudgedLine). low < i.line) j lines above
     (All-weaker (λ (i : JudgedLine). j.line < i.line) (λ (i : JudgedLine). low < i.line) (λ i higher. omega (arith, above, higher)) lines (all_above j.line lines a.1.1))
 
-abbrev IsBehind : Refusal → JudgedLine → Type 0
-IsBehind refusal j = (code : Code) → j.codes code ≡ true → IsUpTo refusal j.line code
+abbrev IsAfter : Rejection → JudgedLine → Type 0
+IsAfter refusal j = (other : Reason) → IsReason j.codes j.fault other → IsUpTo refusal j.line other
 
-rest_behind : (low : ℕ) (j : JudgedLine) (after : List JudgedLine) (refusal : Refusal) → j.line ≡ refusal.line → IsLeast j.codes refusal.code → AscendFrom low (numbers_of (j ∷ after))
-    → All (IsBehind refusal) (j ∷ after)
-rest_behind low j after refusal line is a =
-    All-cons (IsBehind refusal) j after (λ code due_is. inr (sym line, is.1 code due_is))
-    (All-weaker (λ (i : JudgedLine). j.line < i.line) (IsBehind refusal) (λ i higher code due_is. inl (omega (arith, line, higher))) after (all_above j.line after a.1.1))
+rest_after : (low : ℕ) (j : JudgedLine) (after : List JudgedLine) (refusal : Rejection) → j.line ≡ refusal.line → IsLeastReason j.codes j.fault refusal.reason → AscendFrom low (numbers_of (j ∷ after))
+    → All (IsAfter refusal) (j ∷ after)
+rest_after low j after refusal line is a =
+    All-cons (IsAfter refusal) j after (λ other there. inr (sym line, is.1 other there))
+    (All-weaker (λ (i : JudgedLine). j.line < i.line) (IsAfter refusal) (λ i higher other there. inl (omega (arith, line, higher))) after (all_above j.line after a.1.1))
 
-least_of : (lines : List JudgedLine) (refusal : Refusal) → AscendFrom 0 (numbers_of lines) → IsFirst lines refusal → IsLeastRefusal lines refusal
+least_of : (lines : List JudgedLine) (refusal : Rejection) → AscendFrom 0 (numbers_of lines) → IsFirst lines refusal → IsLeastRefusal lines refusal
 least_of lines refusal a h =
     let split = h.split in
     let there : AscendFrom 0 (numbers_of h.before ++ numbers_of (h.at ∷ h.after)) =
     subst (AscendFrom 0) (ap numbers_of split ∙ map-append (λ (j : JudgedLine). j.line) h.before (h.at ∷ h.after)) a in
-    let behind = rest_behind 0 h.at h.after refusal h.line h.is (ascend_back 0 (numbers_of h.before) (numbers_of (h.at ∷ h.after)) there) in
-    let free = All-weaker IsFree (IsBehind refusal) (λ j none code due_is. absurd (true≢false (sym due_is ∙ none code))) h.before h.free in
+    let after = rest_after 0 h.at h.after refusal h.line h.is (ascend_back 0 (numbers_of h.before) (numbers_of (h.at ∷ h.after)) there) in
+    let free = All-weaker IsFree (IsAfter refusal) (λ j none other there. absurd (none other there)) h.before h.free in
     record {
       is_due = (h.at, subst (λ (ls : List JudgedLine). Contains ls h.at) (sym split) (Contains-append_right h.before (h.at ∷ h.after) h.at (0, omega arith, refl)), h.line, h.is.0);
-      least = subst (All (IsBehind refusal)) (sym split) (All-append (IsBehind refusal) h.before (h.at ∷ h.after) free behind);
+      least = subst (All (IsAfter refusal)) (sym split) (All-append (IsAfter refusal) h.before (h.at ∷ h.after) free after);
     }
 
 -- what a table comes to
 
-refused_by : (lines : List JudgedLine) (result : Result Walk Refusal) (last : Walk) (refusal : Refusal) → ComeTo lines result last → result ≡ Err refusal → IsFirst lines refusal
-refused_by lines result last refusal h e = subst (λ (r : Result Walk Refusal). ComeTo lines r last) e h
+refused_by : (lines : List JudgedLine) (result : Result Walk Rejection) (last : Walk) (refusal : Rejection) → ComeTo lines result last → result ≡ Err refusal → IsFirst lines refusal
+refused_by lines result last refusal h e = subst (λ (r : Result Walk Rejection). ComeTo lines r last) e h
 
-free_by : (lines : List JudgedLine) (result : Result Walk Refusal) (last walk : Walk) → ComeTo lines result last → result ≡ Ok walk → All IsFree lines × (walk ≡ last)
-free_by lines result last walk h e = subst (λ (r : Result Walk Refusal). ComeTo lines r last) e h
+free_by : (lines : List JudgedLine) (result : Result Walk Rejection) (last walk : Walk) → ComeTo lines result last → result ≡ Ok walk → All IsFree lines × (walk ≡ last)
+free_by lines result last walk h e = subst (λ (r : Result Walk Rejection). ComeTo lines r last) e h
 
-pub refused_least : LeastLaws → (args : Values) (images : ImagesValue Config) (needed : List Bool) (table : TableValue) (refusal : Refusal) → IsTable table
+pub refused_least : LeastLaws → (args : Values) (images : ImagesValue Config) (needed : List Bool) (table : TableValue) (refusal : Rejection) → IsTable table
     → evaluated args images needed table ≡ Err refusal → IsLeastRefusal (needed_lines args images needed table) refusal
 refused_least laws args images needed table refusal is e =
     let outer = value_in table.outer in

@@ -9,7 +9,7 @@ use Rattle.std.proofs.lemmas.List.Elements.{All-nil, All-cons, All-head, All-tai
 use Rattle.std.proofs.lemmas.List.Folds.{list_all-append}
 use Rattle.std.proofs.lemmas.List.Recursion.{is_count_by}
 use Rattle.plain.specs.Limits.{most_images}
-use Rattle.plain.specs.declared.refusal.Refusal.{Refusal}
+use Rattle.expand.specs.declared.reason.Rejection.{Rejection}
 use Rattle.ascii.specs.Names.{is_name}
 use Rattle.llb.specs.Places.{IsLine}
 use Rattle.llb.specs.WellFormed.{is_pattern}
@@ -22,7 +22,7 @@ use Rattle.options.specs.declared.mount.Mount.{Mount}
 use Rattle.options.specs.declared.mount.MountKind.{MountKind}
 use Rattle.options.specs.declared.mount.MountKind.TheVariants.{Bind as BindOf, Cache as CacheOf}
 use Rattle.instructions.specs.Instruction.{IsInstruction}
-use Rattle.instructions.specs.Least.{least}
+use Rattle.instructions.specs.Reason.{reason}
 use Rattle.instructions.specs.declared.instruction.InstructionKind.{InstructionKind}
 use Rattle.instructions.specs.declared.instruction.InstructionKind.TheVariants.{From, Arg, Env, Label, Expose, User, Workdir, StopSignal, Volume, Shell, Cmd, Entrypoint, Run, Copy}
 use Rattle.scopes.specs.Evaluate.{Values, env_line, arg_line}
@@ -33,14 +33,14 @@ use Rattle.stages.specs.Table.{IsResolved}
 use Rattle.stages.specs.declared.stage.ResolvedInstruction.{ResolvedInstruction}
 use Rattle.actions.specs.Copy.{copy_action, file_sources}
 use Rattle.actions.specs.Run.{is_bind, run_action}
-use Rattle.evaluation.specs.Images.{ImageNames, with_origin, with_origins, many_due}
-use Rattle.evaluation.specs.Instruction.{after, action_in, due, first_of, dir_in}
+use Rattle.evaluation.specs.Images.{ImageNames, with_origin, with_origins}
+use Rattle.evaluation.specs.Instruction.{after, action_in, due, fault, first_of, dir_in}
 use Rattle.evaluation.specs.PrivateNames.{HasNames}
-use Rattle.imageconfig.specs.Stage.{unless_due}
 use Rattle.evaluation.specs.Stages.{step_of, with_instruction, next_instruction, instructions_from}
 use Rattle.evaluation.specs.declared.stage.Progress.{Progress}
 use Rattle.evaluation.specs.declared.state.State.{State}
-use Rattle.evaluation.proofs.FoldFacts.{went, not_due}
+use Rattle.evaluation.proofs.FoldFacts.{went}
+use Rattle.evaluation.proofs.ReasonFacts.{FreeOfBoth, goes, no_code}
 use Rattle.evaluation.proofs.ImageFacts.{has_stays, origin_stays, origin_there, origins_stay, origins_there, few_named}
 use Rattle.evaluation.proofs.LawFacts.{Laws, IsHeld}
 
@@ -131,7 +131,7 @@ no_step : All IsStep []
 no_step = All-nil IsStep
 
 step_is : (laws : Laws) (args : Values) (s : State) (kind : InstructionKind) (origins : List Origin) (line : ℕ) → IsLine line → IsInstruction kind
-    → length origins ≡ length (references kind) → HasNames s → least (due args s kind) ≡ None → All IsStep (step_of line (action_in s kind origins))
+    → length origins ≡ length (references kind) → HasNames s → reason (due args s kind) (fault args s kind) ≡ None → All IsStep (step_of line (action_in s kind origins))
 step_is laws args s (From image name) origins line at whole count names none = no_step
 step_is laws args s (Arg arguments) origins line at whole count names none = no_step
 step_is laws args s (Env assignments) origins line at whole count names none = no_step
@@ -146,7 +146,7 @@ step_is laws args s (Cmd command) origins line at whole count names none = no_st
 step_is laws args s (Entrypoint command) origins line at whole count names none = no_step
 step_is laws args s (Run mounts command) origins line at whole count names none =
     one_step line (run_action s.scope (dir_in s) s.config.user s.config.shell mounts command origins) at
-    (laws.runs s.scope (dir_in s) s.config.user s.config.shell mounts command origins whole (count ∙ count_is mounts) names none)
+    (laws.runs s.scope (dir_in s) s.config.user s.config.shell mounts command origins whole (count ∙ count_is mounts) names (no_code (run_due (dir_in s) mounts) None none))
 step_is laws args s (Copy sources destination flags) origins line at whole count names none =
     one_step line (copy_action s.scope (dir_in s) sources destination flags (first_of origins)) at
     (laws.copies s.scope (dir_in s) sources destination flags (first_of origins) whole none)
@@ -193,13 +193,13 @@ step_names P s (Copy sources destination flags) origins line count are =
 -- one instruction, and instructions one after another
 
 one_kept : (laws : Laws) (args outer : Values) (number : ℕ) (r : ResolvedInstruction) (p : Progress)
-    → IsResolved number r → IsLine r.instruction.line → HasNames p.state → All IsStep p.steps → least (due args p.state r.instruction.kind) ≡ None
-    → many_due (with_origins p.names r.origins) ≡ None → StageKept number (r ∷ []) p (with_instruction args outer p r)
-one_kept laws args outer number r p is at names steps none few = record {
+    → IsResolved number r → IsLine r.instruction.line → HasNames p.state → All IsStep p.steps → FreeOfBoth args p.state r.instruction.kind (with_origins p.names r.origins)
+    → StageKept number (r ∷ []) p (with_instruction args outer p r)
+one_kept laws args outer number r p is at names steps free = record {
   names = names_after laws args outer p.state r.instruction.kind is.whole names;
   steps =
       All-append IsStep p.steps (step_of r.instruction.line (action_in p.state r.instruction.kind r.origins)) steps
-      (step_is laws args p.state r.instruction.kind r.origins r.instruction.line at is.whole is.count names none);
+      (step_is laws args p.state r.instruction.kind r.origins r.instruction.line at is.whole is.count names free.none);
   count =
       let whole = length-append p.steps (step_of r.instruction.line (action_in p.state r.instruction.kind r.origins)) in
       let one = step_count r.instruction.line (action_in p.state r.instruction.kind r.origins) in
@@ -207,14 +207,14 @@ one_kept laws args outer number r p is at names steps none few = record {
   origins = λ P are before.
       All-append (λ (s : Step). NamesOnly P s.action) p.steps (step_of r.instruction.line (action_in p.state r.instruction.kind r.origins)) before
       (step_names P p.state r.instruction.kind r.origins r.instruction.line is.count (All-head (λ (x : ResolvedInstruction). All P x.origins) r [] are));
-  few = λ h. few_named (with_origins p.names r.origins) few;
+  few = λ h. few_named (with_origins p.names r.origins) free.few;
   held =
       All-cons (λ (x : ResolvedInstruction). All (IsHeld (with_origins p.names r.origins)) x.origins) r [] (origins_there p.names r.origins)
       (All-nil (λ (x : ResolvedInstruction). All (IsHeld (with_origins p.names r.origins)) x.origins));
   still = λ o h. has_stays p.names (with_origins p.names r.origins) (origins_stay p.names r.origins) o h;
 }
 
-abbrev well_of : {X : Type 0} → X → Result X Refusal
+abbrev well_of : {X : Type 0} → X → Result X Rejection
 well_of x = Ok x
 
 same_ok : {X : Type 0} (x y : X) → well_of x ≡ well_of y → x ≡ y
@@ -223,12 +223,8 @@ same_ok x y e = cc
 next_kept : (laws : Laws) (args outer : Values) (number : ℕ) (r : ResolvedInstruction) (p next : Progress)
     → IsResolved number r → IsLine r.instruction.line → HasNames p.state → All IsStep p.steps → next_instruction args outer p r ≡ Ok next → StageKept number (r ∷ []) p next
 next_kept laws args outer number r p next is at names steps h =
-    let well : Result Progress Refusal = Ok (with_instruction args outer p r) in
-    let few : Result Progress Refusal = unless_due (many_due (with_origins p.names r.origins)) r.instruction.line well in
-    let none = not_due (least (due args p.state r.instruction.kind)) r.instruction.line few next h in
-    let fits = not_due (many_due (with_origins p.names r.origins)) r.instruction.line well next none.behind in
-    subst (λ (x : Progress). StageKept number (r ∷ []) p x) (same_ok (with_instruction args outer p r) next fits.behind)
-    (one_kept laws args outer number r p is at names steps none.none fits.none)
+    let step = goes args outer p next r h in
+    subst (λ (x : Progress). StageKept number (r ∷ []) p x) step.is (one_kept laws args outer number r p is at names steps step.free)
 
 none_kept : (number : ℕ) (p : Progress) → HasNames p.state → All IsStep p.steps → StageKept number [] p p
 none_kept number p names steps = record {

@@ -9,6 +9,7 @@ use Rattle.rows.specs.WellFormed.{IsAction}
 use Rattle.rows.specs.declared.row.Origin.{Origin}
 use Rattle.instructions.specs.Instruction.{IsInstruction}
 use Rattle.instructions.specs.Least.{least}
+use Rattle.instructions.specs.Reason.{reason}
 use Rattle.instructions.specs.declared.instruction.Argument.{Argument}
 use Rattle.instructions.specs.declared.instruction.Assignment.{Assignment}
 use Rattle.instructions.specs.declared.instruction.Command.{Command}
@@ -17,7 +18,7 @@ use Rattle.instructions.specs.declared.instruction.Source.{Source}
 use Rattle.scopes.specs.Evaluate.{Values, env_line, arg_line}
 use Rattle.scopes.specs.Scope.{kept, names_in, is_environment_name}
 use Rattle.scopes.specs.declared.declaration.Declaration.{Declaration}
-use Rattle.actions.specs.Copy.{copy_action, copy_due}
+use Rattle.actions.specs.Copy.{copy_action, copy_due, copy_fault}
 use Rattle.actions.specs.Run.{is_bind, run_action, run_due}
 use Rattle.evaluation.specs.Images.{ImageNames}
 use Rattle.evaluation.proofs.ImageFacts.{HasName}
@@ -32,7 +33,7 @@ pub record Laws : Type 0 where
       → IsAction (run_action scope dir user shell mounts command origins)
   pub copies : (scope : List Declaration) (dir : List (List ℕ)) (sources : List Source) (destination : Parts) (flags : CopyFlags) (origin : Origin)
       → IsInstruction (Copy sources destination flags)
-      → least (copy_due scope dir sources destination) ≡ None
+      → reason (copy_due scope dir sources destination) (copy_fault scope sources destination) ≡ None
       → IsAction (copy_action scope dir sources destination flags origin)
   pub kept_names : (fits : List ℕ → Bool) (ds : List Declaration) → list_all fits (names_in ds) ≡ true → list_all fits (names_in (kept ds)) ≡ true
   pub variable_names : (before : Values) (assignments : List Assignment) → names_in (env_line before assignments) ≡ map (λ a. a.name) assignments

@@ -19,5 +19,6 @@ mod EvaluatedFacts
 mod KeptFacts
 mod LawFacts
 mod MadeFacts
+mod ReasonFacts
 mod RowFacts
 mod WholeFacts

@@ -1,34 +1,62 @@
--- The fault of a line: the code that is due for it, with its line.
-use Rattle.std.specs.Prelude.{◌≡◌, ℕ, Bool, List, Option, Some, None, Err, refl, if◌then◌else◌}
+-- The fault of a line: why it is refused, with its line.
+use Rattle.std.specs.Prelude.{◌≡◌, ℕ, Bool, List, Option, Some, None, Ok, Err, refl, if◌then◌else◌}
 use Rattle.std.proofs.Common.{sym, ◌∙◌, ap, subst}
 use Rattle.plain.specs.declared.fault.Fault.{Fault}
 use Rattle.plain.specs.declared.fault.Fault.TheVariants.{Because, Memory}
 use Rattle.plain.specs.declared.refusal.Code.{Code}
 use Rattle.plain.specs.declared.refusal.Code.TheVariants.{R18}
-use Rattle.plain.specs.declared.refusal.Refusal.{Refusal}
+use Rattle.expand.specs.Reasons.{reason_of}
+use Rattle.expand.specs.declared.fault.Unexpanded.{Unexpanded}
+use Rattle.expand.specs.declared.fault.Unexpanded.TheVariants.{TooLong, Required}
+use Rattle.expand.specs.declared.reason.Reason.{Reason}
+use Rattle.expand.specs.declared.reason.Reason.TheVariants.{Coded}
+use Rattle.expand.specs.declared.reason.Rejection.{Rejection}
 use Rattle.instructions.specs.Least.{least, Meets}
-use Rattle.scopes.specs.Evaluate.{Declares, is_one_long}
+use Rattle.instructions.specs.Reason.{reason, reason_by, required_in, is_long, Evaluates}
+use Rattle.scopes.specs.Evaluate.{Declares}
 use Rattle.scopes.specs.declared.declaration.Declaration.{Declaration}
-use Rattle.evaluation.specs.PrivateInstruction.{with_line}
+use Rattle.evaluation.specs.PrivateInstruction.{with_line, text_fault, code_fault}
 use Rattle.evaluation.specs.PrivateRefusals.{EvaluatesTo}
 
-pub line_told : {X : Type 0} (made : X) (codes : Code → Bool) (line : ℕ) (fault : Fault Code) (out : Fault Refusal) → out ≡ with_line fault line
-    → ((code : Code) → fault ≡ Because code → least codes ≡ Some code) → EvaluatesTo made codes line (Err out)
-line_told made codes line (Because code) out is h = subst (λ (o : Fault Refusal). EvaluatesTo made codes line (Err o)) (sym is) (refl, h code refl)
-line_told made codes line Memory out is h = subst (λ (o : Fault Refusal). EvaluatesTo made codes line (Err o)) (sym is) tt
+-- what is reported of a line is why it is refused
+abbrev pub Reports : Option Reason → Fault Reason → Type 0
+Reports why fault = (told : Reason) → fault ≡ Because told → why ≡ Some told
 
-same_code : (this that : Code) → Because this ≡ Because that → this ≡ that
-same_code this that e = cc
+same_reason : (this that : Reason) → Because this ≡ Because that → this ≡ that
+same_reason this that e = cc
 
-no_code : (code : Code) → Memory ≡ Because code → ⊥
-no_code code e = cc
+no_reason : (told : Reason) → Memory ≡ Because told → ⊥
+no_reason told e = cc
 
-pub long_told : (old line new : List Declaration) (texts : List (List ℕ)) (fault : Fault Code) → Declares old line texts new (Err fault)
-    → (code : Code) → fault ≡ Because code → (if is_one_long texts then Some R18 else None) ≡ Some code
-long_told old line new texts (Because this) h code e =
-    ap (λ (b : Bool). if b then Some R18 else None) h.2 ∙ ap Some (sym h.1 ∙ same_code this code e)
-long_told old line new texts Memory h code e = absurd (no_code code e)
+pub line_told : {X : Type 0} (made : X) (codes : Code → Bool) (against : Option Unexpanded) (line : ℕ) (fault : Fault Reason) (out : Fault Rejection) → out ≡ with_line fault line
+    → Reports (reason codes against) fault → EvaluatesTo made codes against line (Err out)
+line_told made codes against line (Because told) out is h = subst (λ (o : Fault Rejection). EvaluatesTo made codes against line (Err o)) (sym is) (refl, h told refl)
+line_told made codes against line Memory out is h = subst (λ (o : Fault Rejection). EvaluatesTo made codes against line (Err o)) (sym is) tt
 
-pub code_met : {X : Type 0} (made : Option X) (codes : Code → Bool) (fault : Fault Code) → Meets made codes (Err fault) → (code : Code) → fault ≡ Because code → least codes ≡ Some code
-code_met made codes (Because this) h code e = h ∙ ap Some (same_code this code e)
-code_met made codes Memory h code e = absurd (no_code code e)
+-- a line of which R18 is due if one of its texts is too long, and nothing else
+long_by : (why : Unexpanded) → reason_by (if is_long (Some why) then Some R18 else None) (required_in (Some why)) ≡ Some (reason_of why)
+long_by TooLong = refl
+long_by (Required text) = refl
+
+long_of : (against : Option Unexpanded) (why : Unexpanded) → against ≡ Some why → reason_by (if is_long against then Some R18 else None) (required_in against) ≡ Some (reason_of why)
+long_of against why h = ap (λ (a : Option Unexpanded). reason_by (if is_long a then Some R18 else None) (required_in a)) h ∙ long_by why
+
+pub long_told : (old line new : List Declaration) (against : Option Unexpanded) (fault : Fault Unexpanded) (out : Fault Reason) → out ≡ text_fault fault
+    → Declares old line against new (Err fault) → Reports (reason_by (if is_long against then Some R18 else None) (required_in against)) out
+long_told old line new against (Because why) out is h told e = long_of against why h.1 ∙ ap Some (same_reason (reason_of why) told (sym is ∙ e))
+long_told old line new against Memory out is h told e = absurd (no_reason told (sym is ∙ e))
+
+-- a line that expands nothing
+pub code_told : {X : Type 0} (made : X) (codes : Code → Bool) (fault : Fault Code) (out : Fault Reason) → out ≡ code_fault fault
+    → Meets (Some made) codes (Err fault) → Evaluates (Some made) codes None (Err out)
+code_told made codes (Because code) out is h =
+    subst (λ (o : Fault Reason). Evaluates (Some made) codes None (Err o)) (sym is) (ap (λ (c : Option Code). reason_by c None) h)
+code_told made codes Memory out is h = subst (λ (o : Fault Reason). Evaluates (Some made) codes None (Err o)) (sym is) tt
+
+pub code_well : {X : Type 0} (made x : X) (codes : Code → Bool) → (Some made ≡ Some x) × (least codes ≡ None) → Evaluates (Some made) codes None (Ok x)
+code_well made x codes h = (h.0, ap (λ (c : Option Code). reason_by c None) h.1)
+
+pub reason_met : {X : Type 0} (made : Option X) (codes : Code → Bool) (against : Option Unexpanded) (fault : Fault Reason) → Evaluates made codes against (Err fault)
+    → Reports (reason codes against) fault
+reason_met made codes against (Because this) h told e = h ∙ ap Some (same_reason this told e)
+reason_met made codes against Memory h told e = absurd (no_reason told e)

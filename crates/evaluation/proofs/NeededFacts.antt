@@ -3,7 +3,7 @@ use Rattle.std.specs.Prelude.{◌≡◌, ◌+◌, ℕ, suc, Bool, true, false, L
 use Rattle.std.proofs.Common.{sym, ◌∙◌, ap, subst, arith, length-append}
 use Rattle.plain.specs.Marks.{is_marked, IsPath}
 use Rattle.plain.proofs.MarkFacts.{reached_more}
-use Rattle.plain.specs.declared.refusal.Refusal.{Refusal}
+use Rattle.expand.specs.declared.reason.Rejection.{Rejection}
 use Rattle.plans.specs.Images.{ImagesValue}
 use Rattle.rows.specs.declared.row.Origin.TheVariants.{Stage as StageOf}
 use Rattle.scopes.specs.Evaluate.{Values}
@@ -81,7 +81,7 @@ first_by : (args outer : Values) (images : ImagesValue Config) (walk : Walk) (st
 first_by args outer images walk stage other true f = ap (stage_from args outer images walk) (f refl)
 first_by args outer images walk stage other false f = refl
 
-rest_by : (args outer : Values) (images : ImagesValue Config) (marks : List Bool) (stages others : List ResolvedStage) (result : Result Walk Refusal)
+rest_by : (args outer : Values) (images : ImagesValue Config) (marks : List Bool) (stages others : List ResolvedStage) (result : Result Walk Rejection)
     → ((next : Walk) → result ≡ Ok next → stages_from args outer images marks (Ok next) stages ≡ stages_from args outer images marks (Ok next) others)
     → stages_from args outer images marks result stages ≡ stages_from args outer images marks result others
 rest_by args outer images marks stages others (Ok next) f = f next refl
@@ -101,7 +101,7 @@ stages_same laws args outer images marks (stage ∷ stages) (other ∷ others) w
     stages_same laws args outer images marks stages others next (omega (arith, long))
     (λ k n at marked. same (suc k) n (omega (arith, at, more)) marked)) in
     let first = first_by args outer images walk stage other (is_marked marks (length walk.rows)) (λ marked. some_same stage other (same 0 (length walk.rows) (omega arith) marked)) in
-    rest ∙ ap (λ (r : Result Walk Refusal). stages_from args outer images marks r others) first
+    rest ∙ ap (λ (r : Result Walk Rejection). stages_from args outer images marks r others) first
 
 pub evaluated_same : LeastLaws → (args : Values) (images : ImagesValue Config) (marks : List Bool) (table other : TableValue)
     → table.outer ≡ other.outer → SameWhereMarked marks table.stages other.stages → evaluated args images marks table ≡ evaluated args images marks other

@@ -5,21 +5,19 @@ use Rattle.std.proofs.Common.{subst}
 use Rattle.std.proofs.lemmas.Option.{slice_get_within, get_or_from_slice_get}
 use Rattle.std.proofs.lemmas.List.Elements.{All-nil, All-push}
 use Rattle.plain.specs.Marks.{is_marked}
-use Rattle.plain.specs.declared.refusal.Refusal.{Refusal}
+use Rattle.expand.specs.declared.reason.Rejection.{Rejection}
 use Rattle.plain.specs.declared.variable.Variable.{Variable}
 use Rattle.plans.specs.Images.{ImagesValue}
-use Rattle.instructions.specs.Least.{least}
+use Rattle.instructions.specs.Reason.{reason}
 use Rattle.scopes.specs.Evaluate.{Values}
 use Rattle.scopes.specs.Scope.{value_in, run_env}
 use Rattle.stages.specs.Table.{TableValue}
 use Rattle.stages.specs.declared.stage.ResolvedInstruction.{ResolvedInstruction}
 use Rattle.stages.specs.declared.stage.ResolvedStage.{ResolvedStage}
 use Rattle.imageconfig.specs.Environment.{variables_of}
-use Rattle.imageconfig.specs.Stage.{unless_due}
 use Rattle.imageconfig.specs.declared.config.Config.{Config}
 use Rattle.evaluation.specs.Evaluated.{no_stage, evaluated}
-use Rattle.evaluation.specs.Images.{with_origin, with_origins, many_due}
-use Rattle.evaluation.specs.Instruction.{due}
+use Rattle.evaluation.specs.Images.{with_origin, many_codes}
 use Rattle.evaluation.specs.Reached.{ComesTo, HaveEnvironments, HasScopesEnvironment}
 use Rattle.evaluation.specs.Stages.{with_instruction, next_instruction, instructions_from, begun, with_stage, with_ended, with_none, stage_from, next_stage, stages_from}
 use Rattle.evaluation.specs.declared.stage.Progress.{Progress}
@@ -27,8 +25,9 @@ use Rattle.evaluation.specs.declared.state.State.{State}
 use Rattle.evaluation.specs.declared.walk.Walk.{Walk}
 use Rattle.evaluation.proofs.EnvironmentFacts.{EnvironmentLaws, IsAlike, IsEndAlike, alike_after, start_alike, run_sees}
 use Rattle.evaluation.proofs.FoldFacts.{went, not_due, refused_or_ok}
+use Rattle.evaluation.proofs.ReasonFacts.{goes}
 
-abbrev pub well_of : {X : Type 0} → X → Result X Refusal
+abbrev pub well_of : {X : Type 0} → X → Result X Rejection
 well_of x = Ok x
 
 pub same_ok : {X : Type 0} (x y : X) → well_of x ≡ well_of y → x ≡ y
@@ -37,19 +36,14 @@ same_ok x y e = cc
 -- an instruction and a stage for which nothing is due
 
 pub next_made : (args outer : Values) (p next : Progress) (r : ResolvedInstruction) → next_instruction args outer p r ≡ Ok next → with_instruction args outer p r ≡ next
-next_made args outer p next r h =
-    let well : Result Progress Refusal = Ok (with_instruction args outer p r) in
-    let few : Result Progress Refusal = unless_due (many_due (with_origins p.names r.origins)) r.instruction.line well in
-    let none = not_due (least (due args p.state r.instruction.kind)) r.instruction.line few next h in
-    let fits = not_due (many_due (with_origins p.names r.origins)) r.instruction.line well next none.behind in
-    same_ok (with_instruction args outer p r) next fits.behind
+next_made args outer p next r h = (goes args outer p next r h).is
 
 pub record StageMade (args outer : Values) (images : ImagesValue Config) (walk : Walk) (stage : ResolvedStage) (next : Walk) : Type 0 where
   pub last : Progress
   pub went : instructions_from args outer (Ok (begun images walk stage)) stage.instructions ≡ Ok last
   pub is : with_stage walk stage last ≡ next
 
-ended_made : (args outer : Values) (images : ImagesValue Config) (walk : Walk) (stage : ResolvedStage) (next : Walk) (ended : Result Progress Refusal)
+ended_made : (args outer : Values) (images : ImagesValue Config) (walk : Walk) (stage : ResolvedStage) (next : Walk) (ended : Result Progress Rejection)
     → instructions_from args outer (Ok (begun images walk stage)) stage.instructions ≡ ended → with_ended walk stage ended ≡ Ok next → StageMade args outer images walk stage next
 ended_made args outer images walk stage next (Ok last) is e = record { last = last; went = is; is = same_ok (with_stage walk stage last) next e }
 ended_made args outer images walk stage next (Err refusal) is e = absurd (refused_or_ok refusal next e)
@@ -58,7 +52,7 @@ pub stage_made : (args outer : Values) (images : ImagesValue Config) (walk : Wal
     → StageMade args outer images walk stage next
 stage_made args outer images walk stage next e =
     let ended = instructions_from args outer (Ok (begun images walk stage)) stage.instructions in
-    ended_made args outer images walk stage next ended refl (not_due (many_due (with_origin walk.names stage.base)) stage.line (with_ended walk stage ended) next e).behind
+    ended_made args outer images walk stage next ended refl (not_due (reason (many_codes (with_origin walk.names stage.base)) None) stage.line (with_ended walk stage ended) next e).behind
 
 -- the environment
 

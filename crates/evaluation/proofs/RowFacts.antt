@@ -1,5 +1,5 @@
 -- What holds behind some stages: of the rows, of what the stages leave, and of the images that are named.
-use Rattle.std.specs.Prelude.{◌≡◌, ◌≤◌, ◌<◌, ◌+◌, ℕ, zero, suc, Bool, true, false, List, [], ◌∷◌, ◌++◌, map, Option, Some, None, Result, Ok, Err, Contains, length, slice_get, slice_index_or, refl, if◌then◌else◌}
+use Rattle.std.specs.Prelude.{◌≡◌, ◌≤◌, ◌<◌, ◌+◌, ℕ, zero, suc, Bool, true, false, List, [], ◌∷◌, ◌++◌, map, Option, Some, None, Result, Ok, Err, Contains, length, nat_lt, slice_get, slice_index_or, refl, if◌then◌else◌}
 use Rattle.std.specs.List.{All, list_all}
 use Rattle.std.specs.FinMap.{get}
 use Rattle.std.proofs.Common.{sym, ◌∙◌, ap, subst, arith, append_assoc, append-nil, length-append, inl, inr}
@@ -7,7 +7,7 @@ use Rattle.std.proofs.lemmas.Bool.{cases_lt, true≢false}
 use Rattle.std.proofs.lemmas.List.Elements.{All-nil, All-cons, All-head, All-tail, All-push, All-weaker, All-contains_itself, Contains-append_left, Contains-append_right}
 use Rattle.plain.specs.Limits.{most_images}
 use Rattle.plain.specs.Marks.{is_marked}
-use Rattle.plain.specs.declared.refusal.Refusal.{Refusal}
+use Rattle.expand.specs.declared.reason.Rejection.{Rejection}
 use Rattle.llb.specs.Places.{IsLine}
 use Rattle.llb.specs.declared.op.Source.{Source}
 use Rattle.llb.specs.declared.op.Source.TheVariants.{Scratch, Context, Image}
@@ -25,13 +25,14 @@ use Rattle.scopes.specs.Evaluate.{Values}
 use Rattle.scopes.specs.Scope.{kept, names_in, is_environment_name}
 use Rattle.stages.specs.Needed.{origins_in, stage_origins}
 use Rattle.stages.specs.Table.{IsBefore, IsResolved, IsStage, stage_lines, lines_of}
+use Rattle.instructions.specs.Reason.{reason}
 use Rattle.stages.specs.declared.stage.ResolvedInstruction.{ResolvedInstruction}
 use Rattle.stages.specs.declared.stage.ResolvedStage.{ResolvedStage}
 use Rattle.imageconfig.specs.Environment.{IsEnvironment, variables_of}
 use Rattle.imageconfig.specs.Rows.{Row, names_of}
 use Rattle.imageconfig.specs.declared.config.Config.{Config}
 use Rattle.evaluation.specs.Evaluated.{no_stage}
-use Rattle.evaluation.specs.Images.{with_origin, many_due}
+use Rattle.evaluation.specs.Images.{with_origin, many_codes}
 use Rattle.evaluation.specs.PrivateNames.{HasNames, HasFoundNames, IsProperSource, IsProperBase}
 use Rattle.evaluation.specs.Stages.{instructions_from, begun, with_stage, with_ended, with_none, stage_from, next_stage, stages_from}
 use Rattle.evaluation.specs.State.{declaration_of, image_state, found_state, ended_state, source_state, start}
@@ -39,6 +40,7 @@ use Rattle.evaluation.specs.declared.stage.Progress.{Progress}
 use Rattle.evaluation.specs.declared.state.State.{State}
 use Rattle.evaluation.specs.declared.walk.Walk.{Walk}
 use Rattle.evaluation.proofs.FoldFacts.{not_due, went, refused_or_ok}
+use Rattle.evaluation.proofs.ReasonFacts.{few_is}
 use Rattle.evaluation.proofs.ImageFacts.{few_named}
 use Rattle.evaluation.proofs.LawFacts.{Laws, IsHeld}
 use Rattle.evaluation.proofs.KeptFacts.{StageKept, stage_kept, base_held, base_still}
@@ -103,7 +105,7 @@ origins_contained P Q (r ∷ rs) ps f =
 
 -- refusals
 
-abbrev well_of : Walk → Result Walk Refusal
+abbrev well_of : Walk → Result Walk Rejection
 well_of walk = Ok walk
 
 same_ok : (a b : Walk) → well_of a ≡ well_of b → a ≡ b
@@ -251,7 +253,7 @@ steps_named : (n : ℕ) (rs : List ResolvedInstruction) (p q : Progress) (P : Or
 steps_named n rs p q P kept none are = kept.origins P are (subst (All (λ (s : Step). NamesOnly P s.action)) (sym none) (All-nil (λ (s : Step). NamesOnly P s.action)))
 
 with_kept : (K : Origin → Type 0) (images : ImagesValue Config) (needed : List Bool) (stages : List ResolvedStage) (walk : Walk) (stage : ResolvedStage) (p : Progress)
-    → WalkKept K needed stages walk → StageFits K images needed (length stages) stage → is_marked needed (length stages) ≡ true → many_due (with_origin walk.names stage.base) ≡ None
+    → WalkKept K needed stages walk → StageFits K images needed (length stages) stage → is_marked needed (length stages) ≡ true → nat_lt most_images (length (with_origin walk.names stage.base)) ≡ false
     → StageKept (length stages) stage.instructions (begun images walk stage) p → WalkKept K needed (stages ++ stage ∷ []) (with_stage walk stage p)
 with_kept K images needed stages walk stage p kept fits marked none k =
     let row = stage_row stage p in
@@ -286,12 +288,12 @@ with_kept K images needed stages walk stage p kept fits marked none k =
           });
     }
 
-record EndedWell (walk : Walk) (stage : ResolvedStage) (ended : Result Progress Refusal) (next : Walk) : Type 0 where
+record EndedWell (walk : Walk) (stage : ResolvedStage) (ended : Result Progress Rejection) (next : Walk) : Type 0 where
   pub last : Progress
   pub ended_is : ended ≡ Ok last
   pub next_is : with_stage walk stage last ≡ next
 
-ended_well : (walk : Walk) (stage : ResolvedStage) (ended : Result Progress Refusal) (next : Walk) → with_ended walk stage ended ≡ Ok next → EndedWell walk stage ended next
+ended_well : (walk : Walk) (stage : ResolvedStage) (ended : Result Progress Rejection) (next : Walk) → with_ended walk stage ended ≡ Ok next → EndedWell walk stage ended next
 ended_well walk stage (Ok p) next e = record { last = p; ended_is = refl; next_is = same_ok (with_stage walk stage p) next e }
 ended_well walk stage (Err refusal) next e = absurd (refused_or_ok refusal next e)
 
@@ -301,11 +303,11 @@ stage_more : Laws → (K : Origin → Type 0) (args outer : Values) (images : Im
 stage_more laws K args outer images needed stages walk stage next kept fits marked e =
     let first = begun images walk stage in
     let ended = instructions_from args outer (Ok first) stage.instructions in
-    let well = not_due (many_due (with_origin walk.names stage.base)) stage.line (with_ended walk stage ended) next e in
+    let well = not_due (reason (many_codes (with_origin walk.names stage.base)) None) stage.line (with_ended walk stage ended) next e in
     let last = ended_well walk stage ended next well.behind in
     let k = stage_kept laws args outer (length stages) stage.instructions first last.last fits.is.instructions fits.lines
     (start_names laws images walk.states stage.base fits.proper kept.names) (All-nil IsStep) last.ended_is in
-    subst (WalkKept K needed (stages ++ stage ∷ [])) last.next_is (with_kept K images needed stages walk stage last.last kept fits marked well.none k)
+    subst (WalkKept K needed (stages ++ stage ∷ [])) last.next_is (with_kept K images needed stages walk stage last.last kept fits marked (few_is (with_origin walk.names stage.base) well.none) k)
 
 next_by : Laws → (K : Origin → Type 0) (args outer : Values) (images : ImagesValue Config) (needed : List Bool) (stages : List ResolvedStage) (walk : Walk) (stage : ResolvedStage) (next : Walk) (marked : Bool)
     → WalkKept K needed stages walk → StageFits K images needed (length stages) stage → is_marked needed (length stages) ≡ marked

@@ -1,31 +1,31 @@
 -- A step of a stage, and a stage behind those before it.
-use Rattle.std.specs.Prelude.{◌≡◌, ℕ, suc, Bool, true, false, List, [], ◌∷◌, ◌++◌, Option, Some, None, Result, Ok, Err, length, nat_lt, if◌then◌else◌}
+use Rattle.std.specs.Prelude.{◌≡◌, ◌||◌, ℕ, suc, true, false, List, [], ◌∷◌, ◌++◌, Option, Some, None, Result, Ok, Err, length, nat_lt, refl}
 use Rattle.std.specs.List.{All}
 use Rattle.std.proofs.Common.{sym, ◌∙◌, ap, subst, arith}
 use Rattle.plain.specs.Limits.{most_images}
 use Rattle.plain.specs.declared.fault.Fault.{Fault}
 use Rattle.plain.specs.declared.fault.Fault.TheVariants.{Because, Memory}
-use Rattle.plain.specs.declared.refusal.Code.{Code}
-use Rattle.plain.specs.declared.refusal.Code.TheVariants.{R18}
-use Rattle.plain.specs.declared.refusal.Refusal.{Refusal}
+use Rattle.expand.specs.declared.reason.Reason.{Reason}
+use Rattle.expand.specs.declared.reason.Rejection.{Rejection}
 use Rattle.rows.specs.declared.row.Origin.{Origin}
 use Rattle.rows.specs.declared.row.Step.{Step}
 use Rattle.instructions.specs.declared.instruction.InstructionKind.{InstructionKind}
-use Rattle.instructions.specs.Least.{least}
+use Rattle.instructions.specs.Reason.{reason}
 use Rattle.scopes.specs.Evaluate.{Values}
 use Rattle.stages.specs.declared.stage.ResolvedInstruction.{ResolvedInstruction}
-use Rattle.evaluation.specs.Images.{ImageNames, with_origins, many_due}
-use Rattle.evaluation.specs.Instruction.{due}
+use Rattle.evaluation.specs.Images.{ImageNames, with_origins, many_codes}
+use Rattle.evaluation.specs.Instruction.{due, fault}
 use Rattle.evaluation.specs.PrivateInstruction.{done}
 use Rattle.imageconfig.specs.Stage.{unless_due}
 use Rattle.stages.specs.Resolved.{Returns}
-use Rattle.evaluation.specs.PrivateRefusals.{many_refused}
+use Rattle.evaluation.specs.PrivateRefusals.{many_refused, reason_with, with_many, fault_with}
 use Rattle.evaluation.specs.PrivateStage.{IsDone, put_to, IsPut, IsStepped, IsNext, AreNext}
 use Rattle.evaluation.specs.Stages.{next_instruction, instructions_from}
 use Rattle.evaluation.specs.declared.instruction.Done.{Done}
 use Rattle.evaluation.specs.declared.stage.Progress.{Progress}
 use Rattle.evaluation.specs.declared.state.State.{State}
 use Rattle.evaluation.proofs.FoldFacts.{SoFar, so_far_first, so_far_more, so_far_told, so_far_all}
+use Rattle.evaluation.proofs.ReasonFacts.{many_is, reason_is}
 
 -- an item of a list of which all elements are so
 
@@ -41,34 +41,33 @@ item_is P all before rest left x are split is = item_at P before left x (subst (
 
 -- a refusal by its parts
 
-refusal_of : ℕ → Code → Refusal
-refusal_of line code = record { code = code; line = line }
+refusal_of : ℕ → Reason → Rejection
+refusal_of line told = record { reason = told; line = line }
 
-due_told : {X : Type 0} (code : Option Code) (line : ℕ) (rest : Result X Refusal) (refusal : Refusal) → refusal.line ≡ line → code ≡ Some refusal.code → unless_due code line rest ≡ Err refusal
+due_told : {X : Type 0} (told : Option Reason) (line : ℕ) (rest : Result X Rejection) (refusal : Rejection) → refusal.line ≡ line → told ≡ Some refusal.reason → unless_due told line rest ≡ Err refusal
 unfolding refusal_of
-due_told code line rest refusal at is =
-    ap (λ c. unless_due c line rest) is ∙ ap (λ (n : ℕ). Err (refusal_of n refusal.code)) (sym at)
+due_told told line rest refusal at is =
+    ap (λ c. unless_due c line rest) is ∙ ap (λ (n : ℕ). Err (refusal_of n refusal.reason)) (sym at)
 
-not_due : {X : Type 0} (code : Option Code) (line : ℕ) (rest : Result X Refusal) → code ≡ None → unless_due code line rest ≡ rest
-not_due code line rest none = ap (λ c. unless_due c line rest) none
+not_due : {X : Type 0} (told : Option Reason) (line : ℕ) (rest : Result X Rejection) → told ≡ None → unless_due told line rest ≡ rest
+not_due told line rest none = ap (λ c. unless_due c line rest) none
 
-many_is : (names : ImageNames) (b : Bool) → nat_lt most_images (length names) ≡ b → many_due names ≡ (if b then Some R18 else None)
-many_is names b h = ap (λ t. if t then Some R18 else None) h
-
-pub many_told : {X : Type 0} (names : ImageNames) (line : ℕ) (rest : Result X Refusal) → nat_lt most_images (length names) ≡ true → Returns (unless_due (many_due names) line rest) (Err (many_refused line))
+pub many_told : {X : Type 0} (names : ImageNames) (line : ℕ) (rest : Result X Rejection) → nat_lt most_images (length names) ≡ true
+    → Returns (unless_due (reason (many_codes names) None) line rest) (Err (many_refused line))
 many_told names line rest h = ap (λ c. unless_due c line rest) (many_is names true h)
 
-pub few_go_on : {X : Type 0} (names : ImageNames) (line : ℕ) (rest : Result X Refusal) → nat_lt most_images (length names) ≡ false → unless_due (many_due names) line rest ≡ rest
-few_go_on names line rest h = not_due (many_due names) line rest (many_is names false h)
+pub few_go_on : {X : Type 0} (names : ImageNames) (line : ℕ) (rest : Result X Rejection) → nat_lt most_images (length names) ≡ false
+    → unless_due (reason (many_codes names) None) line rest ≡ rest
+few_go_on names line rest h = not_due (reason (many_codes names) None) line rest (many_is names false h)
 
 -- an instruction that is put to its stage
 
-pub put_many : (steps : List Step) (names : ImageNames) (line : ℕ) (made : Done) (fault : Fault Refusal) → fault ≡ many_refused line → nat_lt most_images (length names) ≡ true
+pub put_many : (steps : List Step) (names : ImageNames) (line : ℕ) (made : Done) (fault : Fault Rejection) → fault ≡ many_refused line → nat_lt most_images (length names) ≡ true
     → IsPut steps names line made (Err fault)
 unfolding IsPut
 put_many steps names line made fault is h =
     let told = many_told names line (Ok (put_to steps names line made)) h in
-    subst (λ (f : Fault Refusal). Returns (unless_due (many_due names) line (Ok (put_to steps names line made))) (Err f)) (sym is) told
+    subst (λ (f : Fault Rejection). Returns (unless_due (reason (many_codes names) None) line (Ok (put_to steps names line made))) (Err f)) (sym is) told
 
 pub put_done : (steps : List Step) (names : ImageNames) (line : ℕ) (made : Done) (p : Progress) → nat_lt most_images (length names) ≡ false → p ≡ put_to steps names line made
     → IsPut steps names line made (Ok p)
@@ -79,32 +78,49 @@ pub put_none : (steps : List Step) (names : ImageNames) (line : ℕ) (made : Don
 unfolding IsPut
 put_none steps names line made = tt
 
--- an instruction behind what its stage is so far
+-- an instruction after what its stage is so far
 
-pub stepped_told : (args outer : Values) (s : State) (kind : InstructionKind) (origins : List Origin) (line : ℕ) (steps : List Step) (names : ImageNames) (fault : Fault Refusal)
-    → IsDone args outer s kind origins line (Err fault) → IsStepped args outer s kind origins line steps names (Err fault)
+abbrev reason_both : Values → State → InstructionKind → ImageNames → Option Reason
+reason_both args s kind names = reason (λ code. due args s kind code || many_codes names code) (fault args s kind)
+
+told_with : (args : Values) (s : State) (kind : InstructionKind) (names : ImageNames) (told : Reason) → reason (due args s kind) (fault args s kind) ≡ Some told
+    → reason_both args s kind names ≡ Some (reason_with (nat_lt most_images (length names)) told)
+told_with args s kind names told h = reason_is args s kind names ∙ ap (with_many (nat_lt most_images (length names))) h
+
+none_with : (args : Values) (s : State) (kind : InstructionKind) (names : ImageNames) → reason (due args s kind) (fault args s kind) ≡ None
+    → reason_both args s kind names ≡ reason (many_codes names) None
+none_with args s kind names h =
+    reason_is args s kind names ∙ (ap (with_many (nat_lt most_images (length names))) h ∙ sym (many_is names (nat_lt most_images (length names)) refl))
+
+pub stepped_told : (args outer : Values) (s : State) (kind : InstructionKind) (origins : List Origin) (line : ℕ) (steps : List Step) (names : ImageNames) (told out : Fault Rejection)
+    → IsDone args outer s kind origins line (Err told) → out ≡ fault_with (nat_lt most_images (length names)) told → IsStepped args outer s kind origins line steps names (Err out)
 unfolding IsDone IsStepped
-stepped_told args outer s kind origins line steps names (Because refusal) h = due_told (least (due args s kind)) line _ refusal h.0 h.1
-stepped_told args outer s kind origins line steps names Memory h = tt
+stepped_told args outer s kind origins line steps names (Because refusal) out h is =
+    let rest : Result Progress Rejection = Ok (put_to steps names line (done args outer s kind origins)) in
+    let whole = due_told (reason_both args s kind names) line rest (record { reason = reason_with (nat_lt most_images (length names)) refusal.reason; line = refusal.line }) h.0
+    (told_with args s kind names refusal.reason h.1) in
+    subst (λ (f : Fault Rejection). Returns (unless_due (reason_both args s kind names) line rest) (Err f)) (sym is) whole
+stepped_told args outer s kind origins line steps names Memory out h is =
+    subst (λ (f : Fault Rejection). Returns (unless_due (reason_both args s kind names) line (Ok (put_to steps names line (done args outer s kind origins)))) (Err f)) (sym is) tt
 
-pub stepped_put : (args outer : Values) (s : State) (kind : InstructionKind) (origins : List Origin) (line : ℕ) (steps : List Step) (names : ImageNames) (made : Done) (result : Result Progress (Fault Refusal))
+pub stepped_put : (args outer : Values) (s : State) (kind : InstructionKind) (origins : List Origin) (line : ℕ) (steps : List Step) (names : ImageNames) (made : Done) (result : Result Progress (Fault Rejection))
     → IsDone args outer s kind origins line (Ok made) → IsPut steps names line made result → IsStepped args outer s kind origins line steps names result
 unfolding IsDone IsStepped IsPut
 stepped_put args outer s kind origins line steps names made result told put =
-    subst (λ (r : Result Progress Refusal). Returns r result) (sym (not_due (least (due args s kind)) line _ told.1))
-    (subst (λ (d : Done). Returns (unless_due (many_due names) line (Ok (put_to steps names line d))) result) told.0 put)
+    subst (λ (why : Option Reason). Returns (unless_due why line (Ok (put_to steps names line (done args outer s kind origins)))) result) (sym (none_with args s kind names told.1))
+    (subst (λ (d : Done). Returns (unless_due (reason (many_codes names) None) line (Ok (put_to steps names line d))) result) told.0 put)
 
-pub next_stepped : (args outer : Values) (p named : Progress) (r : ResolvedInstruction) (origins : List Origin) (result : Result Progress (Fault Refusal))
+pub next_stepped : (args outer : Values) (p named : Progress) (r : ResolvedInstruction) (origins : List Origin) (result : Result Progress (Fault Rejection))
     → named ≡ (record { state = p.state; steps = p.steps; names = with_origins p.names origins }) → origins ≡ r.origins
     → IsStepped args outer named.state r.instruction.kind r.origins r.instruction.line named.steps named.names result → IsNext args outer p r result
 unfolding IsNext IsStepped
 next_stepped args outer p named r origins result is same h =
     subst (λ (os : List Origin).
-    Returns (unless_due (least (due args p.state r.instruction.kind)) r.instruction.line (unless_due (many_due (with_origins p.names os)) r.instruction.line
-    (Ok (put_to p.steps (with_origins p.names os) r.instruction.line (done args outer p.state r.instruction.kind r.origins))))) result) same
+    Returns (unless_due (reason_both args p.state r.instruction.kind (with_origins p.names os)) r.instruction.line
+    (Ok (put_to p.steps (with_origins p.names os) r.instruction.line (done args outer p.state r.instruction.kind r.origins)))) result) same
     (subst (λ (q : Progress).
-    Returns (unless_due (least (due args q.state r.instruction.kind)) r.instruction.line (unless_due (many_due q.names) r.instruction.line
-    (Ok (put_to q.steps q.names r.instruction.line (done args outer q.state r.instruction.kind r.origins))))) result) is h)
+    Returns (unless_due (reason_both args q.state r.instruction.kind q.names) r.instruction.line
+    (Ok (put_to q.steps q.names r.instruction.line (done args outer q.state r.instruction.kind r.origins)))) result) is h)
 
 pub next_none : (args outer : Values) (p : Progress) (r : ResolvedInstruction) → IsNext args outer p r (Err Memory)
 unfolding IsNext
@@ -124,7 +140,7 @@ pub next_more : (args outer : Values) (first : Progress) (all rest left : List R
 unfolding NextSoFar IsNext
 next_more args outer first all rest left r now more far is made = so_far_more (next_instruction args outer) first all rest left r now more far is made
 
-pub next_refused : (args outer : Values) (first : Progress) (all rest left whole : List ResolvedInstruction) (r : ResolvedInstruction) (now : Progress) (fault : Fault Refusal)
+pub next_refused : (args outer : Values) (first : Progress) (all rest left whole : List ResolvedInstruction) (r : ResolvedInstruction) (now : Progress) (fault : Fault Rejection)
     → NextSoFar args outer first all rest now → rest ≡ r ∷ left → all ≡ whole → IsNext args outer now r (Err fault) → AreNext args outer first whole (Err fault)
 unfolding NextSoFar IsNext AreNext
 next_refused args outer first all rest left whole r now fault far is same told =

@@ -6,8 +6,8 @@ use Rattle.plain.specs.Limits.{most_images}
 use Rattle.plain.specs.Marks.{is_marked}
 use Rattle.plain.specs.declared.fault.Fault.{Fault}
 use Rattle.plain.specs.declared.fault.Fault.TheVariants.{Because, Memory}
-use Rattle.plain.specs.declared.refusal.Code.{Code}
-use Rattle.plain.specs.declared.refusal.Refusal.{Refusal}
+use Rattle.expand.specs.declared.reason.Reason.{Reason}
+use Rattle.expand.specs.declared.reason.Rejection.{Rejection}
 use Rattle.plans.specs.Images.{ImagesValue}
 use Rattle.rows.specs.declared.row.Origin.{Origin}
 use Rattle.rows.specs.declared.row.Stage.{Stage}
@@ -16,9 +16,10 @@ use Rattle.stages.specs.declared.stage.ResolvedInstruction.{ResolvedInstruction}
 use Rattle.stages.specs.declared.stage.ResolvedStage.{ResolvedStage}
 use Rattle.imageconfig.specs.declared.config.Config.{Config}
 use Rattle.evaluation.specs.Evaluated.{no_stage}
-use Rattle.evaluation.specs.Images.{ImageNames, with_origin, many_due}
+use Rattle.evaluation.specs.Images.{ImageNames, with_origin, many_codes}
 use Rattle.evaluation.specs.PrivateStage.{AreNext}
 use Rattle.evaluation.specs.PrivateWalk.{AreFew, AreNamed, begun_with, IsEnded, IsWalk, IsStageAdded, IsNextStage, AreStages}
+use Rattle.instructions.specs.Reason.{reason}
 use Rattle.imageconfig.specs.Stage.{unless_due}
 use Rattle.stages.specs.Resolved.{Returns}
 use Rattle.evaluation.specs.PrivateRefusals.{many_refused}
@@ -31,19 +32,19 @@ use Rattle.evaluation.proofs.StepFacts.{item_is, many_told, few_go_on}
 
 -- the names with a FROM's
 
-pub few_refused : (names : ImageNames) (line : ℕ) (fault : Fault Refusal) → fault ≡ many_refused line → nat_lt most_images (length names) ≡ true → AreFew names line (Err fault)
+pub few_refused : (names : ImageNames) (line : ℕ) (fault : Fault Rejection) → fault ≡ many_refused line → nat_lt most_images (length names) ≡ true → AreFew names line (Err fault)
 unfolding AreFew
 few_refused names line fault is many =
     let told = many_told names line (Ok names) many in
-    subst (λ (f : Fault Refusal). Returns (unless_due (many_due names) line (Ok names)) (Err f)) (sym is) told
+    subst (λ (f : Fault Rejection). Returns (unless_due (reason (many_codes names) None) line (Ok names)) (Err f)) (sym is) told
 
 pub few_all : (names : ImageNames) (line : ℕ) → nat_lt most_images (length names) ≡ false → AreFew names line (Ok names)
 unfolding AreFew
 few_all names line few = few_go_on names line (Ok names) few
 
-pub named_few : (names more : ImageNames) (base : Origin) (line : ℕ) (result : Result ImageNames (Fault Refusal)) → more ≡ with_origin names base → AreFew more line result → AreNamed names base line result
+pub named_few : (names more : ImageNames) (base : Origin) (line : ℕ) (result : Result ImageNames (Fault Rejection)) → more ≡ with_origin names base → AreFew more line result → AreNamed names base line result
 unfolding AreNamed AreFew
-named_few names more base line result is h = subst (λ (ns : ImageNames). Returns (unless_due (many_due ns) line (Ok ns)) result) is h
+named_few names more base line result is h = subst (λ (ns : ImageNames). Returns (unless_due (reason (many_codes ns) None) line (Ok ns)) result) is h
 
 pub named_none : (names : ImageNames) (base : Origin) (line : ℕ) → AreNamed names base line (Err Memory)
 unfolding AreNamed
@@ -51,20 +52,20 @@ named_none names base line = tt
 
 -- what a stage's instructions answer
 
-abbrev well_of : {X : Type 0} → X → Result X Refusal
+abbrev well_of : {X : Type 0} → X → Result X Rejection
 well_of x = Ok x
 
 same_ok : {X : Type 0} (x y : X) → well_of x ≡ well_of y → x ≡ y
 same_ok x y e = cc
 
-told_before : {X Y : Type 0} (code : Option Code) (line : ℕ) (x : X) (rest : Result Y Refusal) (refusal : Refusal) → unless_due code line (Ok x) ≡ Err refusal → unless_due code line rest ≡ Err refusal
+told_before : {X Y : Type 0} (code : Option Reason) (line : ℕ) (x : X) (rest : Result Y Rejection) (refusal : Rejection) → unless_due code line (Ok x) ≡ Err refusal → unless_due code line rest ≡ Err refusal
 told_before None line x rest refusal h = cc
 told_before (Some code) line x rest refusal h = cc
 
-pub ended_told : (args outer : Values) (images : ImagesValue Config) (states : List (Option State)) (names : ImageNames) (line : ℕ) (base : Origin) (rs : List ResolvedInstruction) (fault : Fault Refusal)
+pub ended_told : (args outer : Values) (images : ImagesValue Config) (states : List (Option State)) (names : ImageNames) (line : ℕ) (base : Origin) (rs : List ResolvedInstruction) (fault : Fault Rejection)
     → AreNamed names base line (Err fault) → IsEnded args outer images states names line base rs (Err fault)
 unfolding AreNamed IsEnded
-ended_told args outer images states names line base rs (Because refusal) h = told_before (many_due (with_origin names base)) line (with_origin names base) _ refusal h
+ended_told args outer images states names line base rs (Because refusal) h = told_before (reason (many_codes (with_origin names base)) None) line (with_origin names base) _ refusal h
 ended_told args outer images states names line base rs Memory h = tt
 
 pub ended_none : (args outer : Values) (images : ImagesValue Config) (states : List (Option State)) (names : ImageNames) (line : ℕ) (base : Origin) (rs : List ResolvedInstruction)
@@ -76,50 +77,50 @@ pub begun_none : (args outer : Values) (p : Progress) (rs : List ResolvedInstruc
 unfolding AreNext
 begun_none args outer p rs = tt
 
-pub begun_next : (args outer : Values) (p q : Progress) (rs : List ResolvedInstruction) (result : Result Progress (Fault Refusal)) → p ≡ q → AreNext args outer p rs result → AreNext args outer q rs result
+pub begun_next : (args outer : Values) (p q : Progress) (rs : List ResolvedInstruction) (result : Result Progress (Fault Rejection)) → p ≡ q → AreNext args outer p rs result → AreNext args outer q rs result
 begun_next args outer p q rs result is h = subst (λ (x : Progress). AreNext args outer x rs result) is h
 
-pub ended_next : (args outer : Values) (images : ImagesValue Config) (states : List (Option State)) (names more : ImageNames) (line : ℕ) (base : Origin) (rs : List ResolvedInstruction) (result : Result Progress (Fault Refusal))
+pub ended_next : (args outer : Values) (images : ImagesValue Config) (states : List (Option State)) (names more : ImageNames) (line : ℕ) (base : Origin) (rs : List ResolvedInstruction) (result : Result Progress (Fault Rejection))
     → AreNamed names base line (Ok more) → AreNext args outer (begun_with images states base more) rs result → IsEnded args outer images states names line base rs result
 unfolding AreNamed IsEnded AreNext
 ended_next args outer images states names more line base rs result named next =
-    let few = not_due (many_due (with_origin names base)) line (Ok (with_origin names base)) more named in
+    let few = not_due (reason (many_codes (with_origin names base)) None) line (Ok (with_origin names base)) more named in
     let whole : more ≡ with_origin names base = sym (same_ok (with_origin names base) more few.behind) in
-    subst (λ (c : Option Code). Returns (unless_due c line (instructions_from args outer (Ok (begun_with images states base (with_origin names base))) rs)) result) (sym few.none)
+    subst (λ (c : Option Reason). Returns (unless_due c line (instructions_from args outer (Ok (begun_with images states base (with_origin names base))) rs)) result) (sym few.none)
     (subst (λ (ns : ImageNames). Returns (instructions_from args outer (Ok (begun_with images states base ns)) rs) result) whole next)
 
 -- a needed stage behind those before it
 
-told_behind : (code : Option Code) (line : ℕ) (walk : Walk) (stage : ResolvedStage) (rest : Result Progress Refusal) (refusal : Refusal)
+told_behind : (code : Option Reason) (line : ℕ) (walk : Walk) (stage : ResolvedStage) (rest : Result Progress Rejection) (refusal : Rejection)
     → unless_due code line rest ≡ Err refusal → unless_due code line (with_ended walk stage rest) ≡ Err refusal
 told_behind None line walk stage (Ok p) refusal h = cc
 told_behind None line walk stage (Err r) refusal h = cc
 told_behind (Some code) line walk stage rest refusal h = cc
 
-pub added_told : (args outer : Values) (images : ImagesValue Config) (walk : Walk) (stage : ResolvedStage) (states : List (Option State)) (rs : List ResolvedInstruction) (fault : Fault Refusal)
+pub added_told : (args outer : Values) (images : ImagesValue Config) (walk : Walk) (stage : ResolvedStage) (states : List (Option State)) (rs : List ResolvedInstruction) (fault : Fault Rejection)
     → states ≡ walk.states → rs ≡ stage.instructions → IsEnded args outer images states walk.names stage.line stage.base rs (Err fault) → IsStageAdded args outer images walk stage (Err fault)
 unfolding IsEnded IsStageAdded
 added_told args outer images walk stage states rs (Because refusal) same_states same h =
-    told_behind (many_due (with_origin walk.names stage.base)) stage.line walk stage
+    told_behind (reason (many_codes (with_origin walk.names stage.base)) None) stage.line walk stage
     (instructions_from args outer (Ok (begun_with images walk.states stage.base (with_origin walk.names stage.base))) stage.instructions) refusal
     (subst (λ (is : List ResolvedInstruction).
-    unless_due (many_due (with_origin walk.names stage.base)) stage.line (instructions_from args outer (Ok (begun_with images walk.states stage.base (with_origin walk.names stage.base))) is) ≡ Err refusal) same
+    unless_due (reason (many_codes (with_origin walk.names stage.base)) None) stage.line (instructions_from args outer (Ok (begun_with images walk.states stage.base (with_origin walk.names stage.base))) is) ≡ Err refusal) same
     (subst (λ (ss : List (Option State)).
-    unless_due (many_due (with_origin walk.names stage.base)) stage.line (instructions_from args outer (Ok (begun_with images ss stage.base (with_origin walk.names stage.base))) rs) ≡ Err refusal) same_states h))
+    unless_due (reason (many_codes (with_origin walk.names stage.base)) None) stage.line (instructions_from args outer (Ok (begun_with images ss stage.base (with_origin walk.names stage.base))) rs) ≡ Err refusal) same_states h))
 added_told args outer images walk stage states rs Memory same_states same h = tt
 
-added_well : (args outer : Values) (images : ImagesValue Config) (walk : Walk) (stage : ResolvedStage) (p : Progress) (result : Result Walk (Fault Refusal))
+added_well : (args outer : Values) (images : ImagesValue Config) (walk : Walk) (stage : ResolvedStage) (p : Progress) (result : Result Walk (Fault Rejection))
     → IsEnded args outer images walk.states walk.names stage.line stage.base stage.instructions (Ok p)
     → IsWalk (walk.rows ++ Some (record { line = stage.line; base = stage.base; steps = p.steps }) ∷ []) (walk.states ++ Some p.state ∷ []) p.names result
     → IsStageAdded args outer images walk stage result
 unfolding IsEnded IsStageAdded IsWalk
 added_well args outer images walk stage p result ended is =
-    let begun : Result Progress Refusal = instructions_from args outer (Ok (begun_with images walk.states stage.base (with_origin walk.names stage.base))) stage.instructions in
-    let well = not_due (many_due (with_origin walk.names stage.base)) stage.line begun p ended in
-    subst (λ (c : Option Code). Returns (unless_due c stage.line (with_ended walk stage begun)) result) (sym well.none)
-    (subst (λ (r : Result Progress Refusal). Returns (with_ended walk stage r) result) (sym well.behind) is)
+    let begun : Result Progress Rejection = instructions_from args outer (Ok (begun_with images walk.states stage.base (with_origin walk.names stage.base))) stage.instructions in
+    let well = not_due (reason (many_codes (with_origin walk.names stage.base)) None) stage.line begun p ended in
+    subst (λ (c : Option Reason). Returns (unless_due c stage.line (with_ended walk stage begun)) result) (sym well.none)
+    (subst (λ (r : Result Progress Rejection). Returns (with_ended walk stage r) result) (sym well.behind) is)
 
-pub added_put : (args outer : Values) (images : ImagesValue Config) (walk : Walk) (stage : ResolvedStage) (states : List (Option State)) (rs : List ResolvedInstruction) (p : Progress) (result : Result Walk (Fault Refusal))
+pub added_put : (args outer : Values) (images : ImagesValue Config) (walk : Walk) (stage : ResolvedStage) (states : List (Option State)) (rs : List ResolvedInstruction) (p : Progress) (result : Result Walk (Fault Rejection))
     → states ≡ walk.states → rs ≡ stage.instructions → IsEnded args outer images states walk.names stage.line stage.base rs (Ok p)
     → IsWalk (walk.rows ++ Some (record { line = stage.line; base = stage.base; steps = p.steps }) ∷ []) (walk.states ++ Some p.state ∷ []) p.names result
     → IsStageAdded args outer images walk stage result
@@ -139,21 +140,21 @@ pub walk_none : (rows : List (Option Stage)) (states : List (Option State)) (nam
 unfolding IsWalk
 walk_none rows states names = tt
 
-pub walk_rows : (rows more : List (Option Stage)) (states : List (Option State)) (names : ImageNames) (result : Result Walk (Fault Refusal)) → more ≡ rows → IsWalk more states names result → IsWalk rows states names result
+pub walk_rows : (rows more : List (Option Stage)) (states : List (Option State)) (names : ImageNames) (result : Result Walk (Fault Rejection)) → more ≡ rows → IsWalk more states names result → IsWalk rows states names result
 walk_rows rows more states names result is h = subst (λ (rs : List (Option Stage)). IsWalk rs states names result) is h
 
 -- a stage behind those before it
 
-next_by : (marked : Bool) (then_is else_is : Result Walk Refusal) (result : Result Walk (Fault Refusal)) → marked ≡ true → Returns then_is result → Returns (if marked then then_is else else_is) result
+next_by : (marked : Bool) (then_is else_is : Result Walk Rejection) (result : Result Walk (Fault Rejection)) → marked ≡ true → Returns then_is result → Returns (if marked then then_is else else_is) result
 next_by marked then_is else_is result h k = subst (λ (b : Bool). Returns (if b then then_is else else_is) result) (sym h) k
 
-next_not : (marked : Bool) (then_is else_is : Result Walk Refusal) (result : Result Walk (Fault Refusal)) → marked ≡ false → Returns else_is result → Returns (if marked then then_is else else_is) result
+next_not : (marked : Bool) (then_is else_is : Result Walk Rejection) (result : Result Walk (Fault Rejection)) → marked ≡ false → Returns else_is result → Returns (if marked then then_is else else_is) result
 next_not marked then_is else_is result h k = subst (λ (b : Bool). Returns (if b then then_is else else_is) result) (sym h) k
 
 pub marked_at : (needed : List Bool) (n long : ℕ) (marked b : Bool) → n ≡ long → marked ≡ is_marked needed n → marked ≡ b → is_marked needed long ≡ b
 marked_at needed n long marked b same is h = ap (is_marked needed) (sym same) ∙ (sym is ∙ h)
 
-pub next_needed : (args outer : Values) (images : ImagesValue Config) (needed : List Bool) (walk : Walk) (stage : ResolvedStage) (result : Result Walk (Fault Refusal))
+pub next_needed : (args outer : Values) (images : ImagesValue Config) (needed : List Bool) (walk : Walk) (stage : ResolvedStage) (result : Result Walk (Fault Rejection))
     → is_marked needed (length walk.rows) ≡ true → IsStageAdded args outer images walk stage result → IsNextStage args outer images needed walk stage result
 unfolding IsStageAdded IsNextStage
 next_needed args outer images needed walk stage result marked h =
@@ -185,7 +186,7 @@ unfolding StagesSoFar IsNextStage
 stages_more args outer images needed all rest left stage now more far is made =
     so_far_more (next_stage args outer images needed) no_stage all rest left stage now more far is made
 
-pub stages_refused : (args outer : Values) (images : ImagesValue Config) (needed : List Bool) (all rest left whole : List ResolvedStage) (stage : ResolvedStage) (now : Walk) (fault : Fault Refusal)
+pub stages_refused : (args outer : Values) (images : ImagesValue Config) (needed : List Bool) (all rest left whole : List ResolvedStage) (stage : ResolvedStage) (now : Walk) (fault : Fault Rejection)
     → StagesSoFar args outer images needed all rest now → rest ≡ stage ∷ left → all ≡ whole → IsNextStage args outer images needed now stage (Err fault)
     → AreStages args outer images needed whole (Err fault)
 unfolding StagesSoFar IsNextStage AreStages

@@ -7,7 +7,7 @@ use Rattle.std.proofs.lemmas.Option.{slice_get_within, get_or_from_slice_get}
 use Rattle.std.proofs.lemmas.List.Elements.{All-nil, All-cons, All-head, All-tail, All-weaker}
 use Rattle.plain.specs.Limits.{most_images, most_lines}
 use Rattle.plain.specs.declared.fault.Fault.{Fault}
-use Rattle.plain.specs.declared.refusal.Refusal.{Refusal}
+use Rattle.expand.specs.declared.reason.Rejection.{Rejection}
 use Rattle.trees.specs.TreeMap.{TreeMap}
 use Rattle.llb.specs.Places.{IsLine, AscendFrom}
 use Rattle.llb.specs.declared.op.Source.TheVariants.{Scratch, Context, Image}
@@ -160,7 +160,7 @@ is_whole laws args outer images context table needed walk made whole are proper 
           (subst (λ (n : ℕ). NeedsAllStages walk.rows n) (sym is.target) (evaluated_needs args outer images needed table walk whole are went));
     }
 
-pub answers_whole : Laws → (args outer : Values) (images : ImagesValue Config) (context : TreeMap) (table : TableValue) (stages shown : List ResolvedStage) (target : ℕ) (needed : List Bool) (walk : Walk) (result : Result Evaluated (Fault Refusal))
+pub answers_whole : Laws → (args outer : Values) (images : ImagesValue Config) (context : TreeMap) (table : TableValue) (stages shown : List ResolvedStage) (target : ℕ) (needed : List Bool) (walk : Walk) (result : Result Evaluated (Fault Rejection))
     → IsTable table → stages ≡ table.stages → shown ≡ table.stages → target ≡ table.target → AreNeeded table.stages table.target needed → All (λ (stage : ResolvedStage). IsProperBase images stage.base) shown
     → AreStages args outer images needed stages (Ok walk) → Makes images context target walk result → AnswersWhole images table result
 unfolding AreStages Makes AnswersWhole
@@ -173,43 +173,43 @@ answers_whole laws args outer images context table stages shown target needed wa
 
 -- what is whole, part by part
 
-pub whole_rows : (images : ImagesValue Config) (table : TableValue) (result : Result Evaluated (Fault Refusal)) → AnswersWhole images table result → IfOk result (λ made. IsWellFormed made.rows)
+pub whole_rows : (images : ImagesValue Config) (table : TableValue) (result : Result Evaluated (Fault Rejection)) → AnswersWhole images table result → IfOk result (λ made. IsWellFormed made.rows)
 unfolding AnswersWhole
 whole_rows images table (Ok made) h = h.formed
 whole_rows images table (Err fault) h = tt
 
-pub whole_target : (images : ImagesValue Config) (table : TableValue) (result : Result Evaluated (Fault Refusal)) → AnswersWhole images table result
+pub whole_target : (images : ImagesValue Config) (table : TableValue) (result : Result Evaluated (Fault Rejection)) → AnswersWhole images table result
     → IfOk result (λ made. (stage : Stage) × (slice_get made.rows made.target ≡ Some (Some stage)))
 unfolding AnswersWhole
 whole_target images table (Ok made) h = h.has_target
 whole_target images table (Err fault) h = tt
 
-pub whole_named : (images : ImagesValue Config) (table : TableValue) (result : Result Evaluated (Fault Refusal)) → AnswersWhole images table result
+pub whole_named : (images : ImagesValue Config) (table : TableValue) (result : Result Evaluated (Fault Rejection)) → AnswersWhole images table result
     → IfOk result (λ made. All (NamesKnown (names_in images)) table.stages → All (RowNames (HasTree made.sources)) made.rows)
 unfolding AnswersWhole
 whole_named images table (Ok made) h = h.named
 whole_named images table (Err fault) h = tt
 
-pub whole_images : (images : ImagesValue Config) (table : TableValue) (result : Result Evaluated (Fault Refusal)) → AnswersWhole images table result → IfOk result (λ made. len made.sources.images ≤ most_images)
+pub whole_images : (images : ImagesValue Config) (table : TableValue) (result : Result Evaluated (Fault Rejection)) → AnswersWhole images table result → IfOk result (λ made. len made.sources.images ≤ most_images)
 unfolding AnswersWhole
 whole_images images table (Ok made) h = h.few_images
 whole_images images table (Err fault) h = tt
 
-pub whole_steps : (images : ImagesValue Config) (table : TableValue) (result : Result Evaluated (Fault Refusal)) → AnswersWhole images table result → IfOk result (λ made. count_of_steps made.rows < most_lines)
+pub whole_steps : (images : ImagesValue Config) (table : TableValue) (result : Result Evaluated (Fault Rejection)) → AnswersWhole images table result → IfOk result (λ made. count_of_steps made.rows < most_lines)
 unfolding AnswersWhole
 whole_steps images table (Ok made) h = h.few_steps
 whole_steps images table (Err fault) h = tt
 
-pub whole_order : (images : ImagesValue Config) (table : TableValue) (result : Result Evaluated (Fault Refusal)) → AnswersWhole images table result → IfOk result (λ made. IsInOrder made.rows)
+pub whole_order : (images : ImagesValue Config) (table : TableValue) (result : Result Evaluated (Fault Rejection)) → AnswersWhole images table result → IfOk result (λ made. IsInOrder made.rows)
 unfolding AnswersWhole
 whole_order images table (Ok made) h = h.in_order
 whole_order images table (Err fault) h = tt
 
-pub whole_needs : (images : ImagesValue Config) (table : TableValue) (result : Result Evaluated (Fault Refusal)) → AnswersWhole images table result → IfOk result (λ made. NeedsAllStages made.rows made.target)
+pub whole_needs : (images : ImagesValue Config) (table : TableValue) (result : Result Evaluated (Fault Rejection)) → AnswersWhole images table result → IfOk result (λ made. NeedsAllStages made.rows made.target)
 unfolding AnswersWhole
 whole_needs images table (Ok made) h = h.needs
 whole_needs images table (Err fault) h = tt
 
-pub whole_none : (images : ImagesValue Config) (table : TableValue) (fault : Fault Refusal) → AnswersWhole images table (Err fault)
+pub whole_none : (images : ImagesValue Config) (table : TableValue) (fault : Fault Rejection) → AnswersWhole images table (Err fault)
 unfolding AnswersWhole
 whole_none images table fault = tt

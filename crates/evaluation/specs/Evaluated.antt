@@ -1,8 +1,8 @@
--- What the needed stages of a file are evaluated to, or with which code and line they are refused.
+-- What the needed stages of a file are evaluated to, or why they are refused, and at which line.
 use Rattle.std.specs.Prelude.{◌≡◌, ℕ, Bool, List, [], Option, Some, None, Result, Ok, Err, slice_index_or}
 use Rattle.plain.specs.declared.fault.Fault.{Fault}
 use Rattle.plain.specs.declared.fault.Fault.TheVariants.{Because, Memory}
-use Rattle.plain.specs.declared.refusal.Refusal.{Refusal}
+use Rattle.expand.specs.declared.reason.Rejection.{Rejection}
 use Rattle.trees.specs.TreeMap.{TreeMap}
 use Rattle.plans.specs.Images.{ImagesValue}
 use Rattle.scopes.specs.Evaluate.{Values}
@@ -21,8 +21,8 @@ use Rattle.evaluation.specs.declared.state.State.{State}
 abbrev pub no_stage : Walk
 no_stage = record { rows = []; states = []; names = [] }
 
--- the needed stages of a table, in the order of the file, up to the first line for which a code is due (own)
-abbrev pub evaluated : Values → ImagesValue Config → List Bool → TableValue → Result Walk Refusal
+-- the needed stages of a table, in the order of the file, up to the first line that is refused (own)
+abbrev pub evaluated : Values → ImagesValue Config → List Bool → TableValue → Result Walk Rejection
 evaluated args images needed table = stages_from args (value_in table.outer) images needed (Ok no_stage) table.stages
 
 -- the configuration of what a stage leaves
@@ -42,8 +42,8 @@ pub record IsMade (images : ImagesValue Config) (context : TreeMap) (number : �
   pub sources : AreSources context images walk.names made.sources
 
 -- what evaluating a table answers, with the marks of just the stages that its target needs: what its stages are evaluated to, or the
--- refusal of the first line for which a code is due, with the least of its codes; want of memory says nothing of it
-abbrev pub EvaluatesTable : Values → ImagesValue Config → TreeMap → TableValue → Result Evaluated (Fault Refusal) → Type 0
+-- refusal of the first line that is refused; want of memory says nothing of it
+abbrev pub EvaluatesTable : Values → ImagesValue Config → TreeMap → TableValue → Result Evaluated (Fault Rejection) → Type 0
 EvaluatesTable args images context table (Ok made) =
     (needed : List Bool) × AreNeeded table.stages table.target needed × ((walk : Walk) × (evaluated args images needed table ≡ Ok walk) × IsMade images context table.target walk made)
 EvaluatesTable args images context table (Err (Because refusal)) =

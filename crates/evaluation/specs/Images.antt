@@ -1,5 +1,5 @@
 -- The images that the needed stages name: how many they are, and their trees.
-use Rattle.std.specs.Prelude.{◌≡◌, ℕ, Bool, List, [], ◌∷◌, ◌++◌, Option, Some, None, option_map, length, nat_lt, bytes_eq, if◌then◌else◌}
+use Rattle.std.specs.Prelude.{◌≡◌, ℕ, Bool, false, List, [], ◌∷◌, ◌++◌, Option, Some, None, option_map, length, nat_lt, bytes_eq, if◌then◌else◌}
 use Rattle.std.specs.List.{list_any}
 use Rattle.std.specs.FinMap.{get}
 use Rattle.plain.specs.Limits.{most_images}
@@ -36,9 +36,10 @@ abbrev pub with_origins : ImageNames → List Origin → ImageNames
 with_origins names [] = names
 with_origins names (origin ∷ origins) = with_origins (with_origin names origin) origins
 
--- R18 is due for a line by which more images are named than one build may name (own)
-abbrev pub many_due : ImageNames → Option Code
-many_due names = if nat_lt most_images (length names) then Some R18 else None
+-- the code that is due for a line by which these images are named: R18 if they are more than one build may name (own)
+abbrev pub many_codes : ImageNames → Code → Bool
+many_codes names R18 = nat_lt most_images (length names)
+many_codes names code = false
 
 -- the tree of an image, where it is among those that are named
 abbrev pub named_tree : {C : Type 0} → ImagesValue C → ImageNames → List ℕ → Option TreeMap

@@ -9,13 +9,14 @@ use Rattle.rows.specs.declared.row.Origin.{Origin}
 use Rattle.rows.specs.declared.row.Origin.TheVariants.{Source as SourceOf}
 use Rattle.instructions.specs.declared.instruction.InstructionKind.{InstructionKind}
 use Rattle.instructions.specs.declared.instruction.InstructionKind.TheVariants.{From, Arg, Env, Label, Expose, User, Workdir, StopSignal, Volume, Shell, Cmd, Entrypoint, Run, Copy}
+use Rattle.expand.specs.declared.fault.Unexpanded.{Unexpanded}
 use Rattle.scopes.specs.Scope.{value_in, kept}
-use Rattle.scopes.specs.Evaluate.{Values, env_line, arg_line, arg_texts}
+use Rattle.scopes.specs.Evaluate.{Values, env_line, arg_line, arg_fault}
 use Rattle.scopes.specs.declared.declaration.Declaration.{Declaration}
 use Rattle.stages.specs.Due.{argument_due}
 use Rattle.imageconfig.specs.Steps.{dir_of, changed}
 use Rattle.imageconfig.specs.Steps as config
-use Rattle.actions.specs.Copy.{copy_action, copy_due}
+use Rattle.actions.specs.Copy.{copy_action, copy_due, copy_fault}
 use Rattle.actions.specs.Run.{run_action, run_due}
 use Rattle.evaluation.specs.declared.state.State.{State}
 
@@ -71,7 +72,7 @@ action_in s (Copy sources destination flags) origins = Some (copy_action s.scope
 -- configuration
 abbrev pub due : Values → State → InstructionKind → Code → Bool
 due args s (From image name) = config.due (value_in s.scope) s.config (From image name)
-due args s (Arg arguments) = argument_due (arg_texts (value_in s.scope) args arguments)
+due args s (Arg arguments) = argument_due (arg_fault (value_in s.scope) args arguments)
 due args s (Env assignments) = config.due (value_in s.scope) s.config (Env assignments)
 due args s (Label labels) = config.due (value_in s.scope) s.config (Label labels)
 due args s (Expose ports) = config.due (value_in s.scope) s.config (Expose ports)
@@ -84,3 +85,9 @@ due args s (Cmd command) = config.due (value_in s.scope) s.config (Cmd command)
 due args s (Entrypoint command) = config.due (value_in s.scope) s.config (Entrypoint command)
 due args s (Run mounts command) = run_due (dir_in s) mounts
 due args s (Copy sources destination flags) = copy_due s.scope (dir_in s) sources destination
+
+-- why a text of an instruction has no value where it stands, if one has none: of several such texts, the reason that is reported
+abbrev pub fault : Values → State → InstructionKind → Option Unexpanded
+fault args s (Arg arguments) = arg_fault (value_in s.scope) args arguments
+fault args s (Copy sources destination flags) = copy_fault s.scope sources destination
+fault args s kind = config.fault (value_in s.scope) kind

@@ -3,28 +3,42 @@ use Rattle.std.specs.Prelude.{ℕ, Bool, List, ◌++◌, Option, Some, None}
 use Rattle.plain.specs.declared.fault.Fault.{Fault}
 use Rattle.plain.specs.declared.fault.Fault.TheVariants.{Because, Memory}
 use Rattle.plain.specs.declared.refusal.Code.{Code}
-use Rattle.plain.specs.declared.refusal.Refusal.{Refusal}
+use Rattle.expand.specs.declared.reason.Rejection.{Rejection}
 use Rattle.rows.specs.declared.row.Action.{Action}
 use Rattle.rows.specs.declared.row.Action.TheVariants.{MakeDirs}
 use Rattle.rows.specs.declared.row.Origin.{Origin}
 use Rattle.instructions.specs.declared.instruction.Assignment.{Assignment}
 use Rattle.instructions.specs.declared.instruction.InstructionKind.{InstructionKind}
 use Rattle.instructions.specs.declared.instruction.InstructionKind.TheVariants.{From, Arg, Env, Label, Expose, User, Workdir, StopSignal, Volume, Shell, Cmd, Entrypoint, Run, Copy}
+use Rattle.expand.specs.Reasons.{reason_of}
+use Rattle.expand.specs.declared.fault.Unexpanded.{Unexpanded}
+use Rattle.expand.specs.declared.reason.Reason.{Reason}
+use Rattle.expand.specs.declared.reason.Reason.TheVariants.{Coded}
 use Rattle.scopes.specs.Scope.{value_in, kept}
-use Rattle.scopes.specs.Evaluate.{Values, env_line, arg_texts}
+use Rattle.scopes.specs.Evaluate.{Values, env_line, arg_fault}
 use Rattle.stages.specs.Due.{argument_due}
 use Rattle.imageconfig.specs.Steps.{changed, nothing_due}
 use Rattle.imageconfig.specs.Steps as config
-use Rattle.actions.specs.Copy.{copy_action, copy_due}
+use Rattle.actions.specs.Copy.{copy_action, copy_due, copy_fault}
 use Rattle.actions.specs.Run.{run_action, run_due}
 use Rattle.evaluation.specs.Instruction.{dir_in, first_of, after, action_in}
 use Rattle.evaluation.specs.declared.instruction.Done.{Done}
 use Rattle.evaluation.specs.declared.state.State.{State}
 
 -- a fault with its line
-abbrev pub with_line : Fault Code → ℕ → Fault Refusal
-with_line (Because code) line = Because (record { code = code; line = line })
+abbrev pub with_line : Fault Reason → ℕ → Fault Rejection
+with_line (Because reason) line = Because (record { reason = reason; line = line })
 with_line Memory line = Memory
+
+-- the fault of a line one of whose texts has no value
+abbrev pub text_fault : Fault Unexpanded → Fault Reason
+text_fault (Because why) = Because (reason_of why)
+text_fault Memory = Memory
+
+-- the fault of a line that expands nothing
+abbrev pub code_fault : Fault Code → Fault Reason
+code_fault (Because code) = Because (Coded code)
+code_fault Memory = Memory
 
 -- what an instruction leaves that changes the configuration alone
 abbrev pub configured : State → InstructionKind → State
@@ -40,7 +54,7 @@ variables_set s assignments = record {
 -- the codes that are due for what an instruction leaves; a RUN and a COPY leave what they found
 abbrev pub left_due : Values → State → InstructionKind → Code → Bool
 left_due args s (From image name) = config.due (value_in s.scope) s.config (From image name)
-left_due args s (Arg arguments) = argument_due (arg_texts (value_in s.scope) args arguments)
+left_due args s (Arg arguments) = argument_due (arg_fault (value_in s.scope) args arguments)
 left_due args s (Env assignments) = config.due (value_in s.scope) s.config (Env assignments)
 left_due args s (Label labels) = config.due (value_in s.scope) s.config (Label labels)
 left_due args s (Expose ports) = config.due (value_in s.scope) s.config (Expose ports)
@@ -53,6 +67,11 @@ left_due args s (Cmd command) = config.due (value_in s.scope) s.config (Cmd comm
 left_due args s (Entrypoint command) = config.due (value_in s.scope) s.config (Entrypoint command)
 left_due args s (Run mounts command) = config.due (value_in s.scope) s.config (Run mounts command)
 left_due args s (Copy sources destination flags) = config.due (value_in s.scope) s.config (Copy sources destination flags)
+
+-- why a text that it expands for that has no value, if one has none
+abbrev pub left_fault : Values → State → InstructionKind → Option Unexpanded
+left_fault args s (Arg arguments) = arg_fault (value_in s.scope) args arguments
+left_fault args s kind = config.fault (value_in s.scope) kind
 
 -- what an instruction does to the tree, by what it left
 abbrev pub acted : State → InstructionKind → List Origin → Option Action
@@ -87,6 +106,11 @@ acted_due s (Cmd command) = nothing_due
 acted_due s (Entrypoint command) = nothing_due
 acted_due s (Run mounts command) = run_due (dir_in s) mounts
 acted_due s (Copy sources destination flags) = copy_due s.scope (dir_in s) sources destination
+
+-- why a text that is expanded for that has no value, if one has none
+abbrev pub acted_fault : State → InstructionKind → Option Unexpanded
+acted_fault s (Copy sources destination flags) = copy_fault s.scope sources destination
+acted_fault s kind = None
 
 -- what an instruction left and does by that
 abbrev pub finished : State → InstructionKind → List Origin → Done

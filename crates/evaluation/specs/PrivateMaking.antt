@@ -5,7 +5,7 @@ use Rattle.std.specs.FinMap.{len}
 use Rattle.plain.specs.Limits.{most_images, most_lines}
 use Rattle.plain.specs.declared.fault.Fault.{Fault}
 use Rattle.plain.specs.declared.fault.Fault.TheVariants.{Because, Memory}
-use Rattle.plain.specs.declared.refusal.Refusal.{Refusal}
+use Rattle.expand.specs.declared.reason.Rejection.{Rejection}
 use Rattle.trees.specs.TreeMap.{TreeMap}
 use Rattle.plans.specs.Images.{ImagesValue}
 use Rattle.rows.specs.WellFormed.{IsWellFormed, HasTree, RowNames, count_of_steps}
@@ -28,13 +28,13 @@ pub record IsMadeWith (images : ImagesValue Config) (context : TreeMap) (number 
   pub few : len made.sources.images ≤ length names
 
 -- the same of what is answered, unless there is no memory for it
-unfoldable pub MakesWith : ImagesValue Config → TreeMap → ℕ → List (Option Stage) → ImageNames → Config → Result Evaluated (Fault Refusal) → Type 0
+unfoldable pub MakesWith : ImagesValue Config → TreeMap → ℕ → List (Option Stage) → ImageNames → Config → Result Evaluated (Fault Rejection) → Type 0
 MakesWith images context number rows names config (Ok made) = IsMadeWith images context number rows names config made
 MakesWith images context number rows names config (Err (Because refusal)) = ⊥
 MakesWith images context number rows names config (Err Memory) = Unit {0}
 
 -- what is made of all stages, unless there is no memory for it
-unfoldable pub Makes : ImagesValue Config → TreeMap → ℕ → Walk → Result Evaluated (Fault Refusal) → Type 0
+unfoldable pub Makes : ImagesValue Config → TreeMap → ℕ → Walk → Result Evaluated (Fault Rejection) → Type 0
 Makes images context number walk (Ok made) = IsMade images context number walk made × (len made.sources.images ≤ length walk.names)
 Makes images context number walk (Err (Because refusal)) = ⊥
 Makes images context number walk (Err Memory) = Unit {0}
@@ -50,6 +50,6 @@ pub record IsWhole (images : ImagesValue Config) (table : TableValue) (made : Ev
   pub needs : NeedsAllStages made.rows made.target
 
 -- the same of what is answered
-unfoldable pub AnswersWhole : ImagesValue Config → TableValue → Result Evaluated (Fault Refusal) → Type 0
+unfoldable pub AnswersWhole : ImagesValue Config → TableValue → Result Evaluated (Fault Rejection) → Type 0
 AnswersWhole images table (Ok made) = IsWhole images table made
 AnswersWhole images table (Err fault) = Unit {0}

@@ -19,7 +19,7 @@ use crate::state::{State, keep_names};
 use crate::walk::{Walk, evaluate_stages};
 use actions::laws::{copies_are_well_formed, runs_are_well_formed};
 use imageconfig::Config;
-use lines::LineFault;
+use expand::RejectionFault;
 use plain::{Fault, Items, Memory};
 use plans::{Images, Sources};
 use rows::Stage;
@@ -111,7 +111,7 @@ fn make_with(
     images: Images<Config>,
     context: Tree,
     target: u32,
-) -> Result<Evaluated, LineFault>
+) -> Result<Evaluated, RejectionFault>
     ensures { MakesWith images context target rows names config result }
 {
     match named_sources(alloc, context, images, names) {
@@ -136,7 +136,7 @@ fn make(
     images: Images<Config>,
     context: Tree,
     target: u32,
-) -> Result<Evaluated, LineFault>
+) -> Result<Evaluated, RejectionFault>
     ensures { Makes images context target walk result }
 {
     let Walk {
@@ -164,7 +164,7 @@ fn evaluate_needed(
     context: Tree,
     args: &Args,
     needed: &[bool],
-) -> Result<Evaluated, LineFault>
+) -> Result<Evaluated, RejectionFault>
     requires { AreNeeded table.stages table.target needed.now }
     ensures answers { EvaluatesTable (arg_value args.now) images context table result }
     ensures whole { AnswersWhole images table result }
@@ -193,10 +193,11 @@ fn evaluate_needed(
 
 /// Evaluates the stages of a table that its target needs, one after another (Dockerfile reference).
 ///
-/// Refused is the first line for which a code is due, with the least of its codes: R06 where a text is empty that mayn't be, R10 where a
-/// label has an empty key, R14 where a COPY of several sources has a destination that doesn't end in `/`, R15 where a pattern is malformed,
-/// R16 where a port is none, R17 where mounts clash, R18 where a text or a path is past its limit, and at the line that names the 8,001st
-/// different image (own). A stage that isn't needed isn't evaluated, and nothing of it is refused.
+/// Refused is the first line for which a code is due, with the least of its codes: R06 if a text is empty that mayn't be, R10 if a label
+/// has an empty key, R14 if a COPY of several sources has a destination that doesn't end in `/`, R15 if a pattern is malformed, R16 if a
+/// port is none, R17 if mounts clash, R18 if a text or a path is past its limit, and at the line that names the 8,001st different image
+/// (own), R21 with a text if a variable is required that doesn't pass its test. A stage that isn't needed isn't evaluated, and nothing of
+/// it is refused.
 ///
 /// The rows are such as lowering asks for: each is well formed after those before it, the target is one of them, no more images and
 /// instructions come than a Dockerfile within its limits has, and each source that they name has its tree, where the table was made with
@@ -207,7 +208,7 @@ pub fn evaluate(
     images: Images<Config>,
     context: Tree,
     args: &Args,
-) -> Result<Evaluated, LineFault>
+) -> Result<Evaluated, RejectionFault>
     ensures answers { EvaluatesTable (arg_value args.now) images context table result }
     ensures rows { IfOk result (λ made. IsWellFormed made.rows) }
     ensures target { IfOk result (λ made. (stage : StageValue) × (slice_get made.rows made.target ≡ SomeOf (SomeOf stage))) }

@@ -1,28 +1,28 @@
-ghost use Rattle.std.specs.Prelude.{◌≡◌, Some};
+ghost use Rattle.std.specs.Prelude.{◌≡◌, Some, None as NoneOf};
 ghost use Rattle.std.specs.FinMap.{get as arg_value};
 ghost use Rattle.instructions.specs.Instruction.{IsInstruction};
 ghost use Rattle.instructions.specs.Least.{Meets};
+ghost use Rattle.instructions.specs.Reason.{Evaluates};
 ghost use Rattle.instructions.specs.declared.instruction.InstructionKind.TheVariants as spelled;
 ghost use Rattle.scopes.specs.Scope.{value_in};
-ghost use Rattle.imageconfig.specs.Steps.{due as config_due};
+ghost use Rattle.imageconfig.specs.Steps.{due as config_due, fault as config_fault};
 ghost use Rattle.actions.specs.Copy as of_copy;
 ghost use Rattle.actions.specs.Run as of_run;
-ghost use Rattle.evaluation.specs.Instruction.{after, due, dir_in, first_of};
+ghost use Rattle.evaluation.specs.Instruction.{after, due, fault as fault_of, dir_in, first_of};
 ghost use Rattle.evaluation.specs.PrivateRefusals.{EvaluatesTo};
-ghost use Rattle.evaluation.specs.PrivateInstruction.{configured, variables_set, left_due, acted, acted_due, finished, with_line};
+ghost use Rattle.evaluation.specs.PrivateInstruction.{configured, variables_set, left_due, left_fault, acted, acted_due, acted_fault, finished, with_line, text_fault, code_fault};
 ghost use Rattle.evaluation.specs.PrivateStage.{IsDone};
 
 use crate::given::Given;
 use crate::state::State;
 use actions::{Surroundings, copy_action, run_action};
-use expand::Word;
+use expand::{ExpandFault, Reason, ReasonFault, Rejection, RejectionFault, Word};
 use instructions::{
     Argument, Assignment, Command, CopyFlags, Instruction, InstructionKind, Mount,
     Source as CopySource,
 };
-use lines::LineFault;
 use llb::Source;
-use plain::{Fault, Items, Refusal};
+use plain::{Fault, Items};
 use rows::{Action, Origin};
 use std::alloc::Global;
 use words::TextFault;
@@ -35,11 +35,31 @@ pub struct Done {
 }
 
 /// The fault of a line.
-fn with_line(fault: TextFault, line: u32) -> LineFault
+fn with_line(fault: ReasonFault, line: u32) -> RejectionFault
     ensures { result ≡ with_line fault line }
 {
     match fault {
-        Fault::Because(code) => Fault::Because(Refusal { code, line }),
+        Fault::Because(reason) => Fault::Because(Rejection { reason, line }),
+        Fault::Memory => Fault::Memory,
+    }
+}
+
+/// The fault of a line one of whose texts has no value.
+fn text_fault(fault: ExpandFault) -> ReasonFault
+    ensures { result ≡ text_fault fault }
+{
+    match fault {
+        Fault::Because(why) => Fault::Because(Reason::of(why)),
+        Fault::Memory => Fault::Memory,
+    }
+}
+
+/// The fault of a line that expands nothing.
+fn code_fault(fault: TextFault) -> ReasonFault
+    ensures { result ≡ code_fault fault }
+{
+    match fault {
+        Fault::Because(code) => Fault::Because(Reason::Coded(code)),
         Fault::Memory => Fault::Memory,
     }
 }
@@ -51,8 +71,8 @@ fn declare(
     state: State,
     line: u32,
     arguments: &[Argument],
-) -> Result<State, LineFault>
-    ensures { EvaluatesTo (after (arg_value given.now.args.now) (value_in given.now.outer.now) state (spelled.Arg arguments.now)) (due (arg_value given.now.args.now) state (spelled.Arg arguments.now)) line result }
+) -> Result<State, RejectionFault>
+    ensures { EvaluatesTo (after (arg_value given.now.args.now) (value_in given.now.outer.now) state (spelled.Arg arguments.now)) (due (arg_value given.now.args.now) state (spelled.Arg arguments.now)) (fault_of (arg_value given.now.args.now) state (spelled.Arg arguments.now)) line result }
 {
     let mut state = state;
     match state
@@ -62,7 +82,7 @@ fn declare(
         Ok(()) => Ok(state),
         Err(fault) => {
             drop(state);
-            Err(with_line(fault, line))
+            Err(with_line(text_fault(fault), line))
         }
     }
 }
@@ -73,10 +93,10 @@ fn set_variables(
     state: State,
     instruction: &Instruction,
     assignments: &[Assignment],
-) -> Result<State, LineFault>
+) -> Result<State, RejectionFault>
     requires whole { IsInstruction instruction.now.kind }
     requires kind { instruction.now.kind ≡ spelled.Env assignments.now }
-    ensures { EvaluatesTo (variables_set state assignments.now) (config_due (value_in state.scope) state.config (spelled.Env assignments.now)) instruction.now.line result }
+    ensures { EvaluatesTo (variables_set state assignments.now) (config_due (value_in state.scope) state.config (spelled.Env assignments.now)) (config_fault (value_in state.scope) (spelled.Env assignments.now)) instruction.now.line result }
 {
     let mut state = state;
     match state.config.apply(alloc, instruction, &state.scope) {
@@ -90,15 +110,15 @@ fn set_variables(
         Ok(()) => Ok(state),
         Err(fault) => {
             drop(state);
-            Err(with_line(fault, instruction.line))
+            Err(with_line(text_fault(fault), instruction.line))
         }
     }
 }
 
 /// An instruction that changes the configuration alone.
-fn configure(alloc: Global, state: State, instruction: &Instruction) -> Result<State, LineFault>
+fn configure(alloc: Global, state: State, instruction: &Instruction) -> Result<State, RejectionFault>
     requires { IsInstruction instruction.now.kind }
-    ensures { EvaluatesTo (configured state instruction.now.kind) (config_due (value_in state.scope) state.config instruction.now.kind) instruction.now.line result }
+    ensures { EvaluatesTo (configured state instruction.now.kind) (config_due (value_in state.scope) state.config instruction.now.kind) (config_fault (value_in state.scope) instruction.now.kind) instruction.now.line result }
 {
     let mut state = state;
     match state.config.apply(alloc, instruction, &state.scope) {
@@ -121,7 +141,7 @@ fn first_of(origins: Items<Origin>) -> Origin
 }
 
 /// A RUN, under what is set where it stands.
-fn run(
+fn run_coded(
     alloc: Global,
     state: &State,
     mounts: Items<Mount>,
@@ -140,6 +160,22 @@ fn run(
     run_action(alloc, mounts, command, origins, &at)
 }
 
+/// The same with its refusals as reasons: a RUN expands nothing.
+fn run(
+    alloc: Global,
+    state: &State,
+    mounts: Items<Mount>,
+    command: Command,
+    origins: Items<Origin>,
+) -> Result<Action, ReasonFault>
+    ensures { Evaluates (Some (of_run.run_action state.now.scope (dir_in state.now) state.now.config.user state.now.config.shell mounts command origins)) (of_run.run_due (dir_in state.now) mounts) NoneOf result }
+{
+    match run_coded(alloc, state, mounts, command, origins) {
+        Ok(action) => Ok(action),
+        Err(fault) => Err(code_fault(fault)),
+    }
+}
+
 /// A COPY, under what is set where it stands.
 fn copy(
     alloc: Global,
@@ -148,8 +184,8 @@ fn copy(
     destination: Word,
     flags: CopyFlags,
     origin: Origin,
-) -> Result<Action, TextFault>
-    ensures { Meets (Some (of_copy.copy_action state.now.scope (dir_in state.now) sources destination flags origin)) (of_copy.copy_due state.now.scope (dir_in state.now) sources destination) result }
+) -> Result<Action, ReasonFault>
+    ensures { Evaluates (Some (of_copy.copy_action state.now.scope (dir_in state.now) sources destination flags origin)) (of_copy.copy_due state.now.scope (dir_in state.now) sources destination) (of_copy.copy_fault state.now.scope sources destination) result }
 {
     let dir = state.config.dir(alloc)?;
     let at = Surroundings {
@@ -170,8 +206,8 @@ fn act(
     state: &State,
     kind: InstructionKind,
     origins: Items<Origin>,
-) -> Result<Option<Action>, TextFault>
-    ensures { Meets (Some (acted state.now kind origins)) (acted_due state.now kind) result }
+) -> Result<Option<Action>, ReasonFault>
+    ensures { Evaluates (Some (acted state.now kind origins)) (acted_due state.now kind) (acted_fault state.now kind) result }
 {
     match kind {
         InstructionKind::Run { mounts, command } => {
@@ -216,9 +252,9 @@ fn leave(
     given: &Given,
     state: State,
     instruction: &Instruction,
-) -> Result<State, LineFault>
+) -> Result<State, RejectionFault>
     requires { IsInstruction instruction.now.kind }
-    ensures { EvaluatesTo (after (arg_value given.now.args.now) (value_in given.now.outer.now) state instruction.now.kind) (left_due (arg_value given.now.args.now) state instruction.now.kind) instruction.now.line result }
+    ensures { EvaluatesTo (after (arg_value given.now.args.now) (value_in given.now.outer.now) state instruction.now.kind) (left_due (arg_value given.now.args.now) state instruction.now.kind) (left_fault (arg_value given.now.args.now) state instruction.now.kind) instruction.now.line result }
 {
     match &instruction.kind {
         InstructionKind::Arg { arguments } => {
@@ -248,8 +284,8 @@ fn finish(
     state: State,
     instruction: Instruction,
     origins: Items<Origin>,
-) -> Result<Done, LineFault>
-    ensures { EvaluatesTo (finished state instruction.kind origins) (acted_due state instruction.kind) instruction.line result }
+) -> Result<Done, RejectionFault>
+    ensures { EvaluatesTo (finished state instruction.kind origins) (acted_due state instruction.kind) (acted_fault state instruction.kind) instruction.line result }
 {
     let Instruction { line, kind } = instruction;
     match act(alloc, &state, kind, origins) {
@@ -261,14 +297,14 @@ fn finish(
     }
 }
 
-/// An instruction of a stage: what it leaves and does, or the least code that is due for it, with its line.
+/// An instruction of a stage: what it leaves and does, or why it is refused, with its line.
 pub(crate) fn evaluate_instruction(
     alloc: Global,
     given: &Given,
     state: State,
     instruction: Instruction,
     origins: Items<Origin>,
-) -> Result<Done, LineFault>
+) -> Result<Done, RejectionFault>
     requires { IsInstruction instruction.kind }
     ensures { IsDone (arg_value given.now.args.now) (value_in given.now.outer.now) state instruction.kind origins instruction.line result }
 {

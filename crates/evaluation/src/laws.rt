@@ -4,8 +4,7 @@ ghost use Rattle.std.specs.Prelude.{◌≡◌, ◌⊎◌, ◌++◌, ℕ, List, [
 ghost use Rattle.std.specs.List.{All};
 ghost use Rattle.plain.specs.Marks.{is_marked};
 ghost use Rattle.plain.specs.declared.fault.Fault.TheVariants.{Because};
-ghost use Rattle.plain.specs.declared.refusal.Code.{Code};
-ghost use Rattle.plain.specs.declared.refusal.Refusal.{Refusal};
+ghost use Rattle.expand.specs.declared.reason.Rejection.{Rejection};
 ghost use Rattle.plain.specs.declared.variable.Variable.{Variable};
 ghost use Rattle.trees.specs.TreeMap.{TreeMap};
 ghost use Rattle.llb.specs.declared.op.Source.{Source};
@@ -26,7 +25,7 @@ ghost use Rattle.imageconfig.specs.declared.config.Config.{Config};
 ghost use Rattle.evaluation.specs.Chain.{IsChain, chain_history};
 ghost use Rattle.evaluation.specs.Configuration.{in_scope, base_config};
 ghost use Rattle.evaluation.specs.Evaluated.{evaluated, config_at, IsMade, EvaluatesTable};
-ghost use Rattle.evaluation.specs.NeededLines.{JudgedLine, needed_lines, IsLeastRefusal, SameWhereMarked};
+ghost use Rattle.evaluation.specs.NeededLines.{needed_lines, IsFree, IsLeastRefusal, SameWhereMarked};
 ghost use Rattle.evaluation.specs.Reached.{ComesTo, HaveEnvironments, HasScopesEnvironment};
 ghost use Rattle.evaluation.specs.Stages.{instructions_from};
 ghost use Rattle.evaluation.specs.State.{start};
@@ -38,18 +37,18 @@ ghost use Rattle.evaluation.specs.declared.walk.Walk.{Walk};
 /// Each table has an evaluation or a refusal.
 pub fn every_table_is_evaluated_or_refused()
     ensures { (args : Values) (images : ImagesValue Config) (context : TreeMap) (table : TableValue) → IsTable table
-        → ((made : Evaluated) × EvaluatesTable args images context table (Ok made)) ⊎ ((refusal : Refusal) × EvaluatesTable args images context table (Err (Because refusal))) }
+        → ((made : Evaluated) × EvaluatesTable args images context table (Ok made)) ⊎ ((refusal : Rejection) × EvaluatesTable args images context table (Err (Because refusal))) }
 {}
 
-/// Of all codes that are due for lines of needed stages, each line judged where it stands, the least is told: by line, and on a line by
-/// code. A table is evaluated only where none is due.
+/// Of all reasons to refuse lines of needed stages, each line judged where it stands, the least is reported: by line, and on a line by
+/// number, R21 being the greatest. A table is evaluated only if there is none.
 pub fn the_least_refusal_is_told()
-    ensures refused { (args : Values) (images : ImagesValue Config) (needed : List Bool) (table : TableValue) (refusal : Refusal) → IsTable table
+    ensures refused { (args : Values) (images : ImagesValue Config) (needed : List Bool) (table : TableValue) (refusal : Rejection) → IsTable table
         → evaluated args images needed table ≡ Err refusal → IsLeastRefusal (needed_lines args images needed table) refusal }
     ensures evaluated { (args : Values) (images : ImagesValue Config) (needed : List Bool) (table : TableValue) (walk : Walk)
-        → evaluated args images needed table ≡ Ok walk → All (λ (j : JudgedLine). (code : Code) → j.codes code ≡ false) (needed_lines args images needed table) }
+        → evaluated args images needed table ≡ Ok walk → All IsFree (needed_lines args images needed table) }
 {
-    instructions::laws::the_least_code_is_told();
+    instructions::laws::the_least_reason_is_reported();
 }
 
 /// What a stage says that isn't needed changes nothing: where all needed stages of a file are the same, the same are needed, and they are
@@ -60,7 +59,7 @@ pub fn stages_that_are_not_needed_change_nothing()
     ensures evaluated { (args : Values) (images : ImagesValue Config) (needed : List Bool) (table other : TableValue) → table.outer ≡ other.outer
         → SameWhereMarked needed table.stages other.stages → evaluated args images needed table ≡ evaluated args images needed other }
 {
-    instructions::laws::the_least_code_is_told();
+    instructions::laws::the_least_reason_is_reported();
 }
 
 /// The configuration that the instructions of a stage leave is what their lines make of the one before them, one line after another, each

@@ -5,7 +5,7 @@
 // below: ENV and ARG by `scopes`, what becomes of the configuration by `imageconfig`, RUN and COPY by `actions`.
 //
 // The central definition is `evaluated` in specs/Evaluated.antt: stages one after another, in each its instructions one after another, each
-// under what was set before it, up to the first line for which a code is due (specs/Refusals.antt). A stage that the target doesn't need is
+// under what was set before it, up to the first line that is refused (specs/Refusals.antt). A stage that the target doesn't need is
 // left out: nothing of it is evaluated, and nothing is refused.
 //
 // Heavy values are dropped by name where a function ends early: the prover then meets a call, and doesn't walk the value at each end.

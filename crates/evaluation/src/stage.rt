@@ -1,11 +1,12 @@
-ghost use Rattle.std.specs.Prelude.{IfOk, ◌≡◌, ◌++◌};
+ghost use Rattle.std.specs.Prelude.{IfOk, ◌≡◌, ◌++◌, length, nat_lt};
 ghost use Rattle.std.specs.List.{All};
 ghost use Rattle.std.specs.FinMap.{get as arg_value};
+ghost use Rattle.plain.specs.Limits.{most_images};
 ghost use Rattle.instructions.specs.Instruction.{IsInstruction};
 ghost use Rattle.scopes.specs.Scope.{value_in};
 ghost use Rattle.stages.specs.declared.stage.ResolvedInstruction.{ResolvedInstruction as Resolved};
 ghost use Rattle.evaluation.specs.Images.{with_origins};
-ghost use Rattle.evaluation.specs.PrivateRefusals.{many_refused};
+ghost use Rattle.evaluation.specs.PrivateRefusals.{many_refused, reason_with, fault_with};
 ghost use Rattle.evaluation.specs.Stages.{step_of};
 ghost use Rattle.evaluation.specs.PrivateStage.{put_to, IsPut, IsStepped, IsNext, AreNext};
 
@@ -13,8 +14,8 @@ use crate::given::Given;
 use crate::instruction::{Done, evaluate_instruction};
 use crate::names::NamedImages;
 use crate::state::State;
-use lines::LineFault;
-use plain::{Code, Fault, Items, Memory, Refusal};
+use expand::{Reason, Rejection, RejectionFault};
+use plain::{Code, Fault, Items, Memory};
 use rows::{Action, Origin, Step};
 use stages::ResolvedInstruction;
 use std::alloc::Global;
@@ -28,13 +29,41 @@ pub struct Progress {
 }
 
 /// The refusal of a line that goes past the limit of images.
-pub(crate) fn many_images(line: u32) -> LineFault
+pub(crate) fn many_images(line: u32) -> RejectionFault
     ensures { result ≡ many_refused line }
 {
-    Fault::Because(Refusal {
-        code: Code::R18,
+    Fault::Because(Rejection {
+        reason: Reason::Coded(Code::R18),
         line,
     })
+}
+
+/// Why a line is refused that is refused for this, and that goes past the limit of images or doesn't.
+fn reason_with(are_many: bool, reason: Reason) -> Reason
+    ensures { result ≡ reason_with are_many reason }
+{
+    match reason {
+        Reason::Coded(code) => Reason::Coded(code),
+        Reason::Required(text) if are_many => {
+            drop(text);
+            Reason::Coded(Code::R18)
+        }
+        Reason::Required(text) => Reason::Required(text),
+    }
+}
+
+/// The fault of a line by which these images are named: R18 for too many of them comes before a variable that is required.
+fn fault_with(names: &NamedImages, fault: RejectionFault) -> RejectionFault
+    ensures { result ≡ fault_with (nat_lt most_images (length names.now)) fault }
+{
+    match fault {
+        Fault::Because(rejection) => {
+            let Rejection { reason, line } = rejection;
+            let reason = reason_with(names.are_many(), reason);
+            Fault::Because(Rejection { reason, line })
+        }
+        Fault::Memory => Fault::Memory,
+    }
 }
 
 /// A stage's steps, with that of a line that does something to the tree.
@@ -84,7 +113,7 @@ fn advance_unless_many(
     names: NamedImages,
     line: u32,
     done: Done,
-) -> Result<Progress, LineFault>
+) -> Result<Progress, RejectionFault>
     ensures { IsPut steps names line done result }
 {
     if names.are_many() {
@@ -140,13 +169,13 @@ fn name_line_images(
     }
 }
 
-/// An instruction behind what its stage is so far, with the images that it names.
+/// An instruction after what its stage is so far, with the images that it names.
 fn evaluate_named(
     alloc: Global,
     given: &Given,
     progress: Progress,
     resolved: ResolvedInstruction,
-) -> Result<Progress, LineFault>
+) -> Result<Progress, RejectionFault>
     requires { IsInstruction resolved.instruction.kind }
     ensures { IsStepped (arg_value given.now.args.now) (value_in given.now.outer.now) progress.state resolved.instruction.kind resolved.origins resolved.instruction.line progress.steps progress.names result }
 {
@@ -164,6 +193,7 @@ fn evaluate_named(
         Ok(done) => advance_unless_many(steps, names, line, done),
         Err(fault) => {
             drop(steps);
+            let fault = fault_with(&names, fault);
             drop(names);
             Err(fault)
         }
@@ -176,7 +206,7 @@ fn evaluate_next(
     given: &Given,
     progress: Progress,
     resolved: ResolvedInstruction,
-) -> Result<Progress, LineFault>
+) -> Result<Progress, RejectionFault>
     requires { IsInstruction resolved.instruction.kind }
     ensures { IsNext (arg_value given.now.args.now) (value_in given.now.outer.now) progress resolved result }
 {
@@ -195,7 +225,7 @@ pub(crate) fn evaluate_instructions(
     given: &Given,
     progress: Progress,
     instructions: Vec<ResolvedInstruction>,
-) -> Result<Progress, LineFault>
+) -> Result<Progress, RejectionFault>
     requires { All (λ (r : Resolved). IsInstruction r.instruction.kind) instructions.items }
     ensures { AreNext (arg_value given.now.args.now) (value_in given.now.outer.now) progress instructions.items result }
 {

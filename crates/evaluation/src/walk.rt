@@ -15,7 +15,7 @@ use crate::names::NamedImages;
 use crate::stage::{Progress, evaluate_instructions, many_images};
 use crate::state::{State, begin};
 use imageconfig::Config;
-use lines::LineFault;
+use expand::RejectionFault;
 use plain::{Fault, Items, Memory};
 use plans::Images;
 use rows::{Origin, Stage, Step};
@@ -31,7 +31,7 @@ pub struct Walk {
 }
 
 /// The names, unless they are more than one build may name.
-fn refuse_many(names: NamedImages, line: u32) -> Result<NamedImages, LineFault>
+fn refuse_many(names: NamedImages, line: u32) -> Result<NamedImages, RejectionFault>
     ensures { AreFew names line result }
 {
     if names.are_many() {
@@ -47,7 +47,7 @@ fn name_base(
     names: NamedImages,
     base: &Origin,
     line: u32,
-) -> Result<NamedImages, LineFault>
+) -> Result<NamedImages, RejectionFault>
     ensures { AreNamed names base.now line result }
 {
     let mut names = names;
@@ -91,7 +91,7 @@ fn evaluate_begun(
     names: NamedImages,
     base: &Origin,
     instructions: Vec<ResolvedInstruction>,
-) -> Result<Progress, LineFault>
+) -> Result<Progress, RejectionFault>
     requires { All (λ (r : Resolved). IsInstruction r.instruction.kind) instructions.items }
     ensures { AreNext (arg_value given.now.args.now) (value_in given.now.outer.now) (begun_with given.now.images.now states.now base.now names) instructions.items result }
 {
@@ -113,7 +113,7 @@ fn evaluate_stage(
     line: u32,
     base: &Origin,
     instructions: Vec<ResolvedInstruction>,
-) -> Result<Progress, LineFault>
+) -> Result<Progress, RejectionFault>
     requires { All (λ (r : Resolved). IsInstruction r.instruction.kind) instructions.items }
     ensures { IsEnded (arg_value given.now.args.now) (value_in given.now.outer.now) given.now.images.now states.now names line base.now instructions.items result }
 {
@@ -165,7 +165,7 @@ fn end_walk(
     states: Items<Option<State>>,
     state: State,
     names: NamedImages,
-) -> Result<Walk, LineFault>
+) -> Result<Walk, RejectionFault>
     ensures { IsWalk rows (states ++ SomeOf state ∷ []) names result }
 {
     match push_state(states, state) {
@@ -189,7 +189,7 @@ fn end_stage(
     line: u32,
     base: Origin,
     progress: Progress,
-) -> Result<Walk, LineFault>
+) -> Result<Walk, RejectionFault>
     ensures { IsWalk (rows ++ SomeOf (record { line = line; base = base; steps = progress.steps }) ∷ []) (states ++ SomeOf progress.state ∷ []) progress.names result }
 {
     let Progress {
@@ -214,7 +214,7 @@ fn evaluate_needed_stage(
     given: &Given,
     walk: Walk,
     stage: ResolvedStage,
-) -> Result<Walk, LineFault>
+) -> Result<Walk, RejectionFault>
     requires { AreWhole stage }
     ensures { IsStageAdded (arg_value given.now.args.now) (value_in given.now.outer.now) given.now.images.now walk stage result }
 {
@@ -285,7 +285,7 @@ fn evaluate_next_stage(
     needed: &[bool],
     walk: Walk,
     stage: ResolvedStage,
-) -> Result<Walk, LineFault>
+) -> Result<Walk, RejectionFault>
     requires { AreWhole stage }
     ensures { IsNextStage (arg_value given.now.args.now) (value_in given.now.outer.now) given.now.images.now needed.now walk stage result }
 {
@@ -305,7 +305,7 @@ pub(crate) fn evaluate_stages(
     given: &Given,
     needed: &[bool],
     stages: Vec<ResolvedStage>,
-) -> Result<Walk, LineFault>
+) -> Result<Walk, RejectionFault>
     requires { All AreWhole stages.items }
     ensures { AreStages (arg_value given.now.args.now) (value_in given.now.outer.now) given.now.images.now needed.now stages.items result }
 {

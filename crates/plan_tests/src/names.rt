@@ -1,5 +1,5 @@
 use dockerfile::Dockerfile;
-use lines::LineFault;
+use expand::{Reason, Rejection, RejectionFault};
 use plain::{Code, Fault, Memory, Text};
 use plans::{Image, Images};
 use scopes::Args;
@@ -18,21 +18,29 @@ fn one_image(alloc: Global) -> Result<Images<u8>, Memory> {
 }
 
 /// What the names of a file lead to, for a target; for the last stage where it is the empty text.
-fn resolved(alloc: Global, text: &str, target: &str) -> Result<StageTable, LineFault> {
+fn resolved(alloc: Global, text: &str, target: &str) -> Result<StageTable, RejectionFault> {
     let images = one_image(alloc)?;
-    let file = Dockerfile::read(alloc, text.as_bytes())?;
+    let file = match Dockerfile::read(alloc, text.as_bytes()) {
+        Ok(file) => file,
+        Err(Fault::Because(refusal)) => return Err(Fault::Because(Rejection::of(refusal))),
+        Err(Fault::Memory) => return Err(Fault::Memory),
+    };
     let args = Args::new(alloc);
     let name = Text::from_str(alloc, target)?;
     let target = if target.is_empty() { None } else { Some(&name) };
     StageTable::resolve(alloc, file, &images, &args, target)
 }
 
-/// The code and the line of the refusal of a file; none where it is accepted.
-fn refusal_of(alloc: Global, text: &str, target: &str) -> Result<Option<(Code, u32)>, Memory> {
+/// The code and the line of the refusal of a file, which R21 isn't; none if it is accepted.
+fn refusal_of(alloc: Global, text: &str, target: &str) -> Result<Option<(Code, u32)>, Fail> {
     match resolved(alloc, text, target) {
         Ok(_) => Ok(None),
-        Err(Fault::Because(refusal)) => Ok(Some((refusal.code, refusal.line))),
-        Err(Fault::Memory) => Err(Memory),
+        Err(Fault::Because(Rejection {
+            reason: Reason::Coded(code),
+            line,
+        })) => Ok(Some((code, line))),
+        Err(Fault::Because(_)) => Err(Fail::from("R21")),
+        Err(Fault::Memory) => Err(Fail::from("no memory")),
     }
 }
 

@@ -1,9 +1,10 @@
 use bundle::{Bundle, failed_answer, put_built, read_bundle, refused_answer};
 use counted::{Counted, Gathered, finish};
+use expand::{Reason, Rejection};
 use imageconfig::Config;
 use lines::LineFault;
 use paths::Path;
-use plain::{Bytes, Code, Mode, Refusal};
+use plain::{Bytes, Code, Mode, Refusal, Text};
 use std::alloc::Global;
 use std::test::Fail;
 use trees::{Cause, Content, Entry, Meta, Tree};
@@ -56,10 +57,19 @@ fn answers_are_compact_text(rt: HostRuntime) -> Result<(), Fail> {
         code: Code::R05,
         line: 1,
     };
-    let refused = refused_answer(alloc, refusal)?;
+    let refused = refused_answer(alloc, Rejection::of(refusal))?;
     assert_eq!(rt;
         refused.as_str(),
         r#"{"code":"R05","line":1,"result":"refused"}"#
+    );
+    let required = Rejection {
+        reason: Reason::Required(Text::from_str(alloc, "a \"b\"\n")?),
+        line: 3,
+    };
+    let refused = refused_answer(alloc, required)?;
+    assert_eq!(rt;
+        refused.as_str(),
+        r#"{"code":"R21","line":3,"result":"refused","text":"a \"b\"\n"}"#
     );
     Ok(())
 }

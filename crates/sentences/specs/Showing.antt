@@ -4,11 +4,13 @@ use Rattle.std.specs.Fmt.{decimal}
 use Rattle.std.specs.List.{repeat}
 use Rattle.plain.specs.Codes.{code_text}
 use Rattle.plain.specs.declared.refusal.Code.{Code}
-use Rattle.plain.specs.declared.refusal.Refusal.{Refusal}
+use Rattle.expand.specs.declared.reason.Reason.{Reason}
+use Rattle.expand.specs.declared.reason.Reason.TheVariants.{Coded, Required}
+use Rattle.expand.specs.declared.reason.Rejection.{Rejection}
 use Rattle.sentences.specs.Subject.{subject_of}
-use Rattle.sentences.specs.Table.{sentence, remedy}
+use Rattle.sentences.specs.Table.{sentence, remedy, required_sentence, required_remedy}
 
--- a line behind its number, and what helps behind a margin that is as wide
+-- a line after its number, and what helps after a margin that is as wide
 abbrev pub cited : List ℕ → List ℕ → List ℕ → List ℕ
 cited number line helps =
     codes "    " ++ (number ++ (codes " | " ++ (line ++ (codes "\n    " ++ (repeat (length number) (codes " ") ++ (codes " | " ++ (helps ++ codes "\n")))))))
@@ -26,6 +28,20 @@ shown_line file code number line =
 abbrev pub shown_whole : List ℕ → Code → List ℕ
 shown_whole file code = headed file code (sentence code (subject_of [])) (codes "     | " ++ (remedy code (subject_of []) ++ codes "\n"))
 
--- what is shown of a refusal: with the line of its number, which is given, but where the number is 0
-abbrev pub shown : List ℕ → Refusal → List ℕ → List ℕ
-shown file refusal line = if refusal.line == 0 then shown_whole file refusal.code else shown_line file refusal.code (decimal refusal.line) line
+-- a line of the file of this name in which a variable is required: the line's number is shown, and what is wrong ends with the text that it is
+-- refused with
+abbrev pub shown_required : List ℕ → List ℕ → List ℕ → List ℕ → List ℕ
+shown_required file text number line =
+    file ++ (codes ":" ++ (number ++ (codes ": R21: " ++ (required_sentence ++ (codes ": " ++ (text ++ (codes "\n" ++ cited number line required_remedy)))))))
+
+-- what is shown of a refusal by a code alone: with the line of its number, which is given, but not if the number is 0
+abbrev pub shown_coded : List ℕ → Code → ℕ → List ℕ → List ℕ
+shown_coded file code number line = if number == 0 then shown_whole file code else shown_line file code (decimal number) line
+
+abbrev pub shown_by : List ℕ → Reason → ℕ → List ℕ → List ℕ
+shown_by file (Coded code) number line = shown_coded file code number line
+shown_by file (Required text) number line = shown_required file text (decimal number) line
+
+-- what is shown of a refusal
+abbrev pub shown : List ℕ → Rejection → List ℕ → List ℕ
+shown file refusal line = shown_by file refusal.reason refusal.line line

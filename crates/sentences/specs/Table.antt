@@ -219,7 +219,7 @@ remedy R05 subject = codes "begin with FROM and an image, or with FROM scratch"
 remedy R06 subject = arguments_remedy subject
 remedy R07 subject = flag_remedy subject
 remedy R08 subject = heredoc_remedy subject
-remedy R09 subject = codes "close the quote; write ${name}, ${name:-word} or ${name:+word}, and \\$ for the character $"
+remedy R09 subject = codes "close the quote; write ${name}, ${name:-word}, ${name:+word} or ${name:?word}, and \\$ for the character $"
 remedy R10 subject = name_remedy subject
 remedy R11 subject = codes "rename one of the two"
 remedy R12 subject = codes "bring the image with the bundle, or name a stage above"
@@ -231,3 +231,10 @@ remedy R17 subject = codes "write type=bind or type=cache, keys once each, and t
 remedy R18 subject = codes "split the file or the instruction, or shorten the value or the path"
 remedy R19 subject = codes "mend this line of .dockerignore"
 remedy R20 subject = codes "make it by dfsolve pack, or see what a bundle is in docs/FORMATS.md"
+
+-- what is wrong if a variable that is required doesn't pass its test (R21), before the text that the line is refused with, and what helps (own)
+abbrev pub required_sentence : List ℕ
+required_sentence = codes "a required variable is unset or empty"
+
+abbrev pub required_remedy : List ℕ
+required_remedy = codes "give it a value above, by ENV or ARG, or by a build argument that an ARG takes"

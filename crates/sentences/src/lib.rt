@@ -7,7 +7,7 @@
 // `shown` in specs/Showing.antt.
 //
 // ```
-// shown(alloc, "Dockerfile", Refusal { code: Code::R16, line: 9 }, "COPY --chown=node:node a b")?
+// shown(alloc, "Dockerfile", &Rejection::of(Refusal { code: Code::R16, line: 9 }), "COPY --chown=node:node a b")?
 // // Dockerfile:9: R16: the owner and the mode have to be numbers
 // //     9 | COPY --chown=node:node a b
 // //       | write --chown=1000:1000 and --chmod=644 (names would need the image's /etc/passwd)

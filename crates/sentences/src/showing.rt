@@ -1,9 +1,11 @@
 ghost use Rattle.std.specs.Prelude.{◌≡◌, IfOk};
 ghost use Rattle.std.specs.String.{string_bytes};
-ghost use Rattle.sentences.specs.Showing.{cited, headed, shown_line, shown_whole, shown};
+ghost use Rattle.sentences.specs.Showing.{cited, headed, shown_line, shown_whole, shown_required, shown_coded, shown};
 
+use crate::table::{required_remedy, required_sentence};
 use crate::{Subject, remedy, sentence};
-use plain::{Code, Memory, Refusal};
+use expand::{Reason, Rejection};
+use plain::{Code, Memory};
 use std::alloc::Global;
 
 /// A line after its number, and what helps after a margin that is as wide.
@@ -52,16 +54,56 @@ fn shown_whole(alloc: Global, file: &str, code: Code) -> Result<String, Memory>
     headed(alloc, file, code, sentence(code, subject), rest.as_str())
 }
 
+/// What is shown of a line in which a variable is required, with the line's number written out.
+fn shown_required(
+    alloc: Global,
+    file: &str,
+    text: &str,
+    number: &str,
+    line: &str,
+) -> Result<String, Memory>
+    ensures { IfOk result (λ shown. string_bytes shown ≡ shown_required file.now text.now number.now line.now) }
+{
+    let wrong = required_sentence();
+    let rest = cited(alloc, number, line, required_remedy())?;
+    Ok(format!(in alloc; "{file}:{number}: R21: {wrong}: {text}\n{rest}")?)
+}
+
+/// What is shown of a refusal by a code alone.
+fn shown_coded(
+    alloc: Global,
+    file: &str,
+    code: Code,
+    number: u32,
+    line: &str,
+) -> Result<String, Memory>
+    ensures { IfOk result (λ text. string_bytes text ≡ shown_coded file.now code number line.now) }
+{
+    if number == 0 {
+        return shown_whole(alloc, file, code);
+    }
+    let number = format!(in alloc; "{number}")?;
+    shown_line(alloc, file, code, number.as_str(), line)
+}
+
 /// What is shown of a refusal of the file of this name, where `line` is the file's line of the refusal's number: three lines, with the place,
-/// the code and what is wrong; the line with its number; and what helps.
+/// the code and what is wrong; the line with its number; and what helps. By R21, what is wrong ends with the text that the line is refused
+/// with, as it stands.
 ///
 /// The second of them is left out if the refusal is about no line, having number 0.
-pub fn shown(alloc: Global, file: &str, refusal: Refusal, line: &str) -> Result<String, Memory>
-    ensures { IfOk result (λ text. string_bytes text ≡ shown file.now refusal line.now) }
+pub fn shown(
+    alloc: Global,
+    file: &str,
+    refusal: &Rejection,
+    line: &str,
+) -> Result<String, Memory>
+    ensures { IfOk result (λ text. string_bytes text ≡ shown file.now refusal.now line.now) }
 {
-    if refusal.line == 0 {
-        return shown_whole(alloc, file, refusal.code);
+    match &refusal.reason {
+        Reason::Coded(code) => shown_coded(alloc, file, *code, refusal.line, line),
+        Reason::Required(text) => {
+            let number = format!(in alloc; "{}", refusal.line)?;
+            shown_required(alloc, file, text.as_str(), number.as_str(), line)
+        }
     }
-    let number = format!(in alloc; "{}", refusal.line)?;
-    shown_line(alloc, file, refusal.code, number.as_str(), line)
 }

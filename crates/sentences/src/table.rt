@@ -1,6 +1,6 @@
 // The table: a sentence and a remedy for each cause.
 ghost use Rattle.std.specs.Prelude.{◌≡◌};
-ghost use Rattle.sentences.specs.Table.{arguments_sentence, flag_sentence, heredoc_sentence, name_sentence, number_sentence, arguments_remedy, flag_remedy, heredoc_remedy, name_remedy, number_remedy, sentence, remedy};
+ghost use Rattle.sentences.specs.Table.{arguments_sentence, flag_sentence, heredoc_sentence, name_sentence, number_sentence, arguments_remedy, flag_remedy, heredoc_remedy, name_remedy, number_remedy, sentence, remedy, required_sentence, required_remedy};
 
 use crate::Subject;
 use plain::Code;
@@ -283,7 +283,7 @@ pub fn remedy(code: Code, subject: Subject) -> &'static str
         Code::R07 => flag_remedy(subject),
         Code::R08 => heredoc_remedy(subject),
         Code::R09 =>
-            "close the quote; write ${name}, ${name:-word} or ${name:+word}, and \\$ for the character $",
+            "close the quote; write ${name}, ${name:-word}, ${name:+word} or ${name:?word}, and \\$ for the character $",
         Code::R10 => name_remedy(subject),
         Code::R11 => "rename one of the two",
         Code::R12 => "bring the image with the bundle, or name a stage above",
@@ -297,4 +297,18 @@ pub fn remedy(code: Code, subject: Subject) -> &'static str
         Code::R19 => "mend this line of .dockerignore",
         Code::R20 => "make it by dfsolve pack, or see what a bundle is in docs/FORMATS.md",
     }
+}
+
+/// What is wrong if a variable that is required doesn't pass its test (R21), before the text that the line is refused with.
+pub(crate) fn required_sentence() -> &'static str
+    ensures { result.now ≡ required_sentence }
+{
+    "a required variable is unset or empty"
+}
+
+/// What helps against it.
+pub(crate) fn required_remedy() -> &'static str
+    ensures { result.now ≡ required_remedy }
+{
+    "give it a value above, by ENV or ARG, or by a build argument that an ARG takes"
 }

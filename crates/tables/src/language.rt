@@ -3,9 +3,9 @@
 // answer a LF is written `¶`.
 
 use crate::spelling::{spelling_of, values_of};
-use crate::stage::{code_text, environment_after};
-use expand::Kind;
-use plain::Memory;
+use crate::stage::{environment_after, reason_text};
+use expand::{Kind, Reason, ReasonFault};
+use plain::{Fault, Memory};
 use std::alloc::Global;
 use words::TextFault;
 
@@ -18,19 +18,28 @@ fn answer_to_case(alloc: Global, case: &str) -> Result<String, Memory> {
     let unfolded = replaced(alloc, case, '¶', "\n")?;
     let answer = match answer_unfolded(alloc, unfolded.as_str()) {
         Ok(answer) => answer,
-        Err(fault) => code_text(alloc, &fault)?,
+        Err(fault) => reason_text(alloc, &fault)?,
     };
     replaced(alloc, answer.as_str(), '\n', "¶")
 }
 
 /// The answer to a case as it is meant.
-fn answer_unfolded(alloc: Global, case: &str) -> Result<String, TextFault> {
+fn answer_unfolded(alloc: Global, case: &str) -> Result<String, ReasonFault> {
     match case.split_once(' ') {
-        Some(("spell", text)) => spelling_of(alloc, text),
-        Some(("word", text)) => values_of(alloc, Kind::Quoted, text),
-        Some(("body", text)) => values_of(alloc, Kind::Unquoted, text),
+        Some(("spell", text)) => coded(spelling_of(alloc, text)),
+        Some(("word", text)) => coded(values_of(alloc, Kind::Quoted, text)),
+        Some(("body", text)) => coded(values_of(alloc, Kind::Unquoted, text)),
         Some(("env", text)) => environment_after(alloc, text),
         _ => Ok(String::from_str(alloc, "no case")?),
+    }
+}
+
+/// What is refused by a code alone.
+fn coded(answer: Result<String, TextFault>) -> Result<String, ReasonFault> {
+    match answer {
+        Ok(text) => Ok(text),
+        Err(Fault::Because(code)) => Err(Fault::Because(Reason::Coded(code))),
+        Err(Fault::Memory) => Err(Fault::Memory),
     }
 }
 

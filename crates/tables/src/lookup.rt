@@ -1,6 +1,7 @@
-use expand::Lookup;
-use plain::{Memory, Text};
+use expand::{Lookup, Unexpanded, Word, expand};
+use plain::{Code, Fault, Memory, Text};
 use std::alloc::Global;
+use words::TextFault;
 
 /// A scope in which `w` has the value `$v}`, `v` perhaps one, and nothing else is set.
 #[derive(Drop)]
@@ -34,5 +35,19 @@ impl Lookup for Names {
         } else {
             None
         }
+    }
+}
+
+/// The value of a word in a scope; if it requires a variable that doesn't pass its test, `R21` and the text that it is refused with.
+pub fn value_under(alloc: Global, word: &Word, names: &Names) -> Result<Text, TextFault> {
+    match expand(alloc, word, names) {
+        Ok(text) => Ok(text),
+        Err(Fault::Because(Unexpanded::TooLong)) => Err(Fault::Because(Code::R18)),
+        Err(Fault::Because(Unexpanded::Required(text))) => {
+            let shown = format!(in alloc; "R21 {}", text.as_str())?;
+            drop(text);
+            Ok(Text::from_string(shown))
+        }
+        Err(Fault::Memory) => Err(Fault::Memory),
     }
 }

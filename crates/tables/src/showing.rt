@@ -1,7 +1,7 @@
 // Instructions as texts.
 
-use crate::lookup::Names;
-use expand::{Word, expand};
+use crate::lookup::{Names, value_under};
+use expand::Word;
 use instructions::{
     Argument, Assignment, Body, Command, CopyFlags, InstructionKind, Label, Mount, MountKind,
     Source,
@@ -36,7 +36,7 @@ pub fn add(shown: &mut Page, texts: &[&str]) -> Result<(), TextFault> {
 
 /// Adds a word, as its value.
 fn add_word(alloc: Global, shown: &mut Page, word: &Word) -> Result<(), TextFault> {
-    let value = expand(alloc, word, &shown.names)?;
+    let value = value_under(alloc, word, &shown.names)?;
     add(shown, &[value.as_str()])
 }
 

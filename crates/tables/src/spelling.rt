@@ -1,6 +1,6 @@
-use crate::lookup::Names;
+use crate::lookup::{Names, value_under};
 use crate::showing::{Page, add, add_instruction, empty_page};
-use expand::{Kind, Word, expand};
+use expand::{Kind, Word};
 use instructions::parse;
 use lines::{Escape, Line, LineFault, Reader};
 use plain::{Fault, Memory, Text};
@@ -12,14 +12,6 @@ pub fn lines_of(alloc: Global, text: &str) -> Result<Vec<Line>, LineFault> {
     let mut reader = Reader::new(alloc);
     reader.feed(alloc, text.as_bytes())?;
     reader.finish(alloc)
-}
-
-/// Why a line is refused, without its number.
-pub fn reason(fault: LineFault) -> TextFault {
-    match fault {
-        Fault::Because(refusal) => Fault::Because(refusal.code),
-        Fault::Memory => Fault::Memory,
-    }
 }
 
 /// A refusal, as `R06 at line 1`.
@@ -79,7 +71,7 @@ fn add_line(alloc: Global, page: &mut Page, line: &Line) -> Result<(), TextFault
     }
 }
 
-/// The values of a text where `v` is `x y`, where it is empty and where it is unset, with `|` between them.
+/// The values of a text if `v` is `x y`, if it is empty and if it is unset, with `|` between them, as `value_under` gives them.
 pub fn values_of(alloc: Global, kind: Kind, text: &str) -> Result<String, TextFault> {
     match Word::read(alloc, kind, Escape::Backslash, text) {
         Ok(word) => {
@@ -101,10 +93,10 @@ fn values_of_word(alloc: Global, word: &Word) -> Result<String, TextFault> {
     Ok(values)
 }
 
-/// The value of a word where `v` has this one.
+/// The value of a word if `v` has this one.
 fn value_of(alloc: Global, word: &Word, v: Option<&str>) -> Result<Text, TextFault> {
     let names = Names::new(alloc, v)?;
-    let value = expand(alloc, word, &names);
+    let value = value_under(alloc, word, &names);
     drop(names);
     value
 }

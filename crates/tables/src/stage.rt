@@ -1,10 +1,10 @@
-use crate::spelling::{lines_of, reason};
+use crate::spelling::lines_of;
+use expand::{ExpandFault, Reason, ReasonFault};
 use instructions::{InstructionKind, parse};
-use lines::Line;
+use lines::{Line, LineFault};
 use plain::{Fault, Memory, Text};
 use scopes::{Args, Scope};
 use std::alloc::Global;
-use words::TextFault;
 
 /// A build as far as the lines of a case go.
 #[derive(Drop)]
@@ -25,7 +25,7 @@ impl Stage {
     }
 
     /// Takes lines in order.
-    fn take_all(&mut self, alloc: Global, text: &str) -> Result<(), TextFault> {
+    fn take_all(&mut self, alloc: Global, text: &str) -> Result<(), ReasonFault> {
         for line in text.split('\n') {
             self.take(alloc, line)?;
         }
@@ -34,7 +34,7 @@ impl Stage {
 
     /// Takes a line of a Dockerfile, or one of two of the cases' own: `GIVEN name=value` for a build argument and `BASE name=value`
     /// for a variable of the base image.
-    fn take(&mut self, alloc: Global, line: &str) -> Result<(), TextFault> {
+    fn take(&mut self, alloc: Global, line: &str) -> Result<(), ReasonFault> {
         match line.split_once(' ') {
             Some(("GIVEN", rest)) => Ok(self.give(alloc, rest)?),
             Some(("BASE", rest)) => Ok(self.inherit(alloc, rest)?),
@@ -59,7 +59,7 @@ impl Stage {
         }
     }
 
-    fn read(&mut self, alloc: Global, text: &str) -> Result<(), TextFault> {
+    fn read(&mut self, alloc: Global, text: &str) -> Result<(), ReasonFault> {
         match lines_of(alloc, text) {
             Ok(lines) => {
                 let done = self.read_lines(alloc, &lines);
@@ -70,14 +70,14 @@ impl Stage {
         }
     }
 
-    fn read_lines(&mut self, alloc: Global, lines: &[Line]) -> Result<(), TextFault> {
+    fn read_lines(&mut self, alloc: Global, lines: &[Line]) -> Result<(), ReasonFault> {
         for line in lines {
             self.read_line(alloc, line)?;
         }
         Ok(())
     }
 
-    fn read_line(&mut self, alloc: Global, line: &Line) -> Result<(), TextFault> {
+    fn read_line(&mut self, alloc: Global, line: &Line) -> Result<(), ReasonFault> {
         match parse(alloc, line) {
             Ok(instruction) => {
                 let done = self.evaluate(alloc, &instruction.kind);
@@ -88,15 +88,17 @@ impl Stage {
         }
     }
 
-    fn evaluate(&mut self, alloc: Global, kind: &InstructionKind) -> Result<(), TextFault> {
+    fn evaluate(&mut self, alloc: Global, kind: &InstructionKind) -> Result<(), ReasonFault> {
         match kind {
             InstructionKind::From { .. } => Ok(self.begin(alloc)?),
             InstructionKind::Arg { arguments } => {
-                self.scope
-                    .declare(alloc, arguments.as_slice(), &self.args, &self.outer)
+                let told =
+                    self.scope
+                        .declare(alloc, arguments.as_slice(), &self.args, &self.outer);
+                evaluated(told)
             }
             InstructionKind::Env { assignments } => {
-                self.scope.set_env(alloc, assignments.as_slice())
+                evaluated(self.scope.set_env(alloc, assignments.as_slice()))
             }
             _ => Ok(()),
         }
@@ -122,8 +124,8 @@ impl Stage {
     }
 }
 
-/// RUN's environment behind lines; the code that refuses one of them.
-pub fn environment_after(alloc: Global, text: &str) -> Result<String, TextFault> {
+/// RUN's environment after lines; why one of them is refused.
+pub fn environment_after(alloc: Global, text: &str) -> Result<String, ReasonFault> {
     let mut stage = Stage::new(alloc);
     let done = stage.take_all(alloc, text);
     let environment = stage.environment(alloc);
@@ -137,10 +139,28 @@ pub fn environment_after(alloc: Global, text: &str) -> Result<String, TextFault>
     }
 }
 
-/// A code as text.
-pub fn code_text(alloc: Global, fault: &TextFault) -> Result<String, Memory> {
+/// What a line is refused with that expands texts.
+fn evaluated(told: Result<(), ExpandFault>) -> Result<(), ReasonFault> {
+    match told {
+        Ok(()) => Ok(()),
+        Err(Fault::Because(why)) => Err(Fault::Because(Reason::of(why))),
+        Err(Fault::Memory) => Err(Fault::Memory),
+    }
+}
+
+/// Why a line is refused, without its number.
+fn reason(fault: LineFault) -> ReasonFault {
     match fault {
-        Fault::Because(code) => Ok(format!(in alloc; "{code}")?),
+        Fault::Because(refusal) => Fault::Because(Reason::Coded(refusal.code)),
+        Fault::Memory => Fault::Memory,
+    }
+}
+
+/// A reason as text: the code, and after `R21` the text.
+pub fn reason_text(alloc: Global, fault: &ReasonFault) -> Result<String, Memory> {
+    match fault {
+        Fault::Because(Reason::Coded(code)) => Ok(format!(in alloc; "{code}")?),
+        Fault::Because(Reason::Required(text)) => Ok(format!(in alloc; "R21 {}", text.as_str())?),
         Fault::Memory => Err(Memory),
     }
 }

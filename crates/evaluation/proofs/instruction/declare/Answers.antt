@@ -1,8 +1,8 @@
 use Rattle.std.specs.FinMap.{get}
 use Rattle.instructions.specs.declared.instruction.InstructionKind.TheVariants.{Arg}
-use Rattle.scopes.specs.Evaluate.{arg_line, arg_texts}
+use Rattle.scopes.specs.Evaluate.{arg_line, arg_fault}
 use Rattle.scopes.specs.Scope.{value_in}
-use Rattle.evaluation.specs.Instruction.{after, due}
+use Rattle.evaluation.specs.Instruction.{after, due, fault}
 use Rattle.evaluation.proofs.LineFacts.{line_told, long_told}
 use Rattle.evaluation.proofs.instruction.declare.Goals as goal
 
@@ -10,5 +10,7 @@ pub returns-in-Err : goal.returns-in-Err
 returns-in-Err c =
     let args = get c.args.given.now.args.now in
     let scope = c.args.state.scope in
-    line_told (after args (value_in c.args.given.now.outer.now) c.args.state (Arg c.args.arguments.now)) (due args c.args.state (Arg c.args.arguments.now)) c.args.line c.in-Err.fault _ c.with_line.ensures
-    (long_told scope (arg_line (value_in scope) args (value_in c.args.given.now.outer.now) c.args.arguments.now) c.declare.new.self (arg_texts (value_in scope) args c.args.arguments.now) c.in-Err.fault c.in-Err.ensures)
+    let kind = Arg c.args.arguments.now in
+    line_told (after args (value_in c.args.given.now.outer.now) c.args.state kind) (due args c.args.state kind) (fault args c.args.state kind) c.args.line c.text_fault.result _ c.with_line.ensures
+    (long_told scope (arg_line (value_in scope) args (value_in c.args.given.now.outer.now) c.args.arguments.now) c.declare.new.self (arg_fault (value_in scope) args c.args.arguments.now)
+    c.in-Err.fault _ c.text_fault.ensures c.in-Err.ensures)

@@ -4,5 +4,5 @@ use Rattle.evaluation.proofs.laws.stages_that_are_not_needed_change_nothing.Goal
 
 pub returns : goal.returns
 returns c =
-    let laws : LeastLaws = record { is_least = c.the_least_code_is_told.ensures.least; is_free = c.the_least_code_is_told.ensures.none } in
+    let laws : LeastLaws = record { is_least = c.the_least_reason_is_reported.ensures.least; is_free = c.the_least_reason_is_reported.ensures.none } in
     record { needed = marks_same; evaluated = evaluated_same laws }
