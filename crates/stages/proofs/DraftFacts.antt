@@ -10,22 +10,28 @@ use Rattle.plain.specs.Limits.{most_stages}
 use Rattle.plain.specs.declared.refusal.Code.{Code}
 use Rattle.plain.specs.declared.refusal.Code.TheVariants.{R05, R11, R12, R18}
 use Rattle.expand.specs.Value.{Parts}
+use Rattle.expand.specs.Reasons.{reason_of}
+use Rattle.expand.specs.declared.fault.Unexpanded.{Unexpanded}
+use Rattle.expand.specs.declared.fault.Unexpanded.TheVariants.{TooLong, Required}
+use Rattle.expand.specs.declared.reason.Reason.{Reason}
+use Rattle.expand.specs.declared.reason.Reason.TheVariants.{Coded}
 use Rattle.plain.specs.declared.fault.Fault.{Fault}
 use Rattle.plain.specs.declared.fault.Fault.TheVariants.{Because, Memory}
 use Rattle.rows.specs.declared.row.Origin.{Origin}
-use Rattle.instructions.specs.Least.{least, Meets}
+use Rattle.instructions.specs.Least.{least}
+use Rattle.instructions.specs.Reason.{is_long, required_in, reason_by, reason, Evaluates}
 use Rattle.instructions.specs.declared.instruction.Argument.{Argument}
 use Rattle.instructions.specs.declared.instruction.Instruction.{Instruction}
 use Rattle.instructions.specs.declared.instruction.InstructionKind.{InstructionKind}
 use Rattle.scopes.specs.Scope.{value_in, kept}
-use Rattle.scopes.specs.Evaluate.{Values, Declares, arg_line, arg_texts, is_one_long, is_long}
+use Rattle.scopes.specs.Evaluate.{Values, arg_line, arg_fault}
 use Rattle.scopes.specs.declared.declaration.Declaration.{Declaration}
 use Rattle.stages.specs.declared.resolving.Draft.{Draft}
 use Rattle.stages.specs.declared.stage.ResolvedInstruction.{ResolvedInstruction}
 use Rattle.stages.specs.declared.stage.ResolvedStage.{ResolvedStage}
 use Rattle.stages.specs.Naming.{Names, Known, origins_of, leads_nowhere}
 use Rattle.stages.specs.Before.{begun, declared_by, stage_names, all_but_last, outer_scope}
-use Rattle.stages.specs.Due.{base_text, is_taken, base_due, argument_due, outer_due, inner_due, other_due, begun_due, kind_due, due_behind}
+use Rattle.stages.specs.Due.{base_text, base_fault, is_taken, base_due, argument_due, outer_due, outer_fault, inner_due, other_due, other_fault, begun_due, begun_fault, kind_due, kind_fault, reason_behind}
 use Rattle.stages.specs.Table.{stages_behind, stages_of}
 use Rattle.stages.specs.Resolved.{told_at, first_refusal}
 use Rattle.stages.specs.PrivateResolving.{with_last, last_with, draft_begun, draft_declared, draft_outer, draft_extended, draft_other, draft_by, draft_after, IsCounted, AreCounted, IsDraft}
@@ -45,7 +51,16 @@ some_is x y e = cc
 pub push_none : {X : Type 0} (xs : List X) (x : X) → xs ++ x ∷ [] ≡ [] → ⊥
 push_none xs x e = let h = sym (length_push xs x) ∙ ap length e in omega (arith, h)
 
--- where no code is due none of the three is
+-- if there is no reason, no code is due
+
+no_code_by : (o : Option Code) (text : Option (List ℕ)) → reason_by o text ≡ None → o ≡ None
+no_code_by None text e = refl
+no_code_by (Some code) text e = absurd (some_none (Coded code) e)
+
+no_code : (due : Code → Bool) (fault : Option Unexpanded) → reason due fault ≡ None → least due ≡ None
+no_code due fault e = no_code_by (least due) (required_in fault) e
+
+-- if no code is due, none of the three is
 
 base_clear : (a b c : Bool) → (if a then Some R11 else (if b then Some R12 else (if c then Some R18 else None))) ≡ None
     → (b ≡ false) × (c ≡ false)
@@ -58,10 +73,11 @@ either_clear : (a b : Bool) → (a || b) ≡ false → b ≡ false
 either_clear true b e = absurd (true≢false e)
 either_clear false b e = e
 
-room : (known : Known) (names : Names) (text : List ℕ) (name : Option (List ℕ)) → least (base_due known names text name) ≡ None → length names < most_stages
-room known names text name clear =
-    let h = base_clear (is_taken names name) _ (is_long text || nat_le most_stages (length names)) clear in
-    leb-false most_stages (length names) (either_clear (is_long text) _ h.1)
+room : (known : Known) (names : Names) (text : Option (List ℕ)) (fault : Option Unexpanded) (name : Option (List ℕ))
+    → reason (base_due known names text fault name) fault ≡ None → length names < most_stages
+room known names text fault name clear =
+    let h = base_clear (is_taken names name) _ (is_long fault || nat_le most_stages (length names)) (no_code (base_due known names text fault name) fault clear) in
+    leb-false most_stages (length names) (either_clear (is_long fault) _ h.1)
 
 inner_clear : (a : Bool) → (if a then Some R12 else None) ≡ None → a ≡ false
 inner_clear true e = absurd (some_none R12 e)
@@ -116,7 +132,7 @@ stages_of_begun known args is i stage begins =
     ∙ stages_begun known (outer_scope args is) [] is i stage begins
 
 after_begun : (known : Known) (args : Values) (is : List Instruction) (i : Instruction) (draft : Draft) (stage : Parts × Option (List ℕ)) → IsDraft known args is draft
-    → begun i.kind ≡ Some stage → least (base_due known draft.names (base_text draft.outer stage.0) stage.1) ≡ None
+    → begun i.kind ≡ Some stage → reason (base_due known draft.names (base_text draft.outer stage.0) (base_fault draft.outer stage.0) stage.1) (base_fault draft.outer stage.0) ≡ None
     → IsDraft known args (is ++ i ∷ []) (draft_begun known draft i.line stage.0 stage.1)
 after_begun known args is i draft stage of begins clear = record {
   outer = of.outer ∙ sym (scope_begun args is i stage (stage_names is) refl begins);
@@ -127,7 +143,7 @@ after_begun known args is i draft stage of begins clear = record {
       ∙ ap (λ ns. stages_of known args is ++ new_stage known (outer_scope args is) ns i.line stage [] ∷ []) of.names
       ∙ sym (stages_of_begun known args is i stage begins);
   few =
-      let r = room known draft.names (base_text draft.outer stage.0) stage.1 clear in
+      let r = room known draft.names (base_text draft.outer stage.0) (base_fault draft.outer stage.0) stage.1 clear in
       let h = length_push draft.names stage.1 in omega (arith, r, h);
   none = λ e. absurd (push_none draft.names stage.1 e);
   first = λ e. absurd (some_none _ e);
@@ -184,30 +200,30 @@ after_extended known args is i draft name names of begins some leads =
       last_counted = last_counted_with r draft.last (origins_counted known (all_but_last draft.names) i.kind leads) of.last_counted;
     }
 
--- after any instruction for which no code is due
+-- after any instruction that isn't refused
 
 after_outer : (known : Known) (args : Values) (is : List Instruction) (i : Instruction) (draft : Draft) (d : Option (List Argument)) → IsDraft known args is draft
-    → begun i.kind ≡ None → declared_by i.kind ≡ d → draft.names ≡ [] → least (outer_due args draft.outer d) ≡ None
+    → begun i.kind ≡ None → declared_by i.kind ≡ d → draft.names ≡ [] → reason (outer_due args draft.outer d) (outer_fault args draft.outer d) ≡ None
     → IsDraft known args (is ++ i ∷ []) (draft_outer args draft d)
-after_outer known args is i draft None of begins says none clear = absurd (some_none R05 clear)
+after_outer known args is i draft None of begins says none clear = absurd (some_none (Coded R05) clear)
 after_outer known args is i draft (Some arguments) of begins says none clear = after_declared known args is i draft arguments of begins says none
 
 after_other : (known : Known) (args : Values) (is : List Instruction) (i : Instruction) (draft : Draft) (names : Names) → IsDraft known args is draft
-    → begun i.kind ≡ None → draft.names ≡ names → least (other_due known args draft.outer names i.kind) ≡ None
+    → begun i.kind ≡ None → draft.names ≡ names → reason (other_due known args draft.outer names i.kind) (other_fault args draft.outer names i.kind) ≡ None
     → IsDraft known args (is ++ i ∷ []) (draft_other known args draft names i)
 after_other known args is i draft [] of begins there clear = after_outer known args is i draft (declared_by i.kind) of begins refl there clear
 after_other known args is i draft (name ∷ names) of begins there clear =
     after_extended known args is i draft name names of begins there
-    (ap (λ ns. leads_nowhere known (all_but_last ns) i.kind) there ∙ inner_clear (leads_nowhere known (all_but_last (name ∷ names)) i.kind) clear)
+    (ap (λ ns. leads_nowhere known (all_but_last ns) i.kind) there ∙ inner_clear (leads_nowhere known (all_but_last (name ∷ names)) i.kind) (no_code (inner_due known (all_but_last (name ∷ names)) i.kind) None clear))
 
 after_by : (known : Known) (args : Values) (is : List Instruction) (i : Instruction) (draft : Draft) (b : Option (Parts × Option (List ℕ))) → IsDraft known args is draft
-    → begun i.kind ≡ b → least (begun_due known args draft.outer draft.names i.kind b) ≡ None
+    → begun i.kind ≡ b → reason (begun_due known args draft.outer draft.names i.kind b) (begun_fault args draft.outer draft.names i.kind b) ≡ None
     → IsDraft known args (is ++ i ∷ []) (draft_by known args draft i b)
 after_by known args is i draft (Some stage) of begins clear = after_begun known args is i draft stage of begins clear
 after_by known args is i draft None of begins clear = after_other known args is i draft draft.names of begins refl clear
 
 pub draft_step : (known : Known) (args : Values) (is : List Instruction) (i : Instruction) (draft next : Draft) → IsDraft known args is draft
-    → least (kind_due known args draft.outer draft.names i.kind) ≡ None → Some (draft_after known args draft i) ≡ Some next
+    → reason (kind_due known args draft.outer draft.names i.kind) (kind_fault args draft.outer draft.names i.kind) ≡ None → Some (draft_after known args draft i) ≡ Some next
     → IsDraft known args (is ++ i ∷ []) next
 draft_step known args is i draft next of clear made =
     subst (λ d. IsDraft known args (is ++ i ∷ []) d) (some_is _ _ made) (after_by known args is i draft (begun i.kind) of refl clear)
@@ -229,14 +245,14 @@ so_far_first known args all rest draft same outer names stages last = record {
 }
 
 pub due_same : (known : Known) (args : Values) (is : List Instruction) (draft : Draft) (i : Instruction) → IsDraft known args is draft
-    → least (due_behind known args is i.kind) ≡ least (kind_due known args draft.outer draft.names i.kind)
+    → reason_behind known args is i.kind ≡ reason (kind_due known args draft.outer draft.names i.kind) (kind_fault args draft.outer draft.names i.kind)
 due_same known args is draft i of =
-    ap (λ scope. least (kind_due known args scope (stage_names is) i.kind)) (sym of.outer)
-    ∙ ap (λ ns. least (kind_due known args draft.outer ns i.kind)) (sym of.names)
+    ap (λ scope. reason (kind_due known args scope (stage_names is) i.kind) (kind_fault args scope (stage_names is) i.kind)) (sym of.outer)
+    ∙ ap (λ ns. reason (kind_due known args draft.outer ns i.kind) (kind_fault args draft.outer ns i.kind)) (sym of.names)
 
 pub so_far_step : (known : Known) (args : Values) (all : List Instruction) (i : Instruction) (old rest : List Instruction) (draft next : Draft)
     → DraftSoFar known args all old draft → old ≡ i ∷ rest
-    → Some (draft_after known args draft i) ≡ Some next → least (kind_due known args draft.outer draft.names i.kind) ≡ None
+    → Some (draft_after known args draft i) ≡ Some next → reason (kind_due known args draft.outer draft.names i.kind) (kind_fault args draft.outer draft.names i.kind) ≡ None
     → DraftSoFar known args all rest next
 so_far_step known args all i old rest draft next so_far left made clear = record {
   done = so_far.done ++ i ∷ [];
@@ -247,10 +263,10 @@ so_far_step known args all i old rest draft next so_far left made clear = record
       ∙ ap (λ o. told_at i.line o (first_refusal known args (so_far.done ++ i ∷ []) rest)) (due_same known args so_far.done draft i so_far.are ∙ clear);
 }
 
-pub so_far_refused : (known : Known) (args : Values) (all : List Instruction) (i : Instruction) (old rest : List Instruction) (draft : Draft) (code : Code)
-    → DraftSoFar known args all old draft → old ≡ i ∷ rest → least (kind_due known args draft.outer draft.names i.kind) ≡ Some code
-    → first_refusal known args [] all ≡ Some (record { code = code; line = i.line })
-so_far_refused known args all i old rest draft code so_far left due =
+pub so_far_refused : (known : Known) (args : Values) (all : List Instruction) (i : Instruction) (old rest : List Instruction) (draft : Draft) (why : Reason)
+    → DraftSoFar known args all old draft → old ≡ i ∷ rest → reason (kind_due known args draft.outer draft.names i.kind) (kind_fault args draft.outer draft.names i.kind) ≡ Some why
+    → first_refusal known args [] all ≡ Some (record { reason = why; line = i.line })
+so_far_refused known args all i old rest draft why so_far left due =
     so_far.clear ∙ ap (λ is. first_refusal known args so_far.done is) left
     ∙ ap (λ o. told_at i.line o (first_refusal known args (so_far.done ++ i ∷ []) rest)) (due_same known args so_far.done draft i so_far.are ∙ due)
 
@@ -269,66 +285,59 @@ so_far_all known args all rest draft so_far over =
 
 -- what a call on an instruction answers, by what it begins and what stands before it
 
-pub adds_begun : (known : Known) (args : Values) (draft : Draft) (i : Instruction) (stage : Parts × Option (List ℕ)) (result : Result Draft (Fault Code))
+pub adds_begun : (known : Known) (args : Values) (draft : Draft) (i : Instruction) (stage : Parts × Option (List ℕ)) (result : Result Draft (Fault Reason))
     → begun i.kind ≡ Some stage
-    → Meets (Some (draft_begun known draft i.line stage.0 stage.1)) (base_due known draft.names (base_text draft.outer stage.0) stage.1) result
-    → Meets (Some (draft_after known args draft i)) (kind_due known args draft.outer draft.names i.kind) result
-adds_begun known args draft i stage result begins meets =
-    subst (λ b. Meets (Some (draft_by known args draft i b)) (begun_due known args draft.outer draft.names i.kind b) result) (sym begins) meets
+    → Evaluates (Some (draft_begun known draft i.line stage.0 stage.1)) (base_due known draft.names (base_text draft.outer stage.0) (base_fault draft.outer stage.0) stage.1) (base_fault draft.outer stage.0) result
+    → Evaluates (Some (draft_after known args draft i)) (kind_due known args draft.outer draft.names i.kind) (kind_fault args draft.outer draft.names i.kind) result
+adds_begun known args draft i stage result begins evaluates =
+    subst (λ b. Evaluates (Some (draft_by known args draft i b)) (begun_due known args draft.outer draft.names i.kind b) (begun_fault args draft.outer draft.names i.kind b) result) (sym begins) evaluates
 
-pub adds_other : (known : Known) (args : Values) (draft : Draft) (i : Instruction) (names : Names) (result : Result Draft (Fault Code))
+pub adds_other : (known : Known) (args : Values) (draft : Draft) (i : Instruction) (names : Names) (result : Result Draft (Fault Reason))
     → begun i.kind ≡ None → draft.names ≡ names
-    → Meets (Some (draft_other known args draft names i)) (other_due known args draft.outer names i.kind) result
-    → Meets (Some (draft_after known args draft i)) (kind_due known args draft.outer draft.names i.kind) result
-adds_other known args draft i names result begins there meets =
-    subst (λ b. Meets (Some (draft_by known args draft i b)) (begun_due known args draft.outer draft.names i.kind b) result) (sym begins)
-    (subst (λ ns. Meets (Some (draft_other known args draft ns i)) (other_due known args draft.outer ns i.kind) result) (sym there) meets)
+    → Evaluates (Some (draft_other known args draft names i)) (other_due known args draft.outer names i.kind) (other_fault args draft.outer names i.kind) result
+    → Evaluates (Some (draft_after known args draft i)) (kind_due known args draft.outer draft.names i.kind) (kind_fault args draft.outer draft.names i.kind) result
+adds_other known args draft i names result begins there evaluates =
+    subst (λ b. Evaluates (Some (draft_by known args draft i b)) (begun_due known args draft.outer draft.names i.kind b) (begun_fault args draft.outer draft.names i.kind b) result) (sym begins)
+    (subst (λ ns. Evaluates (Some (draft_other known args draft ns i)) (other_due known args draft.outer ns i.kind) (other_fault args draft.outer ns i.kind) result) (sym there) evaluates)
 
-pub other_outer : (known : Known) (args : Values) (draft : Draft) (i : Instruction) (result : Result Draft (Fault Code)) → draft.names ≡ []
-    → Meets (Some (draft_outer args draft (declared_by i.kind))) (outer_due args draft.outer (declared_by i.kind)) result
-    → Meets (Some (draft_other known args draft draft.names i)) (other_due known args draft.outer draft.names i.kind) result
-other_outer known args draft i result none meets =
-    subst (λ ns. Meets (Some (draft_other known args draft ns i)) (other_due known args draft.outer ns i.kind) result) (sym none) meets
+pub other_outer : (known : Known) (args : Values) (draft : Draft) (i : Instruction) (result : Result Draft (Fault Reason)) → draft.names ≡ []
+    → Evaluates (Some (draft_outer args draft (declared_by i.kind))) (outer_due args draft.outer (declared_by i.kind)) (outer_fault args draft.outer (declared_by i.kind)) result
+    → Evaluates (Some (draft_other known args draft draft.names i)) (other_due known args draft.outer draft.names i.kind) (other_fault args draft.outer draft.names i.kind) result
+other_outer known args draft i result none evaluates =
+    subst (λ ns. Evaluates (Some (draft_other known args draft ns i)) (other_due known args draft.outer ns i.kind) (other_fault args draft.outer ns i.kind) result) (sym none) evaluates
 
-other_inner_by : (known : Known) (args : Values) (draft : Draft) (i : Instruction) (names : Names) (result : Result Draft (Fault Code))
+other_inner_by : (known : Known) (args : Values) (draft : Draft) (i : Instruction) (names : Names) (result : Result Draft (Fault Reason))
     → (names ≡ [] → ⊥)
-    → Meets (Some (draft_extended known draft i)) (inner_due known (all_but_last names) i.kind) result
-    → Meets (Some (draft_other known args draft names i)) (other_due known args draft.outer names i.kind) result
-other_inner_by known args draft i [] result some meets = absurd (some refl)
-other_inner_by known args draft i (name ∷ names) result some meets = meets
+    → Evaluates (Some (draft_extended known draft i)) (inner_due known (all_but_last names) i.kind) None result
+    → Evaluates (Some (draft_other known args draft names i)) (other_due known args draft.outer names i.kind) (other_fault args draft.outer names i.kind) result
+other_inner_by known args draft i [] result some evaluates = absurd (some refl)
+other_inner_by known args draft i (name ∷ names) result some evaluates = evaluates
 
-pub other_inner : (known : Known) (args : Values) (draft : Draft) (i : Instruction) (result : Result Draft (Fault Code)) → (draft.names ≡ [] → ⊥)
-    → Meets (Some (draft_extended known draft i)) (inner_due known (all_but_last draft.names) i.kind) result
-    → Meets (Some (draft_other known args draft draft.names i)) (other_due known args draft.outer draft.names i.kind) result
-other_inner known args draft i result some meets = other_inner_by known args draft i draft.names result some meets
+pub other_inner : (known : Known) (args : Values) (draft : Draft) (i : Instruction) (result : Result Draft (Fault Reason)) → (draft.names ≡ [] → ⊥)
+    → Evaluates (Some (draft_extended known draft i)) (inner_due known (all_but_last draft.names) i.kind) None result
+    → Evaluates (Some (draft_other known args draft draft.names i)) (other_due known args draft.outer draft.names i.kind) (other_fault args draft.outer draft.names i.kind) result
+other_inner known args draft i result some evaluates = other_inner_by known args draft i draft.names result some evaluates
 
 -- what declaring the arguments of a line answers
 
-pub argument_clear : (is_long : Bool) → is_long ≡ false → (if is_long then Some R18 else None) ≡ None
-argument_clear is_long e = ap (λ b. if b then Some R18 else None) e
+pub argument_clear : (fault : Option Unexpanded) → fault ≡ None → reason (argument_due fault) fault ≡ None
+argument_clear fault none = ap (λ (f : Option Unexpanded). reason (argument_due f) f) none
 
-pub argument_told : (is_long : Bool) (code : Code) → code ≡ R18 → is_long ≡ true → (if is_long then Some R18 else None) ≡ Some code
-argument_told is_long code is e = ap (λ b. if b then Some R18 else None) e ∙ ap Some (sym is)
+refused_by : (why : Unexpanded) → reason (argument_due (Some why)) (Some why) ≡ Some (reason_of why)
+refused_by TooLong = refl
+refused_by (Required text) = refl
 
-pub declared_ok : (args : Values) (outer empty new : List Declaration) (arguments : List Argument) (told : Result (Unit {0}) (Fault Code)) → empty ≡ [] → told ≡ Ok tt
-    → Declares outer (arg_line (value_in outer) args (value_in empty) arguments) (arg_texts (value_in outer) args arguments) new told
-    → (Some (kept (outer ++ arg_line (value_in outer) args (λ name. None) arguments)) ≡ Some new) × (least (argument_due (arg_texts (value_in outer) args arguments)) ≡ None)
-declared_ok args outer empty new arguments told none is declares =
-    let added =
-    subst (λ t. Declares outer (arg_line (value_in outer) args (value_in empty) arguments) (arg_texts (value_in outer) args arguments) new t) is declares in (
-      ap (λ scope. Some (kept (outer ++ arg_line (value_in outer) args (value_in scope) arguments))) (sym none) ∙ ap Some (sym added.0),
-      argument_clear (is_one_long (arg_texts (value_in outer) args arguments)) added.1,
-    )
+pub argument_refused : (fault : Option Unexpanded) (why : Unexpanded) → fault ≡ Some why → reason (argument_due fault) fault ≡ Some (reason_of why)
+argument_refused fault why is = ap (λ (f : Option Unexpanded). reason (argument_due f) f) is ∙ refused_by why
 
-declared_none : (made old line new : List Declaration) (texts : List (List ℕ)) (fault : Fault Code)
-    → Declares old line texts new (Err fault) → Meets {X = List Declaration} (Some made) (argument_due texts) (Err fault)
-declared_none made old line new texts (Because code) declares = argument_told (is_one_long texts) code declares.1 declares.2
-declared_none made old line new texts Memory declares = tt
-
-pub declared_err : (made old line new : List Declaration) (texts : List (List ℕ)) (told : Result (Unit {0}) (Fault Code)) (fault : Fault Code) → told ≡ Err fault
-    → Declares old line texts new told → Meets {X = List Declaration} (Some made) (argument_due texts) (Err fault)
-declared_err made old line new texts told fault is declares =
-    declared_none made old line new texts fault (subst (λ t. Declares old line texts new t) is declares)
+pub declared_ok : (args : Values) (outer empty new : List Declaration) (arguments : List Argument) → empty ≡ []
+    → (new ≡ kept (outer ++ arg_line (value_in outer) args (value_in empty) arguments)) × (arg_fault (value_in outer) args arguments ≡ None)
+    → (Some (kept (outer ++ arg_line (value_in outer) args (λ name. None) arguments)) ≡ Some new)
+    × (reason (argument_due (arg_fault (value_in outer) args arguments)) (arg_fault (value_in outer) args arguments) ≡ None)
+declared_ok args outer empty new arguments none declares = (
+  ap (λ scope. Some (kept (outer ++ arg_line (value_in outer) args (value_in scope) arguments))) (sym none) ∙ ap Some (sym declares.0),
+  argument_clear (arg_fault (value_in outer) args arguments) declares.1,
+)
 
 -- a draft with another outer scope
 abbrev pub draft_with_outer : Draft → List Declaration → Draft
@@ -336,43 +345,44 @@ draft_with_outer draft outer = record { outer = outer; names = draft.names; stag
 
 pub declare_ok : (args : Values) (draft : Draft) (arguments : List Argument) (outer : List Declaration)
     → (Some (kept (draft.outer ++ arg_line (value_in draft.outer) args (λ name. None) arguments)) ≡ Some outer)
-    × (least (argument_due (arg_texts (value_in draft.outer) args arguments)) ≡ None)
-    → (Some (draft_declared args draft arguments) ≡ Some (draft_with_outer draft outer)) × (least (argument_due (arg_texts (value_in draft.outer) args arguments)) ≡ None)
+    × (reason (argument_due (arg_fault (value_in draft.outer) args arguments)) (arg_fault (value_in draft.outer) args arguments) ≡ None)
+    → (Some (draft_declared args draft arguments) ≡ Some (draft_with_outer draft outer))
+    × (reason (argument_due (arg_fault (value_in draft.outer) args arguments)) (arg_fault (value_in draft.outer) args arguments) ≡ None)
 declare_ok args draft arguments outer met = (ap (λ o. Some (draft_with_outer draft o)) (some_is _ _ met.0), met.1)
 
 pub declare_err : (args : Values) (draft : Draft) (arguments : List Argument) (made : List Declaration) (fault : Fault Code)
-    → Meets {X = List Declaration} (Some made) (argument_due (arg_texts (value_in draft.outer) args arguments)) (Err fault)
-    → Meets {X = Draft} (Some (draft_declared args draft arguments)) (argument_due (arg_texts (value_in draft.outer) args arguments)) (Err fault)
-declare_err args draft arguments made (Because code) met = met
+    → Evaluates {X = List Declaration} (Some made) (argument_due (arg_fault (value_in draft.outer) args arguments)) (arg_fault (value_in draft.outer) args arguments) (Err fault)
+    → Evaluates {X = Draft} (Some (draft_declared args draft arguments)) (argument_due (arg_fault (value_in draft.outer) args arguments)) (arg_fault (value_in draft.outer) args arguments) (Err fault)
+declare_err args draft arguments made (Because why) met = met
 declare_err args draft arguments made Memory met = tt
 
-pub outer_some : (args : Values) (draft : Draft) (kind : InstructionKind) (arguments : List Argument) (result : Result Draft (Fault Code)) → declared_by kind ≡ Some arguments
-    → Meets (Some (draft_declared args draft arguments)) (argument_due (arg_texts (value_in draft.outer) args arguments)) result
-    → Meets (Some (draft_outer args draft (declared_by kind))) (outer_due args draft.outer (declared_by kind)) result
+pub outer_some : (args : Values) (draft : Draft) (kind : InstructionKind) (arguments : List Argument) (result : Result Draft (Fault Reason)) → declared_by kind ≡ Some arguments
+    → Evaluates (Some (draft_declared args draft arguments)) (argument_due (arg_fault (value_in draft.outer) args arguments)) (arg_fault (value_in draft.outer) args arguments) result
+    → Evaluates (Some (draft_outer args draft (declared_by kind))) (outer_due args draft.outer (declared_by kind)) (outer_fault args draft.outer (declared_by kind)) result
 outer_some args draft kind arguments result says met =
-    subst (λ d. Meets (Some (draft_outer args draft d)) (outer_due args draft.outer d) result) (sym says) met
+    subst (λ d. Evaluates (Some (draft_outer args draft d)) (outer_due args draft.outer d) (outer_fault args draft.outer d) result) (sym says) met
 
 pub outer_none : (args : Values) (draft : Draft) (kind : InstructionKind) → declared_by kind ≡ None
-    → Meets {X = Draft} (Some (draft_outer args draft (declared_by kind))) (outer_due args draft.outer (declared_by kind)) (Err (Because R05))
+    → Evaluates {X = Draft} (Some (draft_outer args draft (declared_by kind))) (outer_due args draft.outer (declared_by kind)) (outer_fault args draft.outer (declared_by kind)) (Err (Because (Coded R05)))
 outer_none args draft kind says =
-    subst (λ d. Meets {X = Draft} (Some (draft_outer args draft d)) (outer_due args draft.outer d) (Err (Because R05))) (sym says) refl
+    subst (λ d. Evaluates {X = Draft} (Some (draft_outer args draft d)) (outer_due args draft.outer d) (outer_fault args draft.outer d) (Err (Because (Coded R05)))) (sym says) refl
 
 pub extend_ok : (known : Known) (draft next : Draft) (i : Instruction) (names : Names) (origins : List Origin) → names ≡ draft.names
-    → (Some (origins_of known (all_but_last names) i.kind) ≡ Some origins) × (least (inner_due known (all_but_last names) i.kind) ≡ None)
+    → (Some (origins_of known (all_but_last names) i.kind) ≡ Some origins) × (reason (inner_due known (all_but_last names) i.kind) None ≡ None)
     → next ≡ record draft { last = last_with (record { instruction = i; origins = origins }) draft.last }
-    → (Some (draft_extended known draft i) ≡ Some next) × (least (inner_due known (all_but_last draft.names) i.kind) ≡ None)
+    → (Some (draft_extended known draft i) ≡ Some next) × (reason (inner_due known (all_but_last draft.names) i.kind) None ≡ None)
 extend_ok known draft next i names origins same found is =
     let found_is : origins ≡ origins_of known (all_but_last draft.names) i.kind =
     sym (some_is _ _ found.0) ∙ ap (λ ns. origins_of known (all_but_last ns) i.kind) same in (
       ap (λ os. Some (record draft { last = last_with (record { instruction = i; origins = os }) draft.last })) (sym found_is) ∙ ap Some (sym is),
-      ap (λ ns. least (inner_due known (all_but_last ns) i.kind)) (sym same) ∙ found.1,
+      ap (λ ns. reason (inner_due known (all_but_last ns) i.kind) None) (sym same) ∙ found.1,
     )
 
 pub extend_err : (known : Known) (draft : Draft) (i : Instruction) (names : Names) (fault : Fault Code) → names ≡ draft.names
-    → Meets (Some (origins_of known (all_but_last names) i.kind)) (inner_due known (all_but_last names) i.kind) (Err fault)
-    → Meets (Some (draft_extended known draft i)) (inner_due known (all_but_last draft.names) i.kind) (Err fault)
-extend_err known draft i names (Because code) same meets = ap (λ ns. least (inner_due known (all_but_last ns) i.kind)) (sym same) ∙ meets
-extend_err known draft i names Memory same meets = tt
+    → Evaluates (Some (origins_of known (all_but_last names) i.kind)) (inner_due known (all_but_last names) i.kind) None (Err fault)
+    → Evaluates (Some (draft_extended known draft i)) (inner_due known (all_but_last draft.names) i.kind) None (Err fault)
+extend_err known draft i names (Because why) same evaluates = ap (λ ns. reason (inner_due known (all_but_last ns) i.kind) None) (sym same) ∙ evaluates
+extend_err known draft i names Memory same evaluates = tt
 
 pub mapped_none : {X Y : Type 0} (f : X → Y) (o : Option X) (y : Option Y) → option_map f o ≡ y → o ≡ None → y ≡ None
 mapped_none f o y e none = sym e ∙ ap (λ x. option_map f x) none

@@ -21,7 +21,7 @@ use Rattle.rows.specs.declared.row.Origin.{Origin}
 use Rattle.rows.specs.declared.row.Origin.TheVariants.{Source as SourceOf, Stage as StageOf}
 use Rattle.scopes.specs.declared.declaration.Declaration.{Declaration}
 use Rattle.stages.specs.Naming.{Names, Known, is_called, called_from, stage_called, within, stage_numbered, stage_found, image_named, stage_or_image, scratch_or_image, base_named, Reference, to_context, by_flag, by_mount, references, led_to, origins_of, leads_nowhere}
-use Rattle.stages.specs.Due.{base_text, inner_due}
+use Rattle.stages.specs.Due.{base_text, base_found, inner_due}
 use Rattle.stages.specs.Table.{base_of, IsBefore, IsKnown}
 
 some_is : {X : Type 0} (x y : X) → Some x ≡ Some y → x ≡ y
@@ -160,15 +160,19 @@ known_say known count = record {
   images = λ name there fits. there;
 }
 
+of_found : (known : Known) (names : Names) (P : Origin → Type 0) (text : Option (List ℕ)) → MaySay known (length names) P → OfSome P (base_found known names text)
+of_found known names P None say = tt
+of_found known names P (Some text) say = of_base known names P text say
+
 pub base_before : (known : Known) (scope : List Declaration) (names : Names) (image : Parts) → IsBefore (length names) (base_of known scope names image)
 base_before known scope names image =
-    of_unwrapped (IsBefore (length names)) (base_named known names (base_text scope image)) (SourceOf Scratch)
-    (of_base known names (IsBefore (length names)) (base_text scope image) (before_say known (length names))) refl
+    of_unwrapped (IsBefore (length names)) (base_found known names (base_text scope image)) (SourceOf Scratch)
+    (of_found known names (IsBefore (length names)) (base_text scope image) (before_say known (length names))) refl
 
 pub base_known : (known : Known) (scope : List Declaration) (names : Names) (image : Parts) → IsKnown known (base_of known scope names image)
 base_known known scope names image =
-    of_unwrapped (IsKnown known) (base_named known names (base_text scope image)) (SourceOf Scratch)
-    (of_base known names (IsKnown known) (base_text scope image) (known_say known (length names))) tt
+    of_unwrapped (IsKnown known) (base_found known names (base_text scope image)) (SourceOf Scratch)
+    (of_found known names (IsKnown known) (base_text scope image) (known_say known (length names))) tt
 
 pub origins_before : (known : Known) (names : Names) (kind : InstructionKind) → All (IsBefore (length names)) (origins_of known names kind)
 origins_before known names kind = all_say known names (IsBefore (length names)) (references kind) (before_say known (length names))

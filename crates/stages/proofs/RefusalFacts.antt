@@ -1,4 +1,4 @@
--- Of all that is due for a file the least is told.
+-- Of all that is due for a file the least is reported.
 use Rattle.std.proofs.Common.{◌≡◌, ◌<◌, ◌≤◌, ◌⊎◌, ◌++◌, ℕ, Bool, true, false, List, [], ◌∷◌, Option, Some, None, inl, inr, refl, sym, ap, ◌∙◌, subst, arith, if◌then◌else◌}
 use Rattle.std.specs.Prelude.{Result, Ok, Err}
 use Rattle.std.proofs.lemmas.Bool.{cases_lt, true≢false}
@@ -6,10 +6,13 @@ use Rattle.std.proofs.lemmas.List.{append_assoc, append-nil}
 use Rattle.plain.specs.Codes.{number_of}
 use Rattle.plain.specs.declared.refusal.Code.{Code}
 use Rattle.plain.specs.declared.refusal.Code.TheVariants.{R05, R11, R12, R13, R18}
-use Rattle.plain.specs.declared.refusal.Refusal.{Refusal}
-use Rattle.lines.specs.Faults.{IsNotBehind}
 use Rattle.expand.specs.Value.{Parts}
-use Rattle.instructions.specs.Least.{least, IsLeast}
+use Rattle.expand.specs.Reasons.{reason_number}
+use Rattle.expand.specs.declared.fault.Unexpanded.{Unexpanded}
+use Rattle.expand.specs.declared.reason.Reason.{Reason}
+use Rattle.expand.specs.declared.reason.Reason.TheVariants.{Coded, Required}
+use Rattle.expand.specs.declared.reason.Rejection.{Rejection}
+use Rattle.instructions.specs.Reason.{reason, IsReason, IsLeastReason}
 use Rattle.instructions.specs.declared.instruction.Argument.{Argument}
 use Rattle.instructions.specs.declared.instruction.Instruction.{Instruction}
 use Rattle.instructions.specs.declared.instruction.InstructionKind.{InstructionKind}
@@ -18,15 +21,15 @@ use Rattle.scopes.specs.declared.declaration.Declaration.{Declaration}
 use Rattle.dockerfile.specs.Dockerfile.{AscendBelow}
 use Rattle.stages.specs.Naming.{Names, Known}
 use Rattle.stages.specs.Before.{begun, stage_names, all_but_last, outer_scope}
-use Rattle.stages.specs.Due.{base_text, base_due, argument_due, misplaced_due, outer_due, inner_due, other_due, begun_due, due_behind}
+use Rattle.stages.specs.Due.{base_text, base_fault, base_due, argument_due, misplaced_due, outer_due, inner_due, other_due, begun_due, due_behind, fault_behind, reason_behind, IsReasonBehind}
 use Rattle.stages.specs.Table.{TableValue, stages_of}
 use Rattle.stages.specs.Resolved.{target_of, told_at, first_refusal, are_arguments, unless_refused, with_target, resolved}
-use Rattle.stages.specs.Refusals.{IsDueAtLine, IsDue, IsLeastDue}
+use Rattle.stages.specs.Refusals.{IsDueAtLine, IsDue, IsNotAfter, IsLeastDue}
 
--- the law of the least code, as a premise
+-- the law of the least reason, as a premise
 pub record LeastLaws : Type 0 where
-  pub is_least : (codes : Code → Bool) (c : Code) → least codes ≡ Some c → IsLeast codes c
-  pub is_free : (codes : Code → Bool) → least codes ≡ None → (c : Code) → codes c ≡ false
+  pub is_least : (due : Code → Bool) (fault : Option Unexpanded) (why : Reason) → reason due fault ≡ Some why → IsLeastReason due fault why
+  pub is_free : (due : Code → Bool) (fault : Option Unexpanded) → reason due fault ≡ None → (why : Reason) → IsReason due fault why → ⊥
 
 none_some : {X : Type 0} (x : X) → None ≡ Some x → ⊥
 none_some x e = cc
@@ -44,30 +47,30 @@ nil_cut : {X : Type 0} (x : X) (before after : List X) → [] ≡ before ++ x �
 nil_cut x [] after e = cc
 nil_cut x (b ∷ bs) after e = cc
 
-err_is : (result : Result TableValue Refusal) (one other : Refusal) → result ≡ Err one → result ≡ Err other → one ≡ other
+err_is : (result : Result TableValue Rejection) (one other : Rejection) → result ≡ Err one → result ≡ Err other → one ≡ other
 err_is result one other e told = cc
 
-err_ok : (refusal : Refusal) (table : TableValue) → Err refusal ≡ Ok table → ⊥
+err_ok : (refusal : Rejection) (table : TableValue) → Err refusal ≡ Ok table → ⊥
 err_ok refusal table e = cc
 
-unless_err : (o : Option Refusal) (table : TableValue) (refusal : Refusal) → unless_refused o table ≡ Err refusal → o ≡ Some refusal
+unless_err : (o : Option Rejection) (table : TableValue) (refusal : Rejection) → unless_refused o table ≡ Err refusal → o ≡ Some refusal
 unless_err None table refusal e = absurd (err_ok refusal table (sym e))
 unless_err (Some other) table refusal e = ap Some (err_is (Err other) other refusal refl e)
 
-unless_ok : (o : Option Refusal) (table found : TableValue) → unless_refused o table ≡ Ok found → o ≡ None
+unless_ok : (o : Option Rejection) (table found : TableValue) → unless_refused o table ≡ Ok found → o ≡ None
 unless_ok None table found e = refl
 unless_ok (Some refusal) table found e = absurd (err_ok refusal found e)
 
--- some instructions behind others, of which one has a code that is due
-pub record IsDueBehind (known : Known) (args : Values) (first is : List Instruction) (refusal : Refusal) : Type 0 where
+-- some instructions after others, of which one is refused for this reason
+pub record IsDueBehind (known : Known) (args : Values) (first is : List Instruction) (refusal : Rejection) : Type 0 where
   pub before : List Instruction
   pub instruction : Instruction
   pub after : List Instruction
   pub cut : is ≡ before ++ instruction ∷ after
   pub line : refusal.line ≡ instruction.line
-  pub due : due_behind known args (first ++ before) instruction.kind refusal.code ≡ true
+  pub due : IsReasonBehind known args (first ++ before) instruction.kind refusal.reason
 
-pub due_at_line : (known : Known) (args : Values) (is : List Instruction) (refusal : Refusal) → IsDueBehind known args [] is refusal → IsDueAtLine known args is refusal
+pub due_at_line : (known : Known) (args : Values) (is : List Instruction) (refusal : Rejection) → IsDueBehind known args [] is refusal → IsDueAtLine known args is refusal
 due_at_line known args is refusal h = record {
   before = h.before;
   instruction = h.instruction;
@@ -77,7 +80,7 @@ due_at_line known args is refusal h = record {
   due = h.due;
 }
 
-due_behind_none : (known : Known) (args : Values) (is : List Instruction) (refusal : Refusal) → IsDueAtLine known args is refusal → IsDueBehind known args [] is refusal
+due_behind_none : (known : Known) (args : Values) (is : List Instruction) (refusal : Rejection) → IsDueAtLine known args is refusal → IsDueBehind known args [] is refusal
 due_behind_none known args is refusal h = record {
   before = h.before;
   instruction = h.instruction;
@@ -87,11 +90,11 @@ due_behind_none known args is refusal h = record {
   due = h.due;
 }
 
--- a code is due for an instruction behind others; the refusal has its line
-abbrev pub IsDueHere : Known → Values → List Instruction → Instruction → Refusal → Type 0
-IsDueHere known args first i refusal = (refusal.line ≡ i.line) × (due_behind known args first i.kind refusal.code ≡ true)
+-- there is this reason to refuse an instruction after others; the refusal has its line
+abbrev pub IsDueHere : Known → Values → List Instruction → Instruction → Rejection → Type 0
+IsDueHere known args first i refusal = (refusal.line ≡ i.line) × (IsReasonBehind known args first i.kind refusal.reason)
 
-pub due_here : (known : Known) (args : Values) (first : List Instruction) (i : Instruction) (is : List Instruction) (refusal : Refusal)
+pub due_here : (known : Known) (args : Values) (first : List Instruction) (i : Instruction) (is : List Instruction) (refusal : Rejection)
     → IsDueHere known args first i refusal → IsDueBehind known args first (i ∷ is) refusal
 due_here known args first i is refusal h = record {
   before = [];
@@ -99,10 +102,10 @@ due_here known args first i is refusal h = record {
   after = is;
   cut = refl;
   line = h.0;
-  due = subst (λ (js : List Instruction). due_behind known args js i.kind refusal.code ≡ true) (sym (append-nil first)) h.1;
+  due = subst (λ (js : List Instruction). IsReasonBehind known args js i.kind refusal.reason) (sym (append-nil first)) h.1;
 }
 
-pub due_later : (known : Known) (args : Values) (first : List Instruction) (i : Instruction) (is : List Instruction) (refusal : Refusal)
+pub due_later : (known : Known) (args : Values) (first : List Instruction) (i : Instruction) (is : List Instruction) (refusal : Rejection)
     → IsDueBehind known args (first ++ i ∷ []) is refusal → IsDueBehind known args first (i ∷ is) refusal
 due_later known args first i is refusal h = record {
   before = i ∷ h.before;
@@ -110,32 +113,32 @@ due_later known args first i is refusal h = record {
   after = h.after;
   cut = ap (λ (js : List Instruction). i ∷ js) h.cut;
   line = h.line;
-  due = subst (λ (js : List Instruction). due_behind known args js h.instruction.kind refusal.code ≡ true) (append_assoc first (i ∷ []) h.before) h.due;
+  due = subst (λ (js : List Instruction). IsReasonBehind known args js h.instruction.kind refusal.reason) (append_assoc first (i ∷ []) h.before) h.due;
 }
 
-due_cut : (known : Known) (args : Values) (first : List Instruction) (i : Instruction) (is : List Instruction) (refusal : Refusal)
+due_cut : (known : Known) (args : Values) (first : List Instruction) (i : Instruction) (is : List Instruction) (refusal : Rejection)
     (before : List Instruction) (instruction : Instruction) (after : List Instruction) → i ∷ is ≡ before ++ instruction ∷ after → refusal.line ≡ instruction.line
-    → due_behind known args (first ++ before) instruction.kind refusal.code ≡ true
+    → IsReasonBehind known args (first ++ before) instruction.kind refusal.reason
     → IsDueHere known args first i refusal ⊎ IsDueBehind known args (first ++ i ∷ []) is refusal
 due_cut known args first i is refusal [] instruction after cut line due =
     let same : instruction ≡ i = sym (head_is i instruction is after cut) in
-    let here : due_behind known args first instruction.kind refusal.code ≡ true =
-    subst (λ (js : List Instruction). due_behind known args js instruction.kind refusal.code ≡ true) (append-nil first) due in
+    let here : IsReasonBehind known args first instruction.kind refusal.reason =
+    subst (λ (js : List Instruction). IsReasonBehind known args js instruction.kind refusal.reason) (append-nil first) due in
     inl (subst (λ (j : Instruction). IsDueHere known args first j refusal) same (line, here))
 due_cut known args first i is refusal (b ∷ bs) instruction after cut line due =
     let same : b ≡ i = sym (head_is i b is (bs ++ instruction ∷ after) cut) in
-    let along : due_behind known args ((first ++ b ∷ []) ++ bs) instruction.kind refusal.code ≡ true =
-    subst (λ (js : List Instruction). due_behind known args js instruction.kind refusal.code ≡ true) (sym (append_assoc first (b ∷ []) bs)) due in
+    let along : IsReasonBehind known args ((first ++ b ∷ []) ++ bs) instruction.kind refusal.reason =
+    subst (λ (js : List Instruction). IsReasonBehind known args js instruction.kind refusal.reason) (sym (append_assoc first (b ∷ []) bs)) due in
     inr (record {
       before = bs;
       instruction = instruction;
       after = after;
       cut = tail_is i b is (bs ++ instruction ∷ after) cut;
       line = line;
-      due = subst (λ (j : Instruction). due_behind known args ((first ++ j ∷ []) ++ bs) instruction.kind refusal.code ≡ true) same along;
+      due = subst (λ (j : Instruction). IsReasonBehind known args ((first ++ j ∷ []) ++ bs) instruction.kind refusal.reason) same along;
     })
 
-due_either : (known : Known) (args : Values) (first : List Instruction) (i : Instruction) (is : List Instruction) (refusal : Refusal)
+due_either : (known : Known) (args : Values) (first : List Instruction) (i : Instruction) (is : List Instruction) (refusal : Rejection)
     → IsDueBehind known args first (i ∷ is) refusal → IsDueHere known args first i refusal ⊎ IsDueBehind known args (first ++ i ∷ []) is refusal
 due_either known args first i is refusal h = due_cut known args first i is refusal h.before h.instruction h.after h.cut h.line h.due
 
@@ -148,7 +151,7 @@ line_above low (b ∷ bs) i after a =
     let rest = line_above b.line bs i after a.2 in
     omega (arith, above, rest)
 
-due_above : (known : Known) (args : Values) (first is : List Instruction) (low : ℕ) (refusal : Refusal) → AscendBelow low is → IsDueBehind known args first is refusal
+due_above : (known : Known) (args : Values) (first is : List Instruction) (low : ℕ) (refusal : Rejection) → AscendBelow low is → IsDueBehind known args first is refusal
     → low < refusal.line
 due_above known args first is low refusal a h =
     let above = line_above low h.before h.instruction h.after (subst (AscendBelow low) h.cut a) in
@@ -157,76 +160,77 @@ due_above known args first is low refusal a h =
 
 -- the first is the least
 
-record IsLeastBehind (known : Known) (args : Values) (first is : List Instruction) (refusal : Refusal) : Type 0 where
+record IsLeastBehind (known : Known) (args : Values) (first is : List Instruction) (refusal : Rejection) : Type 0 where
   is_due : IsDueBehind known args first is refusal
-  least : (other : Refusal) → IsDueBehind known args first is other → IsNotBehind refusal other
+  least : (other : Rejection) → IsDueBehind known args first is other → IsNotAfter refusal other
 
-least_here : (known : Known) (args : Values) (first : List Instruction) (i : Instruction) (is : List Instruction) (code : Code) → AscendBelow i.line is
-    → IsLeast (due_behind known args first i.kind) code → IsLeastBehind known args first (i ∷ is) (record { code = code; line = i.line })
-least_here known args first i is code a h = record {
-  is_due = due_here known args first i is (record { code = code; line = i.line }) (refl, h.0);
+least_here : (known : Known) (args : Values) (first : List Instruction) (i : Instruction) (is : List Instruction) (why : Reason) → AscendBelow i.line is
+    → IsLeastReason (due_behind known args first i.kind) (fault_behind args first i.kind) why → IsLeastBehind known args first (i ∷ is) (record { reason = why; line = i.line })
+least_here known args first i is why a h = record {
+  is_due = due_here known args first i is (record { reason = why; line = i.line }) (refl, h.0);
   least = λ other due. elim (due_either known args first i is other due) [
-    | inl here ↦ inr (sym here.0, h.1 other.code here.1)
+    | inl here ↦ inr (sym here.0, h.1 other.reason here.1)
     | inr later ↦ inl (due_above known args (first ++ i ∷ []) is i.line other a later)
   ];
 }
 
-least_later : (known : Known) (args : Values) (first : List Instruction) (i : Instruction) (is : List Instruction) (refusal : Refusal)
-    → ((code : Code) → due_behind known args first i.kind code ≡ false) → IsLeastBehind known args (first ++ i ∷ []) is refusal
+least_later : (known : Known) (args : Values) (first : List Instruction) (i : Instruction) (is : List Instruction) (refusal : Rejection)
+    → ((why : Reason) → IsReasonBehind known args first i.kind why → ⊥) → IsLeastBehind known args (first ++ i ∷ []) is refusal
     → IsLeastBehind known args first (i ∷ is) refusal
 least_later known args first i is refusal free h = record {
   is_due = due_later known args first i is refusal h.is_due;
   least = λ other due. elim (due_either known args first i is other due) [
-    | inl here ↦ absurd (true≢false (sym here.1 ∙ free other.code))
+    | inl here ↦ absurd (free other.reason here.1)
     | inr later ↦ h.least other later
   ];
 }
 
-first_by : LeastLaws → (known : Known) (args : Values) (first : List Instruction) (i : Instruction) (is : List Instruction) (o : Option Code) (refusal : Refusal)
-    → least (due_behind known args first i.kind) ≡ o → AscendBelow i.line is → told_at i.line o (first_refusal known args (first ++ i ∷ []) is) ≡ Some refusal
+first_by : LeastLaws → (known : Known) (args : Values) (first : List Instruction) (i : Instruction) (is : List Instruction) (o : Option Reason) (refusal : Rejection)
+    → reason_behind known args first i.kind ≡ o → AscendBelow i.line is → told_at i.line o (first_refusal known args (first ++ i ∷ []) is) ≡ Some refusal
     → (first_refusal known args (first ++ i ∷ []) is ≡ Some refusal → IsLeastBehind known args (first ++ i ∷ []) is refusal)
     → IsLeastBehind known args first (i ∷ is) refusal
 first_by laws known args first i is None refusal e a told more =
-    least_later known args first i is refusal (laws.is_free (due_behind known args first i.kind) e) (more told)
-first_by laws known args first i is (Some code) refusal e a told more =
-    subst (λ (r : Refusal). IsLeastBehind known args first (i ∷ is) r) (some_is (record { code = code; line = i.line }) refusal told)
-    (least_here known args first i is code a (laws.is_least (due_behind known args first i.kind) code e))
+    least_later known args first i is refusal (laws.is_free (due_behind known args first i.kind) (fault_behind args first i.kind) e) (more told)
+first_by laws known args first i is (Some why) refusal e a told more =
+    subst (λ (r : Rejection). IsLeastBehind known args first (i ∷ is) r) (some_is (record { reason = why; line = i.line }) refusal told)
+    (least_here known args first i is why a (laws.is_least (due_behind known args first i.kind) (fault_behind args first i.kind) why e))
 
-first_least : LeastLaws → (known : Known) (args : Values) (first is : List Instruction) (low : ℕ) (refusal : Refusal) → AscendBelow low is
+first_least : LeastLaws → (known : Known) (args : Values) (first is : List Instruction) (low : ℕ) (refusal : Rejection) → AscendBelow low is
     → first_refusal known args first is ≡ Some refusal → IsLeastBehind known args first is refusal
 first_least laws known args first [] low refusal a told = absurd (none_some refusal told)
 first_least laws known args first (i ∷ is) low refusal a told =
-    first_by laws known args first i is (least (due_behind known args first i.kind)) refusal refl a.2 told
+    first_by laws known args first i is (reason_behind known args first i.kind) refusal refl a.2 told
     (λ more. first_least laws known args (first ++ i ∷ []) is i.line refusal a.2 more)
 
-free_by : LeastLaws → (known : Known) (args : Values) (first : List Instruction) (i : Instruction) (is : List Instruction) (o : Option Code) (refusal : Refusal)
-    → least (due_behind known args first i.kind) ≡ o → told_at i.line o (first_refusal known args (first ++ i ∷ []) is) ≡ None
+free_by : LeastLaws → (known : Known) (args : Values) (first : List Instruction) (i : Instruction) (is : List Instruction) (o : Option Reason) (refusal : Rejection)
+    → reason_behind known args first i.kind ≡ o → told_at i.line o (first_refusal known args (first ++ i ∷ []) is) ≡ None
     → (first_refusal known args (first ++ i ∷ []) is ≡ None → IsDueBehind known args (first ++ i ∷ []) is refusal → ⊥)
     → IsDueBehind known args first (i ∷ is) refusal → ⊥
 free_by laws known args first i is None refusal e told more due = elim (due_either known args first i is refusal due) [
-  | inl here ↦ true≢false (sym here.1 ∙ laws.is_free (due_behind known args first i.kind) e refusal.code)
+  | inl here ↦ laws.is_free (due_behind known args first i.kind) (fault_behind args first i.kind) e refusal.reason here.1
   | inr later ↦ more told later
 ]
-free_by laws known args first i is (Some code) refusal e told more due = none_some (record { code = code; line = i.line }) (sym told)
+free_by laws known args first i is (Some why) refusal e told more due = none_some (record { reason = why; line = i.line }) (sym told)
 
-first_free : LeastLaws → (known : Known) (args : Values) (first is : List Instruction) (refusal : Refusal) → first_refusal known args first is ≡ None
+first_free : LeastLaws → (known : Known) (args : Values) (first is : List Instruction) (refusal : Rejection) → first_refusal known args first is ≡ None
     → IsDueBehind known args first is refusal → ⊥
 first_free laws known args first [] refusal told due = nil_cut due.instruction due.before due.after due.cut
 first_free laws known args first (i ∷ is) refusal told due =
-    free_by laws known args first i is (least (due_behind known args first i.kind)) refusal refl told
+    free_by laws known args first i is (reason_behind known args first i.kind) refusal refl told
     (λ more. first_free laws known args (first ++ i ∷ []) is refusal more) due
 
--- no code that is due for an instruction is less than R05
+-- no reason to refuse an instruction has a number less than that of R05
 
-base_code : (known : Known) (names : Names) (text : List ℕ) (name : Option (List ℕ)) (code : Code) → base_due known names text name code ≡ true → 5 ≤ number_of code
-base_code known names text name R11 h = omega arith
-base_code known names text name R12 h = omega arith
-base_code known names text name R18 h = omega arith
-base_code known names text name code h = absurd (true≢false (sym h))
+base_code : (known : Known) (names : Names) (text : Option (List ℕ)) (fault : Option Unexpanded) (name : Option (List ℕ)) (code : Code) → base_due known names text fault name code ≡ true
+    → 5 ≤ number_of code
+base_code known names text fault name R11 h = omega arith
+base_code known names text fault name R12 h = omega arith
+base_code known names text fault name R18 h = omega arith
+base_code known names text fault name code h = absurd (true≢false (sym h))
 
-argument_code : (texts : List (List ℕ)) (code : Code) → argument_due texts code ≡ true → 5 ≤ number_of code
-argument_code texts R18 h = omega arith
-argument_code texts code h = absurd (true≢false (sym h))
+argument_code : (fault : Option Unexpanded) (code : Code) → argument_due fault code ≡ true → 5 ≤ number_of code
+argument_code fault R18 h = omega arith
+argument_code fault code h = absurd (true≢false (sym h))
 
 misplaced_code : (code : Code) → misplaced_due code ≡ true → 5 ≤ number_of code
 misplaced_code R05 h = omega arith
@@ -247,23 +251,29 @@ other_code known args scope (name ∷ names) kind code h = inner_code known (all
 
 begun_code : (known : Known) (args : Values) (scope : List Declaration) (names : Names) (kind : InstructionKind) (b : Option (Parts × Option (List ℕ))) (code : Code)
     → begun_due known args scope names kind b code ≡ true → 5 ≤ number_of code
-begun_code known args scope names kind (Some stage) code h = base_code known names (base_text scope stage.0) stage.1 code h
+begun_code known args scope names kind (Some stage) code h = base_code known names (base_text scope stage.0) (base_fault scope stage.0) stage.1 code h
 begun_code known args scope names kind None code h = other_code known args scope names kind code h
 
-line_code : (known : Known) (args : Values) (is : List Instruction) (refusal : Refusal) → IsDueBehind known args [] is refusal → 5 ≤ number_of refusal.code
-line_code known args is refusal h =
-    begun_code known args (outer_scope args h.before) (stage_names h.before) h.instruction.kind (begun h.instruction.kind) refusal.code h.due
+reason_five : (due : Code → Bool) (fault : Option Unexpanded) (why : Reason) → ((code : Code) → due code ≡ true → 5 ≤ number_of code) → IsReason due fault why
+    → 5 ≤ reason_number why
+reason_five due fault (Coded code) codes h = codes code h
+reason_five due fault (Required text) codes h = omega arith
+
+line_reason : (known : Known) (args : Values) (is : List Instruction) (refusal : Rejection) → IsDueBehind known args [] is refusal → 5 ≤ reason_number refusal.reason
+line_reason known args is refusal h =
+    reason_five (due_behind known args h.before h.instruction.kind) (fault_behind args h.before h.instruction.kind) refusal.reason
+    (begun_code known args (outer_scope args h.before) (stage_names h.before) h.instruction.kind (begun h.instruction.kind)) h.due
 
 -- what is due for the file as a whole
 
 least_target : (known : Known) (args : Values) (target : Option (List ℕ)) (is : List Instruction) → AscendBelow 0 is → target_of (stage_names is) target ≡ None
-    → IsLeastDue known args target is (record { code = R13; line = 0 })
+    → IsLeastDue known args target is (record { reason = Coded R13; line = 0 })
 least_target known args target is a none = record {
   is_due = inl (none, refl);
   least = λ other due. elim due [
-    | inl lacks ↦ inr (sym (ap (λ (r : Refusal). r.line) lacks.1), (let same = ap (λ (r : Refusal). number_of r.code) lacks.1 in omega (arith, same)))
+    | inl lacks ↦ inr (sym (ap (λ (r : Rejection). r.line) lacks.1), (let same = ap (λ (r : Rejection). reason_number r.reason) lacks.1 in omega (arith, same)))
     | inr more ↦ elim more [
-      | inl empty ↦ inl (let line = ap (λ (r : Refusal). r.line) empty.1 in omega (arith, line))
+      | inl empty ↦ inl (let line = ap (λ (r : Rejection). r.line) empty.1 in omega (arith, line))
       | inr later ↦ inl (due_above known args [] is 0 other a (due_behind_none known args is other later))
     ]
   ];
@@ -273,25 +283,25 @@ one_or_more : (n : ℕ) → 0 < n → (1 ≡ n) ⊎ (1 < n)
 one_or_more n h = elim (cases_lt 1 n) [ inl more ↦ inr more | inr few ↦ inl (omega (arith, h, few)) ]
 
 -- no instruction stands before line 1
-not_behind : (other : Refusal) → 0 < other.line → 5 ≤ number_of other.code → IsNotBehind (record { code = R05; line = 1 }) other
-not_behind other line code = elim (one_or_more other.line line) [ inl one ↦ inr (one, code) | inr more ↦ inl more ]
+not_after : (other : Rejection) → 0 < other.line → 5 ≤ reason_number other.reason → IsNotAfter (record { reason = Coded R05; line = 1 }) other
+not_after other line number = elim (one_or_more other.line line) [ inl one ↦ inr (one, number) | inr more ↦ inl more ]
 
 least_stages : (known : Known) (args : Values) (target : Option (List ℕ)) (is : List Instruction) (number : ℕ) → AscendBelow 0 is
-    → target_of (stage_names is) target ≡ Some number → are_arguments is ≡ true → IsLeastDue known args target is (record { code = R05; line = 1 })
+    → target_of (stage_names is) target ≡ Some number → are_arguments is ≡ true → IsLeastDue known args target is (record { reason = Coded R05; line = 1 })
 least_stages known args target is number a found all = record {
   is_due = inr (inl (all, refl));
   least = λ other due. elim due [
     | inl lacks ↦ absurd (none_some number (sym lacks.0 ∙ found))
     | inr more ↦ elim more [
-      | inl empty ↦ inr (sym (ap (λ (r : Refusal). r.line) empty.1), (let same = ap (λ (r : Refusal). number_of r.code) empty.1 in omega (arith, same)))
+      | inl empty ↦ inr (sym (ap (λ (r : Rejection). r.line) empty.1), (let same = ap (λ (r : Rejection). reason_number r.reason) empty.1 in omega (arith, same)))
       | inr later ↦
           let there = due_behind_none known args is other later in
-          not_behind other (due_above known args [] is 0 other a there) (line_code known args is other there)
+          not_after other (due_above known args [] is 0 other a there) (line_reason known args is other there)
     ]
   ];
 }
 
-least_line : (known : Known) (args : Values) (target : Option (List ℕ)) (is : List Instruction) (number : ℕ) (refusal : Refusal)
+least_line : (known : Known) (args : Values) (target : Option (List ℕ)) (is : List Instruction) (number : ℕ) (refusal : Rejection)
     → target_of (stage_names is) target ≡ Some number → are_arguments is ≡ false → IsLeastBehind known args [] is refusal → IsLeastDue known args target is refusal
 least_line known args target is number refusal found some h = record {
   is_due = inr (inr (due_at_line known args is refusal h.is_due));
@@ -306,32 +316,32 @@ least_line known args target is number refusal found some h = record {
 
 -- what a file is resolved to
 
-stages_by : LeastLaws → (known : Known) (args : Values) (target : Option (List ℕ)) (is : List Instruction) (number : ℕ) (table : TableValue) (refusal : Refusal) (all : Bool)
+stages_by : LeastLaws → (known : Known) (args : Values) (target : Option (List ℕ)) (is : List Instruction) (number : ℕ) (table : TableValue) (refusal : Rejection) (all : Bool)
     → AscendBelow 0 is → target_of (stage_names is) target ≡ Some number → are_arguments is ≡ all
-    → unless_refused (if all then Some (record { code = R05; line = 1 }) else first_refusal known args [] is) table ≡ Err refusal → IsLeastDue known args target is refusal
+    → unless_refused (if all then Some (record { reason = Coded R05; line = 1 }) else first_refusal known args [] is) table ≡ Err refusal → IsLeastDue known args target is refusal
 stages_by laws known args target is number table refusal true a found e told =
-    subst (λ (r : Refusal). IsLeastDue known args target is r) (err_is (Err (record { code = R05; line = 1 })) (record { code = R05; line = 1 }) refusal refl told)
+    subst (λ (r : Rejection). IsLeastDue known args target is r) (err_is (Err (record { reason = Coded R05; line = 1 })) (record { reason = Coded R05; line = 1 }) refusal refl told)
     (least_stages known args target is number a found e)
 stages_by laws known args target is number table refusal false a found e told =
     least_line known args target is number refusal found e
     (first_least laws known args [] is 0 refusal a (unless_err (first_refusal known args [] is) table refusal told))
 
-target_by : LeastLaws → (known : Known) (args : Values) (target : Option (List ℕ)) (is : List Instruction) (o : Option ℕ) (refusal : Refusal) → AscendBelow 0 is
+target_by : LeastLaws → (known : Known) (args : Values) (target : Option (List ℕ)) (is : List Instruction) (o : Option ℕ) (refusal : Rejection) → AscendBelow 0 is
     → target_of (stage_names is) target ≡ o → with_target known args is o ≡ Err refusal → IsLeastDue known args target is refusal
 target_by laws known args target is None refusal a e told =
-    subst (λ (r : Refusal). IsLeastDue known args target is r) (err_is (Err (record { code = R13; line = 0 })) (record { code = R13; line = 0 }) refusal refl told) (least_target known args target is a e)
+    subst (λ (r : Rejection). IsLeastDue known args target is r) (err_is (Err (record { reason = Coded R13; line = 0 })) (record { reason = Coded R13; line = 0 }) refusal refl told) (least_target known args target is a e)
 target_by laws known args target is (Some number) refusal a e told =
     stages_by laws known args target is number (record { outer = outer_scope args is; stages = stages_of known args is; target = number }) refusal (are_arguments is) a e refl told
 
-pub refused_least : LeastLaws → (known : Known) (args : Values) (target : Option (List ℕ)) (is : List Instruction) (refusal : Refusal) → AscendBelow 0 is
+pub refused_least : LeastLaws → (known : Known) (args : Values) (target : Option (List ℕ)) (is : List Instruction) (refusal : Rejection) → AscendBelow 0 is
     → resolved known args target is ≡ Err refusal → IsLeastDue known args target is refusal
 unfolding resolved
 refused_least laws known args target is refusal a told = target_by laws known args target is (target_of (stage_names is) target) refusal a refl told
 
-free_stages : LeastLaws → (known : Known) (args : Values) (target : Option (List ℕ)) (is : List Instruction) (number : ℕ) (table found : TableValue) (all : Bool) (other : Refusal)
+free_stages : LeastLaws → (known : Known) (args : Values) (target : Option (List ℕ)) (is : List Instruction) (number : ℕ) (table found : TableValue) (all : Bool) (other : Rejection)
     → target_of (stage_names is) target ≡ Some number → are_arguments is ≡ all
-    → unless_refused (if all then Some (record { code = R05; line = 1 }) else first_refusal known args [] is) table ≡ Ok found → IsDue known args target is other → ⊥
-free_stages laws known args target is number table found true other at e told due = err_ok (record { code = R05; line = 1 }) found told
+    → unless_refused (if all then Some (record { reason = Coded R05; line = 1 }) else first_refusal known args [] is) table ≡ Ok found → IsDue known args target is other → ⊥
+free_stages laws known args target is number table found true other at e told due = err_ok (record { reason = Coded R05; line = 1 }) found told
 free_stages laws known args target is number table found false other at e told due = elim due [
   | inl lacks ↦ none_some number (sym lacks.0 ∙ at)
   | inr more ↦ elim more [
@@ -341,13 +351,13 @@ free_stages laws known args target is number table found false other at e told d
   ]
 ]
 
-free_target : LeastLaws → (known : Known) (args : Values) (target : Option (List ℕ)) (is : List Instruction) (o : Option ℕ) (found : TableValue) (other : Refusal)
+free_target : LeastLaws → (known : Known) (args : Values) (target : Option (List ℕ)) (is : List Instruction) (o : Option ℕ) (found : TableValue) (other : Rejection)
     → target_of (stage_names is) target ≡ o → with_target known args is o ≡ Ok found → IsDue known args target is other → ⊥
-free_target laws known args target is None found other e told due = err_ok (record { code = R13; line = 0 }) found told
+free_target laws known args target is None found other e told due = err_ok (record { reason = Coded R13; line = 0 }) found told
 free_target laws known args target is (Some number) found other e told due =
     free_stages laws known args target is number (record { outer = outer_scope args is; stages = stages_of known args is; target = number }) found (are_arguments is) other e refl told due
 
 pub resolved_free : LeastLaws → (known : Known) (args : Values) (target : Option (List ℕ)) (is : List Instruction) (table : TableValue)
-    → resolved known args target is ≡ Ok table → (refusal : Refusal) → IsDue known args target is refusal → ⊥
+    → resolved known args target is ≡ Ok table → (refusal : Rejection) → IsDue known args target is refusal → ⊥
 unfolding resolved
 resolved_free laws known args target is table told refusal due = free_target laws known args target is (target_of (stage_names is) target) table refusal refl told due

@@ -4,15 +4,15 @@ use Rattle.std.specs.Prelude.{Ok}
 use Rattle.std.specs.List.{All}
 use Rattle.std.proofs.lemmas.List.{append-nil, append_assoc}
 use Rattle.plain.specs.declared.refusal.Code.TheVariants.{R05}
-use Rattle.plain.specs.declared.refusal.Refusal.{Refusal}
-use Rattle.instructions.specs.Least.{least}
+use Rattle.expand.specs.declared.reason.Reason.TheVariants.{Coded}
+use Rattle.expand.specs.declared.reason.Rejection.{Rejection}
 use Rattle.instructions.specs.declared.instruction.Instruction.{Instruction}
 use Rattle.scopes.specs.Evaluate.{Values}
 use Rattle.dockerfile.specs.Dockerfile.{IsDockerfile}
 use Rattle.stages.specs.declared.resolving.Draft.{Draft}
 use Rattle.stages.specs.Naming.{Known}
 use Rattle.stages.specs.Before.{stage_names, outer_scope}
-use Rattle.stages.specs.Due.{due_behind}
+use Rattle.stages.specs.Due.{reason_behind}
 use Rattle.stages.specs.Table.{TableValue, stages_of, IsTable, NamesKnown}
 use Rattle.stages.specs.Resolved.{target_of, first_refusal, are_arguments, refusal_of, unless_refused, with_target, resolved}
 use Rattle.stages.specs.PrivateResolving.{draft_after, IsDraft}
@@ -25,7 +25,7 @@ gone_through : (known : Known) (args : Values) (done rest : List Instruction) (d
     → (last : Draft) × IsDraft known args (done ++ rest) last
 gone_through known args done [] draft of clear = (draft, subst (λ is. IsDraft known args is draft) (sym (append-nil done)) of)
 gone_through known args done (i ∷ rest) draft of clear =
-    let told = told_none i.line (least (due_behind known args done i.kind)) (first_refusal known args (done ++ i ∷ []) rest) clear in
+    let told = told_none i.line (reason_behind known args done i.kind) (first_refusal known args (done ++ i ∷ []) rest) clear in
     let next = draft_after known args draft i in
     let after = draft_step known args done i draft next of (sym (due_same known args done draft i of) ∙ told.0) refl in
     let more = gone_through known args (done ++ i ∷ []) rest next after told.1 in
@@ -42,11 +42,11 @@ record IsResolvedTo (known : Known) (args : Values) (target : Option (List ℕ))
   clear : first_refusal known args [] is ≡ None
   made : table_by (outer_scope args is) (stages_of known args is) number ≡ table
 
-unrefused : (refusal : Option Refusal) (made table : TableValue) → unless_refused refusal made ≡ Ok table → (refusal ≡ None) × (made ≡ table)
+unrefused : (refusal : Option Rejection) (made table : TableValue) → unless_refused refusal made ≡ Ok table → (refusal ≡ None) × (made ≡ table)
 unrefused None made table e = (refl, cc)
 unrefused (Some refusal) made table e = absurd cc
 
-nothing_due : (all : Bool) (refusal : Option Refusal) → (if all then Some (record { code = R05; line = 1 }) else refusal) ≡ None → (all ≡ false) × (refusal ≡ None)
+nothing_due : (all : Bool) (refusal : Option Rejection) → (if all then Some (record { reason = Coded R05; line = 1 }) else refusal) ≡ None → (all ≡ false) × (refusal ≡ None)
 nothing_due true refusal e = absurd cc
 nothing_due false refusal e = (refl, e)
 

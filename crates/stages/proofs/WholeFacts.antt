@@ -6,15 +6,16 @@ use Rattle.std.proofs.lemmas.Bool.{true≢false}
 use Rattle.std.proofs.lemmas.List.{length_push, length-append, append_assoc}
 use Rattle.std.proofs.lemmas.List.Elements.{All-nil, All-cons, All-head, All-tail, filter_map-append}
 use Rattle.plain.specs.Limits.{most_lines}
-use Rattle.plain.specs.declared.refusal.Code.{Code}
 use Rattle.plain.specs.declared.refusal.Code.TheVariants.{R05, R13}
-use Rattle.plain.specs.declared.refusal.Refusal.{Refusal}
 use Rattle.plain.specs.declared.fault.Fault.{Fault}
 use Rattle.plain.specs.declared.fault.Fault.TheVariants.{Because, Memory}
 use Rattle.options.specs.declared.copy.CopyFlags.{CopyFlags}
 use Rattle.expand.specs.Value.{Parts}
+use Rattle.expand.specs.declared.reason.Reason.{Reason}
+use Rattle.expand.specs.declared.reason.Reason.TheVariants.{Coded}
+use Rattle.expand.specs.declared.reason.Rejection.{Rejection}
 use Rattle.instructions.specs.Instruction.{is_files, IsInstruction}
-use Rattle.instructions.specs.Least.{least}
+use Rattle.instructions.specs.Reason.{reason}
 use Rattle.instructions.specs.declared.instruction.Argument.{Argument}
 use Rattle.instructions.specs.declared.instruction.Instruction.{Instruction}
 use Rattle.instructions.specs.declared.instruction.InstructionKind.TheVariants.{Copy}
@@ -32,7 +33,7 @@ use Rattle.stages.specs.declared.stage.ResolvedInstruction.{ResolvedInstruction}
 use Rattle.stages.specs.declared.stage.ResolvedStage.{ResolvedStage}
 use Rattle.stages.specs.Naming.{Names, Known, copy_reference, led_to, origins_of}
 use Rattle.stages.specs.Before.{begun, declared_by, name_begun, stage_names, outer_scope}
-use Rattle.stages.specs.Due.{outer_due, other_due, due_behind, begun_due}
+use Rattle.stages.specs.Due.{outer_due, outer_fault, other_due, other_fault, reason_behind, begun_due, begun_fault}
 use Rattle.stages.specs.Table.{TableValue, unless_begun, stage_instructions, stages_behind, stages_of, lines_of, IsResolved, IsStage, IsTable, IsKnown, NamesKnown}
 use Rattle.stages.specs.Resolved.{target_of, told_at, first_refusal, are_arguments, unless_refused, with_target, resolved, Returns}
 use Rattle.stages.specs.PrivateResolving.{with_last, IsCounted, AreCounted, IsDraft, Drafts}
@@ -226,25 +227,25 @@ stages_lines known scope names low (i ∷ is) ascend =
 
 -- a file that isn't refused has a stage
 
-outer_declares : (args : Values) (scope : List Declaration) (d : Option (List Argument)) → least (outer_due args scope d) ≡ None → is_some d ≡ true
-outer_declares args scope None clear = absurd (some_none R05 clear)
+outer_declares : (args : Values) (scope : List Declaration) (d : Option (List Argument)) → reason (outer_due args scope d) (outer_fault args scope d) ≡ None → is_some d ≡ true
+outer_declares args scope None clear = absurd (some_none (Coded R05) clear)
 outer_declares args scope (Some arguments) clear = refl
 
-pub told_none : (line : ℕ) (o : Option Code) (more : Option Refusal) → told_at line o more ≡ None → (o ≡ None) × (more ≡ None)
+pub told_none : (line : ℕ) (o : Option Reason) (more : Option Rejection) → told_at line o more ≡ None → (o ≡ None) × (more ≡ None)
 told_none line None more e = (refl, e)
-told_none line (Some code) more e = absurd (some_none _ e)
+told_none line (Some why) more e = absurd (some_none _ e)
 
 and_is : (a b : Bool) → a ≡ true → b ≡ true → (a && b) ≡ true
 and_is a b e f = rw (e, f) refl
 
 declares_by : (known : Known) (args : Values) (before : List Instruction) (i : Instruction) (b : Option (Parts × Option (List ℕ))) → begun i.kind ≡ b
     → stage_names before ≡ [] → stage_names (before ++ i ∷ []) ≡ []
-    → least (begun_due known args (outer_scope args before) (stage_names before) i.kind b) ≡ None → is_some (declared_by i.kind) ≡ true
+    → reason (begun_due known args (outer_scope args before) (stage_names before) i.kind b) (begun_fault args (outer_scope args before) (stage_names before) i.kind b) ≡ None → is_some (declared_by i.kind) ≡ true
 declares_by known args before i (Some stage) begins none still clear =
     absurd (push_none (stage_names before) stage.1 (sym (names_begun before i stage begins) ∙ still))
 declares_by known args before i None begins none still clear =
     outer_declares args (outer_scope args before) (declared_by i.kind)
-    (subst (λ ns. least (other_due known args (outer_scope args before) ns i.kind) ≡ None) none clear)
+    (subst (λ ns. reason (other_due known args (outer_scope args before) ns i.kind) (other_fault args (outer_scope args before) ns i.kind) ≡ None) none clear)
 
 append_none : {X : Type 0} (xs ys : List X) → xs ++ ys ≡ [] → xs ≡ []
 append_none [] ys e = refl
@@ -254,7 +255,7 @@ all_declare : (known : Known) (args : Values) (before is : List Instruction) →
     → are_arguments is ≡ true
 all_declare known args before [] clear none = refl
 all_declare known args before (i ∷ is) clear none =
-    let told = told_none i.line (least (due_behind known args before i.kind)) (first_refusal known args (before ++ i ∷ []) is) clear in
+    let told = told_none i.line (reason_behind known args before i.kind) (first_refusal known args (before ++ i ∷ []) is) clear in
     let along : stage_names ((before ++ i ∷ []) ++ is) ≡ [] = ap stage_names (append_assoc before (i ∷ []) is) ∙ none in
     let still = append_none (stage_names (before ++ i ∷ [])) (stage_names is) (sym (filter_map-append name_begun (before ++ i ∷ []) is) ∙ along) in
     let first = append_none (stage_names before) (cons_option (name_begun i) []) (sym (stage_names-push before i) ∙ still) in
@@ -300,7 +301,7 @@ pub table_resolved : (known : Known) (args : Values) (target : Option (List ℕ)
 unfolding resolved
 table_resolved known args target is draft stages number found other clear of all =
     ap (λ o. with_target known args is o) found
-    ∙ ap (λ b. unless_refused (if b then Some (record { code = R05; line = 1 }) else first_refusal known args [] is) (table_by (outer_scope args is) (stages_of known args is) number)) other
+    ∙ ap (λ b. unless_refused (if b then Some (record { reason = Coded R05; line = 1 }) else first_refusal known args [] is) (table_by (outer_scope args is) (stages_of known args is) number)) other
     ∙ ap (λ r. unless_refused r (table_by (outer_scope args is) (stages_of known args is) number)) clear
     ∙ ap (λ scope. Ok (table_by scope (stages_of known args is) number)) (sym of.outer)
     ∙ ap (λ ss. Ok (table_by draft.outer ss number)) (sym (all ∙ of.stages))
@@ -310,24 +311,24 @@ pub table_known : (known : Known) (args : Values) (is : List Instruction) (draft
 table_known known args is draft stages of all = subst (λ ss. All (NamesKnown known) ss) (sym (all ∙ of.stages)) (names_known known args is)
 
 pub unknown_target : (known : Known) (args : Values) (target : Option (List ℕ)) (is : List Instruction) → target_of (stage_names is) target ≡ None
-    → resolved known args target is ≡ Err (record { code = R13; line = 0 })
+    → resolved known args target is ≡ Err (record { reason = Coded R13; line = 0 })
 unfolding resolved
 unknown_target known args target is none = ap (λ o. with_target known args is o) none
 
 pub no_stage : (known : Known) (args : Values) (target : Option (List ℕ)) (is : List Instruction) (number : ℕ) → target_of (stage_names is) target ≡ Some number
-    → are_arguments is ≡ true → resolved known args target is ≡ Err (record { code = R05; line = 1 })
+    → are_arguments is ≡ true → resolved known args target is ≡ Err (record { reason = Coded R05; line = 1 })
 unfolding resolved
 no_stage known args target is number found all =
     ap (λ o. with_target known args is o) found
-    ∙ ap (λ b. unless_refused (if b then Some (record { code = R05; line = 1 }) else first_refusal known args [] is) (table_by (outer_scope args is) (stages_of known args is) number)) all
+    ∙ ap (λ b. unless_refused (if b then Some (record { reason = Coded R05; line = 1 }) else first_refusal known args [] is) (table_by (outer_scope args is) (stages_of known args is) number)) all
 
-pub refused : (known : Known) (args : Values) (target : Option (List ℕ)) (is : List Instruction) (number : ℕ) (refusal : Refusal)
+pub refused : (known : Known) (args : Values) (target : Option (List ℕ)) (is : List Instruction) (number : ℕ) (refusal : Rejection)
     → target_of (stage_names is) target ≡ Some number → are_arguments is ≡ false → first_refusal known args [] is ≡ Some refusal
     → resolved known args target is ≡ Err refusal
 unfolding resolved
 refused known args target is number refusal found other due =
     ap (λ o. with_target known args is o) found
-    ∙ ap (λ b. unless_refused (if b then Some (record { code = R05; line = 1 }) else first_refusal known args [] is) (table_by (outer_scope args is) (stages_of known args is) number)) other
+    ∙ ap (λ b. unless_refused (if b then Some (record { reason = Coded R05; line = 1 }) else first_refusal known args [] is) (table_by (outer_scope args is) (stages_of known args is) number)) other
     ∙ ap (λ r. unless_refused r (table_by (outer_scope args is) (stages_of known args is) number)) due
 
 -- what the call answers, by what it asked of the instructions, which it has by other names
@@ -339,27 +340,27 @@ target_along target is slice result wanted same asked is_so = ap (λ js. target_
 flag_along : (is slice : List Instruction) (flag wanted : Bool) → slice ≡ is → flag ≡ are_arguments slice → flag ≡ wanted → are_arguments is ≡ wanted
 flag_along is slice flag wanted same asked is_so = ap are_arguments (sym same) ∙ sym asked ∙ is_so
 
-pub answers_target : (known : Known) (args : Values) (target : Option (List ℕ)) (is slice : List Instruction) (result : Option ℕ) (fault : Fault Refusal) → slice ≡ is
-    → result ≡ target_of (stage_names slice) target → result ≡ None → fault ≡ Because (record { code = R13; line = 0 })
+pub answers_target : (known : Known) (args : Values) (target : Option (List ℕ)) (is slice : List Instruction) (result : Option ℕ) (fault : Fault Rejection) → slice ≡ is
+    → result ≡ target_of (stage_names slice) target → result ≡ None → fault ≡ Because (record { reason = Coded R13; line = 0 })
     → Returns (resolved known args target is) (Err fault)
 answers_target known args target is slice result fault same asked none told =
     subst (λ f. Returns (resolved known args target is) (Err f)) (sym told)
     (unknown_target known args target is (target_along target is slice result None same asked none))
 
-pub answers_arguments : (known : Known) (args : Values) (target : Option (List ℕ)) (is slice other : List Instruction) (result : Option ℕ) (number : ℕ) (flag : Bool) (fault : Fault Refusal)
+pub answers_arguments : (known : Known) (args : Values) (target : Option (List ℕ)) (is slice other : List Instruction) (result : Option ℕ) (number : ℕ) (flag : Bool) (fault : Fault Rejection)
     → slice ≡ is → other ≡ is → result ≡ target_of (stage_names slice) target → result ≡ Some number → flag ≡ are_arguments other → flag ≡ true
-    → fault ≡ Because (record { code = R05; line = 1 }) → Returns (resolved known args target is) (Err fault)
+    → fault ≡ Because (record { reason = Coded R05; line = 1 }) → Returns (resolved known args target is) (Err fault)
 answers_arguments known args target is slice other result number flag fault same same_other asked some tested holds told =
     subst (λ f. Returns (resolved known args target is) (Err f)) (sym told)
     (no_stage known args target is number (target_along target is slice result (Some number) same asked some) (flag_along is other flag true same_other tested holds))
 
-refused_by : (known : Known) (args : Values) (target : Option (List ℕ)) (is : List Instruction) (number : ℕ) (fault : Fault Refusal)
+refused_by : (known : Known) (args : Values) (target : Option (List ℕ)) (is : List Instruction) (number : ℕ) (fault : Fault Rejection)
     → target_of (stage_names is) target ≡ Some number → are_arguments is ≡ false → Drafts known args is (Err fault)
     → Returns (resolved known args target is) (Err fault)
 refused_by known args target is number (Because refusal) found other due = refused known args target is number refusal found other due
 refused_by known args target is number Memory found other due = tt
 
-pub answers_refused : (known : Known) (args : Values) (target : Option (List ℕ)) (is slice other items : List Instruction) (result : Option ℕ) (number : ℕ) (flag : Bool) (fault : Fault Refusal)
+pub answers_refused : (known : Known) (args : Values) (target : Option (List ℕ)) (is slice other items : List Instruction) (result : Option ℕ) (number : ℕ) (flag : Bool) (fault : Fault Rejection)
     → slice ≡ is → other ≡ is → items ≡ is → result ≡ target_of (stage_names slice) target → result ≡ Some number → flag ≡ are_arguments other → flag ≡ false
     → Drafts known args items (Err fault) → Returns (resolved known args target is) (Err fault)
 answers_refused known args target is slice other items result number flag fault same same_other same_items asked some tested fails drafts =

@@ -3,9 +3,11 @@ use Rattle.std.specs.Prelude.{◌≡◌, ◌++◌, ℕ, Bool, List, [], ◌∷�
 use Rattle.plain.specs.declared.fault.Fault.{Fault}
 use Rattle.plain.specs.declared.fault.Fault.TheVariants.{Because, Memory}
 use Rattle.plain.specs.declared.refusal.Code.{Code}
-use Rattle.plain.specs.declared.refusal.Refusal.{Refusal}
 use Rattle.expand.specs.Value.{Parts}
-use Rattle.instructions.specs.Least.{least}
+use Rattle.expand.specs.declared.fault.Unexpanded.{Unexpanded}
+use Rattle.expand.specs.declared.reason.Reason.{Reason}
+use Rattle.expand.specs.declared.reason.Rejection.{Rejection}
+use Rattle.instructions.specs.Reason.{reason}
 use Rattle.instructions.specs.declared.instruction.Argument.{Argument}
 use Rattle.scopes.specs.Scope.{value_in, kept}
 use Rattle.scopes.specs.Evaluate.{Values, arg_line}
@@ -32,18 +34,19 @@ abbrev pub names_by : Names → Option (Parts × Option (List ℕ)) → Names
 names_by names (Some stage) = names ++ stage.1 ∷ []
 names_by names None = names
 
--- a refusal with its line, where a code is due
-abbrev pub told : ℕ → Option Code → List Refusal
+-- a refusal with its line, if there is a reason
+abbrev pub told : ℕ → Option Reason → List Rejection
 told line None = []
-told line (Some code) = record { code = code; line = line } ∷ []
+told line (Some reason) = record { reason = reason; line = line } ∷ []
 
--- the code for which a call made nothing, and none where it did; want of memory is handed on
-abbrev pub CodeTold : {X : Type 0} → Result X (Fault Code) → Option Code → Type 0
-CodeTold (Ok made) found = found ≡ None
-CodeTold (Err (Because code)) found = found ≡ Some code
-CodeTold (Err Memory) found = ⊥
+-- the reason for which a call made nothing, and none if it did; want of memory is handed on
+abbrev pub ReasonTold : {X : Type 0} → Result X (Fault Reason) → Option Reason → Type 0
+ReasonTold (Ok made) found = found ≡ None
+ReasonTold (Err (Because reason)) found = found ≡ Some reason
+ReasonTold (Err Memory) found = ⊥
 
--- what judging an instruction answers: the least code that is due, and the scope as it was; or none, and the scope that is made
-abbrev pub Judges : (Code → Bool) → List Declaration → List Declaration → List Declaration → Option Code → Type 0
-Judges due made old new None = (least due ≡ None) × (new ≡ made)
-Judges due made old new (Some code) = (least due ≡ Some code) × (new ≡ old)
+-- what judging an instruction answers, for which these codes are due and of whose texts one has this reason why it has no value: the least
+-- reason to refuse it, and the scope as it was; or none, and the scope that is made
+abbrev pub Judges : (Code → Bool) → Option Unexpanded → List Declaration → List Declaration → List Declaration → Option Reason → Type 0
+Judges due fault made old new None = (reason due fault ≡ None) × (new ≡ made)
+Judges due fault made old new (Some why) = (reason due fault ≡ Some why) × (new ≡ old)

@@ -1,10 +1,15 @@
 -- What the code has of a file while it goes through it.
-use Rattle.std.specs.Prelude.{◌≡◌, ◌≤◌, ◌++◌, ℕ, List, [], ◌∷◌, map, Option, Some, None, length, Result, Ok, Err}
+use Rattle.std.specs.Prelude.{◌≡◌, ◌≤◌, ◌++◌, ℕ, Bool, true, false, List, [], ◌∷◌, map, Option, Some, None, length, Result, Ok, Err}
 use Rattle.plain.specs.Limits.{most_stages}
-use Rattle.plain.specs.declared.refusal.Refusal.{Refusal}
+use Rattle.plain.specs.declared.refusal.Code.TheVariants.{R11, R18}
 use Rattle.plain.specs.declared.fault.Fault.{Fault}
 use Rattle.plain.specs.declared.fault.Fault.TheVariants.{Because, Memory}
 use Rattle.expand.specs.Value.{Parts}
+use Rattle.expand.specs.Reasons.{reason_of}
+use Rattle.expand.specs.declared.fault.Unexpanded.{Unexpanded}
+use Rattle.expand.specs.declared.reason.Reason.{Reason}
+use Rattle.expand.specs.declared.reason.Reason.TheVariants.{Coded}
+use Rattle.expand.specs.declared.reason.Rejection.{Rejection}
 use Rattle.instructions.specs.declared.instruction.Argument.{Argument}
 use Rattle.instructions.specs.declared.instruction.Instruction.{Instruction}
 use Rattle.rows.specs.declared.row.Origin.{Origin}
@@ -20,7 +25,14 @@ use Rattle.stages.specs.Before.{begun, declared_by, stage_names, all_but_last, o
 use Rattle.stages.specs.Table.{base_of, stages_of}
 use Rattle.stages.specs.Resolved.{first_refusal}
 
--- what references lead to, where all of them lead somewhere
+-- why a FROM is refused whose text has no value for this reason: first if its stage's name is taken, then if there are as many stages already
+-- as a file may have
+abbrev pub unbased : Bool → Bool → Unexpanded → Reason
+unbased true is_full why = Coded R11
+unbased false true why = Coded R18
+unbased false false why = reason_of why
+
+-- what references lead to, if all of them lead somewhere
 abbrev pub all_led : Known → Names → List Reference → Option (List Origin)
 all_led known names references = all_some (map (led_to known names) references)
 
@@ -83,7 +95,7 @@ IsCounted r = length r.origins ≡ length (references r.instruction.kind)
 abbrev pub AreCounted : ResolvedStage → Type 0
 AreCounted stage = All IsCounted stage.instructions
 
--- what the code has of some instructions, for which no code is due
+-- what the code has of some instructions, none of which is refused
 pub record IsDraft (known : Known) (args : Values) (is : List Instruction) (draft : Draft) : Type 0 where
   pub outer : draft.outer ≡ outer_scope args is
   pub names : draft.names ≡ stage_names is
@@ -95,7 +107,7 @@ pub record IsDraft (known : Known) (args : Values) (is : List Instruction) (draf
   pub last_counted : (stage : ResolvedStage) → draft.last ≡ Some stage → AreCounted stage
 
 -- what going through some instructions answers
-abbrev pub Drafts : Known → Values → List Instruction → Result Draft (Fault Refusal) → Type 0
+abbrev pub Drafts : Known → Values → List Instruction → Result Draft (Fault Rejection) → Type 0
 Drafts known args is (Ok draft) = (first_refusal known args [] is ≡ None) × IsDraft known args is draft
 Drafts known args is (Err (Because refusal)) = first_refusal known args [] is ≡ Some refusal
 Drafts known args is (Err Memory) = Unit {0}

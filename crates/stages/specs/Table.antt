@@ -18,9 +18,9 @@ use Rattle.scopes.specs.Evaluate.{Values}
 use Rattle.scopes.specs.declared.declaration.Declaration.{Declaration}
 use Rattle.stages.specs.declared.stage.ResolvedInstruction.{ResolvedInstruction}
 use Rattle.stages.specs.declared.stage.ResolvedStage.{ResolvedStage}
-use Rattle.stages.specs.Naming.{Names, Known, base_named, references, origins_of}
+use Rattle.stages.specs.Naming.{Names, Known, references, origins_of}
 use Rattle.stages.specs.Before.{begun, name_begun, outer_scope}
-use Rattle.stages.specs.Due.{base_text}
+use Rattle.stages.specs.Due.{base_text, base_found}
 
 -- the scope of the ARGs before the first FROM, the stages by their numbers, and the number of the target
 pub record TableValue : Type 0 where
@@ -28,9 +28,9 @@ pub record TableValue : Type 0 where
   pub stages : List ResolvedStage
   pub target : ℕ
 
--- what a stage begins with; where its name leads nowhere its file is refused, and the empty tree stands for it
+-- what a stage begins with; if its text has no value or leads nowhere, its file is refused, and the empty tree stands for it
 abbrev pub base_of : Known → List Declaration → Names → Parts → Origin
-base_of known scope names image = unwrap_or (base_named known names (base_text scope image)) (SourceOf Scratch)
+base_of known scope names image = unwrap_or (base_found known names (base_text scope image)) (SourceOf Scratch)
 
 -- an instruction before those that follow it in its stage; none of them is in the stage where it begins another one
 abbrev pub unless_begun : Option (Parts × Option (List ℕ)) → ResolvedInstruction → List ResolvedInstruction → List ResolvedInstruction

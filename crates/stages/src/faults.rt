@@ -2,157 +2,172 @@
 ghost use Rattle.std.specs.Prelude.{◌≡◌, ◌<◌, ◌≤◌, ◌^◌, ◌++◌, ◌&&◌, [], ◌∷◌, length, is_some, option_map, IfOk, OnOk};
 ghost use Rattle.std.specs.FinMap.{get as arg_value};
 ghost use Rattle.plain.specs.Limits.{most_lines};
-ghost use Rattle.instructions.specs.Least.{least};
+ghost use Rattle.instructions.specs.Reason.{reason};
 ghost use Rattle.scopes.specs.Scope.{value_in, kept};
-ghost use Rattle.scopes.specs.Evaluate.{arg_line, arg_texts};
+ghost use Rattle.scopes.specs.Evaluate.{arg_line, arg_fault};
 ghost use Rattle.stages.specs.Naming.{names_in};
 ghost use Rattle.stages.specs.Before.{begun, declared_by, all_but_last, stage_names};
-ghost use Rattle.stages.specs.Due.{base_text, base_due, argument_due, outer_due, inner_due, other_due, kind_due};
+ghost use Rattle.stages.specs.Due.{base_text, base_fault, base_due, argument_due, outer_due, outer_fault, inner_due, other_due, other_fault, kind_due, kind_fault};
 ghost use Rattle.stages.specs.Resolved.{target_of};
 ghost use Rattle.stages.specs.Faults.{is_outer_argument, refusals_behind, target_refusals, empty_refusals, stage_refusals};
-ghost use Rattle.stages.specs.PrivateFaults.{outer_with, outer_other, outer_by, names_by, told, CodeTold, Judges};
+ghost use Rattle.stages.specs.PrivateFaults.{outer_with, outer_other, outer_by, names_by, told, ReasonTold, Judges};
 
 use crate::resolving::{base, begun, declared_by, inner_origins};
 use crate::target::{are_arguments, target_of};
-use expand::Word;
+use expand::{Reason, ReasonFault, Rejection, Word};
 use instructions::{Argument, Instruction, InstructionKind};
-use plain::{Code, Exact, Fault, Items, Memory, Refusal, Text};
+use plain::{Code, Exact, Fault, Items, Memory, Text};
 use plans::Images;
 use scopes::{Args, Scope};
 use std::alloc::Global;
-use words::TextFault;
 
-/// The code for which nothing was made, if that is so.
-fn code_of<X: Drop>(told: Result<X, TextFault>) -> Result<Option<Code>, Memory>
-    ensures { IfOk result (CodeTold told) }
+/// The reason for which nothing was made, if that is so.
+fn reason_of<X: Drop>(made: Result<X, ReasonFault>) -> Result<Option<Reason>, Memory>
+    ensures { IfOk result (ReasonTold made) }
 {
-    match told {
+    match made {
         Ok(made) => {
             drop(made);
             Ok(None)
         }
-        Err(Fault::Because(code)) => Ok(Some(code)),
+        Err(Fault::Because(reason)) => Ok(Some(reason)),
         Err(Fault::Memory) => Err(Memory),
     }
 }
 
-/// The code that is due for a FROM after stages of these names.
-fn base_code<C>(
+/// The reason to refuse a FROM after stages of these names.
+fn base_reason<C>(
     alloc: Global,
     images: &Images<C>,
     outer: &Scope,
     names: &[Option<Text>],
     image: &Word,
     name: &Option<Text>,
-) -> Result<Option<Code>, Memory>
+) -> Result<Option<Reason>, Memory>
     requires { length names.now < 2 ^ 32 }
-    ensures { IfOk result (λ code. code ≡ least (base_due (names_in images.now) names.now (base_text outer.now image.now) name.now)) }
+    ensures { IfOk result (λ why. why ≡ reason (base_due (names_in images.now) names.now (base_text outer.now image.now) (base_fault outer.now image.now) name.now) (base_fault outer.now image.now)) }
 {
-    let told = base(alloc, images, outer, names, image, name);
-    let code = code_of(told)?;
-    Ok(code)
+    reason_of(base(alloc, images, outer, names, image, name))
 }
 
-/// The code that is due for a FROM, and the names with that of its stage.
-fn begin_code<C>(
+/// Adds a name to some.
+fn push_name(
+    alloc: Global,
+    names: &mut Items<Option<Text>>,
+    name: &Option<Text>,
+) -> Result<(), Memory>
+    ensures { OnOk result (names.new ≡ names.old ++ name.now ∷ []) }
+{
+    let name = name.copy(alloc)?;
+    names.push(name)?;
+    Ok(())
+}
+
+/// The reason to refuse a FROM, and the names with that of its stage.
+fn begin_reason<C>(
     alloc: Global,
     images: &Images<C>,
     outer: &Scope,
     names: &mut Items<Option<Text>>,
     image: &Word,
     name: &Option<Text>,
-) -> Result<Option<Code>, Memory>
+) -> Result<Option<Reason>, Memory>
     requires { length names.old < 2 ^ 32 }
-    ensures code { IfOk result (λ code. code ≡ least (base_due (names_in images.now) names.old (base_text outer.now image.now) name.now)) }
+    ensures why { IfOk result (λ why. why ≡ reason (base_due (names_in images.now) names.old (base_text outer.now image.now) (base_fault outer.now image.now) name.now) (base_fault outer.now image.now)) }
     ensures names { OnOk result (names.new ≡ names.old ++ name.now ∷ []) }
 {
-    let code = base_code(alloc, images, outer, names.as_slice(), image, name)?;
-    let name = name.copy(alloc)?;
-    names.push(name)?;
-    Ok(code)
+    let reason = base_reason(alloc, images, outer, names.as_slice(), image, name)?;
+    match push_name(alloc, names, name) {
+        Ok(()) => Ok(reason),
+        Err(memory) => {
+            drop(reason);
+            Err(memory)
+        }
+    }
 }
 
-/// The code that is due for an instruction of the last of some stages.
-fn inner_code<C>(
+/// The reason to refuse an instruction of the last of some stages.
+fn inner_reason<C>(
     alloc: Global,
     images: &Images<C>,
     names: &[Option<Text>],
     kind: &InstructionKind,
-) -> Result<Option<Code>, Memory>
+) -> Result<Option<Reason>, Memory>
     requires { length names.now < 2 ^ 32 }
-    ensures { IfOk result (λ code. code ≡ least (inner_due (names_in images.now) (all_but_last names.now) kind.now)) }
+    ensures { IfOk result (λ why. why ≡ reason (inner_due (names_in images.now) (all_but_last names.now) kind.now) None) }
 {
-    let told = inner_origins(alloc, images, names, kind);
-    let code = code_of(told)?;
-    Ok(code)
+    reason_of(inner_origins(alloc, images, names, kind))
 }
 
-/// The code that is due for an ARG before the first FROM, which is declared where there is none.
-fn argument_code(
+/// The reason to refuse an ARG before the first FROM, which is declared if there is none.
+fn argument_reason(
     alloc: Global,
     args: &Args,
     outer: &mut Scope,
     arguments: &[Argument],
-) -> Result<Option<Code>, Memory>
-    ensures { IfOk result (Judges (argument_due (arg_texts (value_in outer.old) (arg_value args.now) arguments.now)) (kept (outer.old ++ arg_line (value_in outer.old) (arg_value args.now) (λ name. None) arguments.now)) outer.old outer.new) }
+) -> Result<Option<Reason>, Memory>
+    ensures { IfOk result (Judges (argument_due (arg_fault (value_in outer.old) (arg_value args.now) arguments.now)) (arg_fault (value_in outer.old) (arg_value args.now) arguments.now) (kept (outer.old ++ arg_line (value_in outer.old) (arg_value args.now) (λ name. None) arguments.now)) outer.old outer.new) }
 {
     let empty = Scope::new(alloc);
     let declared = outer.declare(alloc, arguments, args, &empty);
     drop(empty);
-    let code = code_of(declared)?;
-    Ok(code)
+    match declared {
+        Ok(()) => Ok(None),
+        Err(Fault::Because(why)) => Ok(Some(Reason::of(why))),
+        Err(Fault::Memory) => Err(Memory),
+    }
 }
 
-/// The code that is due for an instruction other than FROM before the first FROM.
-fn outer_code(
+/// The reason to refuse an instruction other than FROM before the first FROM.
+fn outer_reason(
     alloc: Global,
     args: &Args,
     outer: &mut Scope,
     kind: &InstructionKind,
-) -> Result<Option<Code>, Memory>
-    ensures { IfOk result (Judges (outer_due (arg_value args.now) outer.old (declared_by kind.now)) (outer_with (arg_value args.now) outer.old (declared_by kind.now)) outer.old outer.new) }
+) -> Result<Option<Reason>, Memory>
+    ensures { IfOk result (Judges (outer_due (arg_value args.now) outer.old (declared_by kind.now)) (outer_fault (arg_value args.now) outer.old (declared_by kind.now)) (outer_with (arg_value args.now) outer.old (declared_by kind.now)) outer.old outer.new) }
 {
     match declared_by(kind) {
-        Some(arguments) => argument_code(alloc, args, outer, arguments),
-        None => Ok(Some(Code::R05)),
+        Some(arguments) => argument_reason(alloc, args, outer, arguments),
+        None => Ok(Some(Reason::Coded(Code::R05))),
     }
 }
 
-/// The code that is due for an instruction other than FROM after stages of these names.
-fn other_code<C>(
+/// The reason to refuse an instruction other than FROM after stages of these names.
+fn other_reason<C>(
     alloc: Global,
     images: &Images<C>,
     args: &Args,
     outer: &mut Scope,
     names: &[Option<Text>],
     kind: &InstructionKind,
-) -> Result<Option<Code>, Memory>
+) -> Result<Option<Reason>, Memory>
     requires { length names.now < 2 ^ 32 }
-    ensures { IfOk result (Judges (other_due (names_in images.now) (arg_value args.now) outer.old names.now kind.now) (outer_other (arg_value args.now) outer.old names.now (declared_by kind.now)) outer.old outer.new) }
+    ensures { IfOk result (Judges (other_due (names_in images.now) (arg_value args.now) outer.old names.now kind.now) (other_fault (arg_value args.now) outer.old names.now kind.now) (outer_other (arg_value args.now) outer.old names.now (declared_by kind.now)) outer.old outer.new) }
 {
     if names.is_empty() {
-        outer_code(alloc, args, outer, kind)
+        outer_reason(alloc, args, outer, kind)
     } else {
-        inner_code(alloc, images, names, kind)
+        inner_reason(alloc, images, names, kind)
     }
 }
 
-/// The code that is due for an instruction, and what is known after it.
-fn kind_code<C>(
+/// The reason to refuse an instruction, and what is known after it.
+fn kind_reason<C>(
     alloc: Global,
     images: &Images<C>,
     args: &Args,
     outer: &mut Scope,
     names: &mut Items<Option<Text>>,
     kind: &InstructionKind,
-) -> Result<Option<Code>, Memory>
+) -> Result<Option<Reason>, Memory>
     requires { length names.old < 2 ^ 32 }
-    ensures code { IfOk result (Judges (kind_due (names_in images.now) (arg_value args.now) outer.old names.old kind.now) (outer_by (arg_value args.now) outer.old names.old (declared_by kind.now) (begun kind.now)) outer.old outer.new) }
+    ensures why { IfOk result (Judges (kind_due (names_in images.now) (arg_value args.now) outer.old names.old kind.now) (kind_fault (arg_value args.now) outer.old names.old kind.now) (outer_by (arg_value args.now) outer.old names.old (declared_by kind.now) (begun kind.now)) outer.old outer.new) }
     ensures names { OnOk result (names.new ≡ names_by names.old (begun kind.now)) }
 {
     match begun(kind) {
-        Some((image, name)) => begin_code(alloc, images, outer, names, image, name),
-        None => other_code(alloc, images, args, outer, names.as_slice(), kind),
+        Some((image, name)) => begin_reason(alloc, images, outer, names, image, name),
+        None => other_reason(alloc, images, args, outer, names.as_slice(), kind),
     }
 }
 
@@ -161,20 +176,20 @@ fn whole_refusals(
     alloc: Global,
     instructions: &[Instruction],
     target: Option<&Text>,
-) -> Result<Items<Refusal>, Memory>
+) -> Result<Items<Rejection>, Memory>
     requires { length instructions.now ≤ most_lines }
     ensures { IfOk result (λ refusals. refusals ≡ target_refusals (target_of (stage_names instructions.now) (option_map (λ t. t.now) target.entry)) ++ empty_refusals instructions.now) }
 {
     let mut refusals = Items::new(alloc);
     if target_of(instructions, target).is_none() {
-        refusals.push(Refusal {
-            code: Code::R13,
+        refusals.push(Rejection {
+            reason: Reason::Coded(Code::R13),
             line: 0,
         })?;
     }
     if are_arguments(instructions) {
-        refusals.push(Refusal {
-            code: Code::R05,
+        refusals.push(Rejection {
+            reason: Reason::Coded(Code::R05),
             line: 1,
         })?;
     }
@@ -188,19 +203,19 @@ fn is_outer_argument(names: &[Option<Text>], kind: &InstructionKind) -> bool
     names.is_empty() && declared_by(kind).is_some()
 }
 
-/// Adds the refusal of an instruction for which a code is due, and answers whether it is the last, being that of an ARG before the first FROM.
+/// Adds the refusal of an instruction, if there is a reason, and answers whether it is the last, being that of an ARG before the first FROM.
 fn tell(
-    refusals: &mut Items<Refusal>,
+    refusals: &mut Items<Rejection>,
     line: u32,
-    code: Option<Code>,
+    reason: Option<Reason>,
     is_outer_argument: bool,
 ) -> Result<bool, Memory>
-    ensures refusals { OnOk result (refusals.new ≡ refusals.old ++ told line code) }
-    ensures last { IfOk result (λ is_last. is_last ≡ (is_some code && is_outer_argument)) }
+    ensures refusals { OnOk result (refusals.new ≡ refusals.old ++ told line reason) }
+    ensures last { IfOk result (λ is_last. is_last ≡ (is_some reason && is_outer_argument)) }
 {
-    match code {
-        Some(code) => {
-            refusals.push(Refusal { code, line })?;
+    match reason {
+        Some(reason) => {
+            refusals.push(Rejection { reason, line })?;
             Ok(is_outer_argument)
         }
         None => Ok(false),
@@ -213,8 +228,8 @@ fn with_line_refusals<C>(
     images: &Images<C>,
     args: &Args,
     instructions: &[Instruction],
-    refusals: Items<Refusal>,
-) -> Result<Items<Refusal>, Memory>
+    refusals: Items<Rejection>,
+) -> Result<Items<Rejection>, Memory>
     requires { length instructions.now ≤ most_lines }
     ensures { IfOk result (λ all. all ≡ refusals ++ refusals_behind (names_in images.now) (arg_value args.now) [] instructions.now) }
 {
@@ -224,8 +239,8 @@ fn with_line_refusals<C>(
     for instruction in instructions {
         let kind = &instruction.kind;
         let is_outer = is_outer_argument(names.as_slice(), kind);
-        let code = kind_code(alloc, images, args, &mut outer, &mut names, kind)?;
-        let is_last = tell(&mut refusals, instruction.line, code, is_outer)?;
+        let reason = kind_reason(alloc, images, args, &mut outer, &mut names, kind)?;
+        let is_last = tell(&mut refusals, instruction.line, reason, is_outer)?;
         if is_last {
             return Ok(refusals);
         }
@@ -240,7 +255,7 @@ pub(crate) fn all_refusals<C>(
     args: &Args,
     instructions: &[Instruction],
     target: Option<&Text>,
-) -> Result<Items<Refusal>, Memory>
+) -> Result<Items<Rejection>, Memory>
     requires { length instructions.now ≤ most_lines }
     ensures { IfOk result (λ refusals. refusals ≡ stage_refusals (names_in images.now) (arg_value args.now) (option_map (λ t. t.now) target.entry) instructions.now) }
 {

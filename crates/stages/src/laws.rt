@@ -2,10 +2,10 @@
 
 ghost use Rattle.std.specs.Prelude.{◌≡◌, ◌≤◌, ◌⊎◌, [], ◌∷◌, ℕ, List, Bool, true, Option, Ok, Err, Contains};
 ghost use Rattle.std.specs.List.{All, list_all};
-ghost use Rattle.plain.specs.Codes.{number_of};
-ghost use Rattle.plain.specs.declared.refusal.Refusal.{Refusal};
 ghost use Rattle.options.specs.declared.copy.CopyFlags.{CopyFlags};
 ghost use Rattle.expand.specs.Value.{Parts};
+ghost use Rattle.expand.specs.Reasons.{reason_number};
+ghost use Rattle.expand.specs.declared.reason.Rejection.{Rejection};
 ghost use Rattle.instructions.specs.Instruction.{is_files, IsInstruction};
 ghost use Rattle.instructions.specs.declared.instruction.Instruction.{Instruction};
 ghost use Rattle.instructions.specs.declared.instruction.InstructionKind.TheVariants.{Copy};
@@ -21,44 +21,44 @@ ghost use Rattle.stages.specs.Resolved.{resolved};
 ghost use Rattle.stages.specs.Table.{TableValue, IsTable, NamesKnown};
 ghost use Rattle.stages.specs.declared.stage.ResolvedStage.{ResolvedStage};
 
-/// Of all that is due for a file whose instructions stand on ascending lines, as those of each `Dockerfile` do, the least is told: by line,
-/// and on a line by code. So it is refused only for what is due, and resolved only where nothing is.
+/// Of all that is due for a file whose instructions stand on ascending lines, as those of each `Dockerfile` do, the least is reported: by
+/// line, and on a line by number. So it is refused only for what is due, and resolved only where nothing is.
 pub fn the_least_refusal_is_told()
-    ensures refused { (known : Known) (args : Values) (target : Option (List ℕ)) (instructions : List Instruction) (refusal : Refusal) → AscendBelow 0 instructions
+    ensures refused { (known : Known) (args : Values) (target : Option (List ℕ)) (instructions : List Instruction) (refusal : Rejection) → AscendBelow 0 instructions
         → resolved known args target instructions ≡ Err refusal → IsLeastDue known args target instructions refusal }
     ensures resolved { (known : Known) (args : Values) (target : Option (List ℕ)) (instructions : List Instruction) (table : TableValue)
-        → resolved known args target instructions ≡ Ok table → (refusal : Refusal) → IsDue known args target instructions refusal → ⊥ }
+        → resolved known args target instructions ≡ Ok table → (refusal : Rejection) → IsDue known args target instructions refusal → ⊥ }
 {
-    instructions::laws::the_least_code_is_told();
+    instructions::laws::the_least_reason_is_told();
 }
 
 /// The first of all refusals of a file is what resolving it is refused with, and there is none exactly if that gives a table.
 pub fn the_first_fault_is_the_refusal()
-    ensures first { (known : Known) (args : Values) (target : Option (List ℕ)) (instructions : List Instruction) (refusal : Refusal) (more : List Refusal)
+    ensures first { (known : Known) (args : Values) (target : Option (List ℕ)) (instructions : List Instruction) (refusal : Rejection) (more : List Rejection)
         → stage_refusals known args target instructions ≡ refusal ∷ more → resolved known args target instructions ≡ Err refusal }
-    ensures refused { (known : Known) (args : Values) (target : Option (List ℕ)) (instructions : List Instruction) (refusal : Refusal)
-        → resolved known args target instructions ≡ Err refusal → (more : List Refusal) × (stage_refusals known args target instructions ≡ refusal ∷ more) }
+    ensures refused { (known : Known) (args : Values) (target : Option (List ℕ)) (instructions : List Instruction) (refusal : Rejection)
+        → resolved known args target instructions ≡ Err refusal → (more : List Rejection) × (stage_refusals known args target instructions ≡ refusal ∷ more) }
     ensures free { (known : Known) (args : Values) (target : Option (List ℕ)) (instructions : List Instruction)
         → stage_refusals known args target instructions ≡ [] → (table : TableValue) × (resolved known args target instructions ≡ Ok table) }
     ensures resolved { (known : Known) (args : Values) (target : Option (List ℕ)) (instructions : List Instruction) (table : TableValue)
         → resolved known args target instructions ≡ Ok table → stage_refusals known args target instructions ≡ [] }
 {}
 
-/// Each of a file's refusals is due, and none is missing: that of the target, that of a file without stages, and for each line for which a
-/// code is due one with that code or a lesser one; but for the lines after an ARG before the first FROM that is refused.
+/// Each of a file's refusals is due, and none is missing: that of the target, that of a file without stages, and for each line that there is a
+/// reason to refuse one with that reason or one of a lesser number; but for the lines after an ARG before the first FROM that is refused.
 pub fn all_that_is_due_is_told()
-    ensures due { (known : Known) (args : Values) (target : Option (List ℕ)) (instructions : List Instruction) (refusal : Refusal)
+    ensures due { (known : Known) (args : Values) (target : Option (List ℕ)) (instructions : List Instruction) (refusal : Rejection)
         → Contains (stage_refusals known args target instructions) refusal → IsDue known args target instructions refusal }
-    ensures target { (known : Known) (args : Values) (target : Option (List ℕ)) (instructions : List Instruction) (refusal : Refusal)
+    ensures target { (known : Known) (args : Values) (target : Option (List ℕ)) (instructions : List Instruction) (refusal : Rejection)
         → LacksTarget target instructions refusal → Contains (stage_refusals known args target instructions) refusal }
-    ensures stages { (known : Known) (args : Values) (target : Option (List ℕ)) (instructions : List Instruction) (refusal : Refusal)
+    ensures stages { (known : Known) (args : Values) (target : Option (List ℕ)) (instructions : List Instruction) (refusal : Rejection)
         → LacksStages instructions refusal → Contains (stage_refusals known args target instructions) refusal }
-    ensures lines { (known : Known) (args : Values) (target : Option (List ℕ)) (instructions : List Instruction) (refusal : Refusal)
+    ensures lines { (known : Known) (args : Values) (target : Option (List ℕ)) (instructions : List Instruction) (refusal : Rejection)
         (due : IsDueAtLine known args instructions refusal) → AreJudged known args due.before
-        → (listed : Refusal) × Contains (stage_refusals known args target instructions) listed × (listed.line ≡ refusal.line)
-        × (number_of listed.code ≤ number_of refusal.code) }
+        → (listed : Rejection) × Contains (stage_refusals known args target instructions) listed × (listed.line ≡ refusal.line)
+        × (reason_number listed.reason ≤ reason_number refusal.reason) }
 {
-    instructions::laws::the_least_code_is_told();
+    instructions::laws::the_least_reason_is_told();
 }
 
 /// The stages that are needed have the target and, with each stage, all that it names; and each set of stages that has these has all that

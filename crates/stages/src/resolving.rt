@@ -2,26 +2,24 @@
 ghost use Rattle.std.specs.Prelude.{◌≡◌, ◌<◌, ◌≤◌, ◌^◌, ◌∷◌, ◌++◌, [], Some, None, option_map, length, IfOk};
 ghost use Rattle.std.specs.FinMap.{get as arg_value};
 ghost use Rattle.plain.specs.Limits.{most_stages};
-ghost use Rattle.instructions.specs.Least.{Meets};
+ghost use Rattle.instructions.specs.Reason.{Evaluates};
 ghost use Rattle.scopes.specs.Scope.{value_in, kept};
-ghost use Rattle.scopes.specs.Evaluate.{arg_line, arg_texts};
-ghost use Rattle.stages.specs.Naming.{names_in, base_named, origins_of};
+ghost use Rattle.scopes.specs.Evaluate.{arg_line, arg_fault};
+ghost use Rattle.stages.specs.Naming.{names_in, origins_of};
 ghost use Rattle.stages.specs.Before.{begun, declared_by, all_but_last};
-ghost use Rattle.stages.specs.Due.{is_taken, base_text, base_due, argument_due, outer_due, inner_due, other_due, kind_due};
-ghost use Rattle.stages.specs.PrivateResolving.{with_last, with_instruction, last_with, draft_begun, draft_declared, draft_outer, draft_extended, draft_other, draft_after, Drafts};
+ghost use Rattle.stages.specs.Due.{is_taken, base_text, base_fault, base_found, base_due, argument_due, outer_due, outer_fault, inner_due, other_due, other_fault, kind_due, kind_fault};
+ghost use Rattle.stages.specs.PrivateResolving.{unbased, with_last, with_instruction, last_with, draft_begun, draft_declared, draft_outer, draft_extended, draft_other, draft_after, Drafts};
 
 use crate::naming::{base_named, origins_of, stage_called};
 use crate::stage::{ResolvedInstruction, ResolvedStage};
-use expand::{Word, expand};
+use expand::{Reason, ReasonFault, Rejection, RejectionFault, Unexpanded, Word, expand};
 use instructions::{Argument, Instruction, InstructionKind};
-use lines::LineFault;
 use plain::limits::MOST_STAGES;
-use plain::{Code, Exact, Fault, Items, Memory, Refusal, Text};
+use plain::{Code, Exact, Fault, Items, Memory, Text};
 use plans::Images;
 use rows::Origin;
 use scopes::{Args, Scope};
 use std::alloc::Global;
-use words::TextFault;
 
 /// What is known of a file behind some of its instructions.
 #[derive(Drop)]
@@ -91,7 +89,22 @@ fn is_taken(names: &[Option<Text>], name: &Option<Text>) -> bool
     }
 }
 
-/// The tree that a FROM names, where its stage may begin.
+/// Why a FROM is refused whose text has no value.
+fn reason_without_text(is_taken: bool, is_full: bool, why: Unexpanded) -> Reason
+    ensures { result ≡ unbased is_taken is_full why }
+{
+    if is_taken {
+        drop(why);
+        Reason::Coded(Code::R11)
+    } else if is_full {
+        drop(why);
+        Reason::Coded(Code::R18)
+    } else {
+        Reason::of(why)
+    }
+}
+
+/// The tree that a FROM names, if its stage may begin.
 pub(crate) fn base<C>(
     alloc: Global,
     images: &Images<C>,
@@ -99,34 +112,31 @@ pub(crate) fn base<C>(
     names: &[Option<Text>],
     image: &Word,
     name: &Option<Text>,
-) -> Result<Origin, TextFault>
+) -> Result<Origin, ReasonFault>
     requires { length names.now < 2 ^ 32 }
-    ensures { Meets (base_named (names_in images.now) names.now (base_text outer.now image.now)) (base_due (names_in images.now) names.now (base_text outer.now image.now) name.now) result }
+    ensures { Evaluates (base_found (names_in images.now) names.now (base_text outer.now image.now)) (base_due (names_in images.now) names.now (base_text outer.now image.now) (base_fault outer.now image.now) name.now) (base_fault outer.now image.now) result }
 {
     let is_taken = is_taken(names, name);
     let text = match expand(alloc, image, outer) {
         Ok(text) => text,
-        Err(Fault::Because(code)) => {
-            return if is_taken {
-                Err(Fault::Because(Code::R11))
-            } else {
-                Err(Fault::Because(code))
-            };
+        Err(Fault::Because(why)) => {
+            let reason = reason_without_text(is_taken, names.len() >= MOST_STAGES, why);
+            return Err(Fault::Because(reason));
         }
         Err(Fault::Memory) => return Err(Fault::Memory),
     };
     if is_taken {
         drop(text);
-        return Err(Fault::Because(Code::R11));
+        return Err(Fault::Because(Reason::Coded(Code::R11)));
     }
     let found = base_named(alloc, images, names, &text);
     drop(text);
     let Some(base) = found? else {
-        return Err(Fault::Because(Code::R12));
+        return Err(Fault::Because(Reason::Coded(Code::R12)));
     };
     if names.len() >= MOST_STAGES {
         drop(base);
-        return Err(Fault::Because(Code::R18));
+        return Err(Fault::Because(Reason::Coded(Code::R18)));
     }
     Ok(base)
 }
@@ -210,9 +220,9 @@ fn begin<C>(
     line: u32,
     image: &Word,
     name: &Option<Text>,
-) -> Result<Draft, TextFault>
+) -> Result<Draft, ReasonFault>
     requires { length draft.names ≤ most_stages }
-    ensures { Meets (Some (draft_begun (names_in images.now) draft line image.now name.now)) (base_due (names_in images.now) draft.names (base_text draft.outer image.now) name.now) result }
+    ensures { Evaluates (Some (draft_begun (names_in images.now) draft line image.now name.now)) (base_due (names_in images.now) draft.names (base_text draft.outer image.now) (base_fault draft.outer image.now) name.now) (base_fault draft.outer image.now) result }
 {
     let base = match base(
         alloc,
@@ -243,18 +253,22 @@ fn with_arguments(
     outer: Scope,
     arguments: &[Argument],
     args: &Args,
-) -> Result<Scope, TextFault>
-    ensures { Meets (Some (kept (outer ++ arg_line (value_in outer) (arg_value args.now) (λ name. None) arguments.now))) (argument_due (arg_texts (value_in outer) (arg_value args.now) arguments.now)) result }
+) -> Result<Scope, ReasonFault>
+    ensures { Evaluates (Some (kept (outer ++ arg_line (value_in outer) (arg_value args.now) (λ name. None) arguments.now))) (argument_due (arg_fault (value_in outer) (arg_value args.now) arguments.now)) (arg_fault (value_in outer) (arg_value args.now) arguments.now) result }
 {
     let empty = Scope::new(alloc);
     let mut outer = outer;
-    let told = outer.declare(alloc, arguments, args, &empty);
+    let declared = outer.declare(alloc, arguments, args, &empty);
     drop(empty);
-    match told {
+    match declared {
         Ok(()) => Ok(outer),
-        Err(fault) => {
+        Err(Fault::Because(why)) => {
             drop(outer);
-            Err(fault)
+            Err(Fault::Because(Reason::of(why)))
+        }
+        Err(Fault::Memory) => {
+            drop(outer);
+            Err(Fault::Memory)
         }
     }
 }
@@ -265,8 +279,8 @@ fn declare_arguments(
     draft: Draft,
     arguments: &[Argument],
     args: &Args,
-) -> Result<Draft, TextFault>
-    ensures { Meets (Some (draft_declared (arg_value args.now) draft arguments.now)) (argument_due (arg_texts (value_in draft.outer) (arg_value args.now) arguments.now)) result }
+) -> Result<Draft, ReasonFault>
+    ensures { Evaluates (Some (draft_declared (arg_value args.now) draft arguments.now)) (argument_due (arg_fault (value_in draft.outer) (arg_value args.now) arguments.now)) (arg_fault (value_in draft.outer) (arg_value args.now) arguments.now) result }
 {
     let Draft {
         outer,
@@ -296,14 +310,14 @@ fn declare(
     draft: Draft,
     kind: &InstructionKind,
     args: &Args,
-) -> Result<Draft, TextFault>
-    ensures { Meets (Some (draft_outer (arg_value args.now) draft (declared_by kind.now))) (outer_due (arg_value args.now) draft.outer (declared_by kind.now)) result }
+) -> Result<Draft, ReasonFault>
+    ensures { Evaluates (Some (draft_outer (arg_value args.now) draft (declared_by kind.now))) (outer_due (arg_value args.now) draft.outer (declared_by kind.now)) (outer_fault (arg_value args.now) draft.outer (declared_by kind.now)) result }
 {
     match declared_by(kind) {
         Some(arguments) => declare_arguments(alloc, draft, arguments, args),
         None => {
             drop(draft);
-            Err(Fault::Because(Code::R05))
+            Err(Fault::Because(Reason::Coded(Code::R05)))
         }
     }
 }
@@ -321,11 +335,15 @@ pub(crate) fn inner_origins<C>(
     images: &Images<C>,
     names: &[Option<Text>],
     kind: &InstructionKind,
-) -> Result<Items<Origin>, TextFault>
+) -> Result<Items<Origin>, ReasonFault>
     requires { length names.now < 2 ^ 32 }
-    ensures { Meets (Some (origins_of (names_in images.now) (all_but_last names.now) kind.now)) (inner_due (names_in images.now) (all_but_last names.now) kind.now) result }
+    ensures { Evaluates (Some (origins_of (names_in images.now) (all_but_last names.now) kind.now)) (inner_due (names_in images.now) (all_but_last names.now) kind.now) None result }
 {
-    origins_of(alloc, images, all_but_last(names), kind)
+    match origins_of(alloc, images, all_but_last(names), kind) {
+        Ok(origins) => Ok(origins),
+        Err(Fault::Because(code)) => Err(Fault::Because(Reason::Coded(code))),
+        Err(Fault::Memory) => Err(Fault::Memory),
+    }
 }
 
 /// What is known behind an instruction of the last stage.
@@ -360,9 +378,9 @@ fn extend<C>(
     draft: Draft,
     images: &Images<C>,
     instruction: Instruction,
-) -> Result<Draft, TextFault>
+) -> Result<Draft, ReasonFault>
     requires { length draft.names ≤ most_stages }
-    ensures { Meets (Some (draft_extended (names_in images.now) draft instruction)) (inner_due (names_in images.now) (all_but_last draft.names) instruction.kind) result }
+    ensures { Evaluates (Some (draft_extended (names_in images.now) draft instruction)) (inner_due (names_in images.now) (all_but_last draft.names) instruction.kind) None result }
 {
     match inner_origins(alloc, images, draft.names.as_slice(), &instruction.kind) {
         Ok(origins) => {
@@ -445,9 +463,9 @@ fn add_other<C>(
     images: &Images<C>,
     args: &Args,
     instruction: Instruction,
-) -> Result<Draft, TextFault>
+) -> Result<Draft, ReasonFault>
     requires { length draft.names ≤ most_stages }
-    ensures { Meets (Some (draft_other (names_in images.now) (arg_value args.now) draft draft.names instruction)) (other_due (names_in images.now) (arg_value args.now) draft.outer draft.names instruction.kind) result }
+    ensures { Evaluates (Some (draft_other (names_in images.now) (arg_value args.now) draft draft.names instruction)) (other_due (names_in images.now) (arg_value args.now) draft.outer draft.names instruction.kind) (other_fault (arg_value args.now) draft.outer draft.names instruction.kind) result }
 {
     if draft.names.is_empty() {
         let declared = declare(alloc, draft, &instruction.kind, args);
@@ -465,9 +483,9 @@ fn add<C>(
     images: &Images<C>,
     args: &Args,
     instruction: Instruction,
-) -> Result<Draft, TextFault>
+) -> Result<Draft, ReasonFault>
     requires { length draft.names ≤ most_stages }
-    ensures { Meets (Some (draft_after (names_in images.now) (arg_value args.now) draft instruction)) (kind_due (names_in images.now) (arg_value args.now) draft.outer draft.names instruction.kind) result }
+    ensures { Evaluates (Some (draft_after (names_in images.now) (arg_value args.now) draft instruction)) (kind_due (names_in images.now) (arg_value args.now) draft.outer draft.names instruction.kind) (kind_fault (arg_value args.now) draft.outer draft.names instruction.kind) result }
 {
     match begun(&instruction.kind) {
         Some((image, name)) => {
@@ -479,13 +497,13 @@ fn add<C>(
     }
 }
 
-/// All instructions of a file, one after another, up to the first for which a code is due.
+/// All instructions of a file, one after another, up to the first that is refused.
 pub(crate) fn add_all<C>(
     alloc: Global,
     images: &Images<C>,
     args: &Args,
     instructions: Vec<Instruction>,
-) -> Result<Draft, LineFault>
+) -> Result<Draft, RejectionFault>
     ensures { Drafts (names_in images.now) (arg_value args.now) instructions.items result }
 {
     let mut draft = Draft {
@@ -498,7 +516,7 @@ pub(crate) fn add_all<C>(
         let line = instruction.line;
         draft = match add(alloc, draft, images, args, instruction) {
             Ok(draft) => draft,
-            Err(Fault::Because(code)) => return Err(Fault::Because(Refusal { code, line })),
+            Err(Fault::Because(reason)) => return Err(Fault::Because(Rejection { reason, line })),
             Err(Fault::Memory) => return Err(Fault::Memory),
         };
     }

@@ -15,8 +15,8 @@ use crate::resolving::{Draft, add_all, with_last};
 use crate::stage::ResolvedStage;
 use crate::target::{are_arguments, refused, target_of};
 use dockerfile::Dockerfile;
-use lines::LineFault;
-use plain::{Code, Items, Memory, Refusal, Text};
+use expand::{Rejection, RejectionFault};
+use plain::{Code, Items, Memory, Text};
 use plans::Images;
 use scopes::{Args, Scope};
 use std::alloc::Global;
@@ -49,18 +49,18 @@ impl StageTable {
     /// else for the last stage (Dockerfile reference).
     ///
     /// R13, at line 0, comes before all else: there is no such target. Else the first line is refused for which a code is due, with the least
-    /// of its codes: R05 where an instruction other than ARG stands before the first FROM, and at line 1 where there is none other; R11 where
-    /// an earlier stage has the stage's name, whatever the case of letters; R12 where a FROM, a `--from` or a mount's `from` leads to no image
-    /// and no earlier stage, unless it is a FROM of `scratch`, the empty tree; R18 where a FROM's text, or one of an ARG before the first FROM,
-    /// has more than 1,048,576 bytes, and at the 257th FROM. What a FROM's text leads to isn't tested where it is too long. The empty text and
-    /// `scratch` are never names of images.
+    /// of its codes: R05 if an instruction other than ARG stands before the first FROM, and at line 1 if there is none other; R11 if an earlier
+    /// stage has the stage's name, whatever the case of letters; R12 if a FROM, a `--from` or a mount's `from` leads to no image and no earlier
+    /// stage, unless it is a FROM of `scratch`, the empty tree; R18 if a FROM's text, or one of an ARG before the first FROM, has more than
+    /// 1,048,576 bytes, and at the 257th FROM; R21, with a text, if one of these texts needs a variable that doesn't count (`${v?w}`). A FROM
+    /// whose text has no value isn't tested for what it leads to. The empty text and `scratch` are never names of images.
     pub fn resolve<C>(
         alloc: Global,
         file: Dockerfile,
         images: &Images<C>,
         args: &Args,
         target: Option<&Text>,
-    ) -> Result<StageTable, LineFault>
+    ) -> Result<StageTable, RejectionFault>
         ensures table { Returns (resolved (names_in images.now) (arg_value args.now) (option_map (λ t. t.now) target.entry) file) result }
         ensures known { IfOk result (λ table. All (NamesKnown (names_in images.now)) table.stages) }
     {
@@ -81,8 +81,8 @@ impl StageTable {
     }
 
     /// All that the names of a file are refused for, with these images, build arguments and target, in the order of the lines (own): R13 for
-    /// the target, R05 at line 1 where there is no instruction other than ARG, and for each line for which a code is due the least of its
-    /// codes. The refusal of an ARG before the first FROM is the last, since the lines after it would be judged by its value.
+    /// the target, R05 at line 1 if there is no instruction other than ARG, and for each line for which a code is due the least of its codes.
+    /// The refusal of an ARG before the first FROM is the last, since the lines after it would be judged by its value.
     ///
     /// The first of these is what `resolve` refuses the file with, and there is none exactly if that gives a table, as the law
     /// `the_first_fault_is_the_refusal` says.
@@ -92,7 +92,7 @@ impl StageTable {
         images: &Images<C>,
         args: &Args,
         target: Option<&Text>,
-    ) -> Result<Items<Refusal>, Memory>
+    ) -> Result<Items<Rejection>, Memory>
         ensures { IfOk result (λ faults. faults ≡ stage_refusals (names_in images.now) (arg_value args.now) (option_map (λ t. t.now) target.entry) file.now) }
     {
         all_refusals(alloc, images, args, file.instructions(), target)

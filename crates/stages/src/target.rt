@@ -3,6 +3,7 @@ ghost use Rattle.std.specs.Prelude.{◌≡◌, ◌≤◌, length, option_map, op
 ghost use Rattle.plain.specs.Limits.{most_lines};
 ghost use Rattle.plain.specs.declared.fault.Fault.TheVariants.{Because};
 ghost use Rattle.ascii.specs.Numbers.{decimal_of};
+ghost use Rattle.expand.specs.declared.reason.Reason.TheVariants.{Coded};
 ghost use Rattle.stages.specs.Naming.{within, stage_called};
 ghost use Rattle.stages.specs.Before.{name_begun, stage_names};
 ghost use Rattle.stages.specs.Resolved.{target_of, are_arguments};
@@ -10,9 +11,9 @@ ghost use Rattle.stages.specs.Resolved.{target_of, are_arguments};
 use crate::naming::is_called;
 use crate::resolving::declared_by;
 use ascii::{are_digits, parse_number};
+use expand::{Reason, Rejection, RejectionFault};
 use instructions::{Instruction, InstructionKind};
-use lines::LineFault;
-use plain::{Code, Fault, Refusal, Text};
+use plain::{Code, Fault, Text};
 
 /// The name of the stage that an instruction begins, if it begins one.
 pub(crate) fn name_begun(instruction: &Instruction) -> Option<&Option<Text>>
@@ -104,8 +105,9 @@ pub(crate) fn are_arguments(instructions: &[Instruction]) -> bool
 }
 
 /// A refusal.
-pub(crate) fn refused(code: Code, line: u32) -> LineFault
-    ensures { result ≡ Because (record { code = code; line = line }) }
+pub(crate) fn refused(code: Code, line: u32) -> RejectionFault
+    ensures { result ≡ Because (record { reason = Coded code; line = line }) }
 {
-    Fault::Because(Refusal { code, line })
+    let reason = Reason::Coded(code);
+    Fault::Because(Rejection { reason, line })
 }

@@ -4,12 +4,12 @@ use Rattle.std.specs.Option.{option_map}
 use Rattle.stages.specs.Before.{declared_by}
 use Rattle.stages.proofs.DraftFacts.{mapped_none}
 use Rattle.stages.proofs.FaultsFacts.{outer_some_judged, outer_none_judged}
-use Rattle.stages.proofs.faults.outer_code.Goals as goal
+use Rattle.stages.proofs.faults.outer_reason.Goals as goal
 
 pub returns-in-Some : goal.returns-in-Some
 returns-in-Some c =
-    outer_some_judged (get c.args.args.now) c.args.outer.now c.argument_code.new.outer (declared_by c.args.kind.now) _ c.argument_code.result
-    (sym c.declared_by.ensures ∙ ap (λ o. option_map (λ arguments. arguments.now) o) c.in-Some.is) c.argument_code.ensures
+    outer_some_judged (get c.args.args.now) c.args.outer.now c.argument_reason.new.outer (declared_by c.args.kind.now) _ c.argument_reason.result
+    (sym c.declared_by.ensures ∙ ap (λ o. option_map (λ arguments. arguments.now) o) c.in-Some.is) c.argument_reason.ensures
 
 pub returns-in-None : goal.returns-in-None
 returns-in-None c =
