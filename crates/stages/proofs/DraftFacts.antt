@@ -350,7 +350,7 @@ pub declare_ok : (args : Values) (draft : Draft) (arguments : List Argument) (ou
     × (reason (argument_due (arg_fault (value_in draft.outer) args arguments)) (arg_fault (value_in draft.outer) args arguments) ≡ None)
 declare_ok args draft arguments outer met = (ap (λ o. Some (draft_with_outer draft o)) (some_is _ _ met.0), met.1)
 
-pub declare_err : (args : Values) (draft : Draft) (arguments : List Argument) (made : List Declaration) (fault : Fault Code)
+pub declare_err : (args : Values) (draft : Draft) (arguments : List Argument) (made : List Declaration) (fault : Fault Reason)
     → Evaluates {X = List Declaration} (Some made) (argument_due (arg_fault (value_in draft.outer) args arguments)) (arg_fault (value_in draft.outer) args arguments) (Err fault)
     → Evaluates {X = Draft} (Some (draft_declared args draft arguments)) (argument_due (arg_fault (value_in draft.outer) args arguments)) (arg_fault (value_in draft.outer) args arguments) (Err fault)
 declare_err args draft arguments made (Because why) met = met
@@ -378,7 +378,7 @@ extend_ok known draft next i names origins same found is =
       ap (λ ns. reason (inner_due known (all_but_last ns) i.kind) None) (sym same) ∙ found.1,
     )
 
-pub extend_err : (known : Known) (draft : Draft) (i : Instruction) (names : Names) (fault : Fault Code) → names ≡ draft.names
+pub extend_err : (known : Known) (draft : Draft) (i : Instruction) (names : Names) (fault : Fault Reason) → names ≡ draft.names
     → Evaluates (Some (origins_of known (all_but_last names) i.kind)) (inner_due known (all_but_last names) i.kind) None (Err fault)
     → Evaluates (Some (draft_extended known draft i)) (inner_due known (all_but_last draft.names) i.kind) None (Err fault)
 extend_err known draft i names (Because why) same evaluates = ap (λ ns. reason (inner_due known (all_but_last ns) i.kind) None) (sym same) ∙ evaluates

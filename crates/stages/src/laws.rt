@@ -29,7 +29,7 @@ pub fn the_least_refusal_is_told()
     ensures resolved { (known : Known) (args : Values) (target : Option (List ℕ)) (instructions : List Instruction) (table : TableValue)
         → resolved known args target instructions ≡ Ok table → (refusal : Rejection) → IsDue known args target instructions refusal → ⊥ }
 {
-    instructions::laws::the_least_reason_is_told();
+    instructions::laws::the_least_reason_is_reported();
 }
 
 /// The first of all refusals of a file is what resolving it is refused with, and there is none exactly if that gives a table.
@@ -58,7 +58,7 @@ pub fn all_that_is_due_is_told()
         → (listed : Rejection) × Contains (stage_refusals known args target instructions) listed × (listed.line ≡ refusal.line)
         × (reason_number listed.reason ≤ reason_number refusal.reason) }
 {
-    instructions::laws::the_least_reason_is_told();
+    instructions::laws::the_least_reason_is_reported();
 }
 
 /// The stages that are needed have the target and, with each stage, all that it names; and each set of stages that has these has all that

@@ -4,5 +4,5 @@ use Rattle.stages.proofs.laws.all_that_is_due_is_told.Goals as goal
 
 pub returns : goal.returns
 returns c =
-    let laws : LeastLaws = record { is_least = c.the_least_code_is_told.ensures.least; is_free = c.the_least_code_is_told.ensures.none } in
+    let laws : LeastLaws = record { is_least = c.the_least_reason_is_reported.ensures.least; is_free = c.the_least_reason_is_reported.ensures.none } in
     record { due = each_due laws; target = target_listed; stages = empty_listed; lines = none_missing laws }
