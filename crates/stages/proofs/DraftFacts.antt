@@ -10,9 +10,7 @@ use Rattle.plain.specs.Limits.{most_stages}
 use Rattle.plain.specs.declared.refusal.Code.{Code}
 use Rattle.plain.specs.declared.refusal.Code.TheVariants.{R05, R11, R12, R18}
 use Rattle.expand.specs.Value.{Parts}
-use Rattle.expand.specs.Reasons.{reason_of}
 use Rattle.expand.specs.declared.fault.Unexpanded.{Unexpanded}
-use Rattle.expand.specs.declared.fault.Unexpanded.TheVariants.{TooLong, Required}
 use Rattle.expand.specs.declared.reason.Reason.{Reason}
 use Rattle.expand.specs.declared.reason.Reason.TheVariants.{Coded}
 use Rattle.plain.specs.declared.fault.Fault.{Fault}
@@ -319,25 +317,6 @@ pub other_inner : (known : Known) (args : Values) (draft : Draft) (i : Instructi
 other_inner known args draft i result some evaluates = other_inner_by known args draft i draft.names result some evaluates
 
 -- what declaring the arguments of a line answers
-
-pub argument_clear : (fault : Option Unexpanded) → fault ≡ None → reason (argument_due fault) fault ≡ None
-argument_clear fault none = ap (λ (f : Option Unexpanded). reason (argument_due f) f) none
-
-refused_by : (why : Unexpanded) → reason (argument_due (Some why)) (Some why) ≡ Some (reason_of why)
-refused_by TooLong = refl
-refused_by (Required text) = refl
-
-pub argument_refused : (fault : Option Unexpanded) (why : Unexpanded) → fault ≡ Some why → reason (argument_due fault) fault ≡ Some (reason_of why)
-argument_refused fault why is = ap (λ (f : Option Unexpanded). reason (argument_due f) f) is ∙ refused_by why
-
-pub declared_ok : (args : Values) (outer empty new : List Declaration) (arguments : List Argument) → empty ≡ []
-    → (new ≡ kept (outer ++ arg_line (value_in outer) args (value_in empty) arguments)) × (arg_fault (value_in outer) args arguments ≡ None)
-    → (Some (kept (outer ++ arg_line (value_in outer) args (λ name. None) arguments)) ≡ Some new)
-    × (reason (argument_due (arg_fault (value_in outer) args arguments)) (arg_fault (value_in outer) args arguments) ≡ None)
-declared_ok args outer empty new arguments none declares = (
-  ap (λ scope. Some (kept (outer ++ arg_line (value_in outer) args (value_in scope) arguments))) (sym none) ∙ ap Some (sym declares.0),
-  argument_clear (arg_fault (value_in outer) args arguments) declares.1,
-)
 
 -- a draft with another outer scope
 abbrev pub draft_with_outer : Draft → List Declaration → Draft

@@ -12,7 +12,7 @@ use Rattle.plain.specs.declared.memory.Memory.{Memory as Want}
 use Rattle.plain.specs.declared.refusal.Code.{Code}
 use Rattle.plain.specs.declared.refusal.Code.TheVariants.{R05, R13}
 use Rattle.expand.specs.Value.{Parts}
-use Rattle.expand.specs.Reasons.{reason_of, reason_number}
+use Rattle.expand.specs.Reasons.{reason_number}
 use Rattle.expand.specs.declared.fault.Unexpanded.{Unexpanded}
 use Rattle.expand.specs.declared.reason.Reason.{Reason}
 use Rattle.expand.specs.declared.reason.Reason.TheVariants.{Coded}
@@ -23,7 +23,7 @@ use Rattle.instructions.specs.declared.instruction.Instruction.{Instruction}
 use Rattle.instructions.specs.declared.instruction.InstructionKind.{InstructionKind}
 use Rattle.scopes.specs.History.{scope_after}
 use Rattle.scopes.specs.Scope.{value_in, kept}
-use Rattle.scopes.specs.Evaluate.{Values, Declares, arg_line, arg_fault}
+use Rattle.scopes.specs.Evaluate.{Values, arg_line, arg_fault}
 use Rattle.scopes.specs.declared.declaration.Declaration.{Declaration}
 use Rattle.stages.specs.Naming.{Names, Known}
 use Rattle.stages.specs.Before.{begun, declared_by, stage_names, all_but_last, with_declared, up_to, outer_scope}
@@ -34,7 +34,7 @@ use Rattle.stages.specs.Resolved.{target_of, told_at, first_refusal, are_argumen
 use Rattle.stages.specs.Table.{TableValue, stages_of}
 use Rattle.stages.specs.PrivateFaults.{outer_with, outer_other, outer_by, names_by, told, ReasonTold, Judges}
 use Rattle.stages.proofs.BeforeFacts.{scope_open, scope_closed, scope_begun, scope_declared}
-use Rattle.stages.proofs.DraftFacts.{names_begun, names_other, argument_clear, argument_refused}
+use Rattle.stages.proofs.DraftFacts.{names_begun, names_other}
 use Rattle.stages.proofs.RefusalFacts.{LeastLaws, IsDueBehind, due_here, due_later, due_at_line}
 
 -- what one more instruction leaves
@@ -73,7 +73,7 @@ names_few names None = omega arith
 none_some : {X : Type 0} (x : X) → None ≡ Some x → ⊥
 none_some x e = cc
 
-pub evaluates_reason : {X : Type 0} (made : Option X) (due : Code → Bool) (fault : Option Unexpanded) (result : Result X (Fault Reason)) (why : Option Reason) → Evaluates made due fault result
+evaluates_reason : {X : Type 0} (made : Option X) (due : Code → Bool) (fault : Option Unexpanded) (result : Result X (Fault Reason)) (why : Option Reason) → Evaluates made due fault result
     → ReasonTold result why → why ≡ reason due fault
 evaluates_reason made due fault (Ok x) why evaluates is = is ∙ sym evaluates.1
 evaluates_reason made due fault (Err (Because other)) why evaluates is = is ∙ sym evaluates
@@ -83,23 +83,6 @@ pub all_evaluate : {X : Type 0} (made : Option X) (due : Code → Bool) (fault :
     → IfOk answer (ReasonTold result) → IfOk answer (λ why. why ≡ reason due fault)
 all_evaluate made due fault result (Ok why) evaluates is = evaluates_reason made due fault result why evaluates is
 all_evaluate made due fault result (Err want) evaluates is = tt
-
--- a scope with what an ARG before the first FROM says, the scope of those that a bare one would take from being this one
-abbrev declared_in : Values → List Declaration → List Declaration → List Argument → List Declaration
-declared_in args outer empty arguments = kept (outer ++ arg_line (value_in outer) args (value_in empty) arguments)
-
-pub declares_made : (args : Values) (outer empty new : List Declaration) (arguments : List Argument) → empty ≡ []
-    → (new ≡ declared_in args outer empty arguments) × (arg_fault (value_in outer) args arguments ≡ None)
-    → Judges (argument_due (arg_fault (value_in outer) args arguments)) (arg_fault (value_in outer) args arguments) (declared_in args outer [] arguments) outer new None
-declares_made args outer empty new arguments none declares = (
-  argument_clear (arg_fault (value_in outer) args arguments) declares.1,
-  declares.0 ∙ ap (λ scope. declared_in args outer scope arguments) none,
-)
-
-pub declares_refused : (args : Values) (outer new made : List Declaration) (arguments : List Argument) (why : Unexpanded)
-    → (new ≡ outer) × (arg_fault (value_in outer) args arguments ≡ Some why)
-    → Judges (argument_due (arg_fault (value_in outer) args arguments)) (arg_fault (value_in outer) args arguments) made outer new (Some (reason_of why))
-declares_refused args outer new made arguments why declares = (argument_refused (arg_fault (value_in outer) args arguments) why declares.1, declares.0)
 
 -- a call that lends the scope judges
 pub judged_same : (due : Code → Bool) (fault : Option Unexpanded) (outer : List Declaration) (why : Option Reason) → why ≡ reason due fault
