@@ -2,6 +2,7 @@
 -- file operation with the action copy).
 use Rattle.std.specs.Prelude.{ℕ, ◌-◌, ◌==◌, ◌||◌, ◌&&◌, Bool, false, not, List, map, Option, Some, None, length, nat_lt, bytes_eq, codes, slice_index_or, if◌then◌else◌}
 use Rattle.std.specs.List.{list_any}
+use Rattle.plain.specs.Limits.{most_text_bytes}
 use Rattle.plain.specs.declared.refusal.Code.{Code}
 use Rattle.plain.specs.declared.refusal.Code.TheVariants.{R06, R14, R15, R18}
 use Rattle.paths.specs.Name.{is_component}
@@ -16,12 +17,16 @@ use Rattle.rows.specs.declared.row.Action.TheVariants.{Copy}
 use Rattle.rows.specs.declared.row.Origin.{Origin}
 use Rattle.options.specs.declared.copy.CopyFlags.{CopyFlags}
 use Rattle.expand.specs.Value.{Parts, value}
+use Rattle.expand.specs.Expanding.{unexpanded, valued, worse, worst}
+use Rattle.expand.specs.declared.fault.Unexpanded.{Unexpanded}
+use Rattle.expand.specs.declared.fault.Unexpanded.TheVariants.{TooLong}
 use Rattle.instructions.specs.Copy.{last_of}
+use Rattle.instructions.specs.Reason.{is_long}
 use Rattle.instructions.specs.declared.instruction.Body.{Body}
 use Rattle.instructions.specs.declared.instruction.Body.TheVariants.{Expanded, Literal}
 use Rattle.instructions.specs.declared.instruction.Source.{Source}
 use Rattle.instructions.specs.declared.instruction.Source.TheVariants.{Files, Document}
-use Rattle.scopes.specs.Evaluate.{Values, is_long}
+use Rattle.scopes.specs.Evaluate.{Values}
 use Rattle.scopes.specs.Scope.{value_in}
 use Rattle.scopes.specs.declared.declaration.Declaration.{Declaration}
 use Rattle.actions.specs.Texts.{is_within}
@@ -84,41 +89,70 @@ abbrev pub copy_action : List Declaration → List (List ℕ) → List Source �
 copy_action scope dir sources destination flags origin =
     copy_by (copied dir (file_sources (value_in scope) sources) (value (value_in scope) destination) flags) flags origin
 
+-- what is against the texts
+
+-- what is against a pattern, if the source is one
+abbrev pub pattern_fault : Values → Source → Option Unexpanded
+pattern_fault before (Files word) = unexpanded before word
+pattern_fault before (Document name body) = None
+
+-- what is against the body of a quoted mark: it isn't expanded, and has the limit of an expanded text (own)
+abbrev pub literal_fault : List ℕ → Option Unexpanded
+literal_fault text = if nat_lt most_text_bytes (length text) then Some TooLong else None
+
+-- what is against a body
+abbrev pub body_fault : Values → Body → Option Unexpanded
+body_fault before (Expanded word) = unexpanded before word
+body_fault before (Literal text) = literal_fault text
+
+-- what is against the body of a heredoc, if the source is one
+abbrev pub document_fault : Values → Source → Option Unexpanded
+document_fault before (Files word) = None
+document_fault before (Document name body) = body_fault before body
+
+-- what is against the texts of a COPY, in reading order: the patterns and the destination, and then the bodies, which stand below the
+-- line (own)
+abbrev pub copy_fault : List Declaration → List Source → Parts → Option Unexpanded
+copy_fault scope sources destination =
+    worse (worst (map (pattern_fault (value_in scope)) sources))
+    (worse (unexpanded (value_in scope) destination) (worst (map (document_fault (value_in scope)) sources)))
+
 -- what is due
 
--- an empty pattern
-abbrev pub is_empty_source : FileSource → Bool
-is_empty_source (Pattern text) = length text == 0
-is_empty_source (Data name body) = false
+-- a test of a word's value; if it has none, nothing is tested (own)
+abbrev pub is_valued : (List ℕ → Bool) → Option (List ℕ) → Bool
+is_valued test None = false
+is_valued test (Some text) = test text
 
--- a pattern that is malformed; one that is too long isn't looked at (own)
-abbrev pub is_bad_source : FileSource → Bool
-is_bad_source (Pattern text) = not (is_long text) && is_malformed text
-is_bad_source (Data name body) = false
+-- a test of a pattern's text, if the source is a pattern
+abbrev pub is_pattern_and : (List ℕ → Bool) → Values → Source → Bool
+is_pattern_and test before (Files word) = is_valued test (valued before word)
+is_pattern_and test before (Document name body) = false
 
--- a source past the limits: a text that is too long, or a mark's name that is no component of a path, which it is only where it is too
--- long, since it has letters, digits and `_` alone (own)
-abbrev pub is_far_source : FileSource → Bool
-is_far_source (Pattern text) = is_long text
-is_far_source (Data name body) = is_long body || not (is_component name)
+-- an empty text
+abbrev pub is_empty : List ℕ → Bool
+is_empty text = length text == 0
 
--- several sources, patterns and heredocs counted, and a destination whose text doesn't end in `/`; one that is too long isn't looked at
--- (own)
-abbrev pub is_no_folder : ℕ → List ℕ → Bool
-is_no_folder sources text = nat_lt 1 sources && (not (is_long text) && not (ends_in_slash text))
+-- a text that doesn't end in `/`
+abbrev pub lacks_slash : List ℕ → Bool
+lacks_slash text = not (ends_in_slash text)
 
--- a destination past the limits: its text is too long, or the path that it leads to is past those of a path (own)
-abbrev pub is_far_destination : List (List ℕ) → List ℕ → Bool
-is_far_destination dir text = is_long text || not (is_within (read_from text dir))
+-- the path that a text leads to from a working directory is past the limits of a path (own)
+abbrev pub leads_far : List (List ℕ) → List ℕ → Bool
+leads_far dir text = not (is_within (read_from text dir))
 
--- the codes that are due for a COPY of these sources to this text in a working directory
-abbrev pub due_of : List (List ℕ) → List FileSource → List ℕ → Code → Bool
-due_of dir files text R06 = list_any is_empty_source files || (length text == 0)
-due_of dir files text R14 = is_no_folder (length files) text
-due_of dir files text R15 = list_any is_bad_source files
-due_of dir files text R18 = list_any is_far_source files || is_far_destination dir text
-due_of dir files text code = false
+-- a mark's name that is no component of a path: it is too long, since it has letters, digits and `_` alone (own)
+abbrev pub has_far_name : Source → Bool
+has_far_name (Files word) = false
+has_far_name (Document name body) = not (is_component name)
 
--- the codes that are due for a COPY
+-- the codes that are due for a COPY. R06: a pattern or the destination is empty. R14: there are several sources, patterns and heredocs
+-- counted, and the destination's text doesn't end in `/`. R15: a pattern is malformed. R18: a text is too long, a mark's name is no
+-- component, or the destination leads past the limits of a path (Dockerfile reference, COPY; the limits: own)
 abbrev pub copy_due : List Declaration → List (List ℕ) → List Source → Parts → Code → Bool
-copy_due scope dir sources destination = due_of dir (file_sources (value_in scope) sources) (value (value_in scope) destination)
+copy_due scope dir sources destination R06 = list_any (is_pattern_and is_empty (value_in scope)) sources || is_valued is_empty (valued (value_in scope) destination)
+copy_due scope dir sources destination R14 = nat_lt 1 (length sources) && is_valued lacks_slash (valued (value_in scope) destination)
+copy_due scope dir sources destination R15 = list_any (is_pattern_and is_malformed (value_in scope)) sources
+copy_due scope dir sources destination R18 =
+    is_long (copy_fault scope sources destination) || (list_any has_far_name sources || is_valued (leads_far dir) (valued (value_in scope) destination))
+copy_due scope dir sources destination code = false

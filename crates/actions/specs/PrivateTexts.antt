@@ -1,45 +1,77 @@
--- Texts, paths and sources of a COPY, where they aren't past the limits.
-use Rattle.std.specs.Prelude.{ℕ, ◌==◌, Bool, false, not, List, Option, Some, None, length, option_map, if◌then◌else◌}
+-- Texts, paths and sources of a COPY, as far as they are given, and what is against the others.
+use Rattle.std.specs.Prelude.{◌≡◌, ◌++◌, ℕ, ◌||◌, ◌&&◌, Bool, false, List, [], Option, Some, None, nat_lt, option_map, if◌then◌else◌}
+use Rattle.std.specs.List.{list_any, cons_option}
+use Rattle.plain.specs.declared.refusal.Code.{Code}
+use Rattle.plain.specs.declared.refusal.Code.TheVariants.{R06, R14, R15}
+use Rattle.paths.specs.Name.{is_component}
 use Rattle.paths.specs.Reading.{read_from}
 use Rattle.globs.specs.Glob.{is_malformed}
 use Rattle.llb.specs.declared.op.FileSource.{FileSource}
 use Rattle.llb.specs.declared.op.FileSource.TheVariants.{Pattern, Data}
-use Rattle.scopes.specs.Evaluate.{is_long}
+use Rattle.expand.specs.Expanding.{valued, valued_by, worse}
+use Rattle.expand.specs.declared.fault.Unexpanded.{Unexpanded}
+use Rattle.expand.specs.declared.fault.Unexpanded.TheVariants.{TooLong}
+use Rattle.instructions.specs.declared.instruction.Body.{Body}
+use Rattle.instructions.specs.declared.instruction.Source.{Source}
+use Rattle.instructions.specs.declared.instruction.Source.TheVariants.{Files, Document}
+use Rattle.scopes.specs.Evaluate.{Values}
 use Rattle.actions.specs.Texts.{is_within}
-use Rattle.actions.specs.Copy.{ends_in_slash, goes_into, is_far_source}
-
--- a text, where it isn't too long
-abbrev pub short : List ℕ → Option (List ℕ)
-short text = if is_long text then None else Some text
+use Rattle.actions.specs.Copy.{goes_into, body_text, body_fault, pattern_fault, is_valued, is_empty, lacks_slash, leads_far}
+use Rattle.actions.specs.declared.sources.NearSources.{NearSources}
 
 -- a path, where it is within the limits
 abbrev pub within : List (List ℕ) → Option (List (List ℕ))
 within path = if is_within path then Some path else None
 
--- a source, where it isn't past the limits
-abbrev pub near : FileSource → Option FileSource
-near source = if is_far_source source then None else Some source
+-- the text of a body, if nothing is against it
+abbrev pub body_valued : Values → Body → Option (List ℕ)
+body_valued before body = valued_by (body_fault before body) (body_text before body)
 
--- a test of what may be there
-abbrev pub is_some_and : {X : Type 0} → (X → Bool) → Option X → Bool
-is_some_and test None = false
-is_some_and test (Some x) = test x
+-- the source of an operation, if it has its text, and a heredoc a name that is a component
+abbrev pub near : Values → Source → Option FileSource
+near before (Files word) = option_map (λ text. Pattern text) (valued before word)
+near before (Document name body) = if is_component name then option_map (λ text. Data name text) (body_valued before body) else None
 
--- a pattern that is malformed, however long it is
-abbrev pub is_misspelled : FileSource → Bool
-is_misspelled (Pattern text) = is_malformed text
-is_misspelled (Data name body) = false
+-- what is against the name of a heredoc that may have one
+abbrev pub missing_fault : Option (List ℕ) → Option Unexpanded
+missing_fault None = Some TooLong
+missing_fault (Some name) = None
 
--- a text that is empty
-abbrev pub is_empty_text : List ℕ → Bool
-is_empty_text text = length text == 0
+-- what is against a mark's name
+abbrev pub name_fault : List ℕ → Option Unexpanded
+name_fault name = if is_component name then None else Some TooLong
 
--- a text that doesn't end in `/`
-abbrev pub lacks_slash : List ℕ → Bool
-lacks_slash text = not (ends_in_slash text)
+-- what is against a heredoc: its name, and its body
+abbrev pub heredoc_fault : Values → Source → Option Unexpanded
+heredoc_fault before (Files word) = None
+heredoc_fault before (Document name body) = worse (name_fault name) (body_fault before body)
 
--- where the text of a destination leads to in a working directory, and whether files go into it, where the text is there and the path is
+-- sources with one more, which is given if it is near
+pub record IsNearer (before : Values) (old : NearSources) (source : Source) (new : NearSources) : Type 0 where
+  pub files : new.files ≡ old.files ++ cons_option (near before source) []
+  pub patterns : new.patterns ≡ worse old.patterns (pattern_fault before source)
+  pub documents : new.documents ≡ worse old.documents (heredoc_fault before source)
+
+-- a test of the text of a pattern
+abbrev pub is_pattern_that : (List ℕ → Bool) → FileSource → Bool
+is_pattern_that test (Pattern text) = test text
+is_pattern_that test (Data name body) = false
+
+-- the least code that one of these tests gives
+abbrev pub first_code : Bool → Bool → Bool → Option Code
+first_code is_empty lacks_folder is_bad = if is_empty then Some R06 else if lacks_folder then Some R14 else if is_bad then Some R15 else None
+
+-- the least code that is due for these sources, so many in all, and a destination of this text, apart from limits
+abbrev pub text_code : List FileSource → ℕ → Option (List ℕ) → Option Code
+text_code files sources text =
+    first_code (list_any (is_pattern_that is_empty) files || is_valued is_empty text) (nat_lt 1 sources && is_valued lacks_slash text) (list_any (is_pattern_that is_malformed) files)
+
+-- where the text of a destination leads to in a working directory, and whether files go into it, if the text is there and the path is
 -- within the limits
 abbrev pub destination_of : List (List ℕ) → Option (List ℕ) → Option (List (List ℕ) × Bool)
 destination_of dir None = None
 destination_of dir (Some text) = option_map (λ path. (path, goes_into text)) (within (read_from text dir))
+
+-- what is against the path of a destination whose text is there
+abbrev pub far_fault : List (List ℕ) → Option (List ℕ) → Option Unexpanded
+far_fault dir text = if is_valued (leads_far dir) text then Some TooLong else None

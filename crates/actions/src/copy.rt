@@ -1,17 +1,18 @@
 ghost use Rattle.std.specs.Prelude.{◌≡◌, ◌||◌, ◌&&◌, Some, nat_lt, IfOk};
 ghost use Rattle.std.specs.List.{list_any};
 ghost use Rattle.expand.specs.Value.{value};
+ghost use Rattle.expand.specs.Expanding.{worse};
 ghost use Rattle.scopes.specs.Scope.{value_in};
-ghost use Rattle.instructions.specs.Least.{Meets};
 ghost use Rattle.instructions.specs.Copy.{last_of};
+ghost use Rattle.instructions.specs.Reason.{Evaluates};
 ghost use Rattle.paths.specs.Reading.{pieces};
-ghost use Rattle.actions.specs.Copy.{ends_in_slash, goes_into, file_sources, is_empty_source, copied, copy_by, copy_action, copy_due};
-ghost use Rattle.actions.specs.PrivateTexts.{is_some_and, is_empty_text, lacks_slash, destination_of};
+ghost use Rattle.actions.specs.Copy.{ends_in_slash, goes_into, file_sources, is_valued, is_empty, lacks_slash, copied, copy_by, copy_action, copy_due, copy_fault};
+ghost use Rattle.actions.specs.PrivateTexts.{is_pattern_that, text_code, destination_of, far_fault};
 
 use crate::Surroundings;
-use crate::sources::{all_sources, has_bad_source, has_empty_source, has_pattern, near_sources};
-use crate::texts::{path_within, short_value};
-use expand::Word;
+use crate::sources::{NearSources, has_bad_source, has_empty_source, has_pattern, near_sources};
+use crate::texts::path_within;
+use expand::{Reason, ReasonFault, Unexpanded, Word, expand_next};
 use instructions::Source;
 use llb::{CopyFiles, FileSource};
 use options::CopyFlags;
@@ -20,7 +21,6 @@ use plain::{Code, Fault, Items, Memory, Text};
 use rows::{Action, Origin};
 use std::alloc::Global;
 use trees::CopyOptions;
-use words::TextFault;
 
 /// Whether a text ends in `/`.
 fn ends_in_slash(text: &str) -> bool
@@ -48,8 +48,8 @@ fn goes_into(text: &str) -> bool
 }
 
 /// Whether a source or the destination is empty, as far as they are given.
-fn has_empty(sources: &[Option<FileSource>], text: &Option<Text>) -> bool
-    ensures { result ≡ (list_any (is_some_and is_empty_source) sources.now || is_some_and is_empty_text text.now) }
+fn has_empty(sources: &[FileSource], text: &Option<Text>) -> bool
+    ensures { result ≡ (list_any (is_pattern_that is_empty) sources.now || is_valued is_empty text.now) }
 {
     let is_empty = match text {
         Some(text) => text.len() == 0,
@@ -60,7 +60,7 @@ fn has_empty(sources: &[Option<FileSource>], text: &Option<Text>) -> bool
 
 /// Whether there are several sources, and a destination is given that doesn't end in `/`.
 fn lacks_folder(sources: usize, text: &Option<Text>) -> bool
-    ensures { result ≡ (nat_lt 1 sources && is_some_and lacks_slash text.now) }
+    ensures { result ≡ (nat_lt 1 sources && is_valued lacks_slash text.now) }
 {
     let lacks_slash = match text {
         Some(text) => !ends_in_slash(text.as_str()),
@@ -69,58 +69,89 @@ fn lacks_folder(sources: usize, text: &Option<Text>) -> bool
     sources > 1 && lacks_slash
 }
 
-/// Where the text of a destination leads to, and whether files go into it because the text says so; none where the text isn't given, or
-/// the path is past the limits.
+/// The least code that is due for these sources, so many in all, and a destination, apart from limits.
+fn text_code(
+    alloc: Global,
+    files: &[FileSource],
+    sources: usize,
+    text: &Option<Text>,
+) -> Result<Option<Code>, Memory>
+    ensures { IfOk result (λ code. code ≡ text_code files.now sources text.now) }
+{
+    if has_empty(files, text) {
+        return Ok(Some(Code::R06));
+    }
+    if lacks_folder(sources, text) {
+        return Ok(Some(Code::R14));
+    }
+    if has_bad_source(alloc, files)? {
+        return Ok(Some(Code::R15));
+    }
+    Ok(None)
+}
+
+/// Where the text of a destination leads to, and whether files go into it because the text says so; none if there is no text, or the path
+/// is past the limits. With it what is against the line so far.
 fn near_destination(
     alloc: Global,
     text: Option<Text>,
     dir: &Path,
-) -> Result<Option<(Path, bool)>, Memory>
-    ensures { IfOk result (λ found. found ≡ destination_of dir.now text) }
+    fault: Option<Unexpanded>,
+) -> Result<(Option<(Path, bool)>, Option<Unexpanded>), Memory>
+    ensures reached { IfOk result (λ found. found.0 ≡ destination_of dir.now text) }
+    ensures fault { IfOk result (λ found. found.1 ≡ worse fault (far_fault dir.now text)) }
 {
     let Some(text) = text else {
-        return Ok(None);
+        return Ok((None, fault));
     };
     match path_within(alloc, text.as_str(), dir)? {
-        Some(path) => Ok(Some((path, goes_into(text.as_str())))),
-        None => Ok(None),
+        Some(path) => Ok((Some((path, goes_into(text.as_str()))), fault)),
+        None => Ok((None, Some(Unexpanded::TooLong.after(fault)))),
     }
 }
 
-/// The copy of the sources to the destination, or the least code that is due for them.
+/// What is against the texts of a line, if this is against some of them and that against those after them.
+fn joined(earlier: Option<Unexpanded>, later: Option<Unexpanded>) -> Option<Unexpanded>
+    ensures { result ≡ worse earlier later }
+{
+    match later {
+        Some(why) => Some(why.after(earlier)),
+        None => earlier,
+    }
+}
+
+/// The copy of the sources to the destination, or why the line is refused.
 fn copied_files(
     alloc: Global,
     sources: Items<Source>,
     destination: &Word,
     flags: &CopyFlags,
     at: &Surroundings,
-) -> Result<CopyFiles, TextFault>
-    ensures { Meets (Some (copied at.now.dir.now (file_sources (value_in at.now.scope.now) sources) (value (value_in at.now.scope.now) destination.now) flags.now)) (copy_due at.now.scope.now at.now.dir.now sources destination.now) result }
+) -> Result<CopyFiles, ReasonFault>
+    ensures { Evaluates (Some (copied at.now.dir.now (file_sources (value_in at.now.scope.now) sources) (value (value_in at.now.scope.now) destination.now) flags.now)) (copy_due at.now.scope.now at.now.dir.now sources destination.now) (copy_fault at.now.scope.now sources destination.now) result }
 {
-    let sources = near_sources(alloc, sources, at.scope)?;
-    let text = short_value(alloc, destination, at.scope)?;
-    if has_empty(sources.as_slice(), &text) {
-        return Err(Fault::Because(Code::R06));
+    let count = sources.len();
+    let NearSources {
+        files,
+        patterns,
+        documents,
+    } = near_sources(alloc, sources, at.scope)?;
+    let (text, fault) = expand_next(alloc, destination, at.scope, patterns)?;
+    if let Some(code) = text_code(alloc, files.as_slice(), count, &text)? {
+        return Err(Fault::Because(Reason::Coded(code)));
     }
-    if lacks_folder(sources.len(), &text) {
-        return Err(Fault::Because(Code::R14));
+    let (reached, fault) = near_destination(alloc, text, at.dir, joined(fault, documents))?;
+    if let Some(why) = fault {
+        return Err(Fault::Because(Reason::of(why)));
     }
-    if has_bad_source(alloc, sources.as_slice())? {
-        return Err(Fault::Because(Code::R15));
-    }
-    let Some(sources) = all_sources(alloc, sources)? else {
-        return Err(Fault::Because(Code::R18));
-    };
-    let Some((dest, into)) = near_destination(alloc, text, at.dir)? else {
-        return Err(Fault::Because(Code::R18));
-    };
+    let (dest, into) = reached.unwrap();
     let options = CopyOptions {
         into,
         owner: flags.owner,
         mode: flags.mode,
     };
     Ok(CopyFiles {
-        sources,
+        sources: files,
         dest,
         options,
     })
@@ -147,10 +178,11 @@ fn copy_by(files: CopyFiles, flags: CopyFlags, origin: Origin) -> Action
 /// The sources, the destination and the bodies of bare marks are expanded, and the destination is read against the working directory
 /// (Dockerfile reference, COPY). Files go into the destination where its text ends in `/`, or its last component is `.` or `..` (own).
 ///
-/// The least of these codes is told: R06 where a pattern or the destination is empty; R14 where there are several sources, patterns and
-/// heredocs counted, and the destination's text doesn't end in `/` (Dockerfile reference); R15 where a pattern is malformed; R18 where a
-/// text is too long, the name of a heredoc is no component of a path, or the destination is past the limits of a path (own). A text that
-/// is too long gets no other test (own). What was lent is unchanged.
+/// The least of these codes is reported. R06: a pattern or the destination is empty. R14: there are several sources, patterns and heredocs
+/// counted, and the destination's text doesn't end in `/` (Dockerfile reference). R15: a pattern is malformed. R18: a text is too long, the
+/// name of a heredoc is no component of a path, or the destination is past the limits of a path (own). R21 if none of these is due, and a
+/// variable that is required doesn't pass its test; of several such texts the first gives the text, patterns and destination before bodies
+/// (own). A text that has no value gets no other test (own). What was lent is unchanged.
 pub fn copy_action(
     alloc: Global,
     sources: Items<Source>,
@@ -158,8 +190,8 @@ pub fn copy_action(
     flags: CopyFlags,
     origin: Origin,
     at: &Surroundings,
-) -> Result<Action, TextFault>
-    ensures { Meets (Some (copy_action at.now.scope.now at.now.dir.now sources destination flags origin)) (copy_due at.now.scope.now at.now.dir.now sources destination) result }
+) -> Result<Action, ReasonFault>
+    ensures { Evaluates (Some (copy_action at.now.scope.now at.now.dir.now sources destination flags origin)) (copy_due at.now.scope.now at.now.dir.now sources destination) (copy_fault at.now.scope.now sources destination) result }
 {
     let files = copied_files(alloc, sources, &destination, &flags, at)?;
     Ok(copy_by(files, flags, origin))

@@ -5,6 +5,7 @@ ghost use Rattle.std.specs.List.{list_all, count_by};
 ghost use Rattle.expand.specs.Value.{Parts};
 ghost use Rattle.instructions.specs.Instruction.{IsInstruction};
 ghost use Rattle.instructions.specs.Least.{least};
+ghost use Rattle.instructions.specs.Reason.{reason};
 ghost use Rattle.instructions.specs.declared.instruction.Command.{Command};
 ghost use Rattle.instructions.specs.declared.instruction.InstructionKind.TheVariants.{Run, Copy};
 ghost use Rattle.instructions.specs.declared.instruction.Source.{Source};
@@ -14,7 +15,7 @@ ghost use Rattle.rows.specs.WellFormed.{IsAction};
 ghost use Rattle.rows.specs.declared.row.Origin.{Origin};
 ghost use Rattle.scopes.specs.Scope.{names_in, is_environment_name};
 ghost use Rattle.scopes.specs.declared.declaration.Declaration.{Declaration};
-ghost use Rattle.actions.specs.Copy.{copy_action, copy_due};
+ghost use Rattle.actions.specs.Copy.{copy_action, copy_due, copy_fault};
 ghost use Rattle.actions.specs.Run.{is_bind, run_action, run_due};
 
 use scopes::laws::{
@@ -35,10 +36,10 @@ pub fn runs_are_well_formed()
     environments_have_the_names_of_declarations();
 }
 
-/// A COPY for which no code is due is a well-formed action, where it is an instruction that a line spells.
+/// A COPY that nothing is against is a well-formed action, if it is an instruction that a line spells.
 pub fn copies_are_well_formed()
     ensures { (scope : List Declaration) (dir : List (List ℕ)) (sources : List Source) (destination : Parts) (flags : CopyFlags) (origin : Origin)
         → IsInstruction (Copy sources destination flags)
-        → least (copy_due scope dir sources destination) ≡ None
+        → reason (copy_due scope dir sources destination) (copy_fault scope sources destination) ≡ None
         → IsAction (copy_action scope dir sources destination flags origin) }
 {}

@@ -1,17 +1,15 @@
-// The sources of a COPY: their texts are expanded as far as they may be, since those that are within the limits are tested even where
-// another isn't.
-ghost use Rattle.std.specs.Prelude.{◌≡◌, map, is_some, IfOk};
+// The sources of a COPY: each is expanded, and those that can be given are tested even if another can't.
+ghost use Rattle.std.specs.Prelude.{◌≡◌, map, IfOk};
 ghost use Rattle.std.specs.List.{list_any, filter_map};
-ghost use Rattle.options.specs.Lists.{all_some};
 ghost use Rattle.globs.specs.Glob.{is_malformed};
 ghost use Rattle.llb.specs.WellFormed.{is_pattern};
+ghost use Rattle.expand.specs.Expanding.{worse, worst};
 ghost use Rattle.scopes.specs.Scope.{value_in};
 ghost use Rattle.instructions.specs.declared.instruction.Source.TheVariants.{Files, Document};
-ghost use Rattle.actions.specs.Copy.{body_text, file_source, file_sources, is_empty_source};
-ghost use Rattle.actions.specs.PrivateTexts.{short, near, is_some_and, is_misspelled};
+ghost use Rattle.actions.specs.Copy.{body_fault, pattern_fault, is_empty};
+ghost use Rattle.actions.specs.PrivateTexts.{body_valued, near, missing_fault, heredoc_fault, is_pattern_that, IsNearer};
 
-use crate::texts::short_value;
-use expand::Word;
+use expand::{Unexpanded, Word, expand_next};
 use globs::Glob;
 use instructions::{Body, Source};
 use llb::FileSource;
@@ -22,18 +20,33 @@ use scopes::Scope;
 use std::alloc::Global;
 use trees::Content;
 
-/// The text of a body, or none where it is too long.
-#[tactic(auto, using(crate::proofs::LimitFacts::short_here, crate::proofs::LimitFacts::long_here))]
-fn short_body(alloc: Global, body: Body, scope: &Scope) -> Result<Option<Text>, Memory>
-    ensures { IfOk result (λ text. text ≡ short (body_text (value_in scope.now) body)) }
+/// The sources of a COPY that can be given, and what is against the others.
+#[derive(Drop)]
+pub(crate) struct NearSources {
+    pub(crate) files: Items<FileSource>,
+    /// What is against the patterns.
+    pub(crate) patterns: Option<Unexpanded>,
+    /// What is against the heredocs, whose bodies stand below the line: a body, or a name that is no component of a path.
+    pub(crate) documents: Option<Unexpanded>,
+}
+
+/// The text of a body, if nothing is against it. With it what is against the bodies so far.
+fn next_body(
+    alloc: Global,
+    body: Body,
+    scope: &Scope,
+    fault: Option<Unexpanded>,
+) -> Result<(Option<Text>, Option<Unexpanded>), Memory>
+    ensures text { IfOk result (λ found. found.0 ≡ body_valued (value_in scope.now) body) }
+    ensures fault { IfOk result (λ found. found.1 ≡ worse fault (body_fault (value_in scope.now) body)) }
 {
     match body {
-        Body::Expanded(word) => short_value(alloc, &word, scope),
+        Body::Expanded(word) => expand_next(alloc, &word, scope, fault),
         Body::Literal(text) => {
             if text.len() > MOST_TEXT_BYTES {
-                return Ok(None);
+                return Ok((None, Some(Unexpanded::TooLong.after(fault))));
             }
-            Ok(Some(text))
+            Ok((Some(text), fault))
         }
     }
 }
@@ -48,71 +61,118 @@ fn content_of(alloc: Global, text: Text) -> Result<Content, Memory>
     )
 }
 
-/// A pattern of files with its text expanded, or none where it is past the limits.
-fn near_files(alloc: Global, word: Word, scope: &Scope) -> Result<Option<FileSource>, Memory>
-    ensures { IfOk result (λ found. found ≡ near (file_source (value_in scope.now) (Files word))) }
+/// What is against heredocs so far, and against the name of one more.
+fn next_name(name: &Option<Name>, fault: Option<Unexpanded>) -> Option<Unexpanded>
+    ensures { result ≡ worse fault (missing_fault name.now) }
 {
-    match short_value(alloc, &word, scope)? {
-        Some(text) => Ok(Some(FileSource::Pattern(text))),
-        None => Ok(None),
+    match name {
+        Some(_) => fault,
+        None => Some(Unexpanded::TooLong.after(fault)),
     }
 }
 
-/// The file that a heredoc gives, or none where the name or the text is past the limits.
-fn near_document(
+/// Sources with a pattern of files more.
+fn with_files(
     alloc: Global,
+    sources: NearSources,
+    word: &Word,
+    scope: &Scope,
+) -> Result<NearSources, Memory>
+    ensures { IfOk result (λ more. IsNearer (value_in scope.now) sources (Files word.now) more) }
+{
+    let NearSources {
+        mut files,
+        patterns,
+        documents,
+    } = sources;
+    let (text, patterns) = expand_next(alloc, word, scope, patterns)?;
+    if let Some(text) = text {
+        files.push(FileSource::Pattern(text))?;
+    }
+    Ok(NearSources {
+        files,
+        patterns,
+        documents,
+    })
+}
+
+/// Sources with the file that a heredoc gives.
+fn with_document(
+    alloc: Global,
+    sources: NearSources,
     name: Text,
     body: Body,
     scope: &Scope,
-) -> Result<Option<FileSource>, Memory>
-    ensures { IfOk result (λ found. found ≡ near (file_source (value_in scope.now) (Document name body))) }
+) -> Result<NearSources, Memory>
+    ensures { IfOk result (λ more. IsNearer (value_in scope.now) sources (Document name body) more) }
 {
-    match (Name::new(name), short_body(alloc, body, scope)?) {
-        (Some(name), Some(text)) => Ok(Some(FileSource::Data(name, content_of(alloc, text)?))),
-        _ => Ok(None),
+    let NearSources {
+        mut files,
+        patterns,
+        documents,
+    } = sources;
+    let name = Name::new(name);
+    let documents = next_name(&name, documents);
+    let (text, documents) = next_body(alloc, body, scope, documents)?;
+    if let (Some(name), Some(text)) = (name, text) {
+        files.push(FileSource::Data(name, content_of(alloc, text)?))?;
     }
+    Ok(NearSources {
+        files,
+        patterns,
+        documents,
+    })
 }
 
-/// A source with its text expanded, or none where it is past the limits.
-fn near_source(alloc: Global, source: Source, scope: &Scope) -> Result<Option<FileSource>, Memory>
-    ensures { IfOk result (λ found. found ≡ near (file_source (value_in scope.now) source)) }
+/// Sources with one more.
+fn with_source(
+    alloc: Global,
+    sources: NearSources,
+    source: Source,
+    scope: &Scope,
+) -> Result<NearSources, Memory>
+    ensures { IfOk result (λ more. IsNearer (value_in scope.now) sources source more) }
 {
     match source {
-        Source::Files(word) => near_files(alloc, word, scope),
-        Source::Document { name, body } => near_document(alloc, name, body, scope),
+        Source::Files(word) => with_files(alloc, sources, &word, scope),
+        Source::Document { name, body } => with_document(alloc, sources, name, body, scope),
     }
 }
 
-/// The sources with their texts expanded, each where it isn't past the limits.
+/// The sources with their texts expanded.
 pub(crate) fn near_sources(
     alloc: Global,
     sources: Items<Source>,
     scope: &Scope,
-) -> Result<Items<Option<FileSource>>, Memory>
-    ensures { IfOk result (λ found. found ≡ map near (file_sources (value_in scope.now) sources)) }
+) -> Result<NearSources, Memory>
+    ensures files { IfOk result (λ found. found.files ≡ filter_map (near (value_in scope.now)) sources) }
+    ensures patterns { IfOk result (λ found. found.patterns ≡ worst (map (pattern_fault (value_in scope.now)) sources)) }
+    ensures documents { IfOk result (λ found. found.documents ≡ worst (map (heredoc_fault (value_in scope.now)) sources)) }
 {
-    let mut found = Items::new(alloc);
+    let mut found = NearSources {
+        files: Items::new(alloc),
+        patterns: None,
+        documents: None,
+    };
     for source in sources.into_vec() {
-        let source = near_source(alloc, source, scope)?;
-        found.push(source)?;
+        found = with_source(alloc, found, source, scope)?;
     }
     Ok(found)
 }
 
 /// Whether a source is an empty pattern.
-fn is_empty_source(source: &Option<FileSource>) -> bool
-    ensures { result ≡ is_some_and is_empty_source source.now }
+fn is_empty_source(source: &FileSource) -> bool
+    ensures { result ≡ is_pattern_that is_empty source.now }
 {
     match source {
-        Some(FileSource::Pattern(text)) => text.len() == 0,
-        Some(FileSource::Data(_, _)) => false,
-        None => false,
+        FileSource::Pattern(text) => text.len() == 0,
+        FileSource::Data(_, _) => false,
     }
 }
 
 /// Whether one of the sources is an empty pattern.
-pub(crate) fn has_empty_source(sources: &[Option<FileSource>]) -> bool
-    ensures { result ≡ list_any (is_some_and is_empty_source) sources.now }
+pub(crate) fn has_empty_source(sources: &[FileSource]) -> bool
+    ensures { result ≡ list_any (is_pattern_that is_empty) sources.now }
 {
     for source in sources {
         if is_empty_source(source) {
@@ -134,19 +194,18 @@ fn is_malformed(alloc: Global, text: &str) -> Result<bool, Memory>
 }
 
 /// Whether a source is a malformed pattern.
-fn is_bad_source(alloc: Global, source: &Option<FileSource>) -> Result<bool, Memory>
-    ensures { IfOk result (λ answer. answer ≡ is_some_and is_misspelled source.now) }
+fn is_bad_source(alloc: Global, source: &FileSource) -> Result<bool, Memory>
+    ensures { IfOk result (λ answer. answer ≡ is_pattern_that is_malformed source.now) }
 {
     match source {
-        Some(FileSource::Pattern(text)) => is_malformed(alloc, text.as_str()),
-        Some(FileSource::Data(_, _)) => Ok(false),
-        None => Ok(false),
+        FileSource::Pattern(text) => is_malformed(alloc, text.as_str()),
+        FileSource::Data(_, _) => Ok(false),
     }
 }
 
 /// Whether one of the sources is a malformed pattern.
-pub(crate) fn has_bad_source(alloc: Global, sources: &[Option<FileSource>]) -> Result<bool, Memory>
-    ensures { IfOk result (λ answer. answer ≡ list_any (is_some_and is_misspelled) sources.now) }
+pub(crate) fn has_bad_source(alloc: Global, sources: &[FileSource]) -> Result<bool, Memory>
+    ensures { IfOk result (λ answer. answer ≡ list_any (is_pattern_that is_malformed) sources.now) }
 {
     for source in sources {
         if is_bad_source(alloc, source)? {
@@ -154,23 +213,6 @@ pub(crate) fn has_bad_source(alloc: Global, sources: &[Option<FileSource>]) -> R
         }
     }
     Ok(false)
-}
-
-/// The sources, or none where one of them is past the limits.
-pub(crate) fn all_sources(
-    alloc: Global,
-    sources: Items<Option<FileSource>>,
-) -> Result<Option<Items<FileSource>>, Memory>
-    ensures { IfOk result (λ found. found ≡ all_some sources) }
-{
-    let mut found = Items::new(alloc);
-    for source in sources.into_vec() {
-        match source {
-            Some(source) => found.push(source)?,
-            None => return Ok(None),
-        }
-    }
-    Ok(Some(found))
 }
 
 /// Whether one of the sources is a pattern.

@@ -3,18 +3,20 @@ use Rattle.std.specs.Prelude.{◌≡◌, ℕ, Bool, false, true, List, [], Optio
 use Rattle.plain.specs.declared.fault.Fault.{Fault}
 use Rattle.plain.specs.declared.fault.Fault.TheVariants.{Because, Memory}
 use Rattle.plain.specs.declared.refusal.Code.{Code}
-use Rattle.plain.specs.declared.refusal.Refusal.{Refusal}
 use Rattle.paths.specs.Reading.{read_from}
 use Rattle.expand.specs.Value.{value}
-use Rattle.instructions.specs.Least.{least}
+use Rattle.expand.specs.Expanding.{unexpanded}
+use Rattle.expand.specs.declared.fault.Unexpanded.{Unexpanded}
+use Rattle.expand.specs.declared.reason.Rejection.{Rejection}
+use Rattle.instructions.specs.Reason.{reason}
 use Rattle.instructions.specs.declared.instruction.Instruction.{Instruction}
 use Rattle.instructions.specs.declared.instruction.InstructionKind.{InstructionKind}
 use Rattle.instructions.specs.declared.instruction.InstructionKind.TheVariants.{Env, Label, Expose, User, Workdir, StopSignal, Volume, Shell, Cmd, Entrypoint}
-use Rattle.scopes.specs.Evaluate.{Values}
+use Rattle.scopes.specs.Evaluate.{Values, env_fault}
 use Rattle.imageconfig.specs.declared.config.Config.{Config}
 use Rattle.imageconfig.specs.Rows.{put_rows, add_names}
 use Rattle.instructions.specs.Command.{words_of}
-use Rattle.imageconfig.specs.Lines.{env_rows, env_due, label_rows, label_due, texts_of, port_keys, port_due, volume_due, text_due, dir_due}
+use Rattle.imageconfig.specs.Lines.{env_rows, env_due, label_rows, label_fault, label_due, texts_of, words_fault, port_keys, port_due, volume_due, text_due, dir_due}
 
 -- the working directory, which is the root where none is set
 abbrev pub dir_of : Option (List (List ℕ)) → List (List ℕ)
@@ -35,7 +37,18 @@ due before c (StopSignal signal) = text_due before signal
 due before c (Volume paths) = volume_due before paths
 due before c kind = nothing_due
 
--- the configuration after an instruction for which no code is due: ENV, LABEL, EXPOSE and VOLUME add to what there is; USER, WORKDIR,
+-- what is against the texts of an instruction, under the scope before its line
+abbrev pub fault : Values → InstructionKind → Option Unexpanded
+fault before (Env assignments) = env_fault before assignments
+fault before (Label labels) = label_fault before labels
+fault before (Expose ports) = words_fault before ports
+fault before (User user) = unexpanded before user
+fault before (Workdir path) = unexpanded before path
+fault before (StopSignal signal) = unexpanded before signal
+fault before (Volume paths) = words_fault before paths
+fault before kind = None
+
+-- the configuration after an instruction that nothing is against: ENV, LABEL, EXPOSE and VOLUME add to what there is; USER, WORKDIR,
 -- STOPSIGNAL, SHELL, CMD and ENTRYPOINT set a field in place of what there was (OCI image specification; Dockerfile reference). CMD makes
 -- the Cmd the stage's own, and ENTRYPOINT unsets a Cmd that isn't (Dockerfile reference, how CMD and ENTRYPOINT interact)
 abbrev pub changed : Values → Config → InstructionKind → Config
@@ -51,11 +64,11 @@ changed before c (Cmd command) = record c { cmd = words_of c.shell command; cmd_
 changed before c (Entrypoint command) = record c { entrypoint = words_of c.shell command; cmd = if c.cmd_is_own then c.cmd else [] }
 changed before c kind = c
 
--- what applying an instruction answers, and the configuration after it: the changed one where no code is due, else the least code that
--- is, with the instruction's line; after a fault the configuration is as it was
-abbrev pub IsApplied : Config → Values → Instruction → Config → Result (Unit {0}) (Fault Refusal) → Type 0
-IsApplied old before i new (Ok u) = (new ≡ changed before old i.kind) × (least (due before old i.kind) ≡ None)
-IsApplied old before i new (Err (Because refusal)) = (new ≡ old) × ((refusal.line ≡ i.line) × (least (due before old i.kind) ≡ Some refusal.code))
+-- what applying an instruction answers, and the configuration after it: the changed one if there is no reason to refuse the line, else
+-- the reason with the instruction's line; after a fault the configuration is as it was
+abbrev pub IsApplied : Config → Values → Instruction → Config → Result (Unit {0}) (Fault Rejection) → Type 0
+IsApplied old before i new (Ok u) = (new ≡ changed before old i.kind) × (reason (due before old i.kind) (fault before i.kind) ≡ None)
+IsApplied old before i new (Err (Because rejection)) = (new ≡ old) × ((rejection.line ≡ i.line) × (reason (due before old i.kind) (fault before i.kind) ≡ Some rejection.reason))
 IsApplied old before i new (Err Memory) = new ≡ old
 
 -- what a stage begins with whose base has this configuration: the base's Cmd isn't the stage's own (Dockerfile reference, how CMD and

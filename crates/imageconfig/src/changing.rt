@@ -1,20 +1,23 @@
-ghost use Rattle.std.specs.Prelude.{◌≡◌, IfOk, List, ℕ, OnOk, OnErr};
+ghost use Rattle.std.specs.Prelude.{◌≡◌, Some, OnOk, OnErr};
+ghost use Rattle.expand.specs.Expanding.{unexpanded};
+ghost use Rattle.expand.specs.Value.{value};
 ghost use Rattle.instructions.specs.Instruction.{IsInstruction};
-ghost use Rattle.instructions.specs.Least.{Meets};
+ghost use Rattle.instructions.specs.Reason.{Evaluates};
 ghost use Rattle.instructions.specs.declared.instruction.InstructionKind.TheVariants as spelled;
+ghost use Rattle.paths.specs.Reading.{read_from};
 ghost use Rattle.scopes.specs.Scope.{value_in};
-ghost use Rattle.imageconfig.specs.PrivateLines.{path_of, path_due, with_shell, with_cmd, with_entrypoint, IsChanged};
+ghost use Rattle.imageconfig.specs.Lines.{dir_due};
+ghost use Rattle.imageconfig.specs.PrivateLines.{with_shell, with_cmd, with_entrypoint, IsChanged};
 ghost use Rattle.imageconfig.specs.Steps.{dir_of};
 
 use crate::config::Config;
 use crate::line::{directory, env_rows, label_rows, only_text, port_keys, volume_texts, words_of};
-use expand::Word;
+use expand::{ReasonFault, Word};
 use instructions::{Assignment, Command, InstructionKind, Label};
 use paths::Path;
 use plain::{Exact, Items, Memory, Text};
 use scopes::Scope;
 use std::alloc::Global;
-use words::TextFault;
 
 /// Changes a configuration by an instruction. Each change evaluates its texts first, and then puts them where they belong.
 pub(crate) fn change(
@@ -22,7 +25,7 @@ pub(crate) fn change(
     config: &mut Config,
     kind: &InstructionKind,
     before: &Scope,
-) -> Result<(), TextFault>
+) -> Result<(), ReasonFault>
     requires { IsInstruction kind.now }
     ensures { IsChanged config.old (value_in before.now) kind.now config.new result }
 {
@@ -50,7 +53,7 @@ fn set_env(
     config: &mut Config,
     assignments: &Items<Assignment>,
     before: &Scope,
-) -> Result<(), TextFault>
+) -> Result<(), ReasonFault>
     requires { IsInstruction (spelled.Env assignments.now) }
     ensures { IsChanged config.old (value_in before.now) (spelled.Env assignments.now) config.new result }
 {
@@ -65,7 +68,7 @@ fn set_labels(
     config: &mut Config,
     labels: &Items<Label>,
     before: &Scope,
-) -> Result<(), TextFault>
+) -> Result<(), ReasonFault>
     ensures { IsChanged config.old (value_in before.now) (spelled.Label labels.now) config.new result }
 {
     let rows = label_rows(alloc, labels.as_slice(), before)?;
@@ -79,7 +82,7 @@ fn add_ports(
     config: &mut Config,
     ports: &Items<Word>,
     before: &Scope,
-) -> Result<(), TextFault>
+) -> Result<(), ReasonFault>
     ensures { IsChanged config.old (value_in before.now) (spelled.Expose ports.now) config.new result }
 {
     let keys = port_keys(alloc, ports.as_slice(), before)?;
@@ -93,7 +96,7 @@ fn set_user(
     config: &mut Config,
     user: &Word,
     before: &Scope,
-) -> Result<(), TextFault>
+) -> Result<(), ReasonFault>
     ensures { IsChanged config.old (value_in before.now) (spelled.User user.now) config.new result }
 {
     config.user = only_text(alloc, user, before)?;
@@ -101,7 +104,7 @@ fn set_user(
 }
 
 /// A WORKDIR, against the working directory before the line.
-fn set_dir(alloc: Global, config: &mut Config, path: &Word, before: &Scope) -> Result<(), TextFault>
+fn set_dir(alloc: Global, config: &mut Config, path: &Word, before: &Scope) -> Result<(), ReasonFault>
     ensures { IsChanged config.old (value_in before.now) (spelled.Workdir path.now) config.new result }
 {
     let path = path_from(alloc, path, &config.working_dir, before)?;
@@ -115,7 +118,7 @@ fn set_stop_signal(
     config: &mut Config,
     signal: &Word,
     before: &Scope,
-) -> Result<(), TextFault>
+) -> Result<(), ReasonFault>
     ensures { IsChanged config.old (value_in before.now) (spelled.StopSignal signal.now) config.new result }
 {
     config.stop_signal = only_text(alloc, signal, before)?;
@@ -128,7 +131,7 @@ fn add_volumes(
     config: &mut Config,
     paths: &Items<Word>,
     before: &Scope,
-) -> Result<(), TextFault>
+) -> Result<(), ReasonFault>
     ensures { IsChanged config.old (value_in before.now) (spelled.Volume paths.now) config.new result }
 {
     let texts = volume_texts(alloc, paths.as_slice(), before)?;
@@ -173,8 +176,8 @@ fn path_from(
     word: &Word,
     base: &Option<Path>,
     before: &Scope,
-) -> Result<Path, TextFault>
-    ensures { Meets (path_of (value_in before.now) (dir_of base.now) word.now) (path_due (value_in before.now) (dir_of base.now) word.now) result }
+) -> Result<Path, ReasonFault>
+    ensures { Evaluates (Some (read_from (value (value_in before.now) word.now) (dir_of base.now))) (dir_due (value_in before.now) (dir_of base.now) word.now) (unexpanded (value_in before.now) word.now) result }
 {
     match base {
         Some(base) => directory(alloc, word, base, before),

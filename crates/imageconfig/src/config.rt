@@ -15,10 +15,10 @@ use crate::names::Names;
 use crate::reading::read_config;
 use crate::rows::Rows;
 use crate::writing::config_value;
+use expand::{Rejection, RejectionFault};
 use instructions::Instruction;
-use lines::LineFault;
 use paths::Path;
-use plain::{Exact, Fault, Items, Memory, Refusal, Text};
+use plain::{Exact, Fault, Items, Memory, Text};
 use scopes::Scope;
 use serde_json::Value;
 use std::alloc::Global;
@@ -96,9 +96,10 @@ impl Config {
     /// ENTRYPOINT unsets a Cmd that came from the base, and keeps one that the stage set itself. An empty list unsets: `CMD []` leaves no Cmd,
     /// and `ENTRYPOINT []` no Entrypoint. The texts of VOLUME are keys as they stand once expanded: none is cleaned as a path.
     ///
-    /// R06 where a USER, a WORKDIR, a STOPSIGNAL or a VOLUME has an empty text, R10 where a label has an empty key, R16 where an EXPOSE has
-    /// what is no port, R18 where a text has more than 1,048,576 bytes or a WORKDIR leads past a limit of paths: the least of them, with
-    /// the instruction's line. After a fault the configuration is as it was.
+    /// The least of these is reported, with the instruction's line. R06: a USER, a WORKDIR, a STOPSIGNAL or a VOLUME has an empty text. R10: a
+    /// label has an empty key. R16: an EXPOSE has what is no port. R18: a text has more than 1,048,576 bytes, or a WORKDIR leads past a limit
+    /// of paths. R21: a variable that is required doesn't pass its test; of several such texts the first in reading order gives the text. A
+    /// text that has no value gets no other test. After a fault the configuration is as it was.
     ///
     /// The instruction keeps what each keeps that a line spells: that is a law of `instructions`.
     pub fn apply(
@@ -106,14 +107,14 @@ impl Config {
         alloc: Global,
         instruction: &Instruction,
         before: &Scope,
-    ) -> Result<(), LineFault>
+    ) -> Result<(), RejectionFault>
         requires { IsInstruction instruction.now.kind }
         ensures { IsApplied self.old (value_in before.now) instruction.now self.new result }
     {
         match change(alloc, self, &instruction.kind, before) {
             Ok(()) => Ok(()),
-            Err(Fault::Because(code)) => Err(Fault::Because(Refusal {
-                code,
+            Err(Fault::Because(reason)) => Err(Fault::Because(Rejection {
+                reason,
                 line: instruction.line,
             })),
             Err(Fault::Memory) => Err(Fault::Memory),

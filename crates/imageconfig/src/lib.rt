@@ -3,8 +3,8 @@
 // It knows no stage and no tree: the crates above choose the instructions, and the scope that each of them is evaluated under. Of
 // the image's own file it keeps what the OCI image specification calls the configuration, without layers and history.
 //
-// The central definitions are `changed` and `due` in specs/Steps.antt, what an instruction does to a configuration and which codes are due
-// for it; `config_in` in specs/Reading.antt and `config_data` in specs/Writing.antt, what a configuration is in JSON.
+// The central definitions are `changed`, `due` and `fault` in specs/Steps.antt, what an instruction does to a configuration, which codes are
+// due for it, and what is against its texts; `config_in` in specs/Reading.antt and `config_data` in specs/Writing.antt, what a configuration is in JSON.
 //
 // ```
 // let mut config = Config::plain(alloc)?;

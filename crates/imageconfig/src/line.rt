@@ -1,70 +1,53 @@
 // What the lines of a configuration say.
 
-ghost use Rattle.std.specs.Prelude.{◌≡◌, map, true, IfOk};
-ghost use Rattle.std.specs.List.{list_any, list_all};
+ghost use Rattle.std.specs.Prelude.{◌≡◌, true, Some, IfOk};
+ghost use Rattle.std.specs.List.{list_all};
 ghost use Rattle.ascii.specs.Names.{is_name};
-ghost use Rattle.options.specs.Lists.{all_some};
+ghost use Rattle.expand.specs.Expanding.{unexpanded};
+ghost use Rattle.expand.specs.Value.{value};
 ghost use Rattle.instructions.specs.Instruction.{assignment_names};
-ghost use Rattle.instructions.specs.Least.{Meets};
+ghost use Rattle.instructions.specs.Reason.{Evaluates};
+ghost use Rattle.paths.specs.Reading.{read_from};
+ghost use Rattle.scopes.specs.Evaluate.{env_fault};
 ghost use Rattle.scopes.specs.Scope.{value_in, is_environment_name};
 ghost use Rattle.instructions.specs.Command.{words_of};
+ghost use Rattle.imageconfig.specs.Lines.{env_rows, env_due, label_rows, label_fault, label_due, texts_of, words_fault, port_keys, port_due, volume_due, text_due, dir_due};
 ghost use Rattle.imageconfig.specs.Rows.{names_of};
-ghost use Rattle.imageconfig.specs.PrivateLines.{valued, has_no_byte, row_with, row_of, assigned_values, assigned_rows, assigned_due, labelled_values, labelled_rows, labelled_due, short_texts, exposed_keys, exposed_due, mounted_due, single_due, path_of, path_due};
+ghost use Rattle.imageconfig.specs.PrivateLines.{IsAssigned, IsLabelled};
 
 use crate::ports::{have_bad_port, keys_of};
-use crate::values::{have_empty, is_empty, present, value_of, values_of};
-use expand::Word;
+use crate::values::{have_empty, is_empty, values_of};
+use expand::{Reason, ReasonFault, Unexpanded, Word, expand, expand_next};
 use instructions::{Assignment, Command, Label};
 use paths::Path;
 use plain::{Code, Exact, Fault, Items, Memory, Text};
 use scopes::Scope;
 use scopes::laws::names_fit_environments;
 use std::alloc::Global;
-use words::TextFault;
 
-/// The row of a name and a value, where both are there.
-fn row_with(name: Option<Text>, value: Option<Text>) -> Option<(Text, Text)>
-    ensures { result ≡ row_with name value }
-{
-    match (name, value) {
-        (Some(name), Some(value)) => Some((name, value)),
-        _ => None,
-    }
+/// The rows of an ENV so far, and what is against its texts: if something is, the rows don't count.
+#[derive(Drop)]
+pub(crate) struct Assigned {
+    rows: Items<(Text, Text)>,
+    fault: Option<Unexpanded>,
 }
 
-/// The rows of pairs, where all are there.
-#[tactic(auto, using(options::proofs::ListLaws::behind_none, options::proofs::ListLaws::behind_some))]
-fn rows_of(
+/// The rows of an ENV with one variable more.
+fn assigned(
     alloc: Global,
-    pairs: Items<(Option<Text>, Option<Text>)>,
-) -> Result<Option<Items<(Text, Text)>>, Memory>
-    ensures { IfOk result (λ found. found ≡ all_some (map row_of pairs)) }
-{
-    let mut rows = Items::new(alloc);
-    for (name, value) in pairs.into_vec() {
-        match row_with(name, value) {
-            Some(row) => rows.push(row)?,
-            None => return Ok(None),
-        }
-    }
-    Ok(Some(rows))
-}
-
-/// The names of ENV with their values.
-fn assigned_values(
-    alloc: Global,
-    assignments: &[Assignment],
+    line: Assigned,
+    assignment: &Assignment,
     before: &Scope,
-) -> Result<Items<(Option<Text>, Option<Text>)>, Memory>
-    ensures { IfOk result (λ found. found ≡ assigned_values (value_in before.now) assignments.now) }
+) -> Result<Assigned, Memory>
+    ensures { IfOk result (λ more. IsAssigned (value_in before.now) line assignment.now more) }
 {
-    let mut pairs = Items::new(alloc);
-    for assignment in assignments {
-        let name = assignment.name.copy(alloc)?;
-        let value = value_of(alloc, &assignment.value, before)?;
-        pairs.push((Some(name), value))?;
+    let Assigned { mut rows, fault } = line;
+    let name = assignment.name.copy(alloc)?;
+    let (value, fault) = expand_next(alloc, &assignment.value, before, fault)?;
+    if let Some(value) = value {
+        rows.push((name, value))?;
     }
-    Ok(pairs)
+    Ok(Assigned { rows, fault })
 }
 
 /// The rows of an ENV.
@@ -72,41 +55,59 @@ pub(crate) fn env_rows(
     alloc: Global,
     assignments: &[Assignment],
     before: &Scope,
-) -> Result<Items<(Text, Text)>, TextFault>
+) -> Result<Items<(Text, Text)>, ReasonFault>
     requires { list_all is_name (assignment_names assignments.now) ≡ true }
-    ensures meets { Meets (assigned_rows (value_in before.now) assignments.now) (assigned_due (value_in before.now) assignments.now) result }
+    ensures evaluates { Evaluates (Some (env_rows (value_in before.now) assignments.now)) (env_due (value_in before.now) assignments.now) (env_fault (value_in before.now) assignments.now) result }
     ensures names { IfOk result (λ rows. list_all is_environment_name (names_of rows) ≡ true) }
 {
     names_fit_environments();
-    let pairs = assigned_values(alloc, assignments, before)?;
-    match rows_of(alloc, pairs)? {
-        Some(rows) => Ok(rows),
-        None => Err(Fault::Because(Code::R18)),
+    let mut line = Assigned {
+        rows: Items::new(alloc),
+        fault: None,
+    };
+    for assignment in assignments {
+        line = assigned(alloc, line, assignment, before)?;
+    }
+    let Assigned { rows, fault } = line;
+    match fault {
+        Some(why) => Err(Fault::Because(Reason::of(why))),
+        None => Ok(rows),
     }
 }
 
-/// The keys of labels with their values.
-fn labelled_values(
+/// The rows of a LABEL so far, and what is against its texts: if something is, the rows don't count.
+#[derive(Drop)]
+pub(crate) struct Labelled {
+    rows: Items<(Text, Text)>,
+    fault: Option<Unexpanded>,
+    has_empty_key: bool,
+}
+
+/// The rows of a LABEL with one label more.
+fn labelled(
     alloc: Global,
-    labels: &[Label],
+    line: Labelled,
+    label: &Label,
     before: &Scope,
-) -> Result<Items<(Option<Text>, Option<Text>)>, Memory>
-    ensures { IfOk result (λ found. found ≡ labelled_values (value_in before.now) labels.now) }
+) -> Result<Labelled, Memory>
+    ensures { IfOk result (λ more. IsLabelled (value_in before.now) line label.now more) }
 {
-    let mut pairs = Items::new(alloc);
-    for label in labels {
-        let key = value_of(alloc, &label.key, before)?;
-        let value = value_of(alloc, &label.value, before)?;
-        pairs.push((key, value))?;
+    let Labelled {
+        mut rows,
+        fault,
+        has_empty_key,
+    } = line;
+    let (key, fault) = expand_next(alloc, &label.key, before, fault)?;
+    let (value, fault) = expand_next(alloc, &label.value, before, fault)?;
+    let has_empty_key = has_empty_key || is_empty(&key);
+    if let (Some(key), Some(value)) = (key, value) {
+        rows.push((key, value))?;
     }
-    Ok(pairs)
-}
-
-/// Whether a key is empty.
-fn have_empty_key(pairs: &[(Option<Text>, Option<Text>)]) -> bool
-    ensures { result ≡ list_any (λ pair. has_no_byte pair.0) pairs.now }
-{
-    pairs.iter().any(|pair| is_empty(&pair.0))
+    Ok(Labelled {
+        rows,
+        fault,
+        has_empty_key,
+    })
 }
 
 /// The rows of a LABEL.
@@ -114,39 +115,47 @@ pub(crate) fn label_rows(
     alloc: Global,
     labels: &[Label],
     before: &Scope,
-) -> Result<Items<(Text, Text)>, TextFault>
-    ensures { Meets (labelled_rows (value_in before.now) labels.now) (labelled_due (value_in before.now) labels.now) result }
+) -> Result<Items<(Text, Text)>, ReasonFault>
+    ensures { Evaluates (Some (label_rows (value_in before.now) labels.now)) (label_due (value_in before.now) labels.now) (label_fault (value_in before.now) labels.now) result }
 {
-    let pairs = labelled_values(alloc, labels, before)?;
-    if have_empty_key(pairs.as_slice()) {
-        return Err(Fault::Because(Code::R10));
+    let mut line = Labelled {
+        rows: Items::new(alloc),
+        fault: None,
+        has_empty_key: false,
+    };
+    for label in labels {
+        line = labelled(alloc, line, label, before)?;
     }
-    match rows_of(alloc, pairs)? {
-        Some(rows) => Ok(rows),
-        None => Err(Fault::Because(Code::R18)),
+    let Labelled {
+        rows,
+        fault,
+        has_empty_key,
+    } = line;
+    if has_empty_key {
+        return Err(Fault::Because(Reason::Coded(Code::R10)));
+    }
+    match fault {
+        Some(why) => Err(Fault::Because(Reason::of(why))),
+        None => Ok(rows),
     }
 }
 
 /// The keys of an EXPOSE.
-#[tactic(auto, using(crate::proofs::PortFacts::bad_found))]
 pub(crate) fn port_keys(
     alloc: Global,
     ports: &[Word],
     before: &Scope,
-) -> Result<Items<Text>, TextFault>
-    ensures { Meets (exposed_keys (value_in before.now) ports.now) (exposed_due (value_in before.now) ports.now) result }
+) -> Result<Items<Text>, ReasonFault>
+    ensures { Evaluates (Some (port_keys (value_in before.now) ports.now)) (port_due (value_in before.now) ports.now) (words_fault (value_in before.now) ports.now) result }
 {
-    let values = values_of(alloc, ports, before)?;
+    let (values, fault) = values_of(alloc, ports, before)?;
     if have_bad_port(values.as_slice()) {
-        return Err(Fault::Because(Code::R16));
+        return Err(Fault::Because(Reason::Coded(Code::R16)));
     }
-    let Some(texts) = present(alloc, values)? else {
-        return Err(Fault::Because(Code::R18));
-    };
-    match keys_of(alloc, texts.as_slice())? {
-        Some(keys) => Ok(keys),
-        None => Err(Fault::Because(Code::R16)),
+    if let Some(why) = fault {
+        return Err(Fault::Because(Reason::of(why)));
     }
+    Ok(keys_of(alloc, values.as_slice())?)
 }
 
 /// The texts of a VOLUME.
@@ -154,30 +163,32 @@ pub(crate) fn volume_texts(
     alloc: Global,
     paths: &[Word],
     before: &Scope,
-) -> Result<Items<Text>, TextFault>
-    ensures { Meets (short_texts (value_in before.now) paths.now) (mounted_due (value_in before.now) paths.now) result }
+) -> Result<Items<Text>, ReasonFault>
+    ensures { Evaluates (Some (texts_of (value_in before.now) paths.now)) (volume_due (value_in before.now) paths.now) (words_fault (value_in before.now) paths.now) result }
 {
-    let values = values_of(alloc, paths, before)?;
+    let (values, fault) = values_of(alloc, paths, before)?;
     if have_empty(values.as_slice()) {
-        return Err(Fault::Because(Code::R06));
+        return Err(Fault::Because(Reason::Coded(Code::R06)));
     }
-    match present(alloc, values)? {
-        Some(texts) => Ok(texts),
-        None => Err(Fault::Because(Code::R18)),
+    match fault {
+        Some(why) => Err(Fault::Because(Reason::of(why))),
+        None => Ok(values),
     }
 }
 
 /// The text of a USER or a STOPSIGNAL.
-pub(crate) fn only_text(alloc: Global, word: &Word, before: &Scope) -> Result<Text, TextFault>
-    ensures { Meets (valued (value_in before.now) word.now) (single_due (value_in before.now) word.now) result }
+pub(crate) fn only_text(alloc: Global, word: &Word, before: &Scope) -> Result<Text, ReasonFault>
+    ensures { Evaluates (Some (value (value_in before.now) word.now)) (text_due (value_in before.now) word.now) (unexpanded (value_in before.now) word.now) result }
 {
-    let value = value_of(alloc, word, before)?;
-    if is_empty(&value) {
-        return Err(Fault::Because(Code::R06));
-    }
-    match value {
-        Some(text) => Ok(text),
-        None => Err(Fault::Because(Code::R18)),
+    match expand(alloc, word, before) {
+        Ok(text) => {
+            if text.len() == 0 {
+                return Err(Fault::Because(Reason::Coded(Code::R06)));
+            }
+            Ok(text)
+        }
+        Err(Fault::Because(why)) => Err(Fault::Because(Reason::of(why))),
+        Err(Fault::Memory) => Err(Fault::Memory),
     }
 }
 
@@ -187,19 +198,13 @@ pub(crate) fn directory(
     word: &Word,
     base: &Path,
     before: &Scope,
-) -> Result<Path, TextFault>
-    ensures { Meets (path_of (value_in before.now) base.now word.now) (path_due (value_in before.now) base.now word.now) result }
+) -> Result<Path, ReasonFault>
+    ensures { Evaluates (Some (read_from (value (value_in before.now) word.now) base.now)) (dir_due (value_in before.now) base.now word.now) (unexpanded (value_in before.now) word.now) result }
 {
-    let value = value_of(alloc, word, before)?;
-    if is_empty(&value) {
-        return Err(Fault::Because(Code::R06));
-    }
-    let Some(text) = value else {
-        return Err(Fault::Because(Code::R18));
-    };
+    let text = only_text(alloc, word, before)?;
     match Path::read(alloc, text.as_str(), base) {
         Ok(path) => Ok(path),
-        Err(Fault::Because(_)) => Err(Fault::Because(Code::R18)),
+        Err(Fault::Because(_)) => Err(Fault::Because(Reason::Coded(Code::R18))),
         Err(Fault::Memory) => Err(Fault::Memory),
     }
 }

@@ -1,8 +1,7 @@
-ghost use Rattle.std.specs.Prelude.{◌≡◌, ◌++◌, ◌∷◌, map, option_map, IfOk};
-ghost use Rattle.std.specs.List.{list_any};
-ghost use Rattle.options.specs.Lists.{all_some};
+ghost use Rattle.std.specs.Prelude.{◌≡◌, ◌++◌, ◌∷◌, option_map, IfOk};
+ghost use Rattle.std.specs.List.{list_any, filter_map};
+ghost use Rattle.imageconfig.specs.Lines.{is_bad_port};
 ghost use Rattle.imageconfig.specs.Ports.{has_zero, is_port, protocol_of, port_key};
-ghost use Rattle.imageconfig.specs.PrivateLines.{is_no_port};
 
 use ascii::parse_number;
 use plain::{Items, Memory, Text};
@@ -81,33 +80,29 @@ fn key_of(alloc: Global, text: &str) -> Result<Option<Text>, Memory>
     Ok(Some(Text::from_string(key)))
 }
 
-/// The keys of texts, where all are ports.
-pub(crate) fn keys_of(alloc: Global, texts: &[Text]) -> Result<Option<Items<Text>>, Memory>
-    ensures { IfOk result (λ keys. keys ≡ all_some (map port_key texts.now)) }
+/// The keys of those texts that are ports.
+pub(crate) fn keys_of(alloc: Global, texts: &[Text]) -> Result<Items<Text>, Memory>
+    ensures { IfOk result (λ keys. keys ≡ filter_map port_key texts.now) }
 {
     let mut keys = Items::new(alloc);
     for text in texts {
-        match key_of(alloc, text.as_str())? {
-            Some(key) => keys.push(key)?,
-            None => return Ok(None),
+        if let Some(key) = key_of(alloc, text.as_str())? {
+            keys.push(key)?;
         }
     }
-    Ok(Some(keys))
+    Ok(keys)
 }
 
-/// Whether a value that is there is no port.
-fn is_bad_port(value: &Option<Text>) -> bool
-    ensures { result ≡ is_no_port value.now }
+/// Whether a text is no port.
+fn is_bad_port(text: &Text) -> bool
+    ensures { result ≡ is_bad_port text.now }
 {
-    match value {
-        Some(text) => cut(text.as_str()).is_none(),
-        None => false,
-    }
+    cut(text.as_str()).is_none()
 }
 
-/// Whether one of the values is no port.
-pub(crate) fn have_bad_port(values: &[Option<Text>]) -> bool
-    ensures { result ≡ list_any is_no_port values.now }
+/// Whether one of the texts is no port.
+pub(crate) fn have_bad_port(texts: &[Text]) -> bool
+    ensures { result ≡ list_any is_bad_port texts.now }
 {
-    values.iter().any(|value| is_bad_port(value))
+    texts.iter().any(|text| is_bad_port(text))
 }

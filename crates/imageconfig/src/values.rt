@@ -1,43 +1,37 @@
-ghost use Rattle.std.specs.Prelude.{◌≡◌, map, IfOk};
+ghost use Rattle.std.specs.Prelude.{◌≡◌, IfOk};
 ghost use Rattle.std.specs.List.{list_any};
-ghost use Rattle.options.specs.Lists.{all_some};
 ghost use Rattle.scopes.specs.Scope.{value_in};
-ghost use Rattle.imageconfig.specs.PrivateLines.{valued, has_no_byte};
+ghost use Rattle.imageconfig.specs.Lines.{is_empty, is_valued, values_of, words_fault};
 
-use expand::{Word, expand};
-use plain::{Fault, Items, Memory, Text};
+use expand::{Unexpanded, Word, expand_next};
+use plain::{Items, Memory, Text};
 use scopes::Scope;
 use std::alloc::Global;
 
-/// A word's value, if it isn't too long.
-pub(crate) fn value_of(alloc: Global, word: &Word, before: &Scope) -> Result<Option<Text>, Memory>
-    ensures { IfOk result (λ found. found ≡ valued (value_in before.now) word.now) }
-{
-    match expand(alloc, word, before) {
-        Ok(text) => Ok(Some(text)),
-        Err(Fault::Because(_)) => Ok(None),
-        Err(Fault::Memory) => Err(Memory),
-    }
-}
-
-/// The values of words.
+/// The values of those words that have one, and what is against the others.
 pub(crate) fn values_of(
     alloc: Global,
     words: &[Word],
     before: &Scope,
-) -> Result<Items<Option<Text>>, Memory>
-    ensures { IfOk result (λ found. found ≡ map (valued (value_in before.now)) words.now) }
+) -> Result<(Items<Text>, Option<Unexpanded>), Memory>
+    ensures values { IfOk result (λ found. found.0 ≡ values_of (value_in before.now) words.now) }
+    ensures fault { IfOk result (λ found. found.1 ≡ words_fault (value_in before.now) words.now) }
 {
     let mut values = Items::new(alloc);
+    let mut fault = None;
     for word in words {
-        values.push(value_of(alloc, word, before)?)?;
+        let (value, so_far) = expand_next(alloc, word, before, fault)?;
+        fault = so_far;
+        if let Some(value) = value {
+            values.push(value)?;
+        }
     }
-    Ok(values)
+    Ok((values, fault))
 }
 
 /// Whether a value that is there is empty.
 pub(crate) fn is_empty(value: &Option<Text>) -> bool
-    ensures { result ≡ has_no_byte value.now }
+    ensures { result ≡ is_valued is_empty value.now }
 {
     match value {
         Some(text) => text.len() == 0,
@@ -46,25 +40,8 @@ pub(crate) fn is_empty(value: &Option<Text>) -> bool
 }
 
 /// Whether one of the values is empty.
-pub(crate) fn have_empty(values: &[Option<Text>]) -> bool
-    ensures { result ≡ list_any has_no_byte values.now }
+pub(crate) fn have_empty(values: &[Text]) -> bool
+    ensures { result ≡ list_any is_empty values.now }
 {
-    values.iter().any(|value| is_empty(value))
-}
-
-/// The values, where all are there.
-pub(crate) fn present(
-    alloc: Global,
-    values: Items<Option<Text>>,
-) -> Result<Option<Items<Text>>, Memory>
-    ensures { IfOk result (λ found. found ≡ all_some values) }
-{
-    let mut texts = Items::new(alloc);
-    for value in values.into_vec() {
-        match value {
-            Some(text) => texts.push(text)?,
-            None => return Ok(None),
-        }
-    }
-    Ok(Some(texts))
+    values.iter().any(|value| value.len() == 0)
 }
