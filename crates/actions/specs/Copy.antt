@@ -17,7 +17,7 @@ use Rattle.rows.specs.declared.row.Action.TheVariants.{Copy}
 use Rattle.rows.specs.declared.row.Origin.{Origin}
 use Rattle.options.specs.declared.copy.CopyFlags.{CopyFlags}
 use Rattle.expand.specs.Value.{Parts, value}
-use Rattle.expand.specs.Expanding.{unexpanded, valued, worse, worst}
+use Rattle.expand.specs.Expanding.{unexpanded, valued, is_valued, is_empty, worse, worst}
 use Rattle.expand.specs.declared.fault.Unexpanded.{Unexpanded}
 use Rattle.expand.specs.declared.fault.Unexpanded.TheVariants.{TooLong}
 use Rattle.instructions.specs.Copy.{last_of}
@@ -119,19 +119,10 @@ copy_fault scope sources destination =
 
 -- what is due
 
--- a test of a word's value; if it has none, nothing is tested (own)
-abbrev pub is_valued : (List ℕ → Bool) → Option (List ℕ) → Bool
-is_valued test None = false
-is_valued test (Some text) = test text
-
 -- a test of a pattern's text, if the source is a pattern
 abbrev pub is_pattern_and : (List ℕ → Bool) → Values → Source → Bool
 is_pattern_and test before (Files word) = is_valued test (valued before word)
 is_pattern_and test before (Document name body) = false
-
--- an empty text
-abbrev pub is_empty : List ℕ → Bool
-is_empty text = length text == 0
 
 -- a text that doesn't end in `/`
 abbrev pub lacks_slash : List ℕ → Bool

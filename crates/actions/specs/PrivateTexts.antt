@@ -8,7 +8,7 @@ use Rattle.paths.specs.Reading.{read_from}
 use Rattle.globs.specs.Glob.{is_malformed}
 use Rattle.llb.specs.declared.op.FileSource.{FileSource}
 use Rattle.llb.specs.declared.op.FileSource.TheVariants.{Pattern, Data}
-use Rattle.expand.specs.Expanding.{valued, valued_by, worse}
+use Rattle.expand.specs.Expanding.{valued, valued_by, is_valued, is_empty, worse}
 use Rattle.expand.specs.declared.fault.Unexpanded.{Unexpanded}
 use Rattle.expand.specs.declared.fault.Unexpanded.TheVariants.{TooLong}
 use Rattle.instructions.specs.declared.instruction.Body.{Body}
@@ -16,7 +16,7 @@ use Rattle.instructions.specs.declared.instruction.Source.{Source}
 use Rattle.instructions.specs.declared.instruction.Source.TheVariants.{Files, Document}
 use Rattle.scopes.specs.Evaluate.{Values}
 use Rattle.actions.specs.Texts.{is_within}
-use Rattle.actions.specs.Copy.{goes_into, body_text, body_fault, pattern_fault, is_valued, is_empty, lacks_slash, leads_far}
+use Rattle.actions.specs.Copy.{goes_into, body_text, body_fault, pattern_fault, lacks_slash, leads_far}
 use Rattle.actions.specs.declared.sources.NearSources.{NearSources}
 
 -- a path, where it is within the limits

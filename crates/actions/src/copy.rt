@@ -1,12 +1,12 @@
 ghost use Rattle.std.specs.Prelude.{◌≡◌, ◌||◌, ◌&&◌, Some, nat_lt, IfOk};
 ghost use Rattle.std.specs.List.{list_any};
 ghost use Rattle.expand.specs.Value.{value};
-ghost use Rattle.expand.specs.Expanding.{worse};
+ghost use Rattle.expand.specs.Expanding.{is_valued, is_empty, worse};
 ghost use Rattle.scopes.specs.Scope.{value_in};
 ghost use Rattle.instructions.specs.Copy.{last_of};
 ghost use Rattle.instructions.specs.Reason.{Evaluates};
 ghost use Rattle.paths.specs.Reading.{pieces};
-ghost use Rattle.actions.specs.Copy.{ends_in_slash, goes_into, file_sources, is_valued, is_empty, lacks_slash, copied, copy_by, copy_action, copy_due, copy_fault};
+ghost use Rattle.actions.specs.Copy.{ends_in_slash, goes_into, file_sources, lacks_slash, copied, copy_by, copy_action, copy_due, copy_fault};
 ghost use Rattle.actions.specs.PrivateTexts.{is_pattern_that, text_code, destination_of, far_fault};
 
 use crate::Surroundings;

@@ -3,10 +3,10 @@ ghost use Rattle.std.specs.Prelude.{◌≡◌, map, IfOk};
 ghost use Rattle.std.specs.List.{list_any, filter_map};
 ghost use Rattle.globs.specs.Glob.{is_malformed};
 ghost use Rattle.llb.specs.WellFormed.{is_pattern};
-ghost use Rattle.expand.specs.Expanding.{worse, worst};
+ghost use Rattle.expand.specs.Expanding.{is_empty, worse, worst};
 ghost use Rattle.scopes.specs.Scope.{value_in};
 ghost use Rattle.instructions.specs.declared.instruction.Source.TheVariants.{Files, Document};
-ghost use Rattle.actions.specs.Copy.{body_fault, pattern_fault, is_empty};
+ghost use Rattle.actions.specs.Copy.{body_fault, pattern_fault};
 ghost use Rattle.actions.specs.PrivateTexts.{body_valued, near, missing_fault, heredoc_fault, is_pattern_that, IsNearer};
 
 use expand::{Unexpanded, Word, expand_next};

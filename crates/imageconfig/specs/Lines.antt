@@ -6,7 +6,7 @@ use Rattle.plain.specs.declared.refusal.Code.{Code}
 use Rattle.plain.specs.declared.refusal.Code.TheVariants.{R06, R10, R16, R18}
 use Rattle.paths.specs.Reading.{read_from, limit_of}
 use Rattle.expand.specs.Value.{Parts, value}
-use Rattle.expand.specs.Expanding.{unexpanded, valued, worse, worst}
+use Rattle.expand.specs.Expanding.{unexpanded, valued, is_valued, is_empty, worse, worst}
 use Rattle.expand.specs.declared.fault.Unexpanded.{Unexpanded}
 use Rattle.instructions.specs.Reason.{is_long}
 use Rattle.instructions.specs.declared.instruction.Assignment.{Assignment}
@@ -14,14 +14,6 @@ use Rattle.instructions.specs.declared.instruction.Label.{Label}
 use Rattle.scopes.specs.Evaluate.{Values, env_fault}
 use Rattle.imageconfig.specs.Rows.{Row}
 use Rattle.imageconfig.specs.Ports.{port_key}
-
-abbrev pub is_empty : List ℕ → Bool
-is_empty text = length text == 0
-
--- a test of a word's value; if it has none, nothing is tested (own)
-abbrev pub is_valued : (List ℕ → Bool) → Option (List ℕ) → Bool
-is_valued test None = false
-is_valued test (Some text) = test text
 
 -- the values of words
 abbrev pub texts_of : Values → List Parts → List (List ℕ)

@@ -3,7 +3,7 @@ use Rattle.std.specs.Prelude.{◌≡◌, ◌++◌, ◌||◌, ℕ, Bool, true, Li
 use Rattle.plain.specs.declared.fault.Fault.{Fault}
 use Rattle.plain.specs.declared.fault.Fault.TheVariants.{Because, Memory}
 use Rattle.expand.specs.Value.{value}
-use Rattle.expand.specs.Expanding.{unexpanded, valued, worse}
+use Rattle.expand.specs.Expanding.{unexpanded, valued, is_valued, is_empty, worse}
 use Rattle.expand.specs.declared.fault.Unexpanded.{Unexpanded}
 use Rattle.expand.specs.declared.reason.Reason.{Reason}
 use Rattle.instructions.specs.Command.{words_of}
@@ -16,7 +16,6 @@ use Rattle.scopes.specs.Evaluate.{Values}
 use Rattle.imageconfig.specs.declared.config.Config.{Config}
 use Rattle.imageconfig.specs.declared.line.Assigned.{Assigned}
 use Rattle.imageconfig.specs.declared.line.Labelled.{Labelled}
-use Rattle.imageconfig.specs.Lines.{is_empty, is_valued}
 use Rattle.imageconfig.specs.Rows.{Row}
 use Rattle.imageconfig.specs.Steps.{due, fault, changed}
 

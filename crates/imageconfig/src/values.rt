@@ -1,7 +1,8 @@
 ghost use Rattle.std.specs.Prelude.{◌≡◌, IfOk};
 ghost use Rattle.std.specs.List.{list_any};
+ghost use Rattle.expand.specs.Expanding.{is_valued, is_empty};
 ghost use Rattle.scopes.specs.Scope.{value_in};
-ghost use Rattle.imageconfig.specs.Lines.{is_empty, is_valued, values_of, words_fault};
+ghost use Rattle.imageconfig.specs.Lines.{values_of, words_fault};
 
 use expand::{Unexpanded, Word, expand_next};
 use plain::{Items, Memory, Text};
