@@ -33,7 +33,7 @@ pub(crate) struct Assigned {
 }
 
 /// The rows of an ENV with one variable more.
-fn assigned(
+fn with_assignment(
     alloc: Global,
     line: Assigned,
     assignment: &Assignment,
@@ -66,7 +66,7 @@ pub(crate) fn env_rows(
         fault: None,
     };
     for assignment in assignments {
-        line = assigned(alloc, line, assignment, before)?;
+        line = with_assignment(alloc, line, assignment, before)?;
     }
     let Assigned { rows, fault } = line;
     match fault {
@@ -84,7 +84,7 @@ pub(crate) struct Labelled {
 }
 
 /// The rows of a LABEL with one label more.
-fn labelled(
+fn with_label(
     alloc: Global,
     line: Labelled,
     label: &Label,
@@ -124,7 +124,7 @@ pub(crate) fn label_rows(
         has_empty_key: false,
     };
     for label in labels {
-        line = labelled(alloc, line, label, before)?;
+        line = with_label(alloc, line, label, before)?;
     }
     let Labelled {
         rows,
