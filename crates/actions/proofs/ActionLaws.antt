@@ -1,25 +1,30 @@
 -- Actions for which no code is due are well formed.
-use Rattle.std.specs.Prelude.{◌≡◌, ◌<◌, ◌+◌, ◌==◌, ◌&&◌, ℕ, suc, Bool, true, false, not, cond, List, [], ◌∷◌, ◌++◌, map, filter, Some, None, length, bytes_eq, refl, if◌then◌else◌}
+use Rattle.std.specs.Prelude.{◌≡◌, ◌<◌, ◌+◌, ◌==◌, ◌&&◌, ◌||◌, ℕ, suc, Bool, true, false, not, cond, List, [], ◌∷◌, ◌++◌, map, filter, Option, Some, None, length, bytes_eq, refl, if◌then◌else◌}
 use Rattle.std.specs.List.{list_all, list_any, cons_option, count_by}
 use Rattle.std.proofs.Common.{sym, ap, ◌∙◌, subst, arith}
 use Rattle.std.proofs.Math.Dec.{eqb-suc-zero}
-use Rattle.std.proofs.lemmas.Bool.{eq-eqb, not-false, not_from_false}
+use Rattle.std.proofs.lemmas.Bool.{eq-eqb, not-false, not_from_false, true≢false}
 use Rattle.std.proofs.lemmas.List.Sums.{length-filter}
 use Rattle.std.proofs.lemmas.List.Folds.{list_all-map, list_all-append}
 use Rattle.std.proofs.lemmas.Option.{none-some}
 use Rattle.plain.specs.declared.refusal.Code.{Code}
 use Rattle.plain.specs.declared.refusal.Code.TheVariants.{R06, R14, R15, R17, R18}
 use Rattle.expand.specs.Value.{Parts, value}
+use Rattle.expand.specs.Expanding.{unexpanded, valued, is_valued, worse, worst}
+use Rattle.expand.specs.declared.fault.Unexpanded.{Unexpanded}
+use Rattle.expand.specs.declared.fault.Unexpanded.TheVariants.{TooLong, Required as required}
+use Rattle.expand.specs.declared.reason.Reason.TheVariants.{Coded, Required}
+use Rattle.expand.proofs.WorseLaws.{worse_none-left, worse_none-right, valued-is}
 use Rattle.globs.specs.Glob.{is_malformed}
 use Rattle.instructions.specs.Instruction.{IsInstruction, HasWord}
 use Rattle.instructions.specs.Least.{least}
+use Rattle.instructions.specs.Reason.{is_long, required_in, reason_by, reason}
 use Rattle.instructions.specs.declared.instruction.Command.{Command}
 use Rattle.instructions.specs.declared.instruction.Command.TheVariants.{Exec as Listed, Shell as Script}
 use Rattle.instructions.specs.declared.instruction.InstructionKind.TheVariants.{Run, Copy}
 use Rattle.instructions.specs.declared.instruction.Source.{Source}
+use Rattle.instructions.specs.declared.instruction.Source.TheVariants.{Files, Document}
 use Rattle.llb.specs.declared.op.Bind.{Bind}
-use Rattle.llb.specs.declared.op.FileSource.{FileSource}
-use Rattle.llb.specs.declared.op.FileSource.TheVariants.{Pattern, Data}
 use Rattle.llb.specs.WellFormed.{is_environment, is_variable_name, is_pattern, inputs_of_copy, is_well_formed_file_source}
 use Rattle.options.specs.declared.copy.CopyFlags.{CopyFlags}
 use Rattle.options.specs.declared.mount.Mount.{Mount}
@@ -36,8 +41,8 @@ use Rattle.scopes.specs.Scope.{run_env, names_of, names_differ, is_environment_n
 use Rattle.scopes.specs.declared.declaration.Declaration.{Declaration}
 use Rattle.actions.proofs.LimitFacts.{neither}
 use Rattle.actions.specs.Texts.{is_within}
-use Rattle.scopes.specs.Evaluate.{Values, is_long}
-use Rattle.actions.specs.Copy.{file_sources, is_bad_source, is_far_source, is_far_destination, origin_for, copied, copy_action, copy_due}
+use Rattle.scopes.specs.Evaluate.{Values}
+use Rattle.actions.specs.Copy.{file_sources, pattern_fault, document_fault, copy_fault, is_pattern_and, has_far_name, leads_far, origin_for, copied, copy_action, copy_due}
 use Rattle.instructions.specs.Command.{words_of}
 use Rattle.actions.specs.Run.{target_in, bind_at, binds_of, cache_at, caches_of, known_id, known_ids, targets_in, has_far_folder, is_unreadable, is_bind, run_action, run_due}
 
@@ -147,25 +152,43 @@ inputs_by : (b : Bool) (origin : Origin) → (length (listed (if b then Some ori
 inputs_by true origin = refl
 inputs_by false origin = refl
 
-pattern_is : (text : List ℕ) → (not (is_long text) && is_malformed text) ≡ false → is_long text ≡ false → not (is_malformed text) ≡ true
-pattern_is text bad far = not_from_false (is_malformed text) (sym (rw far refl) ∙ bad)
+-- a line that is refused for no reason has no code that is due, and no text that is required
+no_reason : (code : Option Code) (text : Option (List ℕ)) → reason_by code text ≡ None → (code ≡ None) × (text ≡ None)
+no_reason (Some code) text e = absurd (none-some (Coded code) (sym e))
+no_reason None None e = (refl, refl)
+no_reason None (Some text) e = absurd (none-some (Required text) (sym e))
 
-sources_are : (files : List FileSource) → list_any is_bad_source files ≡ false → list_any is_far_source files ≡ false → list_all is_well_formed_file_source files ≡ true
-sources_are [] bad far = refl
-sources_are (Pattern text ∷ files) bad far =
-    let b = neither (not (is_long text) && is_malformed text) (list_any is_bad_source files) bad in
-    let f = neither (is_long text) (list_any is_far_source files) far in
-    both_hold (not (is_malformed text)) _ (pattern_is text b.0 f.0) (sources_are files b.1 f.1)
-sources_are (Data name body ∷ files) bad far = sources_are files bad (neither (is_far_source (Data name body)) (list_any is_far_source files) far).1
+-- and nothing is against its texts
+no_fault : (fault : Option Unexpanded) → is_long fault ≡ false → required_in fault ≡ None → fault ≡ None
+no_fault None long e = refl
+no_fault (Some TooLong) long e = absurd (true≢false long)
+no_fault (Some (required text)) long e = absurd (none-some text (sym e))
 
--- a COPY for which no code is due is well formed
+pattern_is : (before : Values) (word : Parts) → is_valued is_malformed (valued before word) ≡ false → unexpanded before word ≡ None → not (is_malformed (value before word)) ≡ true
+pattern_is before word bad e = not_from_false (is_malformed (value before word)) (ap (is_valued is_malformed) (sym (valued-is before word e)) ∙ bad)
+
+sources_are : (before : Values) (sources : List Source) → list_any (is_pattern_and is_malformed before) sources ≡ false → worst (map (pattern_fault before) sources) ≡ None
+    → list_all is_well_formed_file_source (file_sources before sources) ≡ true
+sources_are before [] bad e = refl
+sources_are before (Files word ∷ sources) bad e =
+    let b = neither (is_valued is_malformed (valued before word)) (list_any (is_pattern_and is_malformed before) sources) bad in
+    let here : unexpanded before word ≡ None = worse_none-left (unexpanded before word) (worst (map (pattern_fault before) sources)) e in
+    let there : worst (map (pattern_fault before) sources) ≡ None = worse_none-right (unexpanded before word) (worst (map (pattern_fault before) sources)) e in
+    both_hold (not (is_malformed (value before word))) _ (pattern_is before word b.0 here) (sources_are before sources b.1 there)
+sources_are before (Document name body ∷ sources) bad e = sources_are before sources bad e
+
+-- a COPY that nothing is against is well formed
 pub copy_is_action : (scope : List Declaration) (dir : List (List ℕ)) (sources : List Source) (destination : Parts) (flags : CopyFlags) (origin : Origin)
     → IsInstruction (Copy sources destination flags)
-    → least (copy_due scope dir sources destination) ≡ None
+    → reason (copy_due scope dir sources destination) (copy_fault scope sources destination) ≡ None
     → IsAction (copy_action scope dir sources destination flags origin)
 copy_is_action scope dir sources destination flags origin whole none =
     let files = file_sources (value_in scope) sources in
-    let due = four_none (copy_due scope dir sources destination R06) (copy_due scope dir sources destination R14) (copy_due scope dir sources destination R15) (copy_due scope dir sources destination R18) none in
-    let r18 = neither (list_any is_far_source files) (is_far_destination dir (value (value_in scope) destination)) due.1 in
+    let fault : Option Unexpanded = copy_fault scope sources destination in
+    let unrefused = no_reason (least (copy_due scope dir sources destination)) (required_in fault) none in
+    let due = four_none (copy_due scope dir sources destination R06) (copy_due scope dir sources destination R14) (copy_due scope dir sources destination R15) (copy_due scope dir sources destination R18) unrefused.0 in
+    let r18 = neither (is_long fault) (list_any has_far_name sources || is_valued (leads_far dir) (valued (value_in scope) destination)) due.1 in
+    let patterns : worst (map (pattern_fault (value_in scope)) sources) ≡ None =
+        worse_none-left (worst (map (pattern_fault (value_in scope)) sources)) (worse (unexpanded (value_in scope) destination) (worst (map (document_fault (value_in scope)) sources))) (no_fault fault r18.0 unrefused.1) in
     both_hold (length (listed (origin_for files origin)) + 1 == inputs_of_copy (copied dir files (value (value_in scope) destination) flags)) _ (inputs_by (list_any is_pattern files) origin)
-    (both_hold (not (length files == 0)) _ (some_sources (value_in scope) sources whole.0) (sources_are files due.0 r18.0))
+    (both_hold (not (length files == 0)) _ (some_sources (value_in scope) sources whole.0) (sources_are (value_in scope) sources due.0 patterns))

@@ -1,87 +1,149 @@
--- What is known of the texts of a COPY that are given where they aren't past the limits.
-use Rattle.std.specs.Prelude.{◌≡◌, ◌<◌, ◌==◌, ◌||◌, ◌&&◌, ℕ, Bool, true, false, not, List, [], ◌∷◌, map, Option, Some, None, option_map, length, nat_lt, refl, if◌then◌else◌}
-use Rattle.std.specs.List.{list_any}
-use Rattle.std.proofs.Common.{sym, ap, ap₂, ◌∙◌, arith}
-use Rattle.std.proofs.Math.Dec.{eqb-suc-zero}
-use Rattle.std.proofs.lemmas.Bool.{ltb-true}
-use Rattle.plain.specs.Limits.{most_text_bytes}
-use Rattle.globs.specs.Glob.{is_malformed}
+-- The sources of a COPY, those that can be given and what is against the others.
+use Rattle.std.specs.Prelude.{◌≡◌, ◌++◌, ◌||◌, Bool, true, false, not, ℕ, List, [], ◌∷◌, map, Option, Some, None, option_map, refl, if◌then◌else◌}
+use Rattle.std.specs.List.{list_any, filter_map, cons_option}
+use Rattle.std.proofs.Common.{sym, ap, ap₂, ◌∙◌, append_assoc, append-nil}
+use Rattle.std.proofs.lemmas.Bool.{true≢false}
+use Rattle.std.proofs.lemmas.Option.{none-some}
+use Rattle.paths.specs.Name.{is_component}
 use Rattle.llb.specs.declared.op.FileSource.{FileSource}
 use Rattle.llb.specs.declared.op.FileSource.TheVariants.{Pattern, Data}
-use Rattle.options.specs.Lists.{all_some}
-use Rattle.scopes.specs.Evaluate.{is_long}
-use Rattle.actions.specs.Copy.{ends_in_slash, is_empty_source, is_bad_source, is_far_source, is_no_folder}
-use Rattle.actions.specs.PrivateTexts.{short, near, is_some_and, is_misspelled, is_empty_text, lacks_slash}
-use Rattle.actions.proofs.LimitFacts.{long_is, unless_some, unless_none}
+use Rattle.expand.specs.Value.{Parts, value}
+use Rattle.expand.specs.Expanding.{unexpanded, valued_by, valued, is_valued, worse, worst}
+use Rattle.expand.specs.declared.fault.Unexpanded.{Unexpanded}
+use Rattle.expand.specs.declared.fault.Unexpanded.TheVariants.{TooLong}
+use Rattle.expand.proofs.WorseLaws.{worse-none, worse-assoc, worse_none-left, worse_none-right, valued-is}
+use Rattle.instructions.specs.Reason.{is_long}
+use Rattle.instructions.specs.declared.instruction.Body.{Body}
+use Rattle.instructions.specs.declared.instruction.Source.{Source}
+use Rattle.instructions.specs.declared.instruction.Source.TheVariants.{Files, Document}
+use Rattle.scopes.specs.Evaluate.{Values}
+use Rattle.actions.specs.Copy.{body_text, file_source, file_sources, pattern_fault, body_fault, document_fault, is_pattern_and, has_far_name}
+use Rattle.actions.specs.PrivateTexts.{body_valued, named, name_fault, heredoc_fault, file_of, near, is_pattern_that, IsNearer}
+use Rattle.actions.specs.declared.sources.NearSources.{NearSources}
+use Rattle.actions.proofs.LimitFacts.{neither, long_worse}
 
--- a text that is too long isn't empty
-not_empty : (text : List ℕ) → is_long text ≡ true → (length text == 0) ≡ false
-not_empty [] h = absurd (let e : most_text_bytes < 0 = ltb-true most_text_bytes 0 (sym (long_is []) ∙ h) in omega (arith, e))
-not_empty (c ∷ cs) h = eqb-suc-zero (length cs)
+-- the loop along the sources
 
--- a test of a list of what may be there, which each passes as it does where it is there
-any_near : (test : FileSource → Bool) (all : FileSource → Bool) → ((file : FileSource) → is_some_and test (near file) ≡ all file) → (files : List FileSource) → list_any (is_some_and test) (map near files) ≡ list_any all files
-any_near test all same [] = refl
-any_near test all same (file ∷ files) = ap₂ (λ (a b : Bool). a || b) (same file) (any_near test all same files)
+-- what is found so far, where these are left
+pub record IsGathered (before : Values) (all rest : List Source) (found : NearSources) : Type 0 where
+  pub files : found.files ++ filter_map (near before) rest ≡ filter_map (near before) all
+  pub patterns : worse found.patterns (worst (map (pattern_fault before) rest)) ≡ worst (map (pattern_fault before) all)
+  pub documents : worse found.documents (worst (map (heredoc_fault before) rest)) ≡ worst (map (heredoc_fault before) all)
 
-empty_by : (text : List ℕ) (b : Bool) → is_long text ≡ b → is_some_and is_empty_source (if b then None else Some (Pattern text)) ≡ (length text == 0)
-empty_by text true h = sym (not_empty text h)
-empty_by text false h = refl
+pub gathered-begun : (before : Values) (all : List Source) (found : NearSources) → found.files ≡ [] → found.patterns ≡ None → found.documents ≡ None → IsGathered before all all found
+gathered-begun before all found f p d = record {
+  files = ap (λ (files : List FileSource). files ++ filter_map (near before) all) f;
+  patterns = ap (λ fault. worse fault (worst (map (pattern_fault before) all))) p;
+  documents = ap (λ fault. worse fault (worst (map (heredoc_fault before) all))) d;
+}
 
-no_data : (test : FileSource → Bool) (name body : List ℕ) (b : Bool) → test (Data name body) ≡ false → is_some_and test (if b then None else Some (Data name body)) ≡ false
-no_data test name body true h = refl
-no_data test name body false h = h
+one_first : (o : Option FileSource) (files : List FileSource) → cons_option o [] ++ files ≡ cons_option o files
+one_first None files = refl
+one_first (Some file) files = refl
 
-near_empty : (file : FileSource) → is_some_and is_empty_source (near file) ≡ is_empty_source file
-near_empty (Pattern text) = empty_by text (is_long text) refl
-near_empty (Data name body) = no_data is_empty_source name body (is_far_source (Data name body)) refl
+pub gathered-more : (before : Values) (all rest more : List Source) (source : Source) (found new : NearSources) → rest ≡ source ∷ more → IsGathered before all rest found → IsNearer before found source new
+    → IsGathered before all more new
+gathered-more before all rest more source found new e g h = record {
+  files = ap (λ (files : List FileSource). files ++ filter_map (near before) more) h.files
+      ∙ append_assoc found.files (cons_option (near before source) []) (filter_map (near before) more)
+      ∙ ap (λ (files : List FileSource). found.files ++ files) (one_first (near before source) (filter_map (near before) more))
+      ∙ ap (λ (sources : List Source). found.files ++ filter_map (near before) sources) (sym e) ∙ g.files;
+  patterns = ap (λ fault. worse fault (worst (map (pattern_fault before) more))) h.patterns
+      ∙ worse-assoc found.patterns (pattern_fault before source) (worst (map (pattern_fault before) more))
+      ∙ ap (λ (sources : List Source). worse found.patterns (worst (map (pattern_fault before) sources))) (sym e) ∙ g.patterns;
+  documents = ap (λ fault. worse fault (worst (map (heredoc_fault before) more))) h.documents
+      ∙ worse-assoc found.documents (heredoc_fault before source) (worst (map (heredoc_fault before) more))
+      ∙ ap (λ (sources : List Source). worse found.documents (worst (map (heredoc_fault before) sources))) (sym e) ∙ g.documents;
+}
 
-pub empty_are : (files : List FileSource) → list_any (is_some_and is_empty_source) (map near files) ≡ list_any is_empty_source files
-empty_are files = any_near is_empty_source is_empty_source near_empty files
+-- what is found in the end
+pub record AreNear (before : Values) (sources : List Source) (found : NearSources) : Type 0 where
+  pub files : found.files ≡ filter_map (near before) sources
+  pub patterns : found.patterns ≡ worst (map (pattern_fault before) sources)
+  pub documents : found.documents ≡ worst (map (heredoc_fault before) sources)
 
-bad_by : (text : List ℕ) (b : Bool) → is_some_and is_misspelled (if b then None else Some (Pattern text)) ≡ (not b && is_malformed text)
-bad_by text true = refl
-bad_by text false = refl
+pub gathered-ended : (before : Values) (all rest : List Source) (found : NearSources) → rest ≡ [] → IsGathered before all rest found → AreNear before all found
+gathered-ended before all rest found e g = record {
+  files = sym (append-nil found.files) ∙ ap (λ (sources : List Source). found.files ++ filter_map (near before) sources) (sym e) ∙ g.files;
+  patterns = sym (worse-none found.patterns) ∙ ap (λ (sources : List Source). worse found.patterns (worst (map (pattern_fault before) sources))) (sym e) ∙ g.patterns;
+  documents = sym (worse-none found.documents) ∙ ap (λ (sources : List Source). worse found.documents (worst (map (heredoc_fault before) sources))) (sym e) ∙ g.documents;
+}
 
-near_bad : (file : FileSource) → is_some_and is_misspelled (near file) ≡ is_bad_source file
-near_bad (Pattern text) = bad_by text (is_long text)
-near_bad (Data name body) = no_data is_misspelled name body (is_far_source (Data name body)) refl
+-- tests of what is found
 
-pub bad_are : (files : List FileSource) → list_any (is_some_and is_misspelled) (map near files) ≡ list_any is_bad_source files
-bad_are files = any_near is_misspelled is_bad_source near_bad files
+pattern_tested : (test : List ℕ → Bool) (text : Option (List ℕ)) (files : List FileSource) (b : Bool) → list_any (is_pattern_that test) files ≡ b
+    → list_any (is_pattern_that test) (cons_option (option_map (λ t. Pattern t) text) files) ≡ (is_valued test text || b)
+pattern_tested test None files b h = h
+pattern_tested test (Some text) files b h = ap (λ c. test text || c) h
 
--- the sources, where none is past the limits
+heredoc_passed : (test : List ℕ → Bool) (name text : Option (List ℕ)) (files : List FileSource) (b : Bool) → list_any (is_pattern_that test) files ≡ b
+    → list_any (is_pattern_that test) (cons_option (file_of name text) files) ≡ b
+heredoc_passed test None text files b h = h
+heredoc_passed test (Some name) None files b h = h
+heredoc_passed test (Some name) (Some text) files b h = h
 
-all_step : (file : FileSource) (others : List (Option FileSource)) (files : List FileSource) (b c : Bool) → all_some others ≡ (if c then None else Some files)
-    → all_some ((if b then None else Some file) ∷ others) ≡ (if b || c then None else Some (file ∷ files))
-all_step file others files true c e = refl
-all_step file others files false true e = ap (option_map (λ xs. file ∷ xs)) e
-all_step file others files false false e = ap (option_map (λ xs. file ∷ xs)) e
+-- a test of the patterns that are found is one of all patterns that have a value
+pub patterns_tested : (test : List ℕ → Bool) (before : Values) (sources : List Source) → list_any (is_pattern_that test) (filter_map (near before) sources) ≡ list_any (is_pattern_and test before) sources
+patterns_tested test before [] = refl
+patterns_tested test before (Files word ∷ sources) = pattern_tested test (valued before word) (filter_map (near before) sources) _ (patterns_tested test before sources)
+patterns_tested test before (Document name body ∷ sources) = heredoc_passed test (named name) (body_valued before body) (filter_map (near before) sources) _ (patterns_tested test before sources)
 
-all_near : (files : List FileSource) → all_some (map near files) ≡ (if list_any is_far_source files then None else Some files)
-all_near [] = refl
-all_near (file ∷ files) = all_step file (map near files) files (is_far_source file) (list_any is_far_source files) (all_near files)
+-- heredocs with a name that is too long
 
--- where all are there, none is past the limits
-pub all_there : (files found : List FileSource) → all_some (map near files) ≡ Some found → (list_any is_far_source files ≡ false) × (found ≡ files)
-all_there files found e = unless_some (list_any is_far_source files) files found (sym (all_near files) ∙ e)
+or_true : (b : Bool) → (b || true) ≡ true
+or_true true = refl
+or_true false = refl
 
--- where not all are there, one is
-pub one_far : (files : List FileSource) → all_some (map near files) ≡ None → list_any is_far_source files ≡ true
-one_far files e = unless_none (list_any is_far_source files) files (sym (all_near files) ∙ e)
+or_assoc : (a b c : Bool) → ((a || b) || c) ≡ (a || (b || c))
+or_assoc true b c = refl
+or_assoc false b c = refl
 
--- the destination
+heredoc_long : (name : List ℕ) (component : Bool) (body heredocs documents : Option Unexpanded) (far : Bool) → is_long heredocs ≡ (is_long documents || far)
+    → is_long (worse (worse (name_fault (if component then Some name else None)) body) heredocs) ≡ (is_long (worse body documents) || (not component || far))
+heredoc_long name true body heredocs documents far h =
+    long_worse body heredocs ∙ ap (λ b. is_long body || b) h ∙ sym (or_assoc (is_long body) (is_long documents) far) ∙ ap (λ b. b || far) (sym (long_worse body documents))
+heredoc_long name false body heredocs documents far h = sym (or_true (is_long (worse body documents)))
 
-empty_text_by : (text : List ℕ) (b : Bool) → is_long text ≡ b → is_some_and is_empty_text (if b then None else Some text) ≡ (length text == 0)
-empty_text_by text true h = sym (not_empty text h)
-empty_text_by text false h = refl
+-- a heredoc is too long if its body is, or its name
+pub heredocs_long : (before : Values) (sources : List Source)
+    → is_long (worst (map (heredoc_fault before) sources)) ≡ (is_long (worst (map (document_fault before) sources)) || list_any has_far_name sources)
+heredocs_long before [] = refl
+heredocs_long before (Files word ∷ sources) = heredocs_long before sources
+heredocs_long before (Document name body ∷ sources) =
+    heredoc_long name (is_component name) (body_fault before body) (worst (map (heredoc_fault before) sources)) (worst (map (document_fault before) sources)) (list_any has_far_name sources) (heredocs_long before sources)
 
-pub empty_text : (text : List ℕ) → is_some_and is_empty_text (short text) ≡ (length text == 0)
-empty_text text = empty_text_by text (is_long text) refl
+heredoc_same : (name : List ℕ) (component : Bool) (body heredocs documents : Option Unexpanded) (far : Bool) → (not component || far) ≡ false → (far ≡ false → heredocs ≡ documents)
+    → worse (worse (name_fault (if component then Some name else None)) body) heredocs ≡ worse body documents
+heredoc_same name true body heredocs documents far e h = ap (worse body) (h e)
+heredoc_same name false body heredocs documents far e h = absurd (true≢false e)
 
-lacks_by : (text : List ℕ) (b : Bool) → is_some_and lacks_slash (if b then None else Some text) ≡ (not b && not (ends_in_slash text))
-lacks_by text true = refl
-lacks_by text false = refl
+-- if no name is, what is against the heredocs is what is against their bodies
+pub heredocs_same : (before : Values) (sources : List Source) → list_any has_far_name sources ≡ false → worst (map (heredoc_fault before) sources) ≡ worst (map (document_fault before) sources)
+heredocs_same before [] e = refl
+heredocs_same before (Files word ∷ sources) e = heredocs_same before sources e
+heredocs_same before (Document name body ∷ sources) e =
+    heredoc_same name (is_component name) (body_fault before body) (worst (map (heredoc_fault before) sources)) (worst (map (document_fault before) sources)) (list_any has_far_name sources) e (heredocs_same before sources)
 
-pub no_folder : (sources : ℕ) (text : List ℕ) → (nat_lt 1 sources && is_some_and lacks_slash (short text)) ≡ is_no_folder sources text
-no_folder sources text = ap (λ b. nat_lt 1 sources && b) (lacks_by text (is_long text))
+-- sources that nothing is against
+
+body_there : (before : Values) (body : Body) → body_fault before body ≡ None → body_valued before body ≡ Some (body_text before body)
+body_there before body e = ap (λ fault. valued_by fault (body_text before body)) e
+
+document_there : (component : Bool) (name : List ℕ) (text : List ℕ) (body : Option Unexpanded) → worse (name_fault (if component then Some name else None)) body ≡ None
+    → file_of (if component then Some name else None) (valued_by body text) ≡ Some (Data name text)
+document_there true name text body e = ap (λ fault. file_of (Some name) (valued_by fault text)) e
+document_there false name text body e = absurd (none-some TooLong (sym e))
+
+-- each is found
+pub all_near : (before : Values) (sources : List Source) → worst (map (pattern_fault before) sources) ≡ None → worst (map (heredoc_fault before) sources) ≡ None
+    → filter_map (near before) sources ≡ file_sources before sources
+all_near before [] p h = refl
+all_near before (Files word ∷ sources) p h =
+    let here : unexpanded before word ≡ None = worse_none-left (unexpanded before word) (worst (map (pattern_fault before) sources)) p in
+    let there : worst (map (pattern_fault before) sources) ≡ None = worse_none-right (unexpanded before word) (worst (map (pattern_fault before) sources)) p in
+    ap₂ (λ (text : Option (List ℕ)) (files : List FileSource). cons_option (option_map (λ t. Pattern t) text) files) (valued-is before word here) (all_near before sources there h)
+all_near before (Document name body ∷ sources) p h =
+    let one : Option Unexpanded = worse (name_fault (named name)) (body_fault before body) in
+    let here : worse (name_fault (named name)) (body_fault before body) ≡ None = worse_none-left one (worst (map (heredoc_fault before) sources)) h in
+    let there : worst (map (heredoc_fault before) sources) ≡ None = worse_none-right one (worst (map (heredoc_fault before) sources)) h in
+    ap₂ (λ (file : Option FileSource) (files : List FileSource). cons_option file files) (document_there (is_component name) name (body_text before body) (body_fault before body) here) (all_near before sources p there)

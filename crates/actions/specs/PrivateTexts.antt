@@ -27,24 +27,30 @@ within path = if is_within path then Some path else None
 abbrev pub body_valued : Values → Body → Option (List ℕ)
 body_valued before body = valued_by (body_fault before body) (body_text before body)
 
--- the source of an operation, if it has its text, and a heredoc a name that is a component
-abbrev pub near : Values → Source → Option FileSource
-near before (Files word) = option_map (λ text. Pattern text) (valued before word)
-near before (Document name body) = if is_component name then option_map (λ text. Data name text) (body_valued before body) else None
+-- a mark's name, if it is a component of a path
+abbrev pub named : List ℕ → Option (List ℕ)
+named name = if is_component name then Some name else None
 
--- what is against the name of a heredoc that may have one
-abbrev pub missing_fault : Option (List ℕ) → Option Unexpanded
-missing_fault None = Some TooLong
-missing_fault (Some name) = None
-
--- what is against a mark's name
-abbrev pub name_fault : List ℕ → Option Unexpanded
-name_fault name = if is_component name then None else Some TooLong
+-- what is against a name that may be there
+abbrev pub name_fault : Option (List ℕ) → Option Unexpanded
+name_fault None = Some TooLong
+name_fault (Some name) = None
 
 -- what is against a heredoc: its name, and its body
 abbrev pub heredoc_fault : Values → Source → Option Unexpanded
 heredoc_fault before (Files word) = None
-heredoc_fault before (Document name body) = worse (name_fault name) (body_fault before body)
+heredoc_fault before (Document name body) = worse (name_fault (named name)) (body_fault before body)
+
+-- the file of a name and a text, if both are there
+abbrev pub file_of : Option (List ℕ) → Option (List ℕ) → Option FileSource
+file_of None text = None
+file_of (Some name) None = None
+file_of (Some name) (Some text) = Some (Data name text)
+
+-- the source of an operation, if it has its text, and a heredoc its name
+abbrev pub near : Values → Source → Option FileSource
+near before (Files word) = option_map (λ text. Pattern text) (valued before word)
+near before (Document name body) = file_of (named name) (body_valued before body)
 
 -- sources with one more, which is given if it is near
 pub record IsNearer (before : Values) (old : NearSources) (source : Source) (new : NearSources) : Type 0 where

@@ -6,8 +6,8 @@ ghost use Rattle.llb.specs.WellFormed.{is_pattern};
 ghost use Rattle.expand.specs.Expanding.{is_empty, worse, worst};
 ghost use Rattle.scopes.specs.Scope.{value_in};
 ghost use Rattle.instructions.specs.declared.instruction.Source.TheVariants.{Files, Document};
-ghost use Rattle.actions.specs.Copy.{body_fault, pattern_fault};
-ghost use Rattle.actions.specs.PrivateTexts.{body_valued, near, missing_fault, heredoc_fault, is_pattern_that, IsNearer};
+ghost use Rattle.actions.specs.Copy.{literal_fault, body_fault, pattern_fault};
+ghost use Rattle.actions.specs.PrivateTexts.{body_valued, named, name_fault, heredoc_fault, file_of, near, is_pattern_that, IsNearer};
 
 use expand::{Unexpanded, Word, expand_next};
 use globs::Glob;
@@ -30,6 +30,17 @@ pub(crate) struct NearSources {
     pub(crate) documents: Option<Unexpanded>,
 }
 
+/// What is against the text of a quoted mark's body.
+#[tactic(auto, using(crate::proofs::LimitFacts::short_here, crate::proofs::LimitFacts::long_here))]
+fn literal_fault(text: &Text) -> Option<Unexpanded>
+    ensures { result ≡ literal_fault text.now }
+{
+    if text.len() > MOST_TEXT_BYTES {
+        return Some(Unexpanded::TooLong);
+    }
+    None
+}
+
 /// The text of a body, if nothing is against it. With it what is against the bodies so far.
 fn next_body(
     alloc: Global,
@@ -42,12 +53,10 @@ fn next_body(
 {
     match body {
         Body::Expanded(word) => expand_next(alloc, &word, scope, fault),
-        Body::Literal(text) => {
-            if text.len() > MOST_TEXT_BYTES {
-                return Ok((None, Some(Unexpanded::TooLong.after(fault))));
-            }
-            Ok((Some(text), fault))
-        }
+        Body::Literal(text) => match literal_fault(&text) {
+            Some(why) => Ok((None, Some(why.after(fault)))),
+            None => Ok((Some(text), fault)),
+        },
     }
 }
 
@@ -61,13 +70,34 @@ fn content_of(alloc: Global, text: Text) -> Result<Content, Memory>
     )
 }
 
-/// What is against heredocs so far, and against the name of one more.
+/// The name of a heredoc's file, if the mark's is a component of a path.
+fn named(name: Text) -> Option<Name>
+    ensures { result ≡ named name }
+{
+    Name::new(name)
+}
+
+/// What is against heredocs, of what is against those so far and the name of one more.
 fn next_name(name: &Option<Name>, fault: Option<Unexpanded>) -> Option<Unexpanded>
-    ensures { result ≡ worse fault (missing_fault name.now) }
+    ensures { result ≡ worse fault (name_fault name.now) }
 {
     match name {
         Some(_) => fault,
         None => Some(Unexpanded::TooLong.after(fault)),
+    }
+}
+
+/// The file of a heredoc, if it has a name and a text.
+fn file_of(
+    alloc: Global,
+    name: Option<Name>,
+    text: Option<Text>,
+) -> Result<Option<FileSource>, Memory>
+    ensures { IfOk result (λ file. file ≡ file_of name text) }
+{
+    match (name, text) {
+        (Some(name), Some(text)) => Ok(Some(FileSource::Data(name, content_of(alloc, text)?))),
+        _ => Ok(None),
     }
 }
 
@@ -97,6 +127,7 @@ fn with_files(
 }
 
 /// Sources with the file that a heredoc gives.
+#[tactic(auto, using(crate::proofs::LimitFacts::worse_added))]
 fn with_document(
     alloc: Global,
     sources: NearSources,
@@ -111,11 +142,11 @@ fn with_document(
         patterns,
         documents,
     } = sources;
-    let name = Name::new(name);
+    let name = named(name);
     let documents = next_name(&name, documents);
     let (text, documents) = next_body(alloc, body, scope, documents)?;
-    if let (Some(name), Some(text)) = (name, text) {
-        files.push(FileSource::Data(name, content_of(alloc, text)?))?;
+    if let Some(file) = file_of(alloc, name, text)? {
+        files.push(file)?;
     }
     Ok(NearSources {
         files,
