@@ -17,7 +17,7 @@ use Rattle.bundle.specs.Answer.{refused_text}
 use Rattle.build.specs.declared.status.Status.{Status}
 use Rattle.build.specs.declared.status.Status.TheVariants.{Refused}
 use Rattle.build.specs.declared.status.BuildFault.{BuildFault}
-use Rattle.build.specs.declared.status.BuildFault.TheVariants.{Memory, Device, Clash}
+use Rattle.build.specs.declared.status.BuildFault.TheVariants.{Memory, Device, Clash, Unspeakable}
 use Rattle.build.specs.declared.told.Told.{Told}
 use Rattle.build.specs.Meaning.{Asks, Tells}
 use Rattle.build.specs.PrivateTelling.{TellsText, TellsSolution, TellsPlan, TellsAsked, TellsBundle, IsTold}
@@ -30,6 +30,7 @@ told_of These Those more old new before after (Ok status) is = (is.0, more is.0 
 told_of These Those more old new before after (Err Memory) is = is
 told_of These Those more old new before after (Err Device) is = (is.0, more is.0 is.1, is.2, is.3)
 told_of These Those more old new before after (Err Clash) is = absurd is
+told_of These Those more old new before after (Err Unspeakable) is = absurd is
 
 -- ---- what was written
 

@@ -17,14 +17,13 @@ use Rattle.imageconfig.specs.Reading.{config_in}
 use Rattle.imageconfig.specs.declared.config.Config.{Config}
 use Rattle.bundle.specs.declared.whole.Bundle.{Bundle}
 use Rattle.bundle.specs.Reading.{ReadsBundle}
-use Rattle.build.specs.declared.titled.Titled.{Titled}
+use Rattle.build.specs.declared.asking.Asked.{Asked}
 use Rattle.build.specs.Titled.{AreTitlesOf, HasTitlesOf}
 
 -- the titles of a bundle are those of its bytes
-pub bundle_titled : (bytes : List ℕ) (bundle : Bundle Config) (result : Result Titled (Fault Refusal)) → ReadsBundle config_in bytes (Ok bundle)
-    → IfOk result (λ titled. AreTitlesOf bundle titled.titles) → IfOk result (λ titled. HasTitlesOf bytes titled.titles)
-bundle_titled bytes bundle (Ok titled) read titles = (bundle, read, titles)
-bundle_titled bytes bundle (Err fault) read titles = tt
+pub bundle_titled : (bytes : List ℕ) (bundle : Bundle Config) (titles : List (Option (List ℕ))) → ReadsBundle config_in bytes (Ok bundle)
+    → AreTitlesOf bundle titles → HasTitlesOf bytes titles
+bundle_titled bytes bundle titles read are = (bundle, read, are)
 
 -- a text whose lines aren't given is refused
 pub unread : (text : List ℕ) (fault : Fault Refusal) → IsReadWithLines text (Err fault) → IsRead text (Err fault)
@@ -32,10 +31,10 @@ unread text (Because refusal) told = told
 unread text Memory told = tt
 
 -- the titles of lines and of the stages that they make are those of the bundle
-pub stages_titled : (bundle : Bundle Config) (lines : List Line) (is : List Instruction) (table : TableValue) (result : Result Titled (Fault Refusal))
+pub stages_titled : (bundle : Bundle Config) (lines : List Line) (is : List Instruction) (table : TableValue) (result : Result (Asked × List (Option (List ℕ))) (Fault Refusal))
     → AreLines bundle.dockerfile lines → AreSpelled lines is
     → Resolves (resolved (names_in bundle.images) (get bundle.args) bundle.target is) (Ok table)
-    → IfOk result (λ titled. titled.titles ≡ titles_of lines (stage_names is) table.stages) → IfOk result (λ titled. AreTitlesOf bundle titled.titles)
+    → IfOk result (λ titled. titled.1 ≡ titles_of lines (stage_names is) table.stages) → IfOk result (λ titled. AreTitlesOf bundle titled.1)
 stages_titled bundle lines is table (Ok titled) are spelled found titles =
     record { lines = lines; are = are; instructions = is; spelled = spelled; table = table; found = found; titled = titles }
 stages_titled bundle lines is table (Err fault) are spelled found titles = tt

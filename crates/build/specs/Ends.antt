@@ -5,7 +5,7 @@ use Rattle.counted.specs.Edges.{AppendsBeginning, IsUnwritten, line_of}
 use Rattle.plans.specs.Value.{Out}
 use Rattle.build.specs.declared.status.Status.{Status}
 use Rattle.build.specs.declared.status.BuildFault.{BuildFault}
-use Rattle.build.specs.declared.status.BuildFault.TheVariants.{Memory, Device, Clash}
+use Rattle.build.specs.declared.status.BuildFault.TheVariants.{Memory, Device, Clash, Unspeakable}
 use Rattle.build.specs.Meaning.{Answers}
 use Rattle.build.specs.Graph.{GraphAnswers, GraphClashes}
 
@@ -66,12 +66,14 @@ pub record HasClashed (Collides : List ℕ → Type 0) (old new : Devices) : Typ
   pub failed_reads : new.failed_reads ≡ old.failed_reads
 
 -- How a call that reads a bundle and writes one answer ends, by its result: an answer was written; there was no memory, and nothing was
--- written; a read failed, and nothing was written, or a write failed; or two operations clash, and nothing was written.
+-- written; a read failed, and nothing was written, or a write failed; or two operations clash, and nothing was written. No such call writes for
+-- BuildKit, so to none of them anything is unspeakable.
 abbrev pub EndsBy : Answering → (List ℕ → Type 0) → Devices → Devices → Result Status BuildFault → Type 0
 EndsBy Said Collides old new (Ok status) = HasAnswered Said old new status
 EndsBy Said Collides old new (Err Memory) = LeavesWriter old new × (new.failed_reads ≡ old.failed_reads)
 EndsBy Said Collides old new (Err Device) = (LeavesWriter old new × (new.failed_reads ≡ old.failed_reads + 1)) ⊎ HasBegun Said old new
 EndsBy Said Collides old new (Err Clash) = HasClashed Collides old new
+EndsBy Said Collides old new (Err Unspeakable) = ⊥
 
 -- the answers to a bundle under an executor
 abbrev pub AnswersUnder : Out → Answering

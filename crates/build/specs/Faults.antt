@@ -6,7 +6,7 @@ use Rattle.counted.specs.declared.fault.Device.{Device as DeviceFailed}
 use Rattle.build.specs.declared.status.Status.{Status}
 use Rattle.build.specs.declared.status.Status.TheVariants.{Built, Failed, Refused}
 use Rattle.build.specs.declared.status.BuildFault.{BuildFault}
-use Rattle.build.specs.declared.status.BuildFault.TheVariants.{Memory, Device, Clash}
+use Rattle.build.specs.declared.status.BuildFault.TheVariants.{Memory, Device, Clash, Unspeakable}
 
 -- a fault of an edge
 abbrev pub of_edge : Fault DeviceFailed → BuildFault
@@ -21,3 +21,4 @@ exit_status (Ok Refused) = 2
 exit_status (Err Memory) = 3
 exit_status (Err Device) = 3
 exit_status (Err Clash) = 3
+exit_status (Err Unspeakable) = 3

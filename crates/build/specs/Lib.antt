@@ -8,5 +8,6 @@ pub mod Messages
 pub mod PrivateAsking
 pub mod PrivateShowing
 pub mod PrivateTelling
+pub mod PrivateTitled
 pub mod Telling
 pub mod Titled

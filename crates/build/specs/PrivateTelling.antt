@@ -11,7 +11,7 @@ use Rattle.solver.specs.Solution.{IsSolution}
 use Rattle.solver.specs.declared.solution.Solution.{Solution}
 use Rattle.build.specs.declared.status.Status.{Status}
 use Rattle.build.specs.declared.status.BuildFault.{BuildFault}
-use Rattle.build.specs.declared.status.BuildFault.TheVariants.{Memory, Device, Clash}
+use Rattle.build.specs.declared.status.BuildFault.TheVariants.{Memory, Device, Clash, Unspeakable}
 use Rattle.build.specs.declared.told.Told.{Told}
 use Rattle.build.specs.Meaning.{Tells, Answers}
 use Rattle.build.specs.Telling.{status_of, text_of}
@@ -44,3 +44,4 @@ IsTold Says old before new after (Ok status) = (told : Told) × Says told × (to
 IsTold Says old before new after (Err Memory) = (new ≡ old) × (after ≡ before)
 IsTold Says old before new after (Err Device) = (told : Told) × Says told × AppendsBeginning old new told.line × (after ≡ before + 1)
 IsTold Says old before new after (Err Clash) = ⊥
+IsTold Says old before new after (Err Unspeakable) = ⊥

@@ -1,4 +1,4 @@
--- What an engine's progress calls the steps of a bundle's Dockerfile.
+-- What an engine's progress calls the steps of a bundle's Dockerfile, and what its ignore file leaves out of its context.
 use Rattle.std.specs.Prelude.{◌≡◌, ℕ, List, Option, Result, Ok, Err}
 use Rattle.std.specs.FinMap.{get}
 use Rattle.plain.specs.declared.fault.Fault.{Fault}
@@ -15,11 +15,12 @@ use Rattle.titles.specs.Titles.{titles_of}
 use Rattle.imageconfig.specs.Reading.{config_in}
 use Rattle.imageconfig.specs.declared.config.Config.{Config}
 use Rattle.bundle.specs.declared.whole.Bundle.{Bundle}
+use Rattle.bundle.specs.LeftOut.{LeavesOut}
 use Rattle.bundle.specs.Reading.{ReadsBundle}
 use Rattle.build.specs.declared.asking.Asked.{Asked}
 use Rattle.build.specs.declared.titled.Titled.{Titled}
 
--- what is asked for, without titles
+-- what is asked for alone
 abbrev pub asked_in : Result Titled (Fault Refusal) → Result Asked (Fault Refusal)
 asked_in (Ok titled) = Ok titled.asked
 asked_in (Err fault) = Err fault
@@ -37,3 +38,7 @@ pub record AreTitlesOf (bundle : Bundle Config) (titles : List (Option (List ℕ
 -- the same of the bundle that these bytes are
 abbrev pub HasTitlesOf : List ℕ → List (Option (List ℕ)) → Type 0
 HasTitlesOf bytes titles = (bundle : Bundle Config) × ReadsBundle config_in bytes (Ok bundle) × AreTitlesOf bundle titles
+
+-- the ignore file of the bundle that these bytes are leaves out these paths of its context
+abbrev pub HasLeftOut : List ℕ → List (List (List ℕ)) → Type 0
+HasLeftOut bytes left = (bundle : Bundle Config) × LeavesOut config_in bytes (Ok (bundle, left))

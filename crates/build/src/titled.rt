@@ -11,28 +11,34 @@ ghost use Rattle.titles.specs.Titles.{titles_of as titles_in};
 ghost use Rattle.build.specs.Lowerable.{IsLowerable};
 ghost use Rattle.build.specs.PrivateAsking.{IsFileAsked, IsTableAsked};
 ghost use Rattle.build.specs.Telling.{IsAsked};
-ghost use Rattle.build.specs.Titled.{asked_in, AreTitlesOf, HasTitlesOf};
+ghost use Rattle.build.specs.PrivateTitled.{asked_of};
+ghost use Rattle.build.specs.Titled.{asked_in, AreTitlesOf, HasTitlesOf, HasLeftOut};
 
 use crate::asking::{Asked, ask_table};
-use bundle::{Bundle, read_bundle};
+use bundle::{Bundle, read_with_left_out};
 use dockerfile::Dockerfile;
 use imageconfig::Config;
 use lines::{Line, LineFault};
+use paths::Path;
 use plain::{Fault, Items, Memory, Text};
 use stages::{StageTable, stage_names};
 use std::alloc::Global;
 use std::thread::Threads;
 use titles::titles_of;
 
-/// What a bundle asks for, with what an engine's progress calls its steps.
+/// What a bundle asks for, with what an engine's progress calls its steps, and what its ignore file leaves out.
 #[derive(Drop)]
 pub struct Titled {
     pub asked: Asked,
     /// The title of each step of the Dockerfile, by the line of its instruction.
     pub titles: Items<Option<Text>>,
+    /// The paths that the ignore file leaves out of the context: of those that are left out the ones that lie below no other, each once, in
+    /// their order.
+    pub left_out: Items<Path>,
 }
 
-/// What the bytes of a bundle ask for, and what an engine's progress calls the steps of its Dockerfile, by the lines of their instructions.
+/// What the bytes of a bundle ask for, what an engine's progress calls the steps of its Dockerfile, by the lines of their instructions, and what
+/// its ignore file leaves out of its context.
 /// The refusals are those of `ask`.
 pub fn ask_titled(
     alloc: Global,
@@ -42,19 +48,27 @@ pub fn ask_titled(
     ensures asked { IsAsked bytes.now (asked_in result) }
     ensures lowerable { IfOk result (λ titled. IsLowerable titled.asked.evaluated) }
     ensures titles { IfOk result (λ titled. HasTitlesOf bytes.now titled.titles) }
+    ensures left_out { IfOk result (λ titled. HasLeftOut bytes.now titled.left_out) }
 {
-    match read_bundle(alloc, rt, bytes) {
-        Ok(bundle) => titled_file(alloc, bundle),
+    match read_with_left_out(alloc, rt, bytes) {
+        Ok((bundle, left_out)) => match titled_file(alloc, bundle) {
+            Ok((asked, titles)) => Ok(Titled {
+                asked,
+                titles,
+                left_out,
+            }),
+            Err(fault) => Err(fault),
+        },
         Err(fault) => Err(fault),
     }
 }
 
 /// What a bundle asks for, with the titles of its Dockerfile.
-fn titled_file(alloc: Global, bundle: Bundle<Config>) -> Result<Titled, LineFault>
+fn titled_file(alloc: Global, bundle: Bundle<Config>) -> Result<(Asked, Items<Option<Text>>), LineFault>
     requires { bundle.caches.holds ≡ [] }
-    ensures asked { IsFileAsked bundle (asked_in result) }
-    ensures lowerable { IfOk result (λ titled. IsLowerable titled.asked.evaluated) }
-    ensures titles { IfOk result (λ titled. AreTitlesOf bundle titled.titles) }
+    ensures asked { IsFileAsked bundle (asked_of result) }
+    ensures lowerable { IfOk result (λ titled. IsLowerable titled.0.evaluated) }
+    ensures titles { IfOk result (λ titled. AreTitlesOf bundle titled.1) }
 {
     match Dockerfile::read_with_lines(alloc, bundle.dockerfile.as_slice()) {
         Ok((file, lines)) => titled_stages(alloc, bundle, file, lines.as_slice()),
@@ -68,13 +82,13 @@ fn titled_stages(
     bundle: Bundle<Config>,
     file: Dockerfile,
     lines: &[Line],
-) -> Result<Titled, LineFault>
+) -> Result<(Asked, Items<Option<Text>>), LineFault>
     requires idle { bundle.caches.holds ≡ [] }
     requires are { AreLines bundle.dockerfile lines.now }
     requires spelled { AreSpelled lines.now file }
-    ensures asked { IsTableAsked bundle (resolved (names_in bundle.images) (arg_value bundle.args) bundle.target file) (asked_in result) }
-    ensures lowerable { IfOk result (λ titled. IsLowerable titled.asked.evaluated) }
-    ensures titles { IfOk result (λ titled. AreTitlesOf bundle titled.titles) }
+    ensures asked { IsTableAsked bundle (resolved (names_in bundle.images) (arg_value bundle.args) bundle.target file) (asked_of result) }
+    ensures lowerable { IfOk result (λ titled. IsLowerable titled.0.evaluated) }
+    ensures titles { IfOk result (λ titled. AreTitlesOf bundle titled.1) }
 {
     let names = match stage_names(alloc, &file) {
         Ok(names) => names,
@@ -103,12 +117,12 @@ fn titled_table(
     table: StageTable,
     lines: &[Line],
     names: &[Option<Text>],
-) -> Result<Titled, LineFault>
+) -> Result<(Asked, Items<Option<Text>>), LineFault>
     requires idle { bundle.caches.holds ≡ [] }
     requires known { All (NamesKnown (names_in bundle.images)) table.stages }
-    ensures asked { IsTableAsked bundle (OkOf table) (asked_in result) }
-    ensures lowerable { IfOk result (λ titled. IsLowerable titled.asked.evaluated) }
-    ensures titles { IfOk result (λ titled. titled.titles ≡ titles_in lines.now names.now table.stages) }
+    ensures asked { IsTableAsked bundle (OkOf table) (asked_of result) }
+    ensures lowerable { IfOk result (λ titled. IsLowerable titled.0.evaluated) }
+    ensures titles { IfOk result (λ titled. titled.1 ≡ titles_in lines.now names.now table.stages) }
 {
     let titles = match titles_of(alloc, lines, names, table.stages()) {
         Ok(titles) => titles,
@@ -119,7 +133,7 @@ fn titled_table(
         }
     };
     match ask_table(alloc, bundle, table) {
-        Ok(asked) => Ok(Titled { asked, titles }),
+        Ok(asked) => Ok((asked, titles)),
         Err(fault) => {
             drop(titles);
             Err(fault)

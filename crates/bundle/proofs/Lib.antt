@@ -1,5 +1,6 @@
 pub mod AnswerLemmas
 mod ExistFacts
+mod FilteringFacts
 mod ListingFacts
 mod RestFacts
 mod WholeFacts

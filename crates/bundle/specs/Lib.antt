@@ -1,5 +1,7 @@
 pub mod Answer
 pub mod IgnoreFile
+pub mod LeftOut
 pub mod Parts
 pub mod PrivateIgnore
+pub mod PrivateLeftOut
 pub mod Reading

@@ -159,7 +159,7 @@ fn complete_filtered<C: Drop>(
 }
 
 /// The bundle of its parts.
-fn complete<C: Drop>(
+pub(crate) fn complete<C: Drop>(
     alloc: Global,
     rt: &(impl Threads + Sync),
     parts: Parts<C>,
@@ -228,14 +228,14 @@ fn parts_within<C: FromJson>(
 
 /// The parts of a bundle.
 #[tactic(auto, unfolding(plain::specs::Limits::most_bundle_bytes))]
-fn parts_of<C: FromJson>(alloc: Global, bytes: &[u8]) -> Result<Parts<C>, ReadFault>
+pub(crate) fn parts_of<C: FromJson>(alloc: Global, bytes: &[u8]) -> Result<Parts<C>, ReadFault>
     ensures { Gives result (parts_of C.reading bytes.now) }
 {
     parts_within(alloc, MOST_BUNDLE_BYTES, bytes)
 }
 
 /// The refusal of bytes that are no bundle.
-fn no_bundle() -> Refusal
+pub(crate) fn no_bundle() -> Refusal
     ensures { result ≡ record { code = R20; line = 0 } }
 {
     Refusal {

@@ -1,3 +1,4 @@
 mod Characters
+mod ExcludingFacts
 mod OpsFacts
 mod OrderLemmas

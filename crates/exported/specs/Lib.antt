@@ -1,5 +1,6 @@
 pub mod Capabilities
 pub mod Commands
+pub mod Excluding
 pub mod Exporting
 pub mod Files
 pub mod Making

@@ -13,7 +13,7 @@ use std::alloc::{AllocError, Global};
 
 /// Whether a character relates to more than itself.
 #[tactic(auto, unfolding(crate::specs::Patterns::is_sign))]
-fn is_sign(code: u32) -> bool
+pub(crate) fn is_sign(code: u32) -> bool
     ensures { result ≡ is_sign code }
 {
     code == 42 || code == 63 || code == 91
@@ -27,7 +27,7 @@ fn escapes(is_escaped: bool, c: char) -> bool
 }
 
 /// The first character of a text, and the text after it.
-fn first_and_rest(text: &str) -> Option<(char, &str)>
+pub(crate) fn first_and_rest(text: &str) -> Option<(char, &str)>
     ensures { MatchOption result (chars text.now ≡ []) (λ p. chars text.now ≡ p.0 ∷ chars p.1.now) }
 {
     let mut characters = text.chars();

@@ -1,4 +1,4 @@
-// Writes operations of BuildKit's LLB, a definition, what three vertices of a graph are, and the definitions of two plans, each as a line: a
+// Writes operations of BuildKit's LLB, a definition, what four vertices of a graph are, and the definitions of two plans, each as a line: a
 // name, and the bytes as hexadecimal digits.
 //
 // What it has to print stands in `stdout`, which another program made: `protoc --deterministic_output --encode=pb.Op ops.proto` of Debian's

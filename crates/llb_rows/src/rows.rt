@@ -27,10 +27,11 @@ pub(crate) enum Row {
     VertexCopy,
     Plan,
     EmptyPlan,
+    VertexContext,
 }
 
 /// The rows, in the order in which they are printed.
-pub(crate) const ROWS: [Row; 16] = [
+pub(crate) const ROWS: [Row; 17] = [
     Row::Image,
     Row::Context,
     Row::MakeDir,
@@ -47,6 +48,7 @@ pub(crate) const ROWS: [Row; 16] = [
     Row::VertexCopy,
     Row::Plan,
     Row::EmptyPlan,
+    Row::VertexContext,
 ];
 
 impl Row {
@@ -68,6 +70,7 @@ impl Row {
             Row::VertexCopy => "vertex-copy",
             Row::Plan => "plan",
             Row::EmptyPlan => "empty-plan",
+            Row::VertexContext => "vertex-context",
         }
     }
 
@@ -101,6 +104,7 @@ pub(crate) fn line(alloc: Global, row: Row) -> Result<String, Memory> {
         Row::VertexCopy => bytes(alloc, vertices::copy(alloc))?,
         Row::Plan => whole::plan(alloc)?,
         Row::EmptyPlan => whole::empty_plan(alloc)?,
+        Row::VertexContext => bytes(alloc, vertices::context(alloc))?,
         row => operation(alloc, row)?,
     };
     let digits = hex::encode(alloc, bytes.as_slice())?;

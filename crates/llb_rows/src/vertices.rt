@@ -1,7 +1,7 @@
 // What vertices of a graph are.
 
 use crate::rows::{A, platform, text};
-use exported::{copy_op, image_op, make_dir_op};
+use exported::{context_op, copy_op, exclude_list, image_op, make_dir_op};
 use llb::{CopyFiles, FileSource};
 use llbmessages::Op;
 use paths::{Name, Path};
@@ -89,4 +89,20 @@ pub(crate) fn copy(alloc: Global) -> Result<Op, Memory> {
     let places = empty_and(alloc, A)?;
     let platform = platform(alloc)?;
     copy_op(alloc, &platform, places.as_slice(), &files)
+}
+
+/// Paths whose names have what means more in a pattern than itself: a `!` and blanks at the ends, parentheses, a `*`, a quote and a `\`.
+fn left_out(alloc: Global) -> Result<Items<Path>, Memory> {
+    let mut left = Items::new(alloc);
+    for text in ["/!a/ ", "/ b (c) ", r#"/x.y$/*"\"#] {
+        left.push(path(alloc, text)?)?;
+    }
+    Ok(left)
+}
+
+/// The files that a build is given, without these paths.
+pub(crate) fn context(alloc: Global) -> Result<Op, Memory> {
+    let left = left_out(alloc)?;
+    let excludes = exclude_list(alloc, left.as_slice())?;
+    context_op(alloc, "u1", &excludes)
 }

@@ -1,5 +1,5 @@
 -- What BuildKit is told of a bundle.
-use Rattle.std.proofs.Common.{◌≡◌, ℕ, List, Option, Result, Ok, Err, sym, ap, ◌∙◌, subst}
+use Rattle.std.proofs.Common.{◌≡◌, ℕ, List, Option, Result, Ok, Err, refl, sym, ap, ◌∙◌, subst}
 use Rattle.std.specs.Prelude.{IfOk}
 use Rattle.plain.specs.declared.refusal.Refusal.{Refusal}
 use Rattle.plain.specs.declared.fault.Fault.{Fault}
@@ -17,18 +17,21 @@ use Rattle.rewrite.specs.Pruned.{IsPruned, KeepsMeaning}
 use Rattle.rewrite.proofs.LawFacts.{kept_on}
 use Rattle.drawing.specs.Drawn.{IsSimplified}
 use Rattle.exported.specs.declared.fault.Obstacle.{Obstacle}
+use Rattle.exported.specs.declared.fault.Obstacle.TheVariants as way
 use Rattle.bundle.specs.Answer.{refused_text}
 use Rattle.build.specs.declared.status.Status.{Status}
 use Rattle.build.specs.declared.status.Status.TheVariants.{Built, Failed, Refused}
 use Rattle.build.specs.declared.status.BuildFault.{BuildFault}
-use Rattle.build.specs.declared.status.BuildFault.TheVariants.{Memory, Device, Clash}
+use Rattle.build.specs.declared.status.BuildFault.TheVariants.{Memory, Device, Clash, Unspeakable}
 use Rattle.build.specs.Meaning.{Asks}
 use Rattle.build.specs.Telling.{IsAsked}
-use Rattle.build.specs.Titled.{HasTitlesOf}
+use Rattle.build.specs.Titled.{HasTitlesOf, HasLeftOut}
 use Rattle.build.specs.Ends.{Devices}
+use Rattle.program.specs.declared.exporting.Beside.{Beside}
 use Rattle.program.specs.declared.told.Told.{Told}
-use Rattle.program.specs.Llb.{HasObstacle, IsDrawnPlan, LlbEnds, TellsLlb}
+use Rattle.program.specs.Llb.{fault_of, HasObstacle, IsBeside, IsDrawnPlan, LlbEnds, LlbStops, TellsLlb}
 use Rattle.program.specs.PrivateLlb.{IsFileTold, IsLlbTold, IsPlanTold}
+use Rattle.program.specs.Telling.{HasStopped}
 use Rattle.program.proofs.AskFacts.{asks, held}
 use Rattle.program.proofs.TellFacts.{IsReadOf}
 
@@ -71,22 +74,25 @@ drawn made plan (Err memory) is means stands sources simple_is keeps = keeps
 -- ---- what is told
 
 -- a plan has no definition
-pub obstacle_told : (options : LlbOptions) (made : Evaluated) (titles : List (Option (List ℕ))) (plan : PlanValue Config) (fault : Fault Obstacle) (obstacle : Obstacle)
-    → fault ≡ Because obstacle → IsDrawnPlan made plan → IsPlanTold options plan titles (Err fault) → HasObstacle options made titles
-obstacle_told options made titles plan fault obstacle because is told = record {
-  plan = plan;
-  drawn = is;
-  obstacle = obstacle;
-  told = subst (λ f. IsPlanTold options plan titles (Err f)) because told;
-}
+stopped : (options : LlbOptions) (made : Evaluated) (beside : Beside) (plan : PlanValue Config) (obstacle : Obstacle) (fault : BuildFault) → fault_of obstacle ≡ fault
+    → IsDrawnPlan made plan → IsPlanTold options plan beside (Err (Because obstacle)) → HasObstacle options fault made beside
+stopped options made beside plan obstacle fault of is told = record { plan = plan; drawn = is; obstacle = obstacle; is = of; told = told }
+
+pub obstacle_told : (options : LlbOptions) (made : Evaluated) (beside : Beside) (plan : PlanValue Config) (obstacle : Obstacle) (fault : BuildFault) → fault ≡ fault_of obstacle
+    → IsDrawnPlan made plan → IsPlanTold options plan beside (Err (Because obstacle)) → IsFileTold options made beside (Err fault)
+obstacle_told options made beside plan (way.Unspeakable vertex) fault of is told =
+    subst (λ f. IsFileTold options made beside (Err f)) (sym of) (stopped options made beside plan (way.Unspeakable vertex) Unspeakable refl is told)
+obstacle_told options made beside plan (way.Clash vertex) fault of is told =
+    subst (λ f. IsFileTold options made beside (Err f)) (sym of) (stopped options made beside plan (way.Clash vertex) Clash refl is told)
 
 -- what is told of a file's stages is told of the bundle that asks for them
-pub file_told : (options : LlbOptions) (bytes : List ℕ) (made : Evaluated) (titles : List (Option (List ℕ))) (result : Result Told BuildFault) → Asks bytes (Ok made)
-    → HasTitlesOf bytes titles → IsFileTold options made titles result → IsLlbTold options bytes result
-file_told options bytes made titles (Ok told) asked has is = subst (λ s. TellsLlb options bytes s told.text) (sym is.0) (made, asked, (titles, has, is.1))
-file_told options bytes made titles (Err Memory) asked has is = tt
-file_told options bytes made titles (Err Device) asked has is = absurd is
-file_told options bytes made titles (Err Clash) asked has is = (made, asked, (titles, has, is))
+pub file_told : (options : LlbOptions) (bytes : List ℕ) (made : Evaluated) (beside : Beside) (result : Result Told BuildFault) → Asks bytes (Ok made)
+    → IsBeside bytes beside → IsFileTold options made beside result → IsLlbTold options bytes result
+file_told options bytes made beside (Ok told) asked has is = subst (λ s. TellsLlb options bytes s told.text) (sym is.0) (made, asked, (beside, has, is.1))
+file_told options bytes made beside (Err Memory) asked has is = tt
+file_told options bytes made beside (Err Device) asked has is = absurd is
+file_told options bytes made beside (Err Clash) asked has is = (made, asked, (beside, has, is))
+file_told options bytes made beside (Err Unspeakable) asked has is = (made, asked, (beside, has, is))
 
 -- the refusal of a bundle
 pub refusal_told : (options : LlbOptions) (bytes : List ℕ) (fault : Fault Refusal) (refusal : Refusal) (told : Told) → fault ≡ Because refusal
@@ -98,24 +104,42 @@ refusal_told options bytes fault refusal told because asked status text =
 titles_moved : (bytes bundle : List ℕ) (titles : List (Option (List ℕ))) → held bytes ≡ held bundle → HasTitlesOf bytes titles → HasTitlesOf bundle titles
 titles_moved bytes bundle titles same has = (has.0, (has.1.0, (sym same ∙ has.1.1.0, has.1.1.1)), has.2)
 
+-- and so is what is left out
+left_moved : (bytes bundle : List ℕ) (left : List (List (List ℕ))) → held bytes ≡ held bundle → HasLeftOut bytes left → HasLeftOut bundle left
+left_moved bytes bundle left same has =
+    let reads = has.1.reads in
+    (has.0, record { reads = (reads.0, (sym same ∙ reads.1.0, reads.1.1)); leaves = λ parts e. has.1.leaves parts (same ∙ e) })
+
+beside_moved : (bytes bundle : List ℕ) (beside : Beside) → held bytes ≡ held bundle → IsBeside bytes beside → IsBeside bundle beside
+beside_moved bytes bundle beside same has = record { titles = titles_moved bytes bundle beside.titles same has.titles; left = left_moved bytes bundle beside.left same has.left }
+
 -- the same is told by bytes that hold the same
 pub moved : (options : LlbOptions) (bytes bundle : List ℕ) (status : Status) (text : List ℕ) → held bytes ≡ held bundle
     → TellsLlb options bytes status text → TellsLlb options bundle status text
 moved options bytes bundle Built text same told =
-    (told.0, asks bytes bundle (Ok told.0) same told.1, (told.2.0, titles_moved bytes bundle told.2.0 same told.2.1, told.2.2))
+    (told.0, asks bytes bundle (Ok told.0) same told.1, (told.2.0, beside_moved bytes bundle told.2.0 same told.2.1, told.2.2))
 moved options bytes bundle Failed text same told = told
 moved options bytes bundle Refused text same told = (told.0, asks bytes bundle (Err told.0) same told.1, told.2)
+
+-- nothing can be told of bytes that hold the same
+stops_moved : (options : LlbOptions) (bytes bundle : List ℕ) (fault : BuildFault) → held bytes ≡ held bundle → LlbStops options fault bytes → LlbStops options fault bundle
+stops_moved options bytes bundle fault same stops =
+    (stops.0, asks bytes bundle (Ok stops.0) same stops.1, (stops.2.0, beside_moved bytes bundle stops.2.0 same stops.2.1, stops.2.2))
+
+has_stopped : (options : LlbOptions) (old new : Devices) (bytes : List ℕ) (fault : BuildFault) → IsReadOf old.left bytes → LlbStops options fault bytes
+    → new.written ≡ old.written → new.failed_reads ≡ old.failed_reads → new.failed_writes ≡ old.failed_writes → HasStopped (LlbStops options fault) old new
+has_stopped options old new bytes fault read stops written reads writes = record {
+  bundle = read.bundle;
+  is = read.is;
+  stops = stops_moved options bytes read.bundle fault read.same stops;
+  unwritten = (written, writes);
+  failed_reads = reads;
+}
 
 -- nothing was told, and nothing was written
 pub faulted : (options : LlbOptions) (old new : Devices) (bytes : List ℕ) (fault : BuildFault) → IsReadOf old.left bytes → IsLlbTold options bytes (Err fault)
     → new.written ≡ old.written → new.failed_reads ≡ old.failed_reads → new.failed_writes ≡ old.failed_writes → LlbEnds options old new (Err fault)
 faulted options old new bytes Memory read told written reads writes = ((written, writes), reads)
 faulted options old new bytes Device read told written reads writes = absurd told
-faulted options old new bytes Clash read told written reads writes = record {
-  bundle = read.bundle;
-  is = read.is;
-  clash =
-      (told.0, asks bytes read.bundle (Ok told.0) read.same told.1, (told.2.0, titles_moved bytes read.bundle told.2.0 read.same told.2.1, told.2.2));
-  unwritten = (written, writes);
-  failed_reads = reads;
-}
+faulted options old new bytes Clash read told written reads writes = has_stopped options old new bytes Clash read told written reads writes
+faulted options old new bytes Unspeakable read told written reads writes = has_stopped options old new bytes Unspeakable read told written reads writes

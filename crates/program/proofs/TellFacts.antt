@@ -14,7 +14,7 @@ use Rattle.bundle.specs.Parts.{parts_within}
 use Rattle.build.specs.declared.status.Status.{Status}
 use Rattle.build.specs.Faults.{of_edge}
 use Rattle.build.specs.Ends.{Answering, Devices, IsAllLeft}
-use Rattle.program.specs.Telling.{HasTold, TellingEnds}
+use Rattle.program.specs.Telling.{HasTold, Stops, TellingEnds}
 use Rattle.program.proofs.AskFacts.{held}
 
 -- what was read holds what the whole bundle holds
@@ -71,12 +71,12 @@ has_told Tells moves old new bytes line text status read tells is written reads 
 }
 
 -- a write failed
-pub has_begun : (Tells : Answering) (Collides : List ℕ → Type 0) → Moves Tells → (old new : Devices) (bytes line text : List ℕ) (status : Status) (fault : Fault Device)
+pub has_begun : (Tells : Answering) (Stopped : Stops) → Moves Tells → (old new : Devices) (bytes line text : List ℕ) (status : Status) (fault : Fault Device)
     → IsReadOf old.left bytes → Tells bytes status text → line ≡ text → AppendsBeginning old.written new.written line
     → new.failed_reads ≡ old.failed_reads → CountsFault {T = Unit {0}} old.failed_writes new.failed_writes (Err fault) → IsDevice fault
-    → TellingEnds Tells Collides old new (Err (of_edge fault))
-has_begun Tells Collides moves old new bytes line text status edge.Memory read tells is written reads writes device = absurd device
-has_begun Tells Collides moves old new bytes line text status (edge.Because failed) read tells is written reads writes device = inr (record {
+    → TellingEnds Tells Stopped old new (Err (of_edge fault))
+has_begun Tells Stopped moves old new bytes line text status edge.Memory read tells is written reads writes device = absurd device
+has_begun Tells Stopped moves old new bytes line text status (edge.Because failed) read tells is written reads writes device = inr (record {
   bundle = read.bundle;
   is = read.is;
   status = status;

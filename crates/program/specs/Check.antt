@@ -6,7 +6,7 @@ use Rattle.build.specs.declared.status.Status.{Status}
 use Rattle.build.specs.declared.status.Status.TheVariants.{Built, Failed, Refused}
 use Rattle.build.specs.declared.status.BuildFault.{BuildFault}
 use Rattle.build.specs.Ends.{Devices}
-use Rattle.program.specs.Telling.{TellingEnds}
+use Rattle.program.specs.Telling.{TellingEnds, never}
 
 -- What is written of a bundle of these bytes: all its faults as a person reads them, which is nothing if there is none. What a build refuses is such
 -- a fault, so no bundle is refused.
@@ -15,6 +15,6 @@ TellsFaults bytes Built text = (checked : Checked) × IsCheckOf bytes checked ×
 TellsFaults bytes Failed text = (checked : Checked) × IsCheckOf bytes checked × (checked.is_sound ≡ false) × (text ≡ checked.text)
 TellsFaults bytes Refused text = ⊥
 
--- how writing it ends; there is no clash
+-- how writing it ends; it never stops
 abbrev pub CheckEnds : Devices → Devices → Result Status BuildFault → Type 0
-CheckEnds old new ended = TellingEnds TellsFaults (λ bundle. ⊥) old new ended
+CheckEnds old new ended = TellingEnds TellsFaults never old new ended

@@ -11,7 +11,7 @@ use Rattle.build.specs.declared.status.Status.TheVariants.{Built, Failed, Refuse
 use Rattle.build.specs.declared.status.BuildFault.{BuildFault}
 use Rattle.build.specs.Meaning.{Asks}
 use Rattle.build.specs.Ends.{Devices}
-use Rattle.program.specs.Telling.{TellingEnds}
+use Rattle.program.specs.Telling.{TellingEnds, never}
 
 -- What is written of a bundle of these bytes: the configuration of its target as a line of compact JSON, whether or not a build of it would fail; or
 -- the refusal of the bundle as a line.
@@ -20,6 +20,6 @@ TellsConfig bytes Built text = (made : Evaluated) × Asks bytes (Ok made) × (te
 TellsConfig bytes Failed text = ⊥
 TellsConfig bytes Refused text = (refusal : Refusal) × Asks bytes (Err refusal) × (text ≡ line_of (refused_text refusal))
 
--- how writing it ends; there is no clash
+-- how writing it ends; it never stops
 abbrev pub ConfigEnds : Devices → Devices → Result Status BuildFault → Type 0
-ConfigEnds old new ended = TellingEnds TellsConfig (λ bundle. ⊥) old new ended
+ConfigEnds old new ended = TellingEnds TellsConfig never old new ended

@@ -1,5 +1,5 @@
 -- What is written of a bundle for BuildKit, and how that ends (own; BuildKit's LLB).
-use Rattle.std.specs.Prelude.{◌≡◌, ℕ, Option, None, List, Result, Ok, Err}
+use Rattle.std.specs.Prelude.{◌≡◌, ℕ, List, Result, Ok, Err}
 use Rattle.plain.specs.declared.refusal.Refusal.{Refusal}
 use Rattle.counted.specs.Edges.{line_of}
 use Rattle.command.specs.declared.task.LlbOptions.{LlbOptions}
@@ -17,16 +17,20 @@ use Rattle.llbmessages.specs.declared.exec.Network.{Network}
 use Rattle.llbmessages.specs.declared.exec.Network.TheVariants as network
 use Rattle.llbmessages.specs.declared.op.Platform.{Platform}
 use Rattle.exported.specs.declared.fault.Obstacle.{Obstacle}
+use Rattle.exported.specs.declared.fault.Obstacle.TheVariants as way
 use Rattle.exported.specs.declared.making.Options.{Options}
+use Rattle.exported.specs.Excluding.{exclude_list}
 use Rattle.exported.specs.Exporting.{exported, IsExported}
 use Rattle.bundle.specs.Answer.{refused_text}
 use Rattle.build.specs.declared.status.Status.{Status}
 use Rattle.build.specs.declared.status.Status.TheVariants.{Built, Failed, Refused}
 use Rattle.build.specs.declared.status.BuildFault.{BuildFault}
+use Rattle.build.specs.declared.status.BuildFault.TheVariants.{Clash, Unspeakable}
 use Rattle.build.specs.Meaning.{Asks}
-use Rattle.build.specs.Titled.{HasTitlesOf}
+use Rattle.build.specs.Titled.{HasTitlesOf, HasLeftOut}
 use Rattle.build.specs.Ends.{Devices}
-use Rattle.program.specs.Telling.{TellingEnds}
+use Rattle.program.specs.declared.exporting.Beside.{Beside}
+use Rattle.program.specs.Telling.{Stops, TellingEnds}
 
 -- the network of a name
 abbrev pub network_of : NetworkName → Network
@@ -38,9 +42,10 @@ network_of Host = network.Host
 abbrev pub platform_of : PlatformName → Platform
 platform_of names = record { architecture = names.architecture; os = names.os; variant = names.variant }
 
--- what the words choose of a definition: no files of the folder that BuildKit is given are left out
-abbrev pub chosen : LlbOptions → Options
-chosen options = record { platform = platform_of options.platform; network = network_of options.network; unique = options.unique; excludes = None }
+-- what the words choose of a definition, in which BuildKit isn't given these paths of the folder
+abbrev pub chosen : LlbOptions → List (List (List ℕ)) → Options
+chosen options left =
+    record { platform = platform_of options.platform; network = network_of options.network; unique = options.unique; excludes = exclude_list left }
 
 -- A plan is the one whose graph is drawn of what a file's stages give: that which stands for the file, with its links put into one and without
 -- what its target doesn't reach. Under every executor it has the target's tree, and none where the target has none.
@@ -52,32 +57,44 @@ pub record IsDrawnPlan (made : Evaluated) (simple : PlanValue Config) : Type 0 w
   pub tree : (out : Out)
       → tree_of (value_of out made.sources simple.graph.vertices simple.target) ≡ tree_of_stage (world out made.sources) made.rows made.target
 
--- bytes are the definition of the plan that is drawn of what a file's stages give, whose lines have these titles, and are read as it and nothing else
-pub record IsDefinitionOf (options : LlbOptions) (made : Evaluated) (titles : List (Option (List ℕ))) (text : List ℕ) : Type 0 where
+-- the titles of a bundle's lines, and what its ignore file leaves out
+pub record IsBeside (bytes : List ℕ) (beside : Beside) : Type 0 where
+  pub titles : HasTitlesOf bytes beside.titles
+  pub left : HasLeftOut bytes beside.left
+
+-- bytes are the definition of the plan that is drawn of what a file's stages give, whose lines have these titles, by the patterns of what is left out,
+-- and are read as it and nothing else
+pub record IsDefinitionOf (options : LlbOptions) (made : Evaluated) (beside : Beside) (text : List ℕ) : Type 0 where
   pub plan : PlanValue Config
   pub drawn : IsDrawnPlan made plan
-  pub written : IsExported (exported (chosen options) titles plan.graph plan.target) (Ok text)
+  pub written : IsExported (exported (chosen options beside.left) beside.titles plan.graph plan.target) (Ok text)
 
--- What is written of a bundle of these bytes: the definition of its graph, with the titles of its Dockerfile's steps, whether or not a build of it
--- would fail; or the refusal of the bundle as a line.
+-- What is written of a bundle of these bytes: the definition of its graph, with the titles of its Dockerfile's steps and with the patterns of what its
+-- ignore file leaves out, whether or not a build of it would fail; or the refusal of the bundle as a line.
 abbrev pub TellsLlb : LlbOptions → List ℕ → Status → List ℕ → Type 0
 TellsLlb options bytes Built text =
-    (made : Evaluated) × Asks bytes (Ok made) × ((titles : List (Option (List ℕ))) × HasTitlesOf bytes titles × IsDefinitionOf options made titles text)
+    (made : Evaluated) × Asks bytes (Ok made) × ((beside : Beside) × IsBeside bytes beside × IsDefinitionOf options made beside text)
 TellsLlb options bytes Failed text = ⊥
 TellsLlb options bytes Refused text = (refusal : Refusal) × Asks bytes (Err refusal) × (text ≡ line_of (refused_text refusal))
 
--- the plan that is drawn of what a file's stages give, whose lines have these titles, has no definition
-pub record HasObstacle (options : LlbOptions) (made : Evaluated) (titles : List (Option (List ℕ))) : Type 0 where
+-- with which fault an obstacle ends it
+abbrev pub fault_of : Obstacle → BuildFault
+fault_of (way.Unspeakable vertex) = Unspeakable
+fault_of (way.Clash vertex) = Clash
+
+-- the plan that is drawn of what a file's stages give, whose lines have these titles, has no definition, for which this is the fault
+pub record HasObstacle (options : LlbOptions) (fault : BuildFault) (made : Evaluated) (beside : Beside) : Type 0 where
   pub plan : PlanValue Config
   pub drawn : IsDrawnPlan made plan
   pub obstacle : Obstacle
-  pub told : exported (chosen options) titles plan.graph plan.target ≡ Err obstacle
+  pub is : fault_of obstacle ≡ fault
+  pub told : exported (chosen options beside.left) beside.titles plan.graph plan.target ≡ Err obstacle
 
 -- the same of what a bundle of these bytes asks for
-abbrev pub LlbClashes : LlbOptions → List ℕ → Type 0
-LlbClashes options bytes =
-    (made : Evaluated) × Asks bytes (Ok made) × ((titles : List (Option (List ℕ))) × HasTitlesOf bytes titles × HasObstacle options made titles)
+abbrev pub LlbStops : LlbOptions → Stops
+LlbStops options fault bytes =
+    (made : Evaluated) × Asks bytes (Ok made) × ((beside : Beside) × IsBeside bytes beside × HasObstacle options fault made beside)
 
 -- how writing it ends
 abbrev pub LlbEnds : LlbOptions → Devices → Devices → Result Status BuildFault → Type 0
-LlbEnds options old new ended = TellingEnds (TellsLlb options) (LlbClashes options) old new ended
+LlbEnds options old new ended = TellingEnds (TellsLlb options) (LlbStops options) old new ended

@@ -15,7 +15,7 @@ use Rattle.command.specs.declared.task.Task.TheVariants.{Build, Graph, Pack, Why
 use Rattle.plans.specs.Value.{Out}
 use Rattle.build.specs.declared.status.Status.{Status}
 use Rattle.build.specs.declared.status.BuildFault.{BuildFault}
-use Rattle.build.specs.declared.status.BuildFault.TheVariants.{Clash, Device, Memory as NoMemory}
+use Rattle.build.specs.declared.status.BuildFault.TheVariants.{Clash, Device, Memory as NoMemory, Unspeakable}
 use Rattle.build.specs.Ends.{Devices, Ends, GraphEnds, devices}
 use Rattle.build.specs.Faults.{exit_status}
 use Rattle.build.specs.Messages.{fault_text}
@@ -61,6 +61,7 @@ abbrev pub IsOpenFault : BuildFault → Type 0
 IsOpenFault NoMemory = ⊤
 IsOpenFault Device = ⊤
 IsOpenFault Clash = ⊥
+IsOpenFault Unspeakable = ⊥
 
 -- a file of the machine wasn't opened, and nothing was written
 pub record IsUnopened (output new_output : Stream) (ended : Result Status BuildFault) : Type 0 where

@@ -10,7 +10,7 @@ use Rattle.build.specs.declared.status.Status.{Status}
 use Rattle.build.specs.declared.status.Status.TheVariants.{Built, Failed, Refused}
 use Rattle.build.specs.declared.status.BuildFault.{BuildFault}
 use Rattle.build.specs.Ends.{Devices}
-use Rattle.program.specs.Telling.{TellingEnds}
+use Rattle.program.specs.Telling.{TellingEnds, never}
 
 -- what is written of paths for a bundle of these bytes: a line for each path, or the refusal of the bundle as a line
 abbrev pub TellsWhy : List (List ℕ) → List ℕ → Status → List ℕ → Type 0
@@ -19,6 +19,6 @@ TellsWhy paths bytes Failed text = ⊥
 TellsWhy paths bytes Refused text =
     (refusal : Refusal) × TellsReasons config_in bytes paths (Err (Because refusal)) × (text ≡ line_of (refused_text refusal))
 
--- how writing it ends; there is no clash
+-- how writing it ends; it never stops
 abbrev pub WhyEnds : List (List ℕ) → Devices → Devices → Result Status BuildFault → Type 0
-WhyEnds paths old new ended = TellingEnds (TellsWhy paths) (λ bundle. ⊥) old new ended
+WhyEnds paths old new ended = TellingEnds (TellsWhy paths) never old new ended

@@ -457,5 +457,6 @@ fn fault_line(fault: BuildFault) -> &'static str
         BuildFault::Memory => NO_MEMORY_LINE,
         BuildFault::Device => "device failed\n",
         BuildFault::Clash => "address clash\n",
+        BuildFault::Unspeakable => "a path that the ignore file leaves out isn't printable ASCII\n",
     }
 }

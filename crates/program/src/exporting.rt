@@ -3,10 +3,11 @@ ghost use Rattle.std.specs.Prelude.{◌≡◌, ◌<◌, ◌+◌, IfOk};
 ghost use Rattle.counted.specs.Edges.{LosesBeginning};
 ghost use Rattle.plain.specs.Limits.{most_bundle_bytes};
 ghost use Rattle.drawing.specs.Drawn.{IsSimplified};
+ghost use Rattle.exported.specs.Excluding.{exclude_list as patterns_of};
 ghost use Rattle.rewrite.specs.Pruned.{KeepsMeaning};
 ghost use Rattle.build.specs.Ends.{devices};
 ghost use Rattle.build.specs.Lowerable.{IsLowerable};
-ghost use Rattle.program.specs.Llb.{IsDrawnPlan, LlbEnds, chosen, network_of, platform_of};
+ghost use Rattle.program.specs.Llb.{IsDrawnPlan, LlbEnds, chosen, fault_of, network_of, platform_of};
 ghost use Rattle.program.specs.PrivateLlb.{IsFileTold, IsLlbTold, IsPlanTold};
 
 use crate::told::{Told, tell_refusal};
@@ -14,22 +15,33 @@ use build::{Asked, BuildFault, Status, Titled, ask_titled};
 use command::{LlbOptions, NetworkName, PlatformName};
 use counted::{CountedRead, CountedWrite, read_all, write_all};
 use evaluation::Evaluated;
-use exported::{ExportFault, Options, export};
+use exported::{ExportFault, Obstacle, Options, exclude_list, export};
 use imageconfig::Config;
 use llbmessages::{Network, Platform};
 use lowering::lower_program;
+use paths::Path;
 use plain::limits::MOST_BUNDLE_BYTES;
-use plain::{Bytes, Exact, Fault, Memory, Text};
+use plain::{Bytes, Exact, Fault, Items, Memory, Text};
 use plans::Plan;
 use rewrite::{flatten_links, prune};
 use std::alloc::Global;
 use std::thread::Threads;
 
+/// What a definition has of a bundle beside its graph.
+#[derive(Drop)]
+pub(crate) struct Beside {
+    /// What progress calls the instruction of each line, if it has a title.
+    pub(crate) titles: Items<Option<Text>>,
+    /// The paths that BuildKit isn't given.
+    pub(crate) left: Items<Path>,
+}
+
 /// Reads a bundle, and writes its graph as a definition of BuildKit's LLB, or its refusal.
 ///
-/// The graph is the one that `graph` prints, and progress calls each of its steps by the title of its instruction. `Built` where it was written,
-/// also where a build would fail, `Refused` where the refusal was, and never `Failed`. `Clash` only where two different operations have one
-/// digest; nothing was written then. Nothing was written after `Memory` either. After `Device` a read failed, and nothing was written, or a
+/// The graph is the one that `graph` prints, and progress calls each of its steps by the title of its instruction. Of the folder that BuildKit is
+/// given, patterns leave out just what the ignore file does. `Built` where it was written, also where a build would fail, `Refused` where the
+/// refusal was, and never `Failed`. `Clash` only where two different operations have one digest, and `Unspeakable` only where the graph has the
+/// folder and BuildKit can't be told a pattern; nothing was written then. Nothing was written after `Memory` either. After `Device` a read failed, and nothing was written, or a
 /// write failed, and a beginning was.
 #[tactic(auto, unfolding(plain::specs::Limits::most_bundle_bytes))]
 pub(crate) fn run_llb<R: CountedRead, W: CountedWrite>(
@@ -90,38 +102,53 @@ fn tell_llb(
 {
     match ask_titled(alloc, rt, bundle) {
         Ok(titled) => {
-            let Titled { asked, titles } = titled;
+            let Titled {
+                asked,
+                titles,
+                left_out: left,
+            } = titled;
             let Asked {
                 evaluated,
                 caches: _,
             } = asked;
-            tell_file(alloc, evaluated, titles.as_slice(), options)
+            let beside = Beside { titles, left };
+            tell_file(alloc, evaluated, &beside, options)
         }
         Err(Fault::Because(refusal)) => Ok(tell_refusal(alloc, refusal)?),
         Err(Fault::Memory) => Err(BuildFault::Memory),
     }
 }
 
-/// The definition of a file's needed stages, whose lines have these titles.
+/// The definition of a file's needed stages.
 fn tell_file(
     alloc: Global,
     evaluated: Evaluated,
-    titles: &[Option<Text>],
+    beside: &Beside,
     options: &LlbOptions,
 ) -> Result<Told, BuildFault>
     requires { IsLowerable evaluated }
-    ensures { IsFileTold options.now evaluated titles.now result }
+    ensures { IsFileTold options.now evaluated beside.now result }
 {
     let plan = drawn_plan(alloc, evaluated)?;
-    let told = tell_plan(alloc, &plan, titles, options);
+    let told = tell_plan(alloc, &plan, beside, options);
     drop(plan);
     match told {
         Ok(text) => Ok(Told {
             status: Status::Built,
             text,
         }),
-        Err(Fault::Because(_)) => Err(BuildFault::Clash),
+        Err(Fault::Because(obstacle)) => Err(fault_of(obstacle)),
         Err(Fault::Memory) => Err(BuildFault::Memory),
+    }
+}
+
+/// The fault with which an obstacle ends.
+fn fault_of(obstacle: Obstacle) -> BuildFault
+    ensures { result ≡ fault_of obstacle }
+{
+    match obstacle {
+        Obstacle::Unspeakable(_) => BuildFault::Unspeakable,
+        Obstacle::Clash(_) => BuildFault::Clash,
     }
 }
 
@@ -151,33 +178,51 @@ fn simplify(alloc: Global, plan: Plan<Config>) -> Result<Plan<Config>, Memory>
     prune(alloc, flat)
 }
 
-/// The definition of a plan, whose lines have these titles, as the words choose it.
+/// The definition of a plan, as the words choose it.
 fn tell_plan(
     alloc: Global,
     plan: &Plan<Config>,
-    titles: &[Option<Text>],
+    beside: &Beside,
     options: &LlbOptions,
 ) -> Result<Bytes, ExportFault>
-    ensures { IsPlanTold options.now plan.now titles.now result }
+    ensures { IsPlanTold options.now plan.now beside.now result }
 {
-    let options = chosen(alloc, options)?;
-    export(alloc, plan, &options, titles)
+    let options = chosen(alloc, options, beside.left.as_slice())?;
+    export(alloc, plan, &options, beside.titles.as_slice())
 }
 
-/// What the words choose of a definition. It has no patterns of files that BuildKit isn't given.
-fn chosen(alloc: Global, options: &LlbOptions) -> Result<Options, Memory>
-    ensures { IfOk result (λ made. made ≡ chosen options.now) }
+/// What the words choose of a definition, in which BuildKit isn't given these paths of the folder.
+fn chosen(alloc: Global, options: &LlbOptions, left: &[Path]) -> Result<Options, Memory>
+    ensures { IfOk result (λ made. made ≡ chosen options.now left.now) }
 {
     let platform = platform_of(alloc, &options.platform)?;
-    match options.unique.copy(alloc) {
-        Ok(unique) => Ok(Options {
+    match texts_of(alloc, options, left) {
+        Ok((unique, excludes)) => Ok(Options {
             platform,
             network: network_of(options.network),
             unique,
-            excludes: None,
+            excludes,
         }),
         Err(memory) => {
             drop(platform);
+            Err(memory)
+        }
+    }
+}
+
+/// The text that no other build has, and the patterns of these paths.
+fn texts_of(
+    alloc: Global,
+    options: &LlbOptions,
+    left: &[Path],
+) -> Result<(Text, Option<Text>), Memory>
+    ensures { IfOk result (λ texts. texts ≡ (options.now.unique, patterns_of left.now)) }
+{
+    let unique = options.unique.copy(alloc)?;
+    match exclude_list(alloc, left) {
+        Ok(excludes) => Ok((unique, excludes)),
+        Err(memory) => {
+            drop(unique);
             Err(memory)
         }
     }

@@ -2,6 +2,7 @@ use Rattle.std.proofs.Common.{◌+◌, refl, sym, ap, subst}
 use Rattle.build.specs.Faults.{of_edge}
 use Rattle.build.specs.Ends.{Devices, devices}
 use Rattle.program.specs.Config.{ConfigEnds, TellsConfig}
+use Rattle.program.specs.Telling.{never}
 use Rattle.program.proofs.TellFacts.{read_of, loses_at_most, has_told, has_begun, err_and}
 use Rattle.program.proofs.ConfigFacts.{moved}
 use Rattle.program.proofs.config.config_within.Goals as goal
@@ -15,7 +16,7 @@ returns-in_err-write_all-in-Ok g c =
     let old : Devices = devices (g.R.CountedRead.remaining c.args.input.now) (g.R.CountedRead.failures c.args.input.now) (g.W.CountedWrite.contents c.args.output.now) (g.W.CountedWrite.failures c.args.output.now) in
     let new : Devices = devices (g.R.CountedRead.remaining c.read_all.new.input) (g.R.CountedRead.failures c.read_all.new.input) (g.W.CountedWrite.contents c.write_all.new.output) (g.W.CountedWrite.failures c.write_all.new.output) in
     let read = read_of _ old.left new.left bytes _ (ap (λ n. n + 1) c.requires.limit) c.as_slice.ensures.value c.in_ok-bytes.ensures.bytes in
-    let ends = has_begun TellsConfig (λ bundle. ⊥) moved old new bytes line c.in-Ok.told.text c.in-Ok.told.status fault read c.in-Ok.ensures c.as_slice-in-Ok.ensures failed.beginning c.in_ok-bytes.ensures.count failed.count failed.device in
+    let ends = has_begun TellsConfig never moved old new bytes line c.in-Ok.told.text c.in-Ok.told.status fault read c.in-Ok.ensures c.as_slice-in-Ok.ensures failed.beginning c.in_ok-bytes.ensures.count failed.count failed.device in
     let is = err_and c.from_residual-in_err-write_all-in-Ok.result (of_edge fault) c.from_residual-in_err-write_all-in-Ok.ensures.1 in
     record {
       ends = subst (ConfigEnds old new) (sym is) ends;
