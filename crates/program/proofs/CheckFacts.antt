@@ -1,6 +1,6 @@
 -- What is told of the faults of a bundle.
 use Rattle.std.proofs.Common.{◌≡◌, inl, inr, ℕ, List, sym, ap, ◌∙◌}
-use Rattle.plain.specs.declared.refusal.Refusal.{Refusal}
+use Rattle.expand.specs.declared.reason.Rejection.{Rejection}
 use Rattle.checks.specs.Checks.{AreFaultsOf}
 use Rattle.checks.specs.Checked.{IsCheckOf, faulty_text_in}
 use Rattle.checks.specs.Shown.{readable_lines, shown_faults}
@@ -11,7 +11,7 @@ use Rattle.program.specs.Check.{TellsFaults}
 use Rattle.program.proofs.AskFacts.{held, refused}
 
 -- bytes that hold the same have the same faults
-faults_moved : (bytes others : List ℕ) (faults : List Refusal) → held bytes ≡ held others → AreFaultsOf bytes faults → AreFaultsOf others faults
+faults_moved : (bytes others : List ℕ) (faults : List Rejection) → held bytes ≡ held others → AreFaultsOf bytes faults → AreFaultsOf others faults
 faults_moved bytes others faults same (inl told) = inl (told.0, refused bytes others told.0 same told.1, told.2)
 faults_moved bytes others faults same (inr read) = inr (read.0, (read.1.0, (sym same ∙ read.1.1.0, read.1.1.1)), read.2)
 
