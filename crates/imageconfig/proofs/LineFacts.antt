@@ -1,8 +1,8 @@
 -- The loops along the items of a line: what is found of their texts, and what is against the others.
-use Rattle.std.specs.Prelude.{◌≡◌, ◌<◌, ◌+◌, ◌++◌, ◌||◌, ℕ, Bool, true, false, List, [], ◌∷◌, map, Option, Some, None, length, refl}
+use Rattle.std.specs.Prelude.{◌≡◌, ◌<◌, ◌≤◌, ◌+◌, ◌++◌, ◌||◌, ℕ, Bool, true, false, List, [], ◌∷◌, map, Option, Some, None, length, refl}
 use Rattle.std.specs.List.{list_any, filter_map, cons_option}
 use Rattle.std.proofs.Common.{get_or, drop, ap, ap₂, sym, ◌∙◌, append_assoc, append-nil}
-use Rattle.std.proofs.lemmas.List.{at_drop_more}
+use Rattle.std.proofs.lemmas.List.{at_drop_more, at_drop_all}
 use Rattle.expand.specs.Value.{Parts, value}
 use Rattle.expand.specs.Expanding.{unexpanded, valued, is_valued, is_empty, worse, worst}
 use Rattle.expand.specs.declared.fault.Unexpanded.{Unexpanded}
@@ -57,6 +57,11 @@ so_far-ended {X} {Y} fault made all rest so_far found e g = record {
   faults = sym (worse-none so_far) ∙ ap (λ (xs : List X). worse so_far (worst (map fault xs))) (sym e) ∙ g.faults;
   items = sym (append-nil found) ∙ ap (λ (xs : List X). found ++ filter_map made xs) (sym e) ∙ g.items;
 }
+
+-- the same at the end of the list
+pub so_far-done : {X Y : Type 0} (fault : X → Option Unexpanded) (made : X → Option Y) (all : List X) (i : ℕ) (so_far : Option Unexpanded) (found : List Y) → length all ≤ i → IsSoFar fault made all (drop i all) so_far found
+    → AreFound fault made all so_far found
+so_far-done {X} fault made all i so_far found h g = so_far-ended fault made all (drop i all) so_far found (at_drop_all (λ (xs : List X). xs) all i h) g
 
 -- if nothing is against the items, each gives what it says
 pub all_given : {X Y : Type 0} (fault : X → Option Unexpanded) (made : X → Option Y) (said : X → Y) → ((x : X) → fault x ≡ None → made x ≡ Some (said x)) → (all : List X) → worst (map fault all) ≡ None
@@ -134,9 +139,10 @@ pub record AreLabelled (before : Values) (all : List Label) (line : Labelled) : 
   pub rows : line.rows ≡ filter_map (labelled_row before) all
   pub keys : line.has_empty_key ≡ has_empty_key before all
 
-pub labelled-ended : (before : Values) (all rest : List Label) (line : Labelled) → rest ≡ [] → IsLabelledSoFar before all rest line → AreLabelled before all line
-labelled-ended before all rest line e g =
-    let found : AreFound (labelled_fault before) (labelled_row before) all line.fault line.rows = so_far-ended (labelled_fault before) (labelled_row before) all rest line.fault line.rows e g.items in
+pub labelled-done : (before : Values) (all : List Label) (i : ℕ) (line : Labelled) → length all ≤ i → IsLabelledSoFar before all (drop i all) line → AreLabelled before all line
+labelled-done before all i line h g =
+    let e : drop i all ≡ [] = at_drop_all (λ (labels : List Label). labels) all i h in
+    let found : AreFound (labelled_fault before) (labelled_row before) all line.fault line.rows = so_far-ended (labelled_fault before) (labelled_row before) all (drop i all) line.fault line.rows e g.items in
     record {
       fault = found.faults;
       rows = found.items;
