@@ -37,9 +37,9 @@ pub so_far-more : {X Y : Type 0} (fault : X → Option Unexpanded) (made : X →
     → next ≡ worse so_far (fault x) → new ≡ found ++ cons_option (made x) [] → IsSoFar fault made all (drop i all) so_far found → IsSoFar fault made all (drop (i + 1) all) next new
 so_far-more {X} {Y} fault made all i x so_far next found new lt is f e g =
     let faults : worst (map fault (drop i all)) ≡ worse (fault x) (worst (map fault (drop (i + 1) all))) =
-        at_drop_more (λ (xs : List X). worst (map fault xs)) all i x lt ∙ ap (λ (u : X). worse (fault u) (worst (map fault (drop (i + 1) all)))) (sym is) in
+    at_drop_more (λ (xs : List X). worst (map fault xs)) all i x lt ∙ ap (λ (u : X). worse (fault u) (worst (map fault (drop (i + 1) all)))) (sym is) in
     let items : filter_map made (drop i all) ≡ cons_option (made x) (filter_map made (drop (i + 1) all)) =
-        at_drop_more (λ (xs : List X). filter_map made xs) all i x lt ∙ ap (λ (u : X). cons_option (made u) (filter_map made (drop (i + 1) all))) (sym is) in
+    at_drop_more (λ (xs : List X). filter_map made xs) all i x lt ∙ ap (λ (u : X). cons_option (made u) (filter_map made (drop (i + 1) all))) (sym is) in
     record {
       faults = ap (λ t. worse t (worst (map fault (drop (i + 1) all)))) f ∙ worse-assoc so_far (fault x) (worst (map fault (drop (i + 1) all))) ∙ ap (worse so_far) (sym faults) ∙ g.faults;
       items = ap (λ (ys : List Y). ys ++ filter_map made (drop (i + 1) all)) e ∙ append_assoc found (cons_option (made x) []) (filter_map made (drop (i + 1) all))
@@ -122,7 +122,7 @@ pub labelled-more : (before : Values) (all : List Label) (i : ℕ) (label : Labe
 labelled-more before all i label line new lt is h g =
     let key : Bool = is_valued is_empty (valued before label.key) in
     let keys : has_empty_key before (drop i all) ≡ (is_valued is_empty (valued before label.key) || has_empty_key before (drop (i + 1) all)) =
-        at_drop_more (has_empty_key before) all i label lt ∙ ap (λ (l : Label). is_valued is_empty (valued before l.key) || has_empty_key before (drop (i + 1) all)) (sym is) in
+    at_drop_more (has_empty_key before) all i label lt ∙ ap (λ (l : Label). is_valued is_empty (valued before l.key) || has_empty_key before (drop (i + 1) all)) (sym is) in
     record {
       items = so_far-more (labelled_fault before) (labelled_row before) all i label line.fault new.fault line.rows new.rows lt is
           (h.fault ∙ worse-assoc line.fault (unexpanded before label.key) (unexpanded before label.value)) h.rows g.items;

@@ -18,16 +18,16 @@ loop-assignment-preserved c =
 pub returns-in-None-clause-evaluates : goal.returns-in-None-clause-evaluates
 returns-in-None-clause-evaluates c =
     let found : AreFound (assigned_fault (value_in c.args.before.now)) (assigned_row (value_in c.args.before.now)) c.args.assignments.now c.loop-assignment.line.fault c.loop-assignment.line.rows =
-        so_far-done (assigned_fault (value_in c.args.before.now)) (assigned_row (value_in c.args.before.now)) c.args.assignments.now c.loop-assignment.assignment-index c.loop-assignment.line.fault c.loop-assignment.line.rows
-        (omega (arith, c.loop-assignment-test.false)) c.loop-assignment.invariant in
+    so_far-done (assigned_fault (value_in c.args.before.now)) (assigned_row (value_in c.args.before.now)) c.args.assignments.now c.loop-assignment.assignment-index c.loop-assignment.line.fault c.loop-assignment.line.rows
+    (omega (arith, c.loop-assignment-test.false)) c.loop-assignment.invariant in
     let none : env_fault (value_in c.args.before.now) c.args.assignments.now ≡ None = sym found.faults ∙ c.in-None.is in
     (ap (λ (rows : List Row). Some rows) (sym (found.items ∙ env_given (value_in c.args.before.now) c.args.assignments.now none)), no_text (env_fault (value_in c.args.before.now) c.args.assignments.now) none)
 
 pub returns-in-None-clause-names : goal.returns-in-None-clause-names
 returns-in-None-clause-names c =
     let found : AreFound (assigned_fault (value_in c.args.before.now)) (assigned_row (value_in c.args.before.now)) c.args.assignments.now c.loop-assignment.line.fault c.loop-assignment.line.rows =
-        so_far-done (assigned_fault (value_in c.args.before.now)) (assigned_row (value_in c.args.before.now)) c.args.assignments.now c.loop-assignment.assignment-index c.loop-assignment.line.fault c.loop-assignment.line.rows
-        (omega (arith, c.loop-assignment-test.false)) c.loop-assignment.invariant in
+    so_far-done (assigned_fault (value_in c.args.before.now)) (assigned_row (value_in c.args.before.now)) c.args.assignments.now c.loop-assignment.assignment-index c.loop-assignment.line.fault c.loop-assignment.line.rows
+    (omega (arith, c.loop-assignment-test.false)) c.loop-assignment.invariant in
     let none : env_fault (value_in c.args.before.now) c.args.assignments.now ≡ None = sym found.faults ∙ c.in-None.is in
     ap (λ (rows : List Row). list_all is_environment_name (names_of rows)) (found.items ∙ env_given (value_in c.args.before.now) c.args.assignments.now none)
     ∙ env-fit (value_in c.args.before.now) c.args.assignments.now c.names_fit_environments.ensures c.requires

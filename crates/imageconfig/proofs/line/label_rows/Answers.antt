@@ -15,7 +15,8 @@ loop-label-preserved c =
 pub returns-in-None : goal.returns-in-None
 returns-in-None c =
     let found : AreLabelled (value_in c.args.before.now) c.args.labels.now c.loop-label.line =
-        labelled-done (value_in c.args.before.now) c.args.labels.now c.loop-label.label-index c.loop-label.line (omega (arith, c.loop-label-test.false)) c.loop-label.invariant in
-    let none : label_fault (value_in c.args.before.now) c.args.labels.now ≡ None = sym found.fault ∙ c.in-None.is in
-    (ap (λ (rows : List Row). Some rows) (sym (found.rows ∙ labels_given (value_in c.args.before.now) c.args.labels.now none)),
-    no_reason R10 (has_empty_key (value_in c.args.before.now) c.args.labels.now) (label_fault (value_in c.args.before.now) c.args.labels.now) (sym found.keys ∙ c.if-has_empty_key.false) none)
+    labelled-done (value_in c.args.before.now) c.args.labels.now c.loop-label.label-index c.loop-label.line (omega (arith, c.loop-label-test.false)) c.loop-label.invariant in
+    let none : label_fault (value_in c.args.before.now) c.args.labels.now ≡ None = sym found.fault ∙ c.in-None.is in (
+      ap (λ (rows : List Row). Some rows) (sym (found.rows ∙ labels_given (value_in c.args.before.now) c.args.labels.now none)),
+      no_reason R10 (has_empty_key (value_in c.args.before.now) c.args.labels.now) (label_fault (value_in c.args.before.now) c.args.labels.now) (sym found.keys ∙ c.if-has_empty_key.false) none,
+    )

@@ -10,7 +10,8 @@ use Rattle.imageconfig.proofs.line.volume_texts.Goals as goal
 
 pub returns-in-None : goal.returns-in-None
 returns-in-None c =
-    let none : words_fault (value_in c.args.before.now) c.args.paths.now ≡ None = sym c.in_ok-values.ensures.fault ∙ c.in-None.is in
-    (ap (λ (texts : List (List ℕ)). Some texts) (sym (c.in_ok-values.ensures.values ∙ words_given (value_in c.args.before.now) c.args.paths.now none)),
-    no_reason R06 (list_any is_empty (values_of (value_in c.args.before.now) c.args.paths.now)) (words_fault (value_in c.args.before.now) c.args.paths.now)
-    (ap (list_any is_empty) (sym (c.as_slice.ensures ∙ c.in_ok-values.ensures.values)) ∙ sym c.have_empty.ensures ∙ c.if-have_empty.false) none)
+    let none : words_fault (value_in c.args.before.now) c.args.paths.now ≡ None = sym c.in_ok-values.ensures.fault ∙ c.in-None.is in (
+      ap (λ (texts : List (List ℕ)). Some texts) (sym (c.in_ok-values.ensures.values ∙ words_given (value_in c.args.before.now) c.args.paths.now none)),
+      no_reason R06 (list_any is_empty (values_of (value_in c.args.before.now) c.args.paths.now)) (words_fault (value_in c.args.before.now) c.args.paths.now)
+          (ap (list_any is_empty) (sym (c.as_slice.ensures ∙ c.in_ok-values.ensures.values)) ∙ sym c.have_empty.ensures ∙ c.if-have_empty.false) none,
+    )
