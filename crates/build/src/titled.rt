@@ -68,11 +68,7 @@ pub fn ask_titled(
 fn titled_file(
     alloc: Global,
     bundle: Bundle<Config>,
-<<<<<<< HEAD
 ) -> Result<(Asked, Items<Option<Text>>), RejectionFault>
-=======
-) -> Result<(Asked, Items<Option<Text>>), LineFault>
->>>>>>> 361cd2266d2695d96a8eca3ff05d13336c2734dc
     requires { bundle.caches.holds ≡ [] }
     ensures asked { IsFileAsked bundle (asked_of result) }
     ensures lowerable { IfOk result (λ titled. IsLowerable titled.0.evaluated) }
