@@ -1,6 +1,6 @@
 -- What is written of a bundle for Graphviz, and how that ends (own).
 use Rattle.std.specs.Prelude.{◌≡◌, ℕ, Bool, true, false, Option, List, Result, Ok, Err}
-use Rattle.plain.specs.declared.refusal.Refusal.{Refusal}
+use Rattle.expand.specs.declared.reason.Rejection.{Rejection}
 use Rattle.counted.specs.Edges.{line_of}
 use Rattle.imageconfig.specs.declared.config.Config.{Config}
 use Rattle.plans.specs.Plan.{PlanValue}
@@ -28,7 +28,7 @@ abbrev pub TellsDot : List ℕ → Status → List ℕ → Type 0
 TellsDot bytes Built text =
     (made : Evaluated) × Asks bytes (Ok made) × ((titles : List (Option (List ℕ))) × HasTitlesOf bytes titles × IsPictureOf made titles text)
 TellsDot bytes Failed text = ⊥
-TellsDot bytes Refused text = (refusal : Refusal) × Asks bytes (Err refusal) × (text ≡ line_of (refused_text refusal))
+TellsDot bytes Refused text = (refusal : Rejection) × Asks bytes (Err refusal) × (text ≡ line_of (refused_text refusal))
 
 -- how writing it ends; it never stops, since no operation is named by an address
 abbrev pub DotEnds : Devices → Devices → Result Status BuildFault → Type 0
