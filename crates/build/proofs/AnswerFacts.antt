@@ -5,6 +5,8 @@ use Rattle.std.specs.Cmp.Lexicographic.{nat_list_cmp_total}
 use Rattle.std.specs.FinMap.{entries, get, same_map, slice_cmp-IsAntisymmetric, nat_cmp-IsAntisymmetric}
 use Rattle.plain.specs.declared.fault.Fault.TheVariants.{Because}
 use Rattle.plain.specs.declared.refusal.Refusal.{Refusal}
+use Rattle.expand.specs.Reasons.{rejection_of}
+use Rattle.expand.specs.declared.reason.Rejection.{Rejection}
 use Rattle.trees.specs.TreeMap.{TreeMap}
 use Rattle.plans.specs.Images.{ImagesValue}
 use Rattle.rows.specs.Rows.{Rows}
@@ -83,16 +85,16 @@ same_made images context number walk a b these those =
     made_is a.rows b.rows a.target b.target a.config b.config a.sources b.sources (these.rows ∙ sym those.rows) (these.target ∙ sym those.target)
     (these.config ∙ sym those.config) (same_sources context images walk.names a.sources b.sources these.sources those.sources)
 
-same_ok : (made : Result Walk Refusal) (a b : Walk) → made ≡ Ok a → made ≡ Ok b → a ≡ b
+same_ok : (made : Result Walk Rejection) (a b : Walk) → made ≡ Ok a → made ≡ Ok b → a ≡ b
 same_ok made a b p q = cc
 
-not_both : (made : Result Walk Refusal) (a : Walk) (refusal : Refusal) → made ≡ Ok a → made ≡ Err refusal → ⊥
+not_both : (made : Result Walk Rejection) (a : Walk) (refusal : Rejection) → made ≡ Ok a → made ≡ Err refusal → ⊥
 not_both made a refusal p q = cc
 
-same_err : (made : Result Walk Refusal) (a b : Refusal) → made ≡ Err a → made ≡ Err b → a ≡ b
+same_err : (made : Result Walk Rejection) (a b : Rejection) → made ≡ Err a → made ≡ Err b → a ≡ b
 same_err made a b p q = cc
 
-one_of_stages : (bundle : Bundle Config) (needed : List Bool) (table : TableValue) (a b : Result Evaluated Refusal)
+one_of_stages : (bundle : Bundle Config) (needed : List Bool) (table : TableValue) (a b : Result Evaluated Rejection)
     → StagesAsk bundle needed table a → StagesAsk bundle needed table b → a ≡ b
 one_of_stages bundle needed table (Ok a) (Ok b) these those =
     let same : those.0 ≡ these.0 = same_ok (evaluated (get bundle.args) bundle.images needed table) those.0 these.0 those.1 these.1 in
@@ -104,15 +106,19 @@ one_of_stages bundle needed table (Err refusal) (Ok b) these those =
 one_of_stages bundle needed table (Err refusal) (Err other) these those =
     ap Err (same_err (evaluated (get bundle.args) bundle.images needed table) refusal other these those)
 
-one_of_table : (bundle : Bundle Config) (table : Result TableValue Refusal) (a b : Result Evaluated Refusal) → TableAsks bundle table a → TableAsks bundle table b → a ≡ b
+one_of_table : (bundle : Bundle Config) (table : Result TableValue Rejection) (a b : Result Evaluated Rejection) → TableAsks bundle table a → TableAsks bundle table b → a ≡ b
 one_of_table bundle (Err refusal) a b these those = these ∙ sym those
 one_of_table bundle (Ok table) a b these those =
     let marks : those.0 ≡ these.0 = same_marks table.stages table.target those.0 these.0 those.1 these.1 in
     one_of_stages bundle these.0 table a b these.2 (subst (λ needed. StagesAsk bundle needed table b) marks those.2)
 
-one_of_file : AreUnique → (bundle : Bundle Config) (a b : Result Evaluated Refusal) → FileAsks bundle a → FileAsks bundle b → a ≡ b
+-- what is asked for by what is refused before any text is expanded
+abbrev err_of : Refusal → Result Evaluated Rejection
+err_of refusal = Err (rejection_of refusal)
+
+one_of_file : AreUnique → (bundle : Bundle Config) (a b : Result Evaluated Rejection) → FileAsks bundle a → FileAsks bundle b → a ≡ b
 one_of_file unique bundle a b (inl these) (inl those) =
-    these.2 ∙ (ap Err (unique.refusals bundle.dockerfile these.0 those.0 these.1 those.1) ∙ sym those.2)
+    these.2 ∙ (ap err_of (unique.refusals bundle.dockerfile these.0 those.0 these.1 those.1) ∙ sym those.2)
 one_of_file unique bundle a b (inl these) (inr those) = absurd (unique.apart bundle.dockerfile those.0 these.0 those.1 these.1)
 one_of_file unique bundle a b (inr these) (inl those) = absurd (unique.apart bundle.dockerfile these.0 those.0 these.1 those.1)
 one_of_file unique bundle a b (inr these) (inr those) =
@@ -185,8 +191,8 @@ apart bytes bundle refusal these (inr those) =
     let bad : Completes these.0 (Err (Because refusal)) = subst (λ p. Completes p (Err (Because refusal))) parts those.1.1 in
     lines_or_number (ignore_of (ignore_bytes these.0.files.context)) these.1.1.0 bad.0 these.1.1.1.0 bad.1.0
 
-pub one_thing : AreUnique → OneContext → (bytes : List ℕ) (a b : Result Evaluated Refusal) → Asks bytes a → Asks bytes b → a ≡ b
-one_thing texts one bytes a b (inl these) (inl those) = these.2 ∙ (ap Err (refusals bytes these.0 those.0 these.1 those.1) ∙ sym those.2)
+pub one_thing : AreUnique → OneContext → (bytes : List ℕ) (a b : Result Evaluated Rejection) → Asks bytes a → Asks bytes b → a ≡ b
+one_thing texts one bytes a b (inl these) (inl those) = these.2 ∙ (ap err_of (refusals bytes these.0 those.0 these.1 those.1) ∙ sym those.2)
 one_thing texts one bytes a b (inl these) (inr those) = absurd (apart bytes those.0 these.0 those.1 these.1)
 one_thing texts one bytes a b (inr these) (inl those) = absurd (apart bytes these.0 those.0 these.1 those.1)
 one_thing texts one bytes a b (inr these) (inr those) =
@@ -197,7 +203,7 @@ one_failure : (first : Option (ℕ × Cause)) (this that : ℕ × Cause) → fir
 one_failure first this that p q = (let f : Some this ≡ Some that = sym p ∙ q in cc)
 
 -- two answers to one thing have one status and one text
-alike : (out : Out) (asked : Result Evaluated Refusal) (one other : Status) (text beside : List ℕ) → Tells out asked one text → Tells out asked other beside
+alike : (out : Out) (asked : Result Evaluated Rejection) (one other : Status) (text beside : List ℕ) → Tells out asked one text → Tells out asked other beside
     → (one ≡ other) × (text ≡ beside)
 alike out (Ok made) status.Built status.Built text beside this that =
     let trees : Some this.0 ≡ Some that.0 = sym this.1 ∙ that.1 in
@@ -226,7 +232,7 @@ one_answer texts single bytes out one other text beside this that =
     alike out this.asked one other text beside this.tells (subst (λ a. Tells out a other beside) asked that.tells)
 
 -- two graphs of one bundle, or two refusals of it, have one status and one text
-shown_alike : (asked : Result Evaluated Refusal) (one other : Status) (text beside : List ℕ) → Shows asked one text → Shows asked other beside
+shown_alike : (asked : Result Evaluated Rejection) (one other : Status) (text beside : List ℕ) → Shows asked one text → Shows asked other beside
     → (one ≡ other) × (text ≡ beside)
 shown_alike (Ok made) status.Built status.Built text beside this that =
     (refl, one_drawing this.plan that.plan made.rows made.target text beside this.is that.is this.stands that.stands this.draws that.draws)

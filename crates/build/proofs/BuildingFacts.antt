@@ -6,6 +6,7 @@ use Rattle.std.proofs.lemmas.Bool.{lt-leb, leb-true, leb-false}
 use Rattle.std.proofs.lemmas.List.{take_all, length-take, length-take-le, take-append-drop}
 use Rattle.plain.specs.Limits.{most_bundle_bytes}
 use Rattle.plain.specs.declared.refusal.Refusal.{Refusal}
+use Rattle.expand.specs.declared.reason.Rejection.{Rejection}
 use Rattle.plain.specs.declared.fault.Fault.{Fault}
 use Rattle.plain.specs.declared.fault.Fault.TheVariants as edge
 use Rattle.counted.specs.declared.fault.Device.{Device}
@@ -72,7 +73,7 @@ refused : (bytes others : List ℕ) (refusal : Refusal) → held bytes ≡ held 
 refused bytes others refusal same (inl none) = inl (sym same ∙ none.0, none.1)
 refused bytes others refusal same (inr some) = inr (some.0, (sym same ∙ some.1.0, some.1.1))
 
-asks : (bytes others : List ℕ) (asked : Result Evaluated Refusal) → held bytes ≡ held others → Asks bytes asked → Asks others asked
+asks : (bytes others : List ℕ) (asked : Result Evaluated Rejection) → held bytes ≡ held others → Asks bytes asked → Asks others asked
 asks bytes others asked same (inl told) = inl (told.0, refused bytes others told.0 same told.1, told.2)
 asks bytes others asked same (inr read) = inr (read.0, (read.1.0, (sym same ∙ read.1.1.0, read.1.1.1)), read.2)
 

@@ -6,6 +6,8 @@ use Rattle.std.specs.FinMap.{entries, get}
 use Rattle.serde_json.specs.Data.{Data}
 use Rattle.plain.specs.declared.fault.Fault.TheVariants.{Because}
 use Rattle.plain.specs.declared.refusal.Refusal.{Refusal}
+use Rattle.expand.specs.Reasons.{rejection_of}
+use Rattle.expand.specs.declared.reason.Rejection.{Rejection}
 use Rattle.trees.specs.TreeMap.{TreeMap}
 use Rattle.trees.specs.declared.cause.Cause.{Cause}
 use Rattle.plans.specs.Images.{ImagesValue}
@@ -52,7 +54,7 @@ pub record PhaseLaws : Type 0 where
   pub known : (known : Known) (args : Values) (target : Option (List ℕ)) (is : List Instruction) (table : TableValue)
       → resolved known args target is ≡ Ok table → All (NamesKnown known) table.stages
   pub evaluates : (args : Values) (images : ImagesValue Config) (context : TreeMap) (table : TableValue) → IsTable table
-      → ((made : Evaluated) × evaluation.EvaluatesTable args images context table (Ok made)) ⊎ ((refusal : Refusal) × evaluation.EvaluatesTable args images context table (Err (Because refusal)))
+      → ((made : Evaluated) × evaluation.EvaluatesTable args images context table (Ok made)) ⊎ ((refusal : Rejection) × evaluation.EvaluatesTable args images context table (Err (Because refusal)))
   pub formed : (args : Values) (images : ImagesValue Config) (context : TreeMap) (needed : List Bool) (table : TableValue) (walk : Walk) (made : Evaluated)
       → IsTable table → AreNeeded table.stages table.target needed → HaveEnvironments images → evaluated args images needed table ≡ Ok walk
       → IsMade images context table.target walk made → IsWellFormed made.rows
@@ -66,14 +68,14 @@ pub record PhaseLaws : Type 0 where
       → slice_get rows target ≡ Some (Some stage) → (outcome : Result TreeMap (ℕ × Cause)) × IsOutcome w rows target outcome
 
 -- some status and text tell what is asked for
-abbrev IsTold : Out → Result Evaluated Refusal → Type 0
+abbrev IsTold : Out → Result Evaluated Rejection → Type 0
 IsTold out asked = (status : Status) × (text : List ℕ) × Tells out asked status text
 
 -- what is asked for, and that it is told
-abbrev IsAnswered : Out → (Result Evaluated Refusal → Type 0) → Type 0
-IsAnswered out Ask = (asked : Result Evaluated Refusal) × Ask asked × IsTold out asked
+abbrev IsAnswered : Out → (Result Evaluated Rejection → Type 0) → Type 0
+IsAnswered out Ask = (asked : Result Evaluated Rejection) × Ask asked × IsTold out asked
 
-refusal_told : (out : Out) (refusal : Refusal) → IsTold out (Err refusal)
+refusal_told : (out : Out) (refusal : Rejection) → IsTold out (Err refusal)
 refusal_told out refusal = (Refused, refused_text refusal, refl)
 
 outcome_told : (out : Out) (made : Evaluated) (outcome : Result TreeMap (ℕ × Cause)) → IsOutcome (world out made.sources) made.rows made.target outcome → IsTold out (Ok made)
@@ -105,7 +107,7 @@ table_answered laws out bundle table environments whole known = elim (laws.evalu
   | inr (refusal, (needed, are, told)) ↦ (Err refusal, (needed, are, told), refusal_told out refusal)
 ]
 
-stages_answered : PhaseLaws → (out : Out) (bundle : Bundle Config) (is : List Instruction) (made : Result TableValue Refusal) → HaveEnvironments bundle.images → IsDockerfile is
+stages_answered : PhaseLaws → (out : Out) (bundle : Bundle Config) (is : List Instruction) (made : Result TableValue Rejection) → HaveEnvironments bundle.images → IsDockerfile is
     → resolved (names_in bundle.images) (get bundle.args) bundle.target is ≡ made → IsAnswered out (TableAsks bundle made)
 stages_answered laws out bundle is (Err refusal) environments file e = (Err refusal, refl, refusal_told out refusal)
 stages_answered laws out bundle is (Ok table) environments file e =
@@ -118,7 +120,7 @@ file_answered laws out bundle environments = elim (laws.texts bundle.dockerfile)
       let made = resolved (names_in bundle.images) (get bundle.args) bundle.target read.0 in
       let found = stages_answered laws out bundle read.0 made environments (laws.file bundle.dockerfile read.0 read.1) refl in
       (found.0, inr (read.0, read.1, found.1), found.2)
-  | inr refused ↦ (Err refused.0, inl (refused.0, refused.1, refl), refusal_told out refused.0)
+  | inr refused ↦ (Err (rejection_of refused.0), inl (refused.0, refused.1, refl), refusal_told out (rejection_of refused.0))
 ]
 
 pub has_answer : PhaseLaws → (bytes : List ℕ) (out : Out) → (status : Status) × (text : List ℕ) × Answers bytes out status text
@@ -127,5 +129,5 @@ has_answer laws bytes out = elim (laws.read bytes) [
       let found = file_answered laws out read.0 (have_environments laws bytes read.0 read.1) in
       (found.2.0, found.2.1, record { asked = found.0; asks = inr (read.0, read.1, found.1); tells = found.2.2 })
   | inr refused ↦
-      (Refused, refused_text refused.0, record { asked = Err refused.0; asks = inl (refused.0, refused.1, refl); tells = refl })
+      (Refused, refused_text (rejection_of refused.0), record { asked = Err (rejection_of refused.0); asks = inl (refused.0, refused.1, refl); tells = refl })
 ]

@@ -2,7 +2,7 @@
 use Rattle.std.proofs.Common.{◌≡◌, ℕ, List, Result, Ok, Err, sym, ap, ◌∙◌, subst}
 use Rattle.plain.specs.declared.fault.Fault.{Fault}
 use Rattle.plain.specs.declared.fault.Fault.TheVariants.{Because}
-use Rattle.plain.specs.declared.refusal.Refusal.{Refusal}
+use Rattle.expand.specs.declared.reason.Rejection.{Rejection}
 use Rattle.plans.specs.Plan.{PlanValue, IsPlan, vertex_value}
 use Rattle.plans.specs.Value.{Out, value_of, tree_of}
 use Rattle.imageconfig.specs.declared.config.Config.{Config}
@@ -43,7 +43,7 @@ graph_of_file made plan text is means stands sources draws = record {
   tree = tree_is made plan text means sources draws;
 }
 
-line_shows : (asked : Result Evaluated Refusal) (status : Status) (text : List ℕ) (told : Told)
+line_shows : (asked : Result Evaluated Rejection) (status : Status) (text : List ℕ) (told : Told)
     → Shows asked status text → told.status ≡ status → told.line ≡ line_of text → ShowsAsked asked told
 line_shows asked status text told shows is line = (text, subst (λ s. Shows asked s text) (sym is) shows, line)
 
@@ -68,7 +68,7 @@ bundle_shown bytes made (Err Unspeakable) asks shown = absurd shown
 bundle_shown bytes made (Err Clash) asks clash = record { made = made; asks = asks; plan = clash.0; is = clash.1; means = clash.2; stands = clash.3; clashes = clash.4 }
 
 -- a refusal that is told
-pub refusal_shown : (bytes : List ℕ) (fault : Fault Refusal) (refusal : Refusal) (text : List ℕ) (told : Told) → fault ≡ Because refusal → IsAsked bytes (Err fault)
+pub refusal_shown : (bytes : List ℕ) (fault : Fault Rejection) (refusal : Rejection) (text : List ℕ) (told : Told) → fault ≡ Because refusal → IsAsked bytes (Err fault)
     → text ≡ refused_text refusal → told.status ≡ Refused → told.line ≡ line_of text → IsShown bytes (Ok told)
 refusal_shown bytes fault refusal text told because asked is status line = (
   text,

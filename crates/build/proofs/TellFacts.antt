@@ -3,7 +3,7 @@ use Rattle.std.proofs.Common.{◌≡◌, ℕ, List, Option, Result, Ok, Err, ref
 use Rattle.std.specs.Io.KnownBytes.{Appends}
 use Rattle.plain.specs.declared.fault.Fault.{Fault}
 use Rattle.plain.specs.declared.fault.Fault.TheVariants as edge
-use Rattle.plain.specs.declared.refusal.Refusal.{Refusal}
+use Rattle.expand.specs.declared.reason.Rejection.{Rejection}
 use Rattle.counted.specs.declared.fault.Device.{Device as DeviceFailed}
 use Rattle.counted.specs.Edges.{AppendsBeginning, CountsFault, IsDevice, line_of}
 use Rattle.counted.specs.Gathering.{IsWritten}
@@ -70,10 +70,10 @@ asked_told out made plan told tells is =
     (text_of plan.config is.0, subst (λ s. Tells out (Ok made) s (text_of plan.config is.0)) (sym is.2) (tells is.0 is.1), is.3)
 
 -- what tells what a bundle asks for is an answer to it
-pub bundle_told : (bytes : List ℕ) (out : Out) (asked : Result Evaluated Refusal) (told : Told) → Asks bytes asked → TellsAsked out asked told → TellsBundle bytes out told
+pub bundle_told : (bytes : List ℕ) (out : Out) (asked : Result Evaluated Rejection) (told : Told) → Asks bytes asked → TellsAsked out asked told → TellsBundle bytes out told
 bundle_told bytes out asked told asks tells = (tells.0, record { asked = asked; asks = asks; tells = tells.1 }, tells.2)
 
 -- a refusal that is told
-pub refusal_told : (bytes : List ℕ) (out : Out) (refusal : Refusal) (told : Told) → Asks bytes (Err refusal) → TellsText Refused (refused_text refusal) told → TellsBundle bytes out told
+pub refusal_told : (bytes : List ℕ) (out : Out) (refusal : Rejection) (told : Told) → Asks bytes (Err refusal) → TellsText Refused (refused_text refusal) told → TellsBundle bytes out told
 refusal_told bytes out refusal told asks is =
     bundle_told bytes out (Err refusal) told asks (refused_text refusal, subst (λ s. Tells out (Err refusal) s (refused_text refusal)) (sym is.0) refl, is.1)

@@ -4,6 +4,7 @@ use Rattle.std.specs.FinMap.{get}
 use Rattle.plain.specs.declared.fault.Fault.{Fault}
 use Rattle.plain.specs.declared.fault.Fault.TheVariants.{Because, Memory}
 use Rattle.plain.specs.declared.refusal.Refusal.{Refusal}
+use Rattle.expand.specs.declared.reason.Rejection.{Rejection}
 use Rattle.lines.specs.Text.{AreLines}
 use Rattle.lines.specs.declared.line.Line.{Line}
 use Rattle.instructions.specs.declared.instruction.Instruction.{Instruction}
@@ -31,7 +32,7 @@ unread text (Because refusal) told = told
 unread text Memory told = tt
 
 -- the titles of lines and of the stages that they make are those of the bundle
-pub stages_titled : (bundle : Bundle Config) (lines : List Line) (is : List Instruction) (table : TableValue) (result : Result (Asked × List (Option (List ℕ))) (Fault Refusal))
+pub stages_titled : (bundle : Bundle Config) (lines : List Line) (is : List Instruction) (table : TableValue) (result : Result (Asked × List (Option (List ℕ))) (Fault Rejection))
     → AreLines bundle.dockerfile lines → AreSpelled lines is
     → Resolves (resolved (names_in bundle.images) (get bundle.args) bundle.target is) (Ok table)
     → IfOk result (λ titled. titled.1 ≡ titles_of lines (stage_names is) table.stages) → IfOk result (λ titled. AreTitlesOf bundle titled.1)

@@ -1,6 +1,6 @@
 -- What is drawn of the bytes of a bundle: the graph of what they ask for, as a definition (own, after BuildKit's LLB definition).
 use Rattle.std.specs.Prelude.{◌≡◌, ℕ, List, Result, Ok, Err}
-use Rattle.plain.specs.declared.refusal.Refusal.{Refusal}
+use Rattle.expand.specs.declared.reason.Rejection.{Rejection}
 use Rattle.plans.specs.Plan.{PlanValue, IsPlan}
 use Rattle.plans.specs.Value.{Out, value_of, tree_of}
 use Rattle.imageconfig.specs.declared.config.Config.{Config}
@@ -25,7 +25,7 @@ pub record IsGraphOf (made : Evaluated) (text : List ℕ) : Type 0 where
       → tree_of (value_of out made.sources draws.simple.graph.vertices draws.simple.target) ≡ tree_of_stage (world out made.sources) made.rows made.target
 
 -- An answer of this status and text shows what is asked for: its graph, also where a build of it would fail; or the refusal.
-abbrev pub Shows : Result Evaluated Refusal → Status → List ℕ → Type 0
+abbrev pub Shows : Result Evaluated Rejection → Status → List ℕ → Type 0
 Shows (Ok made) Built text = IsGraphOf made text
 Shows (Ok made) Failed text = ⊥
 Shows (Ok made) Refused text = ⊥
@@ -35,7 +35,7 @@ Shows (Err refusal) Refused text = text ≡ refused_text refusal
 
 -- an answer of this status and text is the graph of a bundle of these bytes, or its refusal
 pub record GraphAnswers (bytes : List ℕ) (status : Status) (text : List ℕ) : Type 0 where
-  pub asked : Result Evaluated Refusal
+  pub asked : Result Evaluated Rejection
   pub asks : Asks bytes asked
   pub shows : Shows asked status text
 

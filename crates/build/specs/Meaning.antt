@@ -4,6 +4,8 @@ use Rattle.std.specs.Prelude.{◌≡◌, ◌⊎◌, ℕ, List, Bool, Result, Ok,
 use Rattle.std.specs.FinMap.{entries, get}
 use Rattle.plain.specs.declared.fault.Fault.TheVariants.{Because}
 use Rattle.plain.specs.declared.refusal.Refusal.{Refusal}
+use Rattle.expand.specs.Reasons.{rejection_of}
+use Rattle.expand.specs.declared.reason.Rejection.{Rejection}
 use Rattle.trees.specs.TreeMap.{TreeMap}
 use Rattle.trees.specs.declared.cause.Cause.{Cause}
 use Rattle.plans.specs.Value.{Out}
@@ -28,21 +30,21 @@ use Rattle.build.specs.declared.status.Status.{Status}
 use Rattle.build.specs.declared.status.Status.TheVariants.{Built, Failed, Refused}
 
 -- what a table of stages asks for, of which those with these marks are needed: what they are evaluated to, or the refusal of the first
--- line of them for which a code is due
-abbrev pub StagesAsk : Bundle Config → List Bool → TableValue → Result Evaluated Refusal → Type 0
+-- line of them that is refused
+abbrev pub StagesAsk : Bundle Config → List Bool → TableValue → Result Evaluated Rejection → Type 0
 StagesAsk bundle needed table (Ok made) =
     (walk : Walk) × (evaluated (get bundle.args) bundle.images needed table ≡ Ok walk) × IsMade bundle.images bundle.context table.target walk made
 StagesAsk bundle needed table (Err refusal) = evaluated (get bundle.args) bundle.images needed table ≡ Err refusal
 
 -- what the stages of a file ask for: they are refused, or those that the target needs are evaluated
-abbrev pub TableAsks : Bundle Config → Result TableValue Refusal → Result Evaluated Refusal → Type 0
+abbrev pub TableAsks : Bundle Config → Result TableValue Rejection → Result Evaluated Rejection → Type 0
 TableAsks bundle (Err refusal) asked = asked ≡ Err refusal
 TableAsks bundle (Ok table) asked = (needed : List Bool) × AreNeeded table.stages table.target needed × StagesAsk bundle needed table asked
 
 -- what a bundle asks for: its Dockerfile's text is refused, or what its instructions' stages ask for
-abbrev pub FileAsks : Bundle Config → Result Evaluated Refusal → Type 0
+abbrev pub FileAsks : Bundle Config → Result Evaluated Rejection → Type 0
 FileAsks bundle asked =
-    ((refusal : Refusal) × IsRefused bundle.dockerfile refusal × (asked ≡ Err refusal))
+    ((refusal : Refusal) × IsRefused bundle.dockerfile refusal × (asked ≡ Err (rejection_of refusal)))
     ⊎ ((is : List Instruction) × AreInstructions bundle.dockerfile is
     × TableAsks bundle (resolved (names_in bundle.images) (get bundle.args) bundle.target is) asked)
 
@@ -50,14 +52,14 @@ FileAsks bundle asked =
 -- target, its configuration, and the trees that are there before the build. Or why they are refused: the least fault by phase, line and
 -- number, the phases being the bundle, its ignore file, the Dockerfile's text, its lines, its instructions, its stages, and the evaluation of
 -- those that are needed (own).
-abbrev pub Asks : List ℕ → Result Evaluated Refusal → Type 0
+abbrev pub Asks : List ℕ → Result Evaluated Rejection → Type 0
 Asks bytes asked =
-    ((refusal : Refusal) × ReadsBundle config_in bytes (Err (Because refusal)) × (asked ≡ Err refusal))
+    ((refusal : Refusal) × ReadsBundle config_in bytes (Err (Because refusal)) × (asked ≡ Err (rejection_of refusal)))
     ⊎ ((bundle : Bundle Config) × ReadsBundle config_in bytes (Ok bundle) × FileAsks bundle asked)
 
 -- An answer of this status and text tells what is asked for: refused, with the refusal; built, with the target's tree and configuration,
 -- only where there is that tree; failed, with the line and the cause of the first instruction that fails, only where there is none.
-abbrev pub Tells : Out → Result Evaluated Refusal → Status → List ℕ → Type 0
+abbrev pub Tells : Out → Result Evaluated Rejection → Status → List ℕ → Type 0
 Tells out (Ok made) Built text =
     (tree : TreeMap) × IsOutcome (world out made.sources) made.rows made.target (Ok tree) × (text ≡ built_text (config_data made.config) (entries tree))
 Tells out (Ok made) Failed text =
@@ -70,6 +72,6 @@ Tells out (Err refusal) Refused text = text ≡ refused_text refusal
 -- An answer of this status and text is one to a bundle of these bytes, under an executor that answers so. There is just one, as the laws
 -- `every_bundle_has_an_answer` and `a_bundle_has_one_answer` say.
 pub record Answers (bytes : List ℕ) (out : Out) (status : Status) (text : List ℕ) : Type 0 where
-  pub asked : Result Evaluated Refusal
+  pub asked : Result Evaluated Rejection
   pub asks : Asks bytes asked
   pub tells : Tells out asked status text

@@ -1,6 +1,6 @@
 -- What the calls answer by which a bundle's graph is told, step by step; want of memory says nothing.
 use Rattle.std.specs.Prelude.{◌≡◌, ℕ, List, Result, Ok, Err}
-use Rattle.plain.specs.declared.refusal.Refusal.{Refusal}
+use Rattle.expand.specs.declared.reason.Rejection.{Rejection}
 use Rattle.plans.specs.Plan.{PlanValue, IsPlan}
 use Rattle.imageconfig.specs.declared.config.Config.{Config}
 use Rattle.evaluation.specs.declared.evaluated.Evaluated.{Evaluated}
@@ -13,7 +13,7 @@ use Rattle.counted.specs.Edges.{line_of}
 use Rattle.build.specs.Graph.{Shows, GraphAnswers, GraphClashes}
 
 -- a line shows what is asked for: it is a text that does, and LF
-abbrev pub ShowsAsked : Result Evaluated Refusal → Told → Type 0
+abbrev pub ShowsAsked : Result Evaluated Rejection → Told → Type 0
 ShowsAsked asked told = (text : List ℕ) × Shows asked told.status text × (told.line ≡ line_of text)
 
 -- the plan of a file's stages clashes

@@ -1,7 +1,7 @@
 -- What is told of a bundle, of what it asks for, and of a plan; and how the telling of it ends.
 use Rattle.std.specs.Prelude.{◌≡◌, ℕ, ◌+◌, List, Option, Result, Ok, Err}
 use Rattle.std.specs.Io.KnownBytes.{Appends}
-use Rattle.plain.specs.declared.refusal.Refusal.{Refusal}
+use Rattle.expand.specs.declared.reason.Rejection.{Rejection}
 use Rattle.counted.specs.Edges.{AppendsBeginning, line_of}
 use Rattle.plans.specs.Plan.{PlanValue, problem_of}
 use Rattle.plans.specs.Value.{Out}
@@ -30,7 +30,7 @@ TellsPlan out plan told =
     (solution : Solution) × IsSolution (problem_of out plan) solution × (told.status ≡ status_of solution) × (told.line ≡ line_of (text_of plan.config solution))
 
 -- a line tells what is asked for: it is a text that does, and LF
-abbrev pub TellsAsked : Out → Result Evaluated Refusal → Told → Type 0
+abbrev pub TellsAsked : Out → Result Evaluated Rejection → Told → Type 0
 TellsAsked out asked told = (text : List ℕ) × Tells out asked told.status text × (told.line ≡ line_of text)
 
 -- a line is an answer to a bundle of these bytes, and LF

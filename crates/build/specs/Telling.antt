@@ -3,7 +3,7 @@ use Rattle.std.specs.Prelude.{◌≡◌, ℕ, List, Result, Ok, Err}
 use Rattle.std.specs.FinMap.{entries}
 use Rattle.plain.specs.declared.fault.Fault.{Fault}
 use Rattle.plain.specs.declared.fault.Fault.TheVariants.{Because, Memory}
-use Rattle.plain.specs.declared.refusal.Refusal.{Refusal}
+use Rattle.expand.specs.declared.reason.Rejection.{Rejection}
 use Rattle.imageconfig.specs.Reading.{config_in}
 use Rattle.imageconfig.specs.Writing.{config_data}
 use Rattle.imageconfig.specs.declared.config.Config.{Config}
@@ -19,7 +19,7 @@ use Rattle.build.specs.declared.asking.Asked.{Asked}
 use Rattle.build.specs.Meaning.{Asks}
 
 -- what a call answers of a bundle's bytes: what they ask for, or their refusal; want of memory says nothing of them
-abbrev pub IsAsked : List ℕ → Result Asked (Fault Refusal) → Type 0
+abbrev pub IsAsked : List ℕ → Result Asked (Fault Rejection) → Type 0
 IsAsked bytes (Ok asked) = Asks bytes (Ok asked.evaluated)
 IsAsked bytes (Err (Because refusal)) = Asks bytes (Err refusal)
 IsAsked bytes (Err Memory) = Unit {0}

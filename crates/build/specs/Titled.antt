@@ -2,7 +2,7 @@
 use Rattle.std.specs.Prelude.{◌≡◌, ℕ, List, Option, Result, Ok, Err}
 use Rattle.std.specs.FinMap.{get}
 use Rattle.plain.specs.declared.fault.Fault.{Fault}
-use Rattle.plain.specs.declared.refusal.Refusal.{Refusal}
+use Rattle.expand.specs.declared.reason.Rejection.{Rejection}
 use Rattle.lines.specs.Text.{AreLines}
 use Rattle.lines.specs.declared.line.Line.{Line}
 use Rattle.instructions.specs.declared.instruction.Instruction.{Instruction}
@@ -21,7 +21,7 @@ use Rattle.build.specs.declared.asking.Asked.{Asked}
 use Rattle.build.specs.declared.titled.Titled.{Titled}
 
 -- what is asked for alone
-abbrev pub asked_in : Result Titled (Fault Refusal) → Result Asked (Fault Refusal)
+abbrev pub asked_in : Result Titled (Fault Rejection) → Result Asked (Fault Rejection)
 asked_in (Ok titled) = Ok titled.asked
 asked_in (Err fault) = Err fault
 

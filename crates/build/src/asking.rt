@@ -5,15 +5,17 @@ ghost use Rattle.stages.specs.Naming.{names_in};
 ghost use Rattle.stages.specs.Resolved.{resolved};
 ghost use Rattle.stages.specs.Table.{NamesKnown};
 ghost use Rattle.build.specs.Lowerable.{IsLowerable};
-ghost use Rattle.build.specs.PrivateAsking.{IsFileAsked, IsTableAsked};
+ghost use Rattle.build.specs.PrivateAsking.{rejection_fault, IsFileAsked, IsTableAsked};
 ghost use Rattle.build.specs.Telling.{IsAsked, HasStoreOf};
 
 use bundle::{Bundle, read_bundle};
 use cachemounts::CacheStore;
 use dockerfile::Dockerfile;
 use evaluation::{Evaluated, evaluate};
+use expand::{Rejection, RejectionFault};
 use imageconfig::Config;
 use lines::LineFault;
+use plain::Fault;
 use stages::StageTable;
 use std::alloc::Global;
 use std::thread::Threads;
@@ -29,10 +31,10 @@ pub struct Asked {
 
 /// What the bytes of a bundle ask for.
 ///
-/// A refusal is told exactly where they are refused: the least by phase, line and number, the phases being the bundle (R20), its ignore file
+/// A refusal is reported exactly if they are refused: the least by phase, line and number, the phases being the bundle (R20), its ignore file
 /// (R19), the Dockerfile's text (R01, R18), its lines (R02, R03, R08, R18), its instructions (R04, R06 to R10, R16 to R18), its stages (R05, R11 to R13,
-/// R18), and the evaluation of those that the target needs (R06, R10, R14 to R18). `Memory` says nothing of them.
-pub fn ask(alloc: Global, rt: &(impl Threads + Sync), bytes: &[u8]) -> Result<Asked, LineFault>
+/// R18, R21), and the evaluation of those that the target needs (R06, R10, R14 to R18, R21). `Memory` says nothing of them.
+pub fn ask(alloc: Global, rt: &(impl Threads + Sync), bytes: &[u8]) -> Result<Asked, RejectionFault>
     ensures asked { IsAsked bytes.now result }
     ensures lowerable { IfOk result (λ asked. IsLowerable asked.evaluated) }
     ensures caches { IfOk result (λ asked. asked.caches.holds ≡ []) }
@@ -40,12 +42,22 @@ pub fn ask(alloc: Global, rt: &(impl Threads + Sync), bytes: &[u8]) -> Result<As
 {
     match read_bundle(alloc, rt, bytes) {
         Ok(bundle) => ask_file(alloc, bundle),
-        Err(fault) => Err(fault),
+        Err(fault) => Err(rejection_fault(fault)),
+    }
+}
+
+/// The fault of what is read before any text is expanded.
+pub(crate) fn rejection_fault(fault: LineFault) -> RejectionFault
+    ensures { result ≡ rejection_fault fault }
+{
+    match fault {
+        Fault::Because(refusal) => Fault::Because(Rejection::of(refusal)),
+        Fault::Memory => Fault::Memory,
     }
 }
 
 /// What a bundle asks for.
-fn ask_file(alloc: Global, bundle: Bundle<Config>) -> Result<Asked, LineFault>
+fn ask_file(alloc: Global, bundle: Bundle<Config>) -> Result<Asked, RejectionFault>
     requires { bundle.caches.holds ≡ [] }
     ensures asked { IsFileAsked bundle result }
     ensures lowerable { IfOk result (λ asked. IsLowerable asked.evaluated) }
@@ -54,12 +66,12 @@ fn ask_file(alloc: Global, bundle: Bundle<Config>) -> Result<Asked, LineFault>
 {
     match Dockerfile::read(alloc, bundle.dockerfile.as_slice()) {
         Ok(file) => ask_stages(alloc, bundle, file),
-        Err(fault) => Err(fault),
+        Err(fault) => Err(rejection_fault(fault)),
     }
 }
 
 /// What the stages of a bundle's Dockerfile ask for.
-fn ask_stages(alloc: Global, bundle: Bundle<Config>, file: Dockerfile) -> Result<Asked, LineFault>
+fn ask_stages(alloc: Global, bundle: Bundle<Config>, file: Dockerfile) -> Result<Asked, RejectionFault>
     requires { bundle.caches.holds ≡ [] }
     ensures asked { IsTableAsked bundle (resolved (names_in bundle.images) (arg_value bundle.args) bundle.target file) result }
     ensures lowerable { IfOk result (λ asked. IsLowerable asked.evaluated) }
@@ -83,7 +95,7 @@ pub(crate) fn ask_table(
     alloc: Global,
     bundle: Bundle<Config>,
     table: StageTable,
-) -> Result<Asked, LineFault>
+) -> Result<Asked, RejectionFault>
     requires idle { bundle.caches.holds ≡ [] }
     requires known { All (NamesKnown (names_in bundle.images)) table.stages }
     ensures asked { IsTableAsked bundle (OkOf table) result }

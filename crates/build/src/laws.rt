@@ -1,6 +1,6 @@
 // The laws of what a bundle means, claimed: each function's contract is one law, and its body names the laws of crates below that it rests on.
 ghost use Rattle.std.specs.Prelude.{◌≡◌, ℕ, List, Result};
-ghost use Rattle.plain.specs.declared.refusal.Refusal.{Refusal};
+ghost use Rattle.expand.specs.declared.reason.Rejection.{Rejection};
 ghost use Rattle.plans.specs.Plan.{PlanValue, IsPlan};
 ghost use Rattle.plans.specs.Value.{Out};
 ghost use Rattle.lowering.specs.Means.{Means, StandsFor};
@@ -18,7 +18,7 @@ use imageconfig::Config;
 
 /// A bundle asks for one thing at most, or has one refusal, and never both: so one that isn't to be refused never is.
 pub fn a_bundle_asks_for_one_thing()
-    ensures { (bytes : List ℕ) (one other : Result Evaluated Refusal) → Asks bytes one → Asks bytes other → one ≡ other }
+    ensures { (bytes : List ℕ) (one other : Result Evaluated Rejection) → Asks bytes one → Asks bytes other → one ≡ other }
 {
     dockerfile::laws::answers_are_unique();
     contexts::laws::a_listing_has_one_context();

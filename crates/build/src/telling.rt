@@ -20,7 +20,8 @@ use cachemounts::CacheStore;
 use counted::{CountedWrite, Gathered, finish, gather, write_all};
 use executor::Executor;
 use imageconfig::Config;
-use plain::{Fault, Memory, Refusal, Text};
+use expand::Rejection;
+use plain::{Fault, Memory, Text};
 use plans::Plan;
 use solver::{Gate, Solution};
 use std::alloc::Global;
@@ -211,7 +212,7 @@ fn tell_failure<W: CountedWrite>(
 /// Tells that a bundle is refused.
 fn tell_refusal<W: CountedWrite>(
     alloc: Global,
-    refusal: Refusal,
+    refusal: Rejection,
     output: &mut W,
 ) -> Result<Status, BuildFault>
     requires writes { W.failures output.old < u64.MAX }

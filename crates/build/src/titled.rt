@@ -14,11 +14,12 @@ ghost use Rattle.build.specs.Telling.{IsAsked};
 ghost use Rattle.build.specs.PrivateTitled.{asked_of};
 ghost use Rattle.build.specs.Titled.{asked_in, AreTitlesOf, HasTitlesOf, HasLeftOut};
 
-use crate::asking::{Asked, ask_table};
+use crate::asking::{Asked, ask_table, rejection_fault};
 use bundle::{Bundle, read_with_left_out};
 use dockerfile::Dockerfile;
+use expand::RejectionFault;
 use imageconfig::Config;
-use lines::{Line, LineFault};
+use lines::Line;
 use paths::Path;
 use plain::{Fault, Items, Memory, Text};
 use stages::{StageTable, stage_names};
@@ -44,7 +45,7 @@ pub fn ask_titled(
     alloc: Global,
     rt: &(impl Threads + Sync),
     bytes: &[u8],
-) -> Result<Titled, LineFault>
+) -> Result<Titled, RejectionFault>
     ensures asked { IsAsked bytes.now (asked_in result) }
     ensures lowerable { IfOk result (λ titled. IsLowerable titled.asked.evaluated) }
     ensures titles { IfOk result (λ titled. HasTitlesOf bytes.now titled.titles) }
@@ -59,12 +60,12 @@ pub fn ask_titled(
             }),
             Err(fault) => Err(fault),
         },
-        Err(fault) => Err(fault),
+        Err(fault) => Err(rejection_fault(fault)),
     }
 }
 
 /// What a bundle asks for, with the titles of its Dockerfile.
-fn titled_file(alloc: Global, bundle: Bundle<Config>) -> Result<(Asked, Items<Option<Text>>), LineFault>
+fn titled_file(alloc: Global, bundle: Bundle<Config>) -> Result<(Asked, Items<Option<Text>>), RejectionFault>
     requires { bundle.caches.holds ≡ [] }
     ensures asked { IsFileAsked bundle (asked_of result) }
     ensures lowerable { IfOk result (λ titled. IsLowerable titled.0.evaluated) }
@@ -72,7 +73,7 @@ fn titled_file(alloc: Global, bundle: Bundle<Config>) -> Result<(Asked, Items<Op
 {
     match Dockerfile::read_with_lines(alloc, bundle.dockerfile.as_slice()) {
         Ok((file, lines)) => titled_stages(alloc, bundle, file, lines.as_slice()),
-        Err(fault) => Err(fault),
+        Err(fault) => Err(rejection_fault(fault)),
     }
 }
 
@@ -82,7 +83,7 @@ fn titled_stages(
     bundle: Bundle<Config>,
     file: Dockerfile,
     lines: &[Line],
-) -> Result<(Asked, Items<Option<Text>>), LineFault>
+) -> Result<(Asked, Items<Option<Text>>), RejectionFault>
     requires idle { bundle.caches.holds ≡ [] }
     requires are { AreLines bundle.dockerfile lines.now }
     requires spelled { AreSpelled lines.now file }
@@ -117,7 +118,7 @@ fn titled_table(
     table: StageTable,
     lines: &[Line],
     names: &[Option<Text>],
-) -> Result<(Asked, Items<Option<Text>>), LineFault>
+) -> Result<(Asked, Items<Option<Text>>), RejectionFault>
     requires idle { bundle.caches.holds ≡ [] }
     requires known { All (NamesKnown (names_in bundle.images)) table.stages }
     ensures asked { IsTableAsked bundle (OkOf table) (asked_of result) }

@@ -169,6 +169,9 @@ left_more all images before taken left name =
     ∙ (left_by (get images name) (get all name) (is_among before name) (bytes_eq name taken) (left name)
     ∙ ap (λ b. if b then None else get all name) (sym (among_push before taken name))))
 
+none_or_some : {X : Type 0} (x : X) → None ≡ Some x → ⊥
+none_or_some x e = cc
+
 some_whole : {X : Type 0} (whole : Option X) (x : X) (among : Bool) → Some x ≡ (if among then None else whole) → whole ≡ Some x
 some_whole whole x true h = absurd (none_or_some x (sym h))
 some_whole whole x false h = sym h

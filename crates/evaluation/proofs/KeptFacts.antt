@@ -32,7 +32,7 @@ use Rattle.stages.specs.Naming.{Reference, mount_reference, references}
 use Rattle.stages.specs.Table.{IsResolved}
 use Rattle.stages.specs.declared.stage.ResolvedInstruction.{ResolvedInstruction}
 use Rattle.actions.specs.Copy.{copy_action, file_sources}
-use Rattle.actions.specs.Run.{is_bind, run_action}
+use Rattle.actions.specs.Run.{is_bind, run_action, run_due}
 use Rattle.evaluation.specs.Images.{ImageNames, with_origin, with_origins}
 use Rattle.evaluation.specs.Instruction.{after, action_in, due, fault, first_of, dir_in}
 use Rattle.evaluation.specs.PrivateNames.{HasNames}

@@ -2,8 +2,8 @@ mod CopyFacts
 mod EnvLaws
 mod FloatFacts
 mod LawFacts
+mod LineFacts
 mod NameFacts
-mod PortFacts
 mod PutFacts
 mod ReadFacts
 mod RowFacts

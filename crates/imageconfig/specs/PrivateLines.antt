@@ -1,8 +1,9 @@
 -- What lines are read as, item by item, and what a change answers.
-use Rattle.std.specs.Prelude.{◌≡◌, ◌++◌, ◌||◌, ℕ, Bool, true, List, [], ◌∷◌, Option, Some, None, Result, Ok, Err, if◌then◌else◌}
+use Rattle.std.specs.Prelude.{◌≡◌, ◌++◌, ◌||◌, ℕ, Bool, true, List, [], Option, Some, None, Result, Ok, Err, if◌then◌else◌}
+use Rattle.std.specs.List.{cons_option}
 use Rattle.plain.specs.declared.fault.Fault.{Fault}
 use Rattle.plain.specs.declared.fault.Fault.TheVariants.{Because, Memory}
-use Rattle.expand.specs.Value.{value}
+use Rattle.expand.specs.Value.{Parts}
 use Rattle.expand.specs.Expanding.{unexpanded, valued, is_valued, is_empty, worse}
 use Rattle.expand.specs.declared.fault.Unexpanded.{Unexpanded}
 use Rattle.expand.specs.declared.reason.Reason.{Reason}
@@ -16,18 +17,37 @@ use Rattle.scopes.specs.Evaluate.{Values}
 use Rattle.imageconfig.specs.declared.config.Config.{Config}
 use Rattle.imageconfig.specs.declared.line.Assigned.{Assigned}
 use Rattle.imageconfig.specs.declared.line.Labelled.{Labelled}
+use Rattle.imageconfig.specs.declared.values.Found.{Found}
 use Rattle.imageconfig.specs.Rows.{Row}
 use Rattle.imageconfig.specs.Steps.{due, fault, changed}
 
--- variables with one more: its row counts if nothing is against a text so far
+-- the row of a name and a value, if both are there
+abbrev pub row_with : Option (List ℕ) → Option (List ℕ) → Option Row
+row_with None value = None
+row_with (Some name) None = None
+row_with (Some name) (Some value) = Some (name, value)
+
+-- the row of a variable, and of a label, if its texts have values
+abbrev pub assigned_row : Values → Assignment → Option Row
+assigned_row before assignment = row_with (Some assignment.name) (valued before assignment.value)
+
+abbrev pub labelled_row : Values → Label → Option Row
+labelled_row before label = row_with (valued before label.key) (valued before label.value)
+
+-- values with that of a word more, if it has one
+pub record IsFound (before : Values) (old : Found) (word : Parts) (new : Found) : Type 0 where
+  pub fault : new.fault ≡ worse old.fault (unexpanded before word)
+  pub values : new.values ≡ old.values ++ cons_option (valued before word) []
+
+-- variables with one more
 pub record IsAssigned (before : Values) (old : Assigned) (assignment : Assignment) (new : Assigned) : Type 0 where
   pub fault : new.fault ≡ worse old.fault (unexpanded before assignment.value)
-  pub rows : new.fault ≡ None → new.rows ≡ old.rows ++ (assignment.name, value before assignment.value) ∷ []
+  pub rows : new.rows ≡ old.rows ++ cons_option (assigned_row before assignment) []
 
--- labels with one more: its row counts if nothing is against a text so far
+-- labels with one more
 pub record IsLabelled (before : Values) (old : Labelled) (label : Label) (new : Labelled) : Type 0 where
   pub fault : new.fault ≡ worse (worse old.fault (unexpanded before label.key)) (unexpanded before label.value)
-  pub rows : new.fault ≡ None → new.rows ≡ old.rows ++ (value before label.key, value before label.value) ∷ []
+  pub rows : new.rows ≡ old.rows ++ cons_option (labelled_row before label) []
   pub has_empty_key : new.has_empty_key ≡ (old.has_empty_key || is_valued is_empty (valued before label.key))
 
 -- the configuration with the words of a SHELL

@@ -13,10 +13,10 @@ ghost use Rattle.scopes.specs.Scope.{value_in, is_environment_name};
 ghost use Rattle.instructions.specs.Command.{words_of};
 ghost use Rattle.imageconfig.specs.Lines.{env_rows, env_due, label_rows, label_fault, label_due, texts_of, words_fault, port_keys, port_due, volume_due, text_due, dir_due};
 ghost use Rattle.imageconfig.specs.Rows.{names_of};
-ghost use Rattle.imageconfig.specs.PrivateLines.{IsAssigned, IsLabelled};
+ghost use Rattle.imageconfig.specs.PrivateLines.{row_with, IsAssigned, IsLabelled};
 
 use crate::ports::{have_bad_port, keys_of};
-use crate::values::{have_empty, is_empty, values_of};
+use crate::values::{Found, have_empty, is_empty, values_of};
 use expand::{Reason, ReasonFault, Unexpanded, Word, expand, expand_next};
 use instructions::{Assignment, Command, Label};
 use paths::Path;
@@ -25,7 +25,17 @@ use scopes::Scope;
 use scopes::laws::names_fit_environments;
 use std::alloc::Global;
 
-/// The rows of an ENV so far, and what is against its texts: if something is, the rows don't count.
+/// The row of a name and a value, if both are there.
+fn row_with(name: Option<Text>, value: Option<Text>) -> Option<(Text, Text)>
+    ensures { result ≡ row_with name value }
+{
+    match (name, value) {
+        (Some(name), Some(value)) => Some((name, value)),
+        _ => None,
+    }
+}
+
+/// The rows of an ENV so far, and what is against its texts.
 #[derive(Drop)]
 pub(crate) struct Assigned {
     rows: Items<(Text, Text)>,
@@ -44,8 +54,8 @@ fn with_assignment(
     let Assigned { mut rows, fault } = line;
     let name = assignment.name.copy(alloc)?;
     let (value, fault) = expand_next(alloc, &assignment.value, before, fault)?;
-    if let Some(value) = value {
-        rows.push((name, value))?;
+    if let Some(row) = row_with(Some(name), value) {
+        rows.push(row)?;
     }
     Ok(Assigned { rows, fault })
 }
@@ -75,7 +85,7 @@ pub(crate) fn env_rows(
     }
 }
 
-/// The rows of a LABEL so far, and what is against its texts: if something is, the rows don't count.
+/// The rows of a LABEL so far, and what is against its texts.
 #[derive(Drop)]
 pub(crate) struct Labelled {
     rows: Items<(Text, Text)>,
@@ -100,8 +110,8 @@ fn with_label(
     let (key, fault) = expand_next(alloc, &label.key, before, fault)?;
     let (value, fault) = expand_next(alloc, &label.value, before, fault)?;
     let has_empty_key = has_empty_key || is_empty(&key);
-    if let (Some(key), Some(value)) = (key, value) {
-        rows.push((key, value))?;
+    if let Some(label) = row_with(key, value) {
+        rows.push(label)?;
     }
     Ok(Labelled {
         rows,
@@ -148,7 +158,7 @@ pub(crate) fn port_keys(
 ) -> Result<Items<Text>, ReasonFault>
     ensures { Evaluates (Some (port_keys (value_in before.now) ports.now)) (port_due (value_in before.now) ports.now) (words_fault (value_in before.now) ports.now) result }
 {
-    let (values, fault) = values_of(alloc, ports, before)?;
+    let Found { values, fault } = values_of(alloc, ports, before)?;
     if have_bad_port(values.as_slice()) {
         return Err(Fault::Because(Reason::Coded(Code::R16)));
     }
@@ -166,7 +176,7 @@ pub(crate) fn volume_texts(
 ) -> Result<Items<Text>, ReasonFault>
     ensures { Evaluates (Some (texts_of (value_in before.now) paths.now)) (volume_due (value_in before.now) paths.now) (words_fault (value_in before.now) paths.now) result }
 {
-    let (values, fault) = values_of(alloc, paths, before)?;
+    let Found { values, fault } = values_of(alloc, paths, before)?;
     if have_empty(values.as_slice()) {
         return Err(Fault::Because(Reason::Coded(Code::R06)));
     }

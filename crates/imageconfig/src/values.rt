@@ -3,6 +3,7 @@ ghost use Rattle.std.specs.List.{list_any};
 ghost use Rattle.expand.specs.Expanding.{is_valued, is_empty};
 ghost use Rattle.scopes.specs.Scope.{value_in};
 ghost use Rattle.imageconfig.specs.Lines.{values_of, words_fault};
+ghost use Rattle.imageconfig.specs.PrivateLines.{IsFound};
 
 use expand::{Unexpanded, Word, expand_next};
 use plain::{Items, Memory, Text};
@@ -10,24 +11,37 @@ use scopes::Scope;
 use std::alloc::Global;
 
 /// The values of those words that have one, and what is against the others.
-pub(crate) fn values_of(
-    alloc: Global,
-    words: &[Word],
-    before: &Scope,
-) -> Result<(Items<Text>, Option<Unexpanded>), Memory>
-    ensures values { IfOk result (λ found. found.0 ≡ values_of (value_in before.now) words.now) }
-    ensures fault { IfOk result (λ found. found.1 ≡ words_fault (value_in before.now) words.now) }
+#[derive(Drop)]
+pub(crate) struct Found {
+    pub(crate) values: Items<Text>,
+    pub(crate) fault: Option<Unexpanded>,
+}
+
+/// Values with that of a word more, if it has one.
+fn with_value(alloc: Global, found: Found, word: &Word, before: &Scope) -> Result<Found, Memory>
+    ensures { IfOk result (λ more. IsFound (value_in before.now) found word.now more) }
 {
-    let mut values = Items::new(alloc);
-    let mut fault = None;
-    for word in words {
-        let (value, so_far) = expand_next(alloc, word, before, fault)?;
-        fault = so_far;
-        if let Some(value) = value {
-            values.push(value)?;
-        }
+    let Found { mut values, fault } = found;
+    let (value, fault) = expand_next(alloc, word, before, fault)?;
+    if let Some(value) = value {
+        values.push(value)?;
     }
-    Ok((values, fault))
+    Ok(Found { values, fault })
+}
+
+/// The values of words.
+pub(crate) fn values_of(alloc: Global, words: &[Word], before: &Scope) -> Result<Found, Memory>
+    ensures values { IfOk result (λ found. found.values ≡ values_of (value_in before.now) words.now) }
+    ensures fault { IfOk result (λ found. found.fault ≡ words_fault (value_in before.now) words.now) }
+{
+    let mut found = Found {
+        values: Items::new(alloc),
+        fault: None,
+    };
+    for word in words {
+        found = with_value(alloc, found, word, before)?;
+    }
+    Ok(found)
 }
 
 /// Whether a value that is there is empty.

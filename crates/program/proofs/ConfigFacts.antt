@@ -1,7 +1,7 @@
 -- What is told of a configuration.
 use Rattle.std.proofs.Common.{◌≡◌, ℕ, List, Result, Ok, Err, sym, subst}
 use Rattle.std.specs.Prelude.{IfOk}
-use Rattle.plain.specs.declared.refusal.Refusal.{Refusal}
+use Rattle.expand.specs.declared.reason.Rejection.{Rejection}
 use Rattle.plain.specs.declared.fault.Fault.{Fault}
 use Rattle.plain.specs.declared.fault.Fault.TheVariants.{Because}
 use Rattle.counted.specs.Edges.{line_of}
@@ -30,7 +30,7 @@ config_told bytes made (Ok told) asked status text = subst (λ s. TellsConfig by
 config_told bytes made (Err memory) asked status text = status
 
 -- the refusal of a bundle
-pub refusal_told : {E : Type 0} (bytes : List ℕ) (fault : Fault Refusal) (refusal : Refusal) (result : Result Told E)
+pub refusal_told : {E : Type 0} (bytes : List ℕ) (fault : Fault Rejection) (refusal : Rejection) (result : Result Told E)
     → fault ≡ Because refusal → IsAsked bytes (Err fault) → IfOk result (λ told. told.status ≡ Refused)
     → IfOk result (λ told. told.text ≡ line_of (refused_text refusal)) → IfOk result (λ told. TellsConfig bytes told.status told.text)
 refusal_told bytes fault refusal (Ok told) because asked status text =

@@ -1,7 +1,9 @@
 -- The first fault of a bundle is the refusal that a build answers.
-use Rattle.std.proofs.Common.{◌≡◌, ◌≢◌, ◌∙◌, inl, inr, ℕ, List, [], ◌∷◌, Option, Result, Ok, Err, refl, sym, ap, subst}
+use Rattle.std.proofs.Common.{◌≡◌, ◌≢◌, ◌∙◌, inl, inr, ℕ, List, [], ◌∷◌, map, Option, Result, Ok, Err, refl, sym, ap, subst}
 use Rattle.std.specs.FinMap.{get}
 use Rattle.plain.specs.declared.refusal.Refusal.{Refusal}
+use Rattle.expand.specs.Reasons.{rejection_of}
+use Rattle.expand.specs.declared.reason.Rejection.{Rejection}
 use Rattle.runs.specs.declared.run.RunOutcome.TheVariants.{Exit}
 use Rattle.plans.specs.Value.{Out}
 use Rattle.instructions.specs.declared.instruction.Instruction.{Instruction}
@@ -24,34 +26,34 @@ pub record TextLaws : Type 0 where
   pub refused : (text : List ℕ) (refusal : Refusal) (faults : List Refusal) → IsRefused text refusal → AreFaults text faults → (more : List Refusal) × (faults ≡ refusal ∷ more)
 
 abbrev pub NamesRefused : Type 0
-NamesRefused = (known : Known) (args : Values) (target : Option (List ℕ)) (is : List Instruction) (refusal : Refusal)
-    → resolved known args target is ≡ Err refusal → (more : List Refusal) × (stage_refusals known args target is ≡ refusal ∷ more)
+NamesRefused = (known : Known) (args : Values) (target : Option (List ℕ)) (is : List Instruction) (refusal : Rejection)
+    → resolved known args target is ≡ Err refusal → (more : List Rejection) × (stage_refusals known args target is ≡ refusal ∷ more)
 
 pub record BundleLaws : Type 0 where
-  pub asks : (bytes : List ℕ) → (asked : Result Evaluated Refusal) × Asks bytes asked
-  pub unique : (bytes : List ℕ) (faults others : List Refusal) → AreFaultsOf bytes faults → AreFaultsOf bytes others → faults ≡ others
+  pub asks : (bytes : List ℕ) → (asked : Result Evaluated Rejection) × Asks bytes asked
+  pub unique : (bytes : List ℕ) (faults others : List Rejection) → AreFaultsOf bytes faults → AreFaultsOf bytes others → faults ≡ others
 
 -- an executor under which each command fails: what a bundle asks for is the same under all
 pub failing : Out
 failing request = Exit 1
 
-same_first : (one other : Refusal) (more others : List Refusal) → one ∷ more ≡ other ∷ others → one ≡ other
+same_first : (one other : Rejection) (more others : List Rejection) → one ∷ more ≡ other ∷ others → one ≡ other
 same_first one other more others same = cc
 
-some_more : (refusal : Refusal) (more : List Refusal) → refusal ∷ more ≢ []
+some_more : (refusal : Rejection) (more : List Rejection) → refusal ∷ more ≢ []
 some_more refusal more e = cc
 
-same_refusal : (asked : Result Evaluated Refusal) (one other : Refusal) → asked ≡ Err one → asked ≡ Err other → one ≡ other
+same_refusal : (asked : Result Evaluated Rejection) (one other : Rejection) → asked ≡ Err one → asked ≡ Err other → one ≡ other
 same_refusal asked one other p q = cc
 
-made_or_refused : (asked : Result Evaluated Refusal) (made : Evaluated) (refusal : Refusal) → asked ≡ Ok made → asked ≡ Err refusal → ⊥
+made_or_refused : (asked : Result Evaluated Rejection) (made : Evaluated) (refusal : Rejection) → asked ≡ Ok made → asked ≡ Err refusal → ⊥
 made_or_refused asked made refusal p q = cc
 
 -- what is refused has a list of faults that begins so
 
-stages_refused : NamesRefused → (bundle : Bundle Config) (is : List Instruction) (refusal : Refusal) (made : Result TableValue Refusal)
+stages_refused : NamesRefused → (bundle : Bundle Config) (is : List Instruction) (refusal : Rejection) (made : Result TableValue Rejection)
     → resolved (names_in bundle.images) (get bundle.args) bundle.target is ≡ made → TableAsks bundle made (Err refusal)
-    → (more : List Refusal) × AreStageFaults bundle.images (get bundle.args) bundle.target is (refusal ∷ more)
+    → (more : List Rejection) × AreStageFaults bundle.images (get bundle.args) bundle.target is (refusal ∷ more)
 stages_refused names bundle is refusal (Err other) led same =
     let due : resolved (names_in bundle.images) (get bundle.args) bundle.target is ≡ Err refusal =
     led ∙ ap Err (sym (same_refusal (Err refusal) refusal other refl same)) in
@@ -59,26 +61,27 @@ stages_refused names bundle is refusal (Err other) led same =
     (found.0, inl (sym found.1, some_more refusal found.0))
 stages_refused names bundle is refusal (Ok table) led asked = ([], inr (table, led, (asked.0, asked.1, sym (ap refusals_in asked.2))))
 
-file_refused : TextLaws → NamesRefused → (bundle : Bundle Config) (refusal : Refusal) → FileAsks bundle (Err refusal)
-    → (more : List Refusal) × AreFileFaults bundle.images (get bundle.args) bundle.target bundle.dockerfile (refusal ∷ more)
+file_refused : TextLaws → NamesRefused → (bundle : Bundle Config) (refusal : Rejection) → FileAsks bundle (Err refusal)
+    → (more : List Rejection) × AreFileFaults bundle.images (get bundle.args) bundle.target bundle.dockerfile (refusal ∷ more)
 file_refused texts names bundle refusal (inl told) =
-    let due : IsRefused bundle.dockerfile refusal = subst (IsRefused bundle.dockerfile) (sym (same_refusal (Err refusal) refusal told.0 refl told.2)) told.1 in
+    let same : refusal ≡ rejection_of told.0 = same_refusal (Err refusal) refusal (rejection_of told.0) refl told.2 in
     let faults = texts.exists bundle.dockerfile in
-    let found = texts.refused bundle.dockerfile refusal faults.0 due faults.1 in
-    (found.0, inl (subst (AreFaults bundle.dockerfile) found.1 faults.1, some_more refusal found.0))
+    let found = texts.refused bundle.dockerfile told.0 faults.0 told.1 faults.1 in
+    let more = map rejection_of found.0 in
+    (more, inl (told.0 ∷ found.0, subst (AreFaults bundle.dockerfile) found.1 faults.1, ap (λ r. r ∷ more) same, some_more refusal more))
 file_refused texts names bundle refusal (inr read) =
     let found = stages_refused names bundle read.0 refusal (resolved (names_in bundle.images) (get bundle.args) bundle.target read.0) refl read.2 in
     (found.0, inr (read.0, read.1, found.1))
 
-pub refused : TextLaws → NamesRefused → (bytes : List ℕ) (refusal : Refusal) → Asks bytes (Err refusal) → (more : List Refusal) × AreFaultsOf bytes (refusal ∷ more)
-refused texts names bytes refusal (inl told) = ([], inl (told.0, told.1, ap (λ r. r ∷ []) (same_refusal (Err refusal) refusal told.0 refl told.2)))
+pub refused : TextLaws → NamesRefused → (bytes : List ℕ) (refusal : Rejection) → Asks bytes (Err refusal) → (more : List Rejection) × AreFaultsOf bytes (refusal ∷ more)
+refused texts names bytes refusal (inl told) = ([], inl (told.0, told.1, ap (λ r. r ∷ []) (same_refusal (Err refusal) refusal (rejection_of told.0) refl told.2)))
 refused texts names bytes refusal (inr read) =
     let found = file_refused texts names read.0 refusal read.2 in
     (found.0, inr (read.0, read.1, found.1))
 
 -- what is accepted has none
 
-stages_accepted : (bundle : Bundle Config) (is : List Instruction) (made : Evaluated) (found : Result TableValue Refusal)
+stages_accepted : (bundle : Bundle Config) (is : List Instruction) (made : Evaluated) (found : Result TableValue Rejection)
     → resolved (names_in bundle.images) (get bundle.args) bundle.target is ≡ found → TableAsks bundle found (Ok made)
     → AreStageFaults bundle.images (get bundle.args) bundle.target is []
 stages_accepted bundle is made (Err refusal) led same = absurd (made_or_refused (Ok made) made refusal refl same)
@@ -86,31 +89,31 @@ stages_accepted bundle is made (Ok table) led asked = inr (table, led, (asked.0,
 
 file_accepted : (bundle : Bundle Config) (made : Evaluated) → FileAsks bundle (Ok made)
     → AreFileFaults bundle.images (get bundle.args) bundle.target bundle.dockerfile []
-file_accepted bundle made (inl told) = absurd (made_or_refused (Ok made) made told.0 refl told.2)
+file_accepted bundle made (inl told) = absurd (made_or_refused (Ok made) made (rejection_of told.0) refl told.2)
 file_accepted bundle made (inr read) =
     inr (read.0, read.1, stages_accepted bundle read.0 made (resolved (names_in bundle.images) (get bundle.args) bundle.target read.0) refl read.2)
 
 pub accepted : (bytes : List ℕ) (made : Evaluated) → Asks bytes (Ok made) → AreFaultsOf bytes []
-accepted bytes made (inl told) = absurd (made_or_refused (Ok made) made told.0 refl told.2)
+accepted bytes made (inl told) = absurd (made_or_refused (Ok made) made (rejection_of told.0) refl told.2)
 accepted bytes made (inr read) = inr (read.0, read.1, file_accepted read.0 made read.2)
 
 -- each bundle asks for something and has one list of faults, so the converses hold
 
-first_asked : TextLaws → NamesRefused → BundleLaws → (bytes : List ℕ) (refusal : Refusal) (more : List Refusal) (asked : Result Evaluated Refusal)
+first_asked : TextLaws → NamesRefused → BundleLaws → (bytes : List ℕ) (refusal : Rejection) (more : List Rejection) (asked : Result Evaluated Rejection)
     → AreFaultsOf bytes (refusal ∷ more) → Asks bytes asked → Asks bytes (Err refusal)
 first_asked texts names bundles bytes refusal more (Ok made) are asks =
     absurd (some_more refusal more (bundles.unique bytes (refusal ∷ more) [] are (accepted bytes made asks)))
 first_asked texts names bundles bytes refusal more (Err other) are asks =
     let found = refused texts names bytes other asks in
     let same = bundles.unique bytes (refusal ∷ more) (other ∷ found.0) are found.1 in
-    subst (λ (r : Refusal). Asks bytes (Err r)) (sym (same_first refusal other more found.0 same)) asks
+    subst (λ (r : Rejection). Asks bytes (Err r)) (sym (same_first refusal other more found.0 same)) asks
 
-pub first : TextLaws → NamesRefused → BundleLaws → (bytes : List ℕ) (refusal : Refusal) (more : List Refusal) → AreFaultsOf bytes (refusal ∷ more) → Asks bytes (Err refusal)
+pub first : TextLaws → NamesRefused → BundleLaws → (bytes : List ℕ) (refusal : Rejection) (more : List Rejection) → AreFaultsOf bytes (refusal ∷ more) → Asks bytes (Err refusal)
 first texts names bundles bytes refusal more are =
     let asks = bundles.asks bytes in
     first_asked texts names bundles bytes refusal more asks.0 are asks.1
 
-made_asked : TextLaws → NamesRefused → BundleLaws → (bytes : List ℕ) (asked : Result Evaluated Refusal) → AreFaultsOf bytes [] → Asks bytes asked
+made_asked : TextLaws → NamesRefused → BundleLaws → (bytes : List ℕ) (asked : Result Evaluated Rejection) → AreFaultsOf bytes [] → Asks bytes asked
     → (made : Evaluated) × Asks bytes (Ok made)
 made_asked texts names bundles bytes (Ok made) are asks = (made, asks)
 made_asked texts names bundles bytes (Err refusal) are asks =

@@ -1,7 +1,7 @@
 -- What BuildKit is told of a bundle.
 use Rattle.std.proofs.Common.{◌≡◌, ℕ, List, Option, Result, Ok, Err, refl, sym, ap, ◌∙◌, subst}
 use Rattle.std.specs.Prelude.{IfOk}
-use Rattle.plain.specs.declared.refusal.Refusal.{Refusal}
+use Rattle.expand.specs.declared.reason.Rejection.{Rejection}
 use Rattle.plain.specs.declared.fault.Fault.{Fault}
 use Rattle.plain.specs.declared.fault.Fault.TheVariants.{Because}
 use Rattle.counted.specs.Edges.{line_of}
@@ -95,7 +95,7 @@ file_told options bytes made beside (Err Clash) asked has is = (made, asked, (be
 file_told options bytes made beside (Err Unspeakable) asked has is = (made, asked, (beside, has, is))
 
 -- the refusal of a bundle
-pub refusal_told : (options : LlbOptions) (bytes : List ℕ) (fault : Fault Refusal) (refusal : Refusal) (told : Told) → fault ≡ Because refusal
+pub refusal_told : (options : LlbOptions) (bytes : List ℕ) (fault : Fault Rejection) (refusal : Rejection) (told : Told) → fault ≡ Because refusal
     → IsAsked bytes (Err fault) → told.status ≡ Refused → told.text ≡ line_of (refused_text refusal) → IsLlbTold options bytes (Ok told)
 refusal_told options bytes fault refusal told because asked status text =
     subst (λ s. TellsLlb options bytes s told.text) (sym status) (refusal, subst (λ f. IsAsked bytes (Err f)) because asked, text)

@@ -1,6 +1,6 @@
 -- What is written of the configuration of a bundle's target, and how that ends (own).
 use Rattle.std.specs.Prelude.{◌≡◌, ℕ, List, Result, Ok, Err}
-use Rattle.plain.specs.declared.refusal.Refusal.{Refusal}
+use Rattle.expand.specs.declared.reason.Rejection.{Rejection}
 use Rattle.counted.specs.Edges.{line_of}
 use Rattle.serde_json.specs.Written.{compact_text}
 use Rattle.imageconfig.specs.Writing.{config_data}
@@ -18,7 +18,7 @@ use Rattle.program.specs.Telling.{TellingEnds, never}
 abbrev pub TellsConfig : List ℕ → Status → List ℕ → Type 0
 TellsConfig bytes Built text = (made : Evaluated) × Asks bytes (Ok made) × (text ≡ line_of (compact_text (config_data made.config)))
 TellsConfig bytes Failed text = ⊥
-TellsConfig bytes Refused text = (refusal : Refusal) × Asks bytes (Err refusal) × (text ≡ line_of (refused_text refusal))
+TellsConfig bytes Refused text = (refusal : Rejection) × Asks bytes (Err refusal) × (text ≡ line_of (refused_text refusal))
 
 -- how writing it ends; it never stops
 abbrev pub ConfigEnds : Devices → Devices → Result Status BuildFault → Type 0

@@ -1,6 +1,6 @@
 -- What is written of a bundle for BuildKit, and how that ends (own; BuildKit's LLB).
 use Rattle.std.specs.Prelude.{◌≡◌, ℕ, List, Result, Ok, Err}
-use Rattle.plain.specs.declared.refusal.Refusal.{Refusal}
+use Rattle.expand.specs.declared.reason.Rejection.{Rejection}
 use Rattle.counted.specs.Edges.{line_of}
 use Rattle.command.specs.declared.task.LlbOptions.{LlbOptions}
 use Rattle.command.specs.declared.task.NetworkName.{NetworkName}
@@ -75,7 +75,7 @@ abbrev pub TellsLlb : LlbOptions → List ℕ → Status → List ℕ → Type 0
 TellsLlb options bytes Built text =
     (made : Evaluated) × Asks bytes (Ok made) × ((beside : Beside) × IsBeside bytes beside × IsDefinitionOf options made beside text)
 TellsLlb options bytes Failed text = ⊥
-TellsLlb options bytes Refused text = (refusal : Refusal) × Asks bytes (Err refusal) × (text ≡ line_of (refused_text refusal))
+TellsLlb options bytes Refused text = (refusal : Rejection) × Asks bytes (Err refusal) × (text ≡ line_of (refused_text refusal))
 
 -- with which fault an obstacle ends it
 abbrev pub fault_of : Obstacle → BuildFault

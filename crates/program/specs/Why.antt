@@ -2,6 +2,7 @@
 use Rattle.std.specs.Prelude.{◌≡◌, ℕ, List, Result, Ok, Err}
 use Rattle.plain.specs.declared.fault.Fault.TheVariants.{Because}
 use Rattle.plain.specs.declared.refusal.Refusal.{Refusal}
+use Rattle.expand.specs.Reasons.{rejection_of}
 use Rattle.counted.specs.Edges.{line_of}
 use Rattle.imageconfig.specs.Reading.{config_in}
 use Rattle.bundle.specs.Answer.{refused_text}
@@ -17,7 +18,7 @@ abbrev pub TellsWhy : List (List ℕ) → List ℕ → Status → List ℕ → T
 TellsWhy paths bytes Built text = TellsReasons config_in bytes paths (Ok text)
 TellsWhy paths bytes Failed text = ⊥
 TellsWhy paths bytes Refused text =
-    (refusal : Refusal) × TellsReasons config_in bytes paths (Err (Because refusal)) × (text ≡ line_of (refused_text refusal))
+    (refusal : Refusal) × TellsReasons config_in bytes paths (Err (Because refusal)) × (text ≡ line_of (refused_text (rejection_of refusal)))
 
 -- how writing it ends; it never stops
 abbrev pub WhyEnds : List (List ℕ) → Devices → Devices → Result Status BuildFault → Type 0

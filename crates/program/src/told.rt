@@ -5,7 +5,8 @@ ghost use Rattle.build.specs.declared.status.Status.TheVariants.{Refused};
 
 use build::Status;
 use bundle::refused_answer;
-use plain::{Bytes, Memory, Refusal};
+use expand::Rejection;
+use plain::{Bytes, Memory};
 use std::alloc::Global;
 
 /// What is written of a bundle: all its bytes, and what they say.
@@ -16,7 +17,7 @@ pub(crate) struct Told {
 }
 
 /// The refusal of a bundle as a line: the answer of a build.
-pub(crate) fn tell_refusal(alloc: Global, refusal: Refusal) -> Result<Told, Memory>
+pub(crate) fn tell_refusal(alloc: Global, refusal: Rejection) -> Result<Told, Memory>
     ensures status { IfOk result (λ told. told.status ≡ Refused) }
     ensures text { IfOk result (λ told. told.text ≡ line_of (refused_text refusal)) }
 {

@@ -8,6 +8,7 @@ ghost use Rattle.program.specs.Why.{TellsWhy, WhyEnds};
 use crate::told::{Told, tell_refusal};
 use build::{BuildFault, Status};
 use counted::{CountedRead, CountedWrite, read_all, write_all};
+use expand::Rejection;
 use imageconfig::Config;
 use plain::limits::MOST_BUNDLE_BYTES;
 use plain::{Fault, Memory, Text};
@@ -74,7 +75,7 @@ fn tell(alloc: Global, bundle: &[u8], paths: &[Text]) -> Result<Told, Memory>
             status: Status::Built,
             text,
         }),
-        Err(Fault::Because(refusal)) => tell_refusal(alloc, refusal),
+        Err(Fault::Because(refusal)) => tell_refusal(alloc, Rejection::of(refusal)),
         Err(Fault::Memory) => Err(Memory),
     }
 }

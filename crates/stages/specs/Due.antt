@@ -23,7 +23,7 @@ use Rattle.stages.specs.Before.{begun, declared_by, stage_names, all_but_last, o
 abbrev pub base_text : List Declaration → Parts → Option (List ℕ)
 base_text scope image = valued (value_in scope) image
 
--- why it has none, if it has none
+-- what is against it
 abbrev pub base_fault : List Declaration → Parts → Option Unexpanded
 base_fault scope image = unexpanded (value_in scope) image
 
@@ -42,15 +42,15 @@ abbrev pub is_taken : Names → Option (List ℕ) → Bool
 is_taken names None = false
 is_taken names (Some name) = is_some (stage_called names name)
 
--- the codes that are due for a FROM with this text, or with this reason why it has none, after stages of these names: R11 if one of them has
--- its stage's name too, R12 if the text leads nowhere, R18 if it is too long, or there are as many stages already as a file may have (own)
+-- the codes that are due for a FROM with this text, or against which this is, after stages of these names: R11 if one of them has its stage's
+-- name too, R12 if the text leads nowhere, R18 if it is too long, or there are as many stages already as a file may have (own)
 abbrev pub base_due : Known → Names → Option (List ℕ) → Option Unexpanded → Option (List ℕ) → Code → Bool
 base_due known names text fault name R11 = is_taken names name
 base_due known names text fault name R12 = is_nowhere known names text
 base_due known names text fault name R18 = is_long fault || nat_le most_stages (length names)
 base_due known names text fault name code = false
 
--- the codes that are due for an ARG before the first FROM, of whose texts one has this reason why it has no value: R18 if one is too long
+-- the codes that are due for an ARG before the first FROM, by what is against the texts that it expands: R18 if one of them is too long
 abbrev pub argument_due : Option Unexpanded → Code → Bool
 argument_due fault R18 = is_long fault
 argument_due fault code = false
@@ -65,7 +65,7 @@ abbrev pub outer_due : Values → List Declaration → Option (List Argument) �
 outer_due args scope None = misplaced_due
 outer_due args scope (Some arguments) = argument_due (arg_fault (value_in scope) args arguments)
 
--- why a text of such an instruction has no value, if one has none
+-- what is against the texts of such an instruction
 abbrev pub outer_fault : Values → List Declaration → Option (List Argument) → Option Unexpanded
 outer_fault args scope None = None
 outer_fault args scope (Some arguments) = arg_fault (value_in scope) args arguments
@@ -81,7 +81,7 @@ abbrev pub other_due : Known → Values → List Declaration → Names → Instr
 other_due known args scope [] kind = outer_due args scope (declared_by kind)
 other_due known args scope (name ∷ names) kind = inner_due known (all_but_last (name ∷ names)) kind
 
--- why a text of such an instruction has no value, if one has none. In a stage it is expanded where the stage is evaluated
+-- what is against the texts of such an instruction. In a stage they are expanded where the stage is evaluated
 abbrev pub other_fault : Values → List Declaration → Names → InstructionKind → Option Unexpanded
 other_fault args scope [] kind = outer_fault args scope (declared_by kind)
 other_fault args scope (name ∷ names) kind = None
@@ -91,7 +91,7 @@ abbrev pub begun_due : Known → Values → List Declaration → Names → Instr
 begun_due known args scope names kind (Some stage) = base_due known names (base_text scope stage.0) (base_fault scope stage.0) stage.1
 begun_due known args scope names kind None = other_due known args scope names kind
 
--- why a text of an instruction has no value, if one has none, which begins this stage or none
+-- what is against the texts of an instruction, which begins this stage or none
 abbrev pub begun_fault : Values → List Declaration → Names → InstructionKind → Option (Parts × Option (List ℕ)) → Option Unexpanded
 begun_fault args scope names kind (Some stage) = base_fault scope stage.0
 begun_fault args scope names kind None = other_fault args scope names kind
@@ -100,7 +100,7 @@ begun_fault args scope names kind None = other_fault args scope names kind
 abbrev pub kind_due : Known → Values → List Declaration → Names → InstructionKind → Code → Bool
 kind_due known args scope names kind = begun_due known args scope names kind (begun kind)
 
--- and why one of its texts has no value, if one has none
+-- and what is against its texts
 abbrev pub kind_fault : Values → List Declaration → Names → InstructionKind → Option Unexpanded
 kind_fault args scope names kind = begun_fault args scope names kind (begun kind)
 
@@ -108,7 +108,7 @@ kind_fault args scope names kind = begun_fault args scope names kind (begun kind
 abbrev pub due_behind : Known → Values → List Instruction → InstructionKind → Code → Bool
 due_behind known args before kind = kind_due known args (outer_scope args before) (stage_names before) kind
 
--- why a text of an instruction after some instructions has no value, if one has none
+-- what is against the texts of an instruction after some instructions
 abbrev pub fault_behind : Values → List Instruction → InstructionKind → Option Unexpanded
 fault_behind args before kind = kind_fault args (outer_scope args before) (stage_names before) kind
 

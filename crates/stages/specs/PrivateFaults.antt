@@ -45,8 +45,8 @@ ReasonTold (Ok made) found = found ≡ None
 ReasonTold (Err (Because reason)) found = found ≡ Some reason
 ReasonTold (Err Memory) found = ⊥
 
--- what judging an instruction answers, for which these codes are due and of whose texts one has this reason why it has no value: the least
--- reason to refuse it, and the scope as it was; or none, and the scope that is made
+-- what judging an instruction answers, for which these codes are due and against whose texts this is: the least reason to refuse it, and the
+-- scope as it was; or none, and the scope that is made
 abbrev pub Judges : (Code → Bool) → Option Unexpanded → List Declaration → List Declaration → List Declaration → Option Reason → Type 0
 Judges due fault made old new None = (reason due fault ≡ None) × (new ≡ made)
 Judges due fault made old new (Some why) = (reason due fault ≡ Some why) × (new ≡ old)

@@ -5,4 +5,4 @@ use Rattle.build.proofs.asking.ask_file.Goals as goal
 
 pub returns-in-Err-clause-asked : goal.returns-in-Err-clause-asked
 returns-in-Err-clause-asked c =
-    text_refused c.args.bundle c.in-Err.fault (subst (λ text. IsRead text (Err c.in-Err.fault)) c.as_slice.ensures c.in-Err.ensures)
+    text_refused c.args.bundle c.in-Err.fault _ (subst (λ text. IsRead text (Err c.in-Err.fault)) c.as_slice.ensures c.in-Err.ensures) c.rejection_fault.ensures

@@ -5,4 +5,4 @@ pub returns-in-Ok : goal.returns-in-Ok
 returns-in-Ok c = stepped_put _ _ _ _ _ _ _ _ c.in-Ok.done _ c.in-Ok.ensures c.advance_unless_many.ensures
 
 pub returns-in-Err : goal.returns-in-Err
-returns-in-Err c = stepped_told _ _ _ _ _ _ _ _ c.in-Err.fault _ c.in-Err.ensures c.fault_with.ensures
+returns-in-Err c = stepped_told _ _ _ _ _ _ _ _ c.in-Err.fault _ c.in-Err.ensures c.fault_with-fault.ensures

@@ -1,7 +1,7 @@
 use Rattle.std.proofs.Common.{◌≡◌, sym, subst}
 use Rattle.std.specs.Prelude.{Result}
 use Rattle.plain.specs.declared.fault.Fault.{Fault}
-use Rattle.plain.specs.declared.refusal.Code.{Code}
+use Rattle.expand.specs.declared.reason.Reason.{Reason}
 use Rattle.instructions.specs.declared.instruction.InstructionKind.{InstructionKind}
 use Rattle.scopes.specs.Evaluate.{Values}
 use Rattle.scopes.specs.Scope.{value_in}
@@ -10,8 +10,8 @@ use Rattle.imageconfig.specs.PrivateLines.{IsChanged}
 use Rattle.imageconfig.proofs.changing.change.Goals as goal
 
 -- a change by what the instruction is
-by_kind : (kind spelled : InstructionKind) (old new : Config) (v : Values) (told : Result (Unit {0}) (Fault Code)) → kind ≡ spelled → IsChanged old v spelled new told → IsChanged old v kind new told
-by_kind kind spelled old new v told same h = subst (λ (k : InstructionKind). IsChanged old v k new told) (sym same) h
+by_kind : (kind spelled : InstructionKind) (old new : Config) (v : Values) (answer : Result (Unit {0}) (Fault Reason)) → kind ≡ spelled → IsChanged old v spelled new answer → IsChanged old v kind new answer
+by_kind kind spelled old new v answer same h = subst (λ (k : InstructionKind). IsChanged old v k new answer) (sym same) h
 
 pub returns-in-Env : goal.returns-in-Env
 returns-in-Env c = by_kind _ _ _ c.set_env.new.config (value_in c.args.before.now) _ c.in-Env.is c.set_env.ensures
