@@ -270,9 +270,10 @@ fn run_drawing<R: CountedRead, W: CountedWrite>(
         result }
     ensures taken { LosesBeginning (most_bundle_bytes + 1) (R.remaining input.old) (R.remaining input.new) }
 {
-    match dot {
-        true => run_dot(alloc, rt, input, output),
-        false => run_graph(alloc, rt, input, output),
+    if dot {
+        run_dot(alloc, rt, input, output)
+    } else {
+        run_graph(alloc, rt, input, output)
     }
 }
 

@@ -5,6 +5,7 @@ ghost use Rattle.plain.specs.Limits.{most_bundle_bytes};
 ghost use Rattle.build.specs.Ends.{devices};
 ghost use Rattle.build.specs.Lowerable.{IsLowerable};
 ghost use Rattle.build.specs.declared.status.Status.TheVariants.{Built};
+ghost use Rattle.dot.specs.Drawn.{drawing};
 ghost use Rattle.program.specs.Dot.{DotEnds, IsPictureOf, TellsDot};
 
 use crate::exporting::drawn_plan;
@@ -13,8 +14,10 @@ use build::{Asked, BuildFault, Status, Titled, ask_titled};
 use counted::{CountedRead, CountedWrite, read_all, write_all};
 use dot::write;
 use evaluation::Evaluated;
+use imageconfig::Config;
 use plain::limits::MOST_BUNDLE_BYTES;
 use plain::{Bytes, Fault, Memory, Text};
+use plans::Plan;
 use std::alloc::Global;
 use std::thread::Threads;
 
@@ -102,11 +105,21 @@ fn tell_picture(
     ensures text { IfOk result (λ told. IsPictureOf evaluated titles.now told.text) }
 {
     let plan = drawn_plan(alloc, evaluated)?;
-    let written = write(alloc, &plan, titles);
+    let told = tell_plan(alloc, &plan, titles);
     drop(plan);
-    let text = written?.into_string(alloc)?;
-    Ok(Told {
-        status: Status::Built,
-        text: Bytes::from_vec(text.into_bytes()),
-    })
+    match told {
+        Ok(text) => Ok(Told {
+            status: Status::Built,
+            text,
+        }),
+        Err(memory) => Err(memory),
+    }
+}
+
+/// A plan, whose lines have these titles, in the DOT language.
+fn tell_plan(alloc: Global, plan: &Plan<Config>, titles: &[Option<Text>]) -> Result<Bytes, Memory>
+    ensures { IfOk result (λ text. text ≡ drawing titles.now plan.now.graph plan.now.target) }
+{
+    let text = write(alloc, plan, titles)?;
+    Ok(Bytes::from_vec(text.into_string(alloc)?.into_bytes()))
 }
