@@ -189,6 +189,6 @@ copy_is_action scope dir sources destination flags origin whole none =
     let due = four_none (copy_due scope dir sources destination R06) (copy_due scope dir sources destination R14) (copy_due scope dir sources destination R15) (copy_due scope dir sources destination R18) unrefused.0 in
     let r18 = neither (is_long fault) (list_any has_far_name sources || is_valued (leads_far dir) (valued (value_in scope) destination)) due.1 in
     let patterns : worst (map (pattern_fault (value_in scope)) sources) ≡ None =
-        worse_none-left (worst (map (pattern_fault (value_in scope)) sources)) (worse (unexpanded (value_in scope) destination) (worst (map (document_fault (value_in scope)) sources))) (no_fault fault r18.0 unrefused.1) in
+    worse_none-left (worst (map (pattern_fault (value_in scope)) sources)) (worse (unexpanded (value_in scope) destination) (worst (map (document_fault (value_in scope)) sources))) (no_fault fault r18.0 unrefused.1) in
     both_hold (length (listed (origin_for files origin)) + 1 == inputs_of_copy (copied dir files (value (value_in scope) destination) flags)) _ (inputs_by (list_any is_pattern files) origin)
     (both_hold (not (length files == 0)) _ (some_sources (value_in scope) sources whole.0) (sources_are (value_in scope) sources due.0 patterns))

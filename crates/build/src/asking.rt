@@ -71,7 +71,11 @@ fn ask_file(alloc: Global, bundle: Bundle<Config>) -> Result<Asked, RejectionFau
 }
 
 /// What the stages of a bundle's Dockerfile ask for.
-fn ask_stages(alloc: Global, bundle: Bundle<Config>, file: Dockerfile) -> Result<Asked, RejectionFault>
+fn ask_stages(
+    alloc: Global,
+    bundle: Bundle<Config>,
+    file: Dockerfile,
+) -> Result<Asked, RejectionFault>
     requires { bundle.caches.holds ≡ [] }
     ensures asked { IsTableAsked bundle (resolved (names_in bundle.images) (arg_value bundle.args) bundle.target file) result }
     ensures lowerable { IfOk result (λ asked. IsLowerable asked.evaluated) }

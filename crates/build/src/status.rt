@@ -40,7 +40,10 @@ impl fmt::Display for BuildFault {
             BuildFault::Device => write!(f, "device failed"),
             BuildFault::Clash => write!(f, "address clash"),
             BuildFault::Unspeakable => {
-                write!(f, "a path that the ignore file leaves out isn't printable ASCII")
+                write!(
+                    f,
+                    "a path that the ignore file leaves out isn't printable ASCII"
+                )
             }
         }
     }

@@ -65,7 +65,10 @@ pub fn ask_titled(
 }
 
 /// What a bundle asks for, with the titles of its Dockerfile.
-fn titled_file(alloc: Global, bundle: Bundle<Config>) -> Result<(Asked, Items<Option<Text>>), RejectionFault>
+fn titled_file(
+    alloc: Global,
+    bundle: Bundle<Config>,
+) -> Result<(Asked, Items<Option<Text>>), RejectionFault>
     requires { bundle.caches.holds ≡ [] }
     ensures asked { IsFileAsked bundle (asked_of result) }
     ensures lowerable { IfOk result (λ titled. IsLowerable titled.0.evaluated) }

@@ -1,9 +1,9 @@
 -- What a bundle's bytes hold, with what its ignore file leaves out.
-use Rattle.std.proofs.Common.{◌≡◌, ◌∙◌, ℕ, List, Option, Some, None, Ok, Err, Result, sym, subst, refl, inl}
+use Rattle.std.proofs.Common.{◌≡◌, ◌∙◌, ℕ, List, Option, Some, None, Ok, Err, Result, sym, subst, inl}
 use Rattle.std.proofs.lemmas.Option.{same_Some}
 use Rattle.serde_json.specs.Data.{Data}
 use Rattle.plain.specs.declared.fault.Fault.{Fault}
-use Rattle.plain.specs.declared.fault.Fault.TheVariants.{Because, Memory}
+use Rattle.plain.specs.declared.fault.Fault.TheVariants.{Because}
 use Rattle.plain.specs.declared.refusal.Refusal.{Refusal}
 use Rattle.plain.specs.declared.refusal.Code.TheVariants.{R20}
 use Rattle.contexts.specs.Left.{AreLeftOut as AreLacked}

@@ -116,7 +116,11 @@ fn set_variables(
 }
 
 /// An instruction that changes the configuration alone.
-fn configure(alloc: Global, state: State, instruction: &Instruction) -> Result<State, RejectionFault>
+fn configure(
+    alloc: Global,
+    state: State,
+    instruction: &Instruction,
+) -> Result<State, RejectionFault>
     requires { IsInstruction instruction.now.kind }
     ensures { EvaluatesTo (configured state instruction.now.kind) (config_due (value_in state.scope) state.config instruction.now.kind) (config_fault (value_in state.scope) instruction.now.kind) instruction.now.line result }
 {

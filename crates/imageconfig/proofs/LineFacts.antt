@@ -1,8 +1,8 @@
 -- The loops along the items of a line: what is found of their texts, and what is against the others.
-use Rattle.std.specs.Prelude.{◌≡◌, ◌<◌, ◌+◌, ◌++◌, ◌||◌, ℕ, Bool, true, false, List, [], ◌∷◌, map, Option, Some, None, length, refl}
+use Rattle.std.specs.Prelude.{◌≡◌, ◌<◌, ◌≤◌, ◌+◌, ◌++◌, ◌||◌, ℕ, Bool, true, false, List, [], ◌∷◌, map, Option, Some, None, length, refl}
 use Rattle.std.specs.List.{list_any, filter_map, cons_option}
 use Rattle.std.proofs.Common.{get_or, drop, ap, ap₂, sym, ◌∙◌, append_assoc, append-nil}
-use Rattle.std.proofs.lemmas.List.{at_drop_more}
+use Rattle.std.proofs.lemmas.List.{at_drop_more, at_drop_all}
 use Rattle.expand.specs.Value.{Parts, value}
 use Rattle.expand.specs.Expanding.{unexpanded, valued, is_valued, is_empty, worse, worst}
 use Rattle.expand.specs.declared.fault.Unexpanded.{Unexpanded}
@@ -37,9 +37,9 @@ pub so_far-more : {X Y : Type 0} (fault : X → Option Unexpanded) (made : X →
     → next ≡ worse so_far (fault x) → new ≡ found ++ cons_option (made x) [] → IsSoFar fault made all (drop i all) so_far found → IsSoFar fault made all (drop (i + 1) all) next new
 so_far-more {X} {Y} fault made all i x so_far next found new lt is f e g =
     let faults : worst (map fault (drop i all)) ≡ worse (fault x) (worst (map fault (drop (i + 1) all))) =
-        at_drop_more (λ (xs : List X). worst (map fault xs)) all i x lt ∙ ap (λ (u : X). worse (fault u) (worst (map fault (drop (i + 1) all)))) (sym is) in
+    at_drop_more (λ (xs : List X). worst (map fault xs)) all i x lt ∙ ap (λ (u : X). worse (fault u) (worst (map fault (drop (i + 1) all)))) (sym is) in
     let items : filter_map made (drop i all) ≡ cons_option (made x) (filter_map made (drop (i + 1) all)) =
-        at_drop_more (λ (xs : List X). filter_map made xs) all i x lt ∙ ap (λ (u : X). cons_option (made u) (filter_map made (drop (i + 1) all))) (sym is) in
+    at_drop_more (λ (xs : List X). filter_map made xs) all i x lt ∙ ap (λ (u : X). cons_option (made u) (filter_map made (drop (i + 1) all))) (sym is) in
     record {
       faults = ap (λ t. worse t (worst (map fault (drop (i + 1) all)))) f ∙ worse-assoc so_far (fault x) (worst (map fault (drop (i + 1) all))) ∙ ap (worse so_far) (sym faults) ∙ g.faults;
       items = ap (λ (ys : List Y). ys ++ filter_map made (drop (i + 1) all)) e ∙ append_assoc found (cons_option (made x) []) (filter_map made (drop (i + 1) all))
@@ -57,6 +57,11 @@ so_far-ended {X} {Y} fault made all rest so_far found e g = record {
   faults = sym (worse-none so_far) ∙ ap (λ (xs : List X). worse so_far (worst (map fault xs))) (sym e) ∙ g.faults;
   items = sym (append-nil found) ∙ ap (λ (xs : List X). found ++ filter_map made xs) (sym e) ∙ g.items;
 }
+
+-- the same at the end of the list
+pub so_far-done : {X Y : Type 0} (fault : X → Option Unexpanded) (made : X → Option Y) (all : List X) (i : ℕ) (so_far : Option Unexpanded) (found : List Y) → length all ≤ i → IsSoFar fault made all (drop i all) so_far found
+    → AreFound fault made all so_far found
+so_far-done {X} fault made all i so_far found h g = so_far-ended fault made all (drop i all) so_far found (at_drop_all (λ (xs : List X). xs) all i h) g
 
 -- if nothing is against the items, each gives what it says
 pub all_given : {X Y : Type 0} (fault : X → Option Unexpanded) (made : X → Option Y) (said : X → Y) → ((x : X) → fault x ≡ None → made x ≡ Some (said x)) → (all : List X) → worst (map fault all) ≡ None
@@ -117,7 +122,7 @@ pub labelled-more : (before : Values) (all : List Label) (i : ℕ) (label : Labe
 labelled-more before all i label line new lt is h g =
     let key : Bool = is_valued is_empty (valued before label.key) in
     let keys : has_empty_key before (drop i all) ≡ (is_valued is_empty (valued before label.key) || has_empty_key before (drop (i + 1) all)) =
-        at_drop_more (has_empty_key before) all i label lt ∙ ap (λ (l : Label). is_valued is_empty (valued before l.key) || has_empty_key before (drop (i + 1) all)) (sym is) in
+    at_drop_more (has_empty_key before) all i label lt ∙ ap (λ (l : Label). is_valued is_empty (valued before l.key) || has_empty_key before (drop (i + 1) all)) (sym is) in
     record {
       items = so_far-more (labelled_fault before) (labelled_row before) all i label line.fault new.fault line.rows new.rows lt is
           (h.fault ∙ worse-assoc line.fault (unexpanded before label.key) (unexpanded before label.value)) h.rows g.items;
@@ -134,9 +139,10 @@ pub record AreLabelled (before : Values) (all : List Label) (line : Labelled) : 
   pub rows : line.rows ≡ filter_map (labelled_row before) all
   pub keys : line.has_empty_key ≡ has_empty_key before all
 
-pub labelled-ended : (before : Values) (all rest : List Label) (line : Labelled) → rest ≡ [] → IsLabelledSoFar before all rest line → AreLabelled before all line
-labelled-ended before all rest line e g =
-    let found : AreFound (labelled_fault before) (labelled_row before) all line.fault line.rows = so_far-ended (labelled_fault before) (labelled_row before) all rest line.fault line.rows e g.items in
+pub labelled-done : (before : Values) (all : List Label) (i : ℕ) (line : Labelled) → length all ≤ i → IsLabelledSoFar before all (drop i all) line → AreLabelled before all line
+labelled-done before all i line h g =
+    let e : drop i all ≡ [] = at_drop_all (λ (labels : List Label). labels) all i h in
+    let found : AreFound (labelled_fault before) (labelled_row before) all line.fault line.rows = so_far-ended (labelled_fault before) (labelled_row before) all (drop i all) line.fault line.rows e g.items in
     record {
       fault = found.faults;
       rows = found.items;

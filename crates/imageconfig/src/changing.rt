@@ -104,7 +104,12 @@ fn set_user(
 }
 
 /// A WORKDIR, against the working directory before the line.
-fn set_dir(alloc: Global, config: &mut Config, path: &Word, before: &Scope) -> Result<(), ReasonFault>
+fn set_dir(
+    alloc: Global,
+    config: &mut Config,
+    path: &Word,
+    before: &Scope,
+) -> Result<(), ReasonFault>
     ensures { IsChanged config.old (value_in before.now) (spelled.Workdir path.now) config.new result }
 {
     let path = path_from(alloc, path, &config.working_dir, before)?;

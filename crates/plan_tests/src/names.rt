@@ -35,10 +35,14 @@ fn resolved(alloc: Global, text: &str, target: &str) -> Result<StageTable, Rejec
 fn refusal_of(alloc: Global, text: &str, target: &str) -> Result<Option<(Code, u32)>, Fail> {
     match resolved(alloc, text, target) {
         Ok(_) => Ok(None),
-        Err(Fault::Because(Rejection {
-            reason: Reason::Coded(code),
-            line,
-        })) => Ok(Some((code, line))),
+        Err(
+            Fault::Because(
+                Rejection {
+                    reason: Reason::Coded(code),
+                    line,
+                },
+            ),
+        ) => Ok(Some((code, line))),
         Err(Fault::Because(_)) => Err(Fail::from("R21")),
         Err(Fault::Memory) => Err(Fail::from("no memory")),
     }

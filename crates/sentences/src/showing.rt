@@ -110,12 +110,7 @@ fn shown_coded(
 /// with, as it stands.
 ///
 /// The second of them is left out if the refusal is about no line, having number 0.
-pub fn shown(
-    alloc: Global,
-    file: &str,
-    refusal: &Rejection,
-    line: &str,
-) -> Result<String, Memory>
+pub fn shown(alloc: Global, file: &str, refusal: &Rejection, line: &str) -> Result<String, Memory>
     ensures { IfOk result (λ text. string_bytes text ≡ shown file.now refusal.now line.now) }
 {
     match &refusal.reason {

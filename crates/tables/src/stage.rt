@@ -92,9 +92,9 @@ impl Stage {
         match kind {
             InstructionKind::From { .. } => Ok(self.begin(alloc)?),
             InstructionKind::Arg { arguments } => {
-                let told =
-                    self.scope
-                        .declare(alloc, arguments.as_slice(), &self.args, &self.outer);
+                let told = self
+                    .scope
+                    .declare(alloc, arguments.as_slice(), &self.args, &self.outer);
                 evaluated(told)
             }
             InstructionKind::Env { assignments } => {

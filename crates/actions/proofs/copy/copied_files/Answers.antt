@@ -20,10 +20,11 @@ returns-in-Some-fault c =
 pub returns : goal.returns
 returns c =
     let nothing : found_fault c.args.at.now.scope.now c.args.at.now.dir.now c.args.sources c.args.destination.now ≡ None =
-        sym (fault_is c.args.at.now.scope.now c.args.at.now.dir.now c.args.sources c.args.destination.now c.in_ok-files.ensures.patterns c.in_ok-files.ensures.documents c.in_ok-text.ensures.value c.in_ok-text.ensures.fault c.joined.ensures c.in_ok-reached.ensures.fault) ∙ c.in_default-fault.is in
-    (files_are c.args.at.now.scope.now c.args.at.now.dir.now c.args.sources c.args.destination.now c.args.flags.now c.in_ok-files.field-0.files c.unwrap-dest.result
-        (all_given c.args.at.now.scope.now c.args.at.now.dir.now c.args.sources c.args.destination.now nothing) c.in_ok-files.ensures.files c.in_ok-text.ensures.value c.in_ok-reached.ensures.reached c.unwrap-dest.ensures,
-    copy_reason c.args.at.now.scope.now c.args.at.now.dir.now c.args.sources c.args.destination.now
-    ∙ ap₂ reported
-    (sym (code_is c.args.at.now.scope.now c.args.sources c.args.destination.now (c.as_slice.ensures ∙ c.in_ok-files.ensures.files) c.len-count.ensures c.in_ok-text.ensures.value c.in_ok-code.ensures) ∙ c.in_default.is)
-    nothing)
+    sym (fault_is c.args.at.now.scope.now c.args.at.now.dir.now c.args.sources c.args.destination.now c.in_ok-files.ensures.patterns c.in_ok-files.ensures.documents c.in_ok-text.ensures.value c.in_ok-text.ensures.fault c.joined.ensures c.in_ok-reached.ensures.fault) ∙ c.in_default-fault.is in (
+      files_are c.args.at.now.scope.now c.args.at.now.dir.now c.args.sources c.args.destination.now c.args.flags.now c.in_ok-files.field-0.files c.unwrap-dest.result
+          (all_given c.args.at.now.scope.now c.args.at.now.dir.now c.args.sources c.args.destination.now nothing) c.in_ok-files.ensures.files c.in_ok-text.ensures.value c.in_ok-reached.ensures.reached c.unwrap-dest.ensures,
+      copy_reason c.args.at.now.scope.now c.args.at.now.dir.now c.args.sources c.args.destination.now
+          ∙ ap₂ reported
+          (sym (code_is c.args.at.now.scope.now c.args.sources c.args.destination.now (c.as_slice.ensures ∙ c.in_ok-files.ensures.files) c.len-count.ensures c.in_ok-text.ensures.value c.in_ok-code.ensures) ∙ c.in_default.is)
+          nothing,
+    )
