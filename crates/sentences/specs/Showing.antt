@@ -28,13 +28,11 @@ shown_line file code number line =
 abbrev pub shown_whole : List ℕ → Code → List ℕ
 shown_whole file code = headed file code (sentence code (subject_of [])) (codes "     | " ++ (remedy code (subject_of []) ++ codes "\n"))
 
--- where a fault by R21 is, what is wrong and the text that the line is refused with, and then a text
-abbrev pub headed_required : List ℕ → List ℕ → List ℕ → List ℕ → List ℕ
-headed_required place wrong text rest = place ++ (codes ": R21: " ++ (wrong ++ (codes ": " ++ (text ++ (codes "\n" ++ rest)))))
-
--- a line of the file of this name in which a variable is required, the line having this number
+-- a line of the file of this name in which a variable is required: the line's number is shown, and what is wrong ends with the text that it is
+-- refused with
 abbrev pub shown_required : List ℕ → List ℕ → List ℕ → List ℕ → List ℕ
-shown_required file text number line = headed_required (file ++ (codes ":" ++ number)) required_sentence text (cited number line required_remedy)
+shown_required file text number line =
+    file ++ (codes ":" ++ (number ++ (codes ": R21: " ++ (required_sentence ++ (codes ": " ++ (text ++ (codes "\n" ++ cited number line required_remedy)))))))
 
 -- what is shown of a refusal by a code alone: with the line of its number, which is given, but not if the number is 0
 abbrev pub shown_coded : List ℕ → Code → ℕ → List ℕ → List ℕ

@@ -233,8 +233,8 @@ remedy R19 subject = codes "mend this line of .dockerignore"
 remedy R20 subject = codes "make it by dfsolve pack, or see what a bundle is in docs/FORMATS.md"
 
 -- what is wrong if a variable that is required doesn't pass its test (R21), before the text that the line is refused with, and what helps (own)
-unfoldable pub required_sentence : List ℕ
+abbrev pub required_sentence : List ℕ
 required_sentence = codes "a required variable is unset or empty"
 
-unfoldable pub required_remedy : List ℕ
+abbrev pub required_remedy : List ℕ
 required_remedy = codes "give it a value above, by ENV or ARG, or by a build argument that an ARG takes"

@@ -1,6 +1,6 @@
 ghost use Rattle.std.specs.Prelude.{◌≡◌, IfOk};
 ghost use Rattle.std.specs.String.{string_bytes};
-ghost use Rattle.sentences.specs.Showing.{cited, headed, shown_line, shown_whole, headed_required, shown_required, shown_coded, shown};
+ghost use Rattle.sentences.specs.Showing.{cited, headed, shown_line, shown_whole, shown_required, shown_coded, shown};
 
 use crate::table::{required_remedy, required_sentence};
 use crate::{Subject, remedy, sentence};
@@ -54,19 +54,6 @@ fn shown_whole(alloc: Global, file: &str, code: Code) -> Result<String, Memory>
     headed(alloc, file, code, sentence(code, subject), rest.as_str())
 }
 
-/// Where a fault by R21 is, what is wrong and the text that the line is refused with, and then a text.
-fn headed_required(
-    alloc: Global,
-    place: &str,
-    wrong: &str,
-    text: &str,
-    rest: &str,
-) -> Result<String, Memory>
-    ensures { IfOk result (λ shown. string_bytes shown ≡ headed_required place.now wrong.now text.now rest.now) }
-{
-    Ok(format!(in alloc; "{place}: R21: {wrong}: {text}\n{rest}")?)
-}
-
 /// What is shown of a line in which a variable is required, with the line's number written out.
 fn shown_required(
     alloc: Global,
@@ -77,15 +64,9 @@ fn shown_required(
 ) -> Result<String, Memory>
     ensures { IfOk result (λ shown. string_bytes shown ≡ shown_required file.now text.now number.now line.now) }
 {
-    let place = format!(in alloc; "{file}:{number}")?;
+    let wrong = required_sentence();
     let rest = cited(alloc, number, line, required_remedy())?;
-    headed_required(
-        alloc,
-        place.as_str(),
-        required_sentence(),
-        text,
-        rest.as_str(),
-    )
+    Ok(format!(in alloc; "{file}:{number}: R21: {wrong}: {text}\n{rest}")?)
 }
 
 /// What is shown of a refusal by a code alone.

@@ -300,7 +300,6 @@ pub fn remedy(code: Code, subject: Subject) -> &'static str
 }
 
 /// What is wrong if a variable that is required doesn't pass its test (R21), before the text that the line is refused with.
-#[tactic(auto, unfolding(crate::specs::Table::required_sentence))]
 pub(crate) fn required_sentence() -> &'static str
     ensures { result.now ≡ required_sentence }
 {
@@ -308,7 +307,6 @@ pub(crate) fn required_sentence() -> &'static str
 }
 
 /// What helps against it.
-#[tactic(auto, unfolding(crate::specs::Table::required_remedy))]
 pub(crate) fn required_remedy() -> &'static str
     ensures { result.now ≡ required_remedy }
 {
