@@ -30,12 +30,7 @@ pub fn shown_faults(
 }
 
 /// The same of a text that is UTF-8. The lines are listed only if there are several faults: one is found without memory for each line.
-fn shown_in(
-    alloc: Global,
-    faults: &[Rejection],
-    text: &str,
-    form: Form,
-) -> Result<String, Memory>
+fn shown_in(alloc: Global, faults: &[Rejection], text: &str, form: Form) -> Result<String, Memory>
     ensures { IfOk result (λ shown. string_bytes shown ≡ shown_faults form (text_lines text.now) faults.now) }
 {
     match faults {

@@ -68,12 +68,7 @@ fn refusal_value(
 }
 
 /// A refusal of the file of this name that is about this text, as JSON.
-fn value_of(
-    alloc: Global,
-    file: &str,
-    refusal: &Rejection,
-    text: &str,
-) -> Result<Value, AllocError>
+fn value_of(alloc: Global, file: &str, refusal: &Rejection, text: &str) -> Result<Value, AllocError>
     ensures { IfOk result (λ v. view v ≡ data_of file.now refusal.now text.now) }
 {
     let subject = Subject::of_line(text);

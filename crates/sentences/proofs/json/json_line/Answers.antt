@@ -9,6 +9,6 @@ pub returns : goal.returns
 returns c =
     let text = line_about c.args.refusal.now.line c.args.line.now in
     let told : view c.in_ok-value.value ≡ data_of c.args.file.now c.args.refusal.now text =
-      c.in_ok-value.ensures ∙ ap (data_of c.args.file.now c.args.refusal.now) c.line_about-text.ensures in
+    c.in_ok-value.ensures ∙ ap (data_of c.args.file.now c.args.refusal.now) c.line_about-text.ensures in
     let plain : has_float (view c.in_ok-value.value) ≡ false = ap has_float told ∙ refusal_is_plain c.args.file.now c.args.refusal.now text in
     c.in_ok-push_str.ensures.bytes ∙ ap (λ (written : List ℕ). written ++ codes "\n") (c.in_ok-written.ensures.text plain ∙ ap compact_text told)
