@@ -145,11 +145,11 @@ pub record OneText : Type 0 where
 file_one : TextLaws → OneText → NameLaws → (images : ImagesValue Config) (args : Values) (target : Option (List ℕ)) (text : List ℕ) (a b : List Rejection)
     → AreFileFaults images args target text a → AreFileFaults images args target text b → a ≡ b
 file_one texts unique names images args target text a b (inl these) (inl those) =
-    these.2.0 ∙ (ap (map rejection_of) (unique.faults text these.0 those.0 these.1 those.1) ∙ sym those.2.0)
+    these.2 ∙ (ap (map rejection_of) (unique.faults text these.0 those.0 these.1 those.1) ∙ sym those.2)
 file_one texts unique names images args target text a b (inl these) (inr those) =
-    absurd (these.2.1 (these.2.0 ∙ ap (map rejection_of) (texts.read text those.0 these.0 those.1 these.1)))
+    absurd (these.3 (these.2 ∙ ap (map rejection_of) (texts.read text those.0 these.0 those.1 these.1)))
 file_one texts unique names images args target text a b (inr these) (inl those) =
-    absurd (those.2.1 (those.2.0 ∙ ap (map rejection_of) (texts.read text these.0 those.0 these.1 those.1)))
+    absurd (those.3 (those.2 ∙ ap (map rejection_of) (texts.read text these.0 those.0 these.1 those.1)))
 file_one texts unique names images args target text a b (inr these) (inr those) =
     let same = unique.instructions text those.0 these.0 those.1 these.1 in
     stage_one names images args target these.0 a b these.2 (subst (λ (is : List Instruction). AreStageFaults images args target is b) same those.2)

@@ -6,6 +6,5 @@ returns-in-Ok c = text_sound c.args.bundle c.as_slice.result.now c.in-Ok.file c.
 
 pub returns-in-Err-Because : goal.returns-in-Err-Because
 returns-in-Err-Because c =
-    rw c.in-Err-Because.field-0-is
-    (text_faulty c.args.bundle c.as_slice.result.now c.in-Err-Because.field-0 c.in-Err-Because.refusals c.rejections.result c.as_slice.ensures c.in-Err-Because.field-0-is
-    c.in-Err-Because.ensures c.rejections.ensures)
+    text_faulty c.args.bundle c.as_slice.result.now c.in-Err-Because.field-0 c.in-Err-Because.refusals c.rejections.result c.as_slice.ensures c.in-Err-Because.field-0-is
+    c.in-Err-Because.ensures c.rejections.ensures
