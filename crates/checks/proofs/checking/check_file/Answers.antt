@@ -1,3 +1,5 @@
+use Rattle.std.proofs.Common.{◌≡◌, IfOk, map, subst}
+use Rattle.expand.specs.Reasons.{rejection_of}
 use Rattle.checks.proofs.CheckFacts.{text_faulty, text_sound}
 use Rattle.checks.proofs.checking.check_file.Goals as goal
 
@@ -7,4 +9,5 @@ returns-in-Ok c = text_sound c.args.bundle c.as_slice.result.now c.in-Ok.file c.
 pub returns-in-Err-Because : goal.returns-in-Err-Because
 returns-in-Err-Because c =
     text_faulty c.args.bundle c.as_slice.result.now c.in-Err-Because.field-0 c.in-Err-Because.refusals c.rejections.result c.as_slice.ensures c.in-Err-Because.field-0-is
-    c.in-Err-Because.ensures c.rejections.ensures
+    c.in-Err-Because.ensures
+    (subst (λ refusals. IfOk c.rejections.result (λ faults. faults ≡ map rejection_of refusals)) c.as_slice-in-Err-Because.ensures c.rejections.ensures)
