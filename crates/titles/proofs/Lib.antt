@@ -1,1 +1,2 @@
 mod TitleFacts
+mod TitledFacts

@@ -11,6 +11,7 @@
 // ```
 #![tactic(auto)]
 
+pub mod laws;
 mod steps;
 mod title;
 mod titling;
