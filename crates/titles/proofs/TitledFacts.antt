@@ -1,6 +1,6 @@
 -- The titles of stages whose lines ascend: each step's stands at its line, and no other line has one.
-use Rattle.std.proofs.Common.{◌≡◌, ◌⊎◌, inl, inr, ◌<◌, ◌≤◌, ◌+◌, ◌-◌, ℕ, zero, suc, true, false, List, [], ◌∷◌, ◌++◌, map, Option, Some, None, length, replicate, refl, sym, ap, ◌∙◌, subst, arith, length-append, if◌then◌else◌}
-use Rattle.std.specs.Prelude.{is_some, slice_get}
+use Rattle.std.proofs.Common.{◌≡◌, ◌⊎◌, inl, inr, ◌<◌, ◌≤◌, ◌+◌, ◌-◌, ℕ, zero, suc, List, [], ◌∷◌, ◌++◌, map, Option, Some, None, length, replicate, refl, sym, ap, ◌∙◌, subst, arith, length-append, if◌then◌else◌}
+use Rattle.std.specs.Prelude.{is_some}
 use Rattle.std.proofs.Math.ListN.{get_or-append}
 use Rattle.std.proofs.Math.Seq.{get_or-append_seam, get_or-append_right}
 use Rattle.std.proofs.lemmas.Bool.{cases_lt}
@@ -207,13 +207,13 @@ stages_above low (s ∷ stages) zero stage before r word up step =
     let same : s ≡ stage = cc in
     let first = up.0 in
     let more = above s.line before r step.after (lines_of stages)
-      (subst (λ xs. AscendFrom s.line (lines_in xs ++ lines_of stages)) (ap (λ (t : ResolvedStage). t.instructions) same ∙ step.stands) up.1.1) in
+    (subst (λ xs. AscendFrom s.line (lines_in xs ++ lines_of stages)) (ap (λ (t : ResolvedStage). t.instructions) same ∙ step.stands) up.1.1) in
     omega (arith, first, more)
 stages_above low (s ∷ stages) (suc number) stage before r word up step =
     let first = up.0 in
     let last = last_more s.line s.instructions (lines_of stages) up.1.1 in
     let more = stages_above (last_line s.line s.instructions) stages number stage before r word (rest_up s.line s.instructions (lines_of stages) up.1.1)
-      (record { there = step.there; after = step.after; stands = step.stands; says = step.says }) in
+    (record { there = step.there; after = step.after; stands = step.stands; says = step.says }) in
     omega (arith, first, last, more)
 
 -- the title of a step of a stage that is called so, in which these stand before it
@@ -231,14 +231,14 @@ first_at lines names count number stage stages titles low before r after word up
     let more : length titles ≤ stage.line + 1 = omega (arith, above_from, short) in
     let here : AscendFrom stage.line (lines_in (before ++ r ∷ after) ++ lines_of stages) = subst (λ xs. AscendFrom stage.line (lines_in xs ++ lines_of stages)) split up.1.1 in
     let le : r.instruction.line ≤ last_line stage.line stage.instructions =
-      subst (λ xs. r.instruction.line ≤ last_line stage.line xs) (sym split) (by_last stage.line before r after (lines_of stages) here) in
+    subst (λ xs. r.instruction.line ≤ last_line stage.line xs) (sym split) (by_last stage.line before r after (lines_of stages) here) in
     let rest = rest_up stage.line stage.instructions (lines_of stages) up.1.1 in
     stages_other lines names count (number + 1) stages (stage_titled lines (called_at names count number) stage titles) (last_line stage.line stage.instructions) r.instruction.line
     rest
     (long_steps lines (called_at names count number) (steps_of stage) (base_count stage.base) stage.instructions titles (lines_of stages) stage.line up.1.1 more)
     (λ n s bs other w step at. (let above_last = stages_above (last_line stage.line stage.instructions) stages n s bs other w rest step in omega (arith, above_last, at, le)))
     ∙ subst (λ xs. title_at (steps_titled lines (called_at names count number) (steps_of stage) (base_count stage.base) xs titles) r.instruction.line
-      ≡ Some (step_title (called_at names count number) (steps_up_to stage before r) (steps_of stage) word (rest_at lines r.instruction.line))) (sym split)
+    ≡ Some (step_title (called_at names count number) (steps_up_to stage before r) (steps_of stage) word (rest_at lines r.instruction.line))) (sym split)
     (steps_at lines (called_at names count number) (steps_of stage) (base_count stage.base) before r after word titles (lines_of stages) stage.line here more is)
 
 stages_at : (lines : List Line) (names : Names) (count number : ℕ) (stages : List ResolvedStage) (titles : Titles) (low n : ℕ) (stage : ResolvedStage)
@@ -310,5 +310,5 @@ pub steps_counted : (stages : List ResolvedStage) (number : ℕ) (stage : Resolv
 steps_counted stages number stage before step word is =
     let some = up_to_some before step word is.says in
     let all : step_count (before ++ step ∷ []) ≤ step_count stage.instructions =
-      subst (λ xs. step_count (before ++ step ∷ []) ≤ step_count xs) (sym is.stands) (up_to_all before step is.after) in
+    subst (λ xs. step_count (before ++ step ∷ []) ≤ step_count xs) (sym is.stands) (up_to_all before step is.after) in
     (omega (arith, some), omega (arith, all))

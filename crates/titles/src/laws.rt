@@ -22,6 +22,6 @@ pub fn titles_are_of_steps()
         → (1 ≤ steps_up_to stage before step) × (steps_up_to stage before step ≤ steps_of stage) }
     ensures others { (lines : List Line) (names : Names) (stages : List ResolvedStage) (line : ℕ) → AreLines (lines_of stages)
         → ((number : ℕ) (stage : ResolvedStage) (before : List ResolvedInstruction) (step : ResolvedInstruction) (word : List ℕ)
-            → IsStep stages number stage before step word → step.instruction.line ≡ line → ⊥)
+        → IsStep stages number stage before step word → step.instruction.line ≡ line → ⊥)
         → title_at (titles_of lines names stages) line ≡ None }
 {}
