@@ -5,3 +5,5 @@ mod Folders
 mod Whole
 mod OneContext
 mod SomeContext
+mod Gaps
+mod LeftFacts

@@ -1,2 +1,4 @@
 pub mod Context
+pub mod Left
+pub mod PrivateLeft
 pub mod PrivatePlaces

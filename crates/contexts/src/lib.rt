@@ -14,6 +14,8 @@
 mod context;
 mod flags;
 pub mod laws;
+mod left;
 mod places;
 
 pub use context::Context;
+pub use left::left_out;
