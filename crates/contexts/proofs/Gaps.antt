@@ -106,8 +106,8 @@ gap_after tree done [] above lacks true e = absurd (true≢false (sym e ∙ ap (
 gap_after tree done (name ∷ rest) above lacks true e =
     let whole : (done ++ name ∷ []) ++ rest ≡ done ++ name ∷ rest = append_assoc done (name ∷ []) rest in
     let more = gap_after tree (done ++ name ∷ []) rest
-          (λ f h. elim (front_last f done name h) [ inl same ↦ ap (λ p. is_some (get tree p)) same ∙ e | inr front ↦ above f front ])
-          (ap (λ p. is_some (get tree p)) whole ∙ lacks) (is_some (get tree (done ++ name ∷ []))) refl in
+    (λ f h. elim (front_last f done name h) [ inl same ↦ ap (λ p. is_some (get tree p)) same ∙ e | inr front ↦ above f front ])
+    (ap (λ p. is_some (get tree p)) whole ∙ lacks) (is_some (get tree (done ++ name ∷ []))) refl in
     (more.0, (more.1.0, ap (λ p. is_at_or_under p more.0) (sym whole) ∙ more.1.1))
 
 pub some_gap : (tree : TreeMap) (path : Names) → is_some (get tree path) ≡ false → (q : Names) × (IsGap tree q × (is_at_or_under path q ≡ true))

@@ -68,12 +68,12 @@ is_gap tree names depth stand within = record {
   within = λ front h. (
       let parts = front-parts front (take (depth + 1) names) h in
       let whole : names ≡ front ++ ((parts.0 ∷ parts.1.0) ++ drop (depth + 1) names) =
-          sym (take-append-drop (depth + 1) names) ∙ ap (λ p. p ++ drop (depth + 1) names) parts.1.1 ∙ append_assoc front (parts.0 ∷ parts.1.0) (drop (depth + 1) names) in
+      sym (take-append-drop (depth + 1) names) ∙ ap (λ p. p ++ drop (depth + 1) names) parts.1.1 ∙ append_assoc front (parts.0 ∷ parts.1.0) (drop (depth + 1) names) in
       let begins : take (length front) names ≡ front =
-          ap (λ p. take (length front) p) whole ∙ take-append_seam front ((parts.0 ∷ parts.1.0) ++ drop (depth + 1) names) in
+      ap (λ p. take (length front) p) whole ∙ take-append_seam front ((parts.0 ∷ parts.1.0) ++ drop (depth + 1) names) in
       let all : length (take (depth + 1) names) ≡ depth + 1 = length-take-le (depth + 1) names (omega (arith, within)) in
       let both : length (take (depth + 1) names) ≡ length front + length (parts.0 ∷ parts.1.0) =
-          ap (λ p. length p) parts.1.1 ∙ length-append front (parts.0 ∷ parts.1.0) in
+      ap (λ p. length p) parts.1.1 ∙ length-append front (parts.0 ∷ parts.1.0) in
       let short : length front ≤ depth = omega (arith, all, both) in
       ap (λ p. is_some (get tree p)) (sym begins) ∙ stand.there (length front) short);
 }
