@@ -1,0 +1,3 @@
+mod NodeLaws
+mod EdgeLaws
+mod QuoteLaws

@@ -1,0 +1,4 @@
+pub mod Claimed
+pub mod Drawn
+pub mod Labels
+pub mod Quoted
