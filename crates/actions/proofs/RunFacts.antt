@@ -1,4 +1,4 @@
--- What is told of a RUN's mounts, by what was read of them.
+-- What is reported of a RUN's mounts, by what was read of them.
 use Rattle.std.specs.Prelude.{◌≡◌, ◌||◌, ◌&&◌, ℕ, Bool, true, false, not, List, map, Option, Some, None, refl}
 use Rattle.std.specs.List.{list_any}
 use Rattle.std.proofs.Common.{sym, ap, ap₂, ◌∙◌}
@@ -33,34 +33,34 @@ due_17 dir mounts binds caches stand b c s =
     ∙ not_both (mounts_fit (read_targets (read_binds dir mounts) (read_caches dir mounts))) (ids_differ (read_ids (read_caches dir mounts)))
     ∙ ap₂ (λ (x : List (List (List ℕ))) (y : List (List ℕ)). not (mounts_fit x) || not (ids_differ y)) (targets_are dir mounts) (ids_are dir mounts)
 
-told_17 : (dir : List (List ℕ)) (mounts : List Mount) → run_due dir mounts R17 ≡ true → least (run_due dir mounts) ≡ Some R17
-told_17 dir mounts e = rw e refl
+reported_17 : (dir : List (List ℕ)) (mounts : List Mount) → run_due dir mounts R17 ≡ true → least (run_due dir mounts) ≡ Some R17
+reported_17 dir mounts e = rw e refl
 
-told_18 : (dir : List (List ℕ)) (mounts : List Mount) → run_due dir mounts R17 ≡ false → run_due dir mounts R18 ≡ true → least (run_due dir mounts) ≡ Some R18
-told_18 dir mounts e f = rw (e, f) refl
+reported_18 : (dir : List (List ℕ)) (mounts : List Mount) → run_due dir mounts R17 ≡ false → run_due dir mounts R18 ≡ true → least (run_due dir mounts) ≡ Some R18
+reported_18 dir mounts e f = rw (e, f) refl
 
-told_none : (dir : List (List ℕ)) (mounts : List Mount) → run_due dir mounts R17 ≡ false → run_due dir mounts R18 ≡ false → least (run_due dir mounts) ≡ None
-told_none dir mounts e f = rw (e, f) refl
+reported_none : (dir : List (List ℕ)) (mounts : List Mount) → run_due dir mounts R17 ≡ false → run_due dir mounts R18 ≡ false → least (run_due dir mounts) ≡ None
+reported_none dir mounts e f = rw (e, f) refl
 
 -- mounts that don't stand together
-pub clash_told : (dir : List (List ℕ)) (mounts : List Mount) (binds : List ReadBind) (caches : List ReadCache) (stand : Bool)
+pub clash_reported : (dir : List (List ℕ)) (mounts : List Mount) (binds : List ReadBind) (caches : List ReadCache) (stand : Bool)
     → binds ≡ read_binds dir mounts → caches ≡ read_caches dir mounts → stand ≡ (mounts_fit (read_targets binds caches) && ids_differ (read_ids caches))
     → stand ≡ false → least (run_due dir mounts) ≡ Some R17
-clash_told dir mounts binds caches stand b c s e = told_17 dir mounts (sym (due_17 dir mounts binds caches stand b c s) ∙ ap not e)
+clash_reported dir mounts binds caches stand b c s e = reported_17 dir mounts (sym (due_17 dir mounts binds caches stand b c s) ∙ ap not e)
 
 -- mounts that stand together, of which a bind has a path that can't be read
-pub bind_told : (dir : List (List ℕ)) (mounts : List Mount) (binds others : List ReadBind) (caches : List ReadCache) (stand : Bool)
+pub bind_reported : (dir : List (List ℕ)) (mounts : List Mount) (binds others : List ReadBind) (caches : List ReadCache) (stand : Bool)
     → binds ≡ read_binds dir mounts → caches ≡ read_caches dir mounts → stand ≡ (mounts_fit (read_targets binds caches) && ids_differ (read_ids caches))
     → stand ≡ true → others ≡ read_binds dir mounts → None ≡ all_some (map whole_bind others) → least (run_due dir mounts) ≡ Some R18
-bind_told dir mounts binds others caches stand b c s e o none =
-    told_18 dir mounts (sym (due_17 dir mounts binds caches stand b c s) ∙ ap not e) (unread_binds dir mounts (ap (λ (x : List ReadBind). all_some (map whole_bind x)) (sym o) ∙ sym none))
+bind_reported dir mounts binds others caches stand b c s e o none =
+    reported_18 dir mounts (sym (due_17 dir mounts binds caches stand b c s) ∙ ap not e) (unread_binds dir mounts (ap (λ (x : List ReadBind). all_some (map whole_bind x)) (sym o) ∙ sym none))
 
 -- the same of a cache
-pub cache_told : (dir : List (List ℕ)) (mounts : List Mount) (binds : List ReadBind) (caches others : List ReadCache) (stand : Bool)
+pub cache_reported : (dir : List (List ℕ)) (mounts : List Mount) (binds : List ReadBind) (caches others : List ReadCache) (stand : Bool)
     → binds ≡ read_binds dir mounts → caches ≡ read_caches dir mounts → stand ≡ (mounts_fit (read_targets binds caches) && ids_differ (read_ids caches))
     → stand ≡ true → others ≡ read_caches dir mounts → None ≡ all_some (map whole_cache others) → least (run_due dir mounts) ≡ Some R18
-cache_told dir mounts binds caches others stand b c s e o none =
-    told_18 dir mounts (sym (due_17 dir mounts binds caches stand b c s) ∙ ap not e) (unread_caches dir mounts (ap (λ (x : List ReadCache). all_some (map whole_cache x)) (sym o) ∙ sym none))
+cache_reported dir mounts binds caches others stand b c s e o none =
+    reported_18 dir mounts (sym (due_17 dir mounts binds caches stand b c s) ∙ ap not e) (unread_caches dir mounts (ap (λ (x : List ReadCache). all_some (map whole_cache x)) (sym o) ∙ sym none))
 
 -- mounts for which no code is due
 pub record AreRead (dir : List (List ℕ)) (mounts : List Mount) (found : List Bind) (others : List CacheUse) : Type 0 where
@@ -80,7 +80,7 @@ all_read dir mounts binds more caches some stand found others b c s e m o f g =
     record {
       same_binds = same_Some found (binds_of dir mounts) (sym f_read ∙ whole.all_binds);
       same_caches = same_Some others (caches_of dir mounts) (sym g_read ∙ whole.all_caches);
-      none_due = told_none dir mounts (sym (due_17 dir mounts binds caches stand b c s) ∙ ap not e) near;
+      none_due = reported_none dir mounts (sym (due_17 dir mounts binds caches stand b c s) ∙ ap not e) near;
     }
 
 -- the action that the mounts give

@@ -79,7 +79,7 @@ copied dir files text flags = record {
   options = record { into = goes_into text; owner = flags.owner; mode = flags.mode };
 }
 
--- the COPY of sources, which is told where its patterns are looked for, and whether it stands on its own (`--link`)
+-- the COPY of sources, with the tree where its patterns are looked for, and whether it stands on its own (`--link`)
 abbrev pub copy_by : CopyFiles → CopyFlags → Origin → Action
 copy_by copied flags origin = Copy copied (origin_for copied.sources origin) flags.is_linked
 

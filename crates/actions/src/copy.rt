@@ -32,7 +32,7 @@ fn ends_in_slash(text: &str) -> bool
     }
 }
 
-/// What stands behind a text's last `/`.
+/// What stands after a text's last `/`.
 fn last_component(text: &str) -> &str
     ensures { result.now ≡ last_of (pieces text.entry.now) }
 {

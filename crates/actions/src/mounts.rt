@@ -55,7 +55,7 @@ fn read_id(alloc: Global, id: Option<Text>, target: &Option<Path>) -> Result<Opt
     }
 }
 
-/// Reads a mount, and puts it behind the binds or the caches.
+/// Reads a mount, and puts it after the binds or the caches.
 fn read_mount(
     alloc: Global,
     mount: Mount,

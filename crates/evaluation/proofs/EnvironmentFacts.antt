@@ -18,7 +18,7 @@ use Rattle.instructions.specs.declared.instruction.Argument.{Argument}
 use Rattle.instructions.specs.declared.instruction.Assignment.{Assignment}
 use Rattle.instructions.specs.declared.instruction.InstructionKind.{InstructionKind}
 use Rattle.instructions.specs.declared.instruction.InstructionKind.TheVariants.{From, Arg, Env, Label, Expose, User, Workdir, StopSignal, Volume, Shell, Cmd, Entrypoint, Run, Copy}
-use Rattle.scopes.specs.Evaluate.{Values, env_line, arg_line}
+use Rattle.scopes.specs.Evaluate.{Values, env_line, arg_line, declaration_of}
 use Rattle.scopes.specs.Scope.{kept, run_env, value_in, names_differ}
 use Rattle.scopes.specs.declared.declaration.Declaration.{Declaration}
 use Rattle.scopes.specs.declared.declaration.Declaration.TheVariants.{Env as Set, Arg as Given}
@@ -31,7 +31,7 @@ use Rattle.imageconfig.specs.Steps.{changed}
 use Rattle.imageconfig.specs.declared.config.Config.{Config}
 use Rattle.evaluation.specs.Instruction.{after}
 use Rattle.evaluation.specs.Reached.{HaveEnvironments, HasScopesEnvironment}
-use Rattle.evaluation.specs.State.{bare_state, declaration_of, image_state, found_state, ended_state, source_state, start}
+use Rattle.evaluation.specs.State.{bare_state, image_state, found_state, ended_state, source_state, start}
 use Rattle.evaluation.specs.declared.state.State.{State}
 
 -- the law of a step, as premises

@@ -39,17 +39,17 @@ all_whole table stages are same =
 pub answers_none : (args : Values) (images : ImagesValue Config) (context : TreeMap) (table : TableValue) → EvaluatesTable args images context table (Err Memory)
 answers_none args images context table = tt
 
-pub answers_told : (args : Values) (images : ImagesValue Config) (context : TreeMap) (table : TableValue) (outer : List Declaration) (stages : List ResolvedStage) (needed : List Bool) (fault : Fault Rejection)
+pub answers_reported : (args : Values) (images : ImagesValue Config) (context : TreeMap) (table : TableValue) (outer : List Declaration) (stages : List ResolvedStage) (needed : List Bool) (fault : Fault Rejection)
     → outer ≡ table.outer → stages ≡ table.stages → AreNeeded table.stages table.target needed → AreStages args (value_in outer) images needed stages (Err fault)
     → EvaluatesTable args images context table (Err fault)
 unfolding AreStages
-answers_told args images context table outer stages needed (Because refusal) same_outer same are told = (
+answers_reported args images context table outer stages needed (Because refusal) same_outer same are reported = (
   needed,
   are,
   ap (λ (ds : List Declaration). stages_from args (value_in ds) images needed (Ok no_stage) table.stages) (sym same_outer)
-      ∙ (ap (λ (ss : List ResolvedStage). stages_from args (value_in outer) images needed (Ok no_stage) ss) (sym same) ∙ told),
+      ∙ (ap (λ (ss : List ResolvedStage). stages_from args (value_in outer) images needed (Ok no_stage) ss) (sym same) ∙ reported),
 )
-answers_told args images context table outer stages needed Memory same_outer same are told = tt
+answers_reported args images context table outer stages needed Memory same_outer same are reported = tt
 
 pub made_with : (images : ImagesValue Config) (context : TreeMap) (number : ℕ) (rows : List (Option Stage)) (names : ImageNames) (config : Config) (sources : SourcesValue)
     → AreSources context images names sources → len sources.images ≤ length names

@@ -18,10 +18,10 @@ pub record SoFar {X P : Type 0} (step : P → X → Result P Rejection) (first :
   pub before : List X
   pub split : all ≡ before ++ rest
   pub reached : all_from step (Ok first) before ≡ Ok now
-  pub told : all_from step (Ok now) rest ≡ all_from step (Ok first) all
+  pub reported : all_from step (Ok now) rest ≡ all_from step (Ok first) all
 
 pub so_far_first : {X P : Type 0} (step : P → X → Result P Rejection) (first : P) (all : List X) → SoFar step first all all first
-so_far_first step first all = record { before = []; split = refl; reached = refl; told = refl }
+so_far_first step first all = record { before = []; split = refl; reached = refl; reported = refl }
 
 pub reached_more : {X P : Type 0} (step : P → X → Result P Rejection) (so_far : Result P Rejection) (before : List X) (x : X) (now : P) → all_from step so_far before ≡ Ok now
     → all_from step so_far (before ++ x ∷ []) ≡ step now x
@@ -34,18 +34,18 @@ so_far_more step first all rest left x now more far is made = record {
   before = far.before ++ x ∷ [];
   split = far.split ∙ (ap (λ xs. far.before ++ xs) is ∙ sym (append_assoc far.before (x ∷ []) left));
   reached = reached_more step (Ok first) far.before x now far.reached ∙ made;
-  told = ap (λ r. all_from step r left) (sym made) ∙ (ap (all_from step (Ok now)) (sym is) ∙ far.told);
+  reported = ap (λ r. all_from step r left) (sym made) ∙ (ap (all_from step (Ok now)) (sym is) ∙ far.reported);
 }
 
-pub so_far_told : {X P : Type 0} (step : P → X → Result P Rejection) (first : P) (all rest left : List X) (x : X) (now : P) (fault : Fault Rejection)
+pub so_far_reported : {X P : Type 0} (step : P → X → Result P Rejection) (first : P) (all rest left : List X) (x : X) (now : P) (fault : Fault Rejection)
     → SoFar step first all rest now → rest ≡ x ∷ left → Returns (step now x) (Err fault) → Returns (all_from step (Ok first) all) (Err fault)
-so_far_told step first all rest left x now (Because refusal) far is told =
-    sym far.told ∙ (ap (all_from step (Ok now)) is ∙ (ap (λ r. all_from step r left) told ∙ refused_stays step refusal left))
-so_far_told step first all rest left x now Memory far is told = tt
+so_far_reported step first all rest left x now (Because refusal) far is reported =
+    sym far.reported ∙ (ap (all_from step (Ok now)) is ∙ (ap (λ r. all_from step r left) reported ∙ refused_stays step refusal left))
+so_far_reported step first all rest left x now Memory far is reported = tt
 
 pub so_far_all : {X P : Type 0} (step : P → X → Result P Rejection) (first : P) (all rest : List X) (now : P)
     → SoFar step first all rest now → length rest ≡ 0 → all_from step (Ok first) all ≡ Ok now
-so_far_all step first all [] now far over = sym far.told
+so_far_all step first all [] now far over = sym far.reported
 so_far_all step first all (x ∷ rest) now far over = absurd (omega (arith, over))
 
 -- what went well went well at each step
@@ -62,10 +62,10 @@ pub went : {X P : Type 0} (step : P → X → Result P Rejection) (now : Result 
 went step (Ok next) xs last h = record { next = next; is = refl; on = h }
 went step (Err refusal) xs last h = absurd (refused_or_ok refusal last (sym (refused_stays step refusal xs) ∙ h))
 
-pub record NotDue {X : Type 0} (told : Option Reason) (rest : Result X Rejection) (x : X) : Type 0 where
-  pub none : told ≡ None
-  pub behind : rest ≡ Ok x
+pub record NotDue {X : Type 0} (reported : Option Reason) (rest : Result X Rejection) (x : X) : Type 0 where
+  pub none : reported ≡ None
+  pub after : rest ≡ Ok x
 
-pub not_due : {X : Type 0} (told : Option Reason) (line : ℕ) (rest : Result X Rejection) (x : X) → unless_due told line rest ≡ Ok x → NotDue told rest x
-not_due None line rest x h = record { none = refl; behind = h }
-not_due (Some told) line rest x h = absurd (refused_or_ok (record { reason = told; line = line }) x h)
+pub not_due : {X : Type 0} (reported : Option Reason) (line : ℕ) (rest : Result X Rejection) (x : X) → unless_due reported line rest ≡ Ok x → NotDue reported rest x
+not_due None line rest x h = record { none = refl; after = h }
+not_due (Some reported) line rest x h = absurd (refused_or_ok (record { reason = reported; line = line }) x h)

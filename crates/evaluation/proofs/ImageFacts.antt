@@ -229,12 +229,12 @@ len_by n m false h = omega arith
 split_more : (names before rest left : ImageNames) (taken : List ℕ) → names ≡ before ++ rest → rest ≡ taken ∷ left → names ≡ (before ++ taken ∷ []) ++ left
 split_more names before rest left taken h is = h ∙ (ap (λ ns. before ++ ns) is ∙ sym (append_assoc before (taken ∷ []) left))
 
-pub taken_some : {C : Type 0} (context : TreeMap) (all : ImagesValue C) (names rest behind : ImageNames) (taken : List ℕ) (images fewer : ImagesValue C) (sources more : SourcesValue) (found : image.Image C)
-    → TakenSoFar context all names rest images sources → rest ≡ taken ∷ behind → get images taken ≡ Some found → fewer ≡ remove images taken
-    → more ≡ (record sources { images = insert sources.images taken found.tree }) → TakenSoFar context all names behind fewer more
-taken_some {C = C} context all names rest behind taken images fewer sources more found far is there gone added = record {
+pub taken_some : {C : Type 0} (context : TreeMap) (all : ImagesValue C) (names rest after : ImageNames) (taken : List ℕ) (images fewer : ImagesValue C) (sources more : SourcesValue) (found : image.Image C)
+    → TakenSoFar context all names rest images sources → rest ≡ taken ∷ after → get images taken ≡ Some found → fewer ≡ remove images taken
+    → more ≡ (record sources { images = insert sources.images taken found.tree }) → TakenSoFar context all names after fewer more
+taken_some {C = C} context all names rest after taken images fewer sources more found far is there gone added = record {
   before = far.before ++ taken ∷ [];
-  split = split_more names far.before rest behind taken far.split is;
+  split = split_more names far.before rest after taken far.split is;
   same = ap (λ (s : SourcesValue). s.context) added ∙ far.same;
   left = λ name. ap (λ (i : ImagesValue C). get i name) gone ∙ left_more all images far.before taken far.left name;
   trees = λ name. ap (λ (s : SourcesValue). get s.images name) added ∙ trees_more all images far.before taken found sources.images far.left there far.trees name;
@@ -245,12 +245,12 @@ taken_some {C = C} context all names rest behind taken images fewer sources more
       (len_by (len sources.images) (length far.before) (contains_key sources.images taken) far.few)));
 }
 
-pub taken_none : {C : Type 0} (context : TreeMap) (all : ImagesValue C) (names rest behind : ImageNames) (taken : List ℕ) (images fewer : ImagesValue C) (sources : SourcesValue)
-    → TakenSoFar context all names rest images sources → rest ≡ taken ∷ behind → get images taken ≡ None → fewer ≡ remove images taken
-    → TakenSoFar context all names behind fewer sources
-taken_none {C = C} context all names rest behind taken images fewer sources far is none gone = record {
+pub taken_none : {C : Type 0} (context : TreeMap) (all : ImagesValue C) (names rest after : ImageNames) (taken : List ℕ) (images fewer : ImagesValue C) (sources : SourcesValue)
+    → TakenSoFar context all names rest images sources → rest ≡ taken ∷ after → get images taken ≡ None → fewer ≡ remove images taken
+    → TakenSoFar context all names after fewer sources
+taken_none {C = C} context all names rest after taken images fewer sources far is none gone = record {
   before = far.before ++ taken ∷ [];
-  split = split_more names far.before rest behind taken far.split is;
+  split = split_more names far.before rest after taken far.split is;
   same = far.same;
   left = λ name. ap (λ (i : ImagesValue C). get i name) gone ∙ left_more all images far.before taken far.left name;
   trees = trees_same all images far.before taken sources.images far.left none far.trees;

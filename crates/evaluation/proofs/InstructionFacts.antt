@@ -33,8 +33,8 @@ acted_is args outer s (Entrypoint command) origins = refl
 acted_is args outer s (Run mounts command) origins = refl
 acted_is args outer s (Copy sources destination flags) origins = refl
 
-nothing_or : (told : Reason) → None ≡ Some told → ⊥
-nothing_or told e = cc
+nothing_or : (reported : Reason) → None ≡ Some reported → ⊥
+nothing_or reported e = cc
 
 due_none : (args outer : Values) (s : State) (kind : InstructionKind) → reason (left_due args s kind) (left_fault args s kind) ≡ None → reason (acted_due (after args outer s kind) kind) (acted_fault (after args outer s kind) kind) ≡ None → reason (due args s kind) (fault args s kind) ≡ None
 due_none args outer s (From image name) h k = h
@@ -52,56 +52,56 @@ due_none args outer s (Entrypoint command) h k = h
 due_none args outer s (Run mounts command) h k = k
 due_none args outer s (Copy sources destination flags) h k = k
 
-due_left : (args : Values) (s : State) (kind : InstructionKind) (told : Reason) → reason (left_due args s kind) (left_fault args s kind) ≡ Some told → reason (due args s kind) (fault args s kind) ≡ Some told
-due_left args s (From image name) told h = h
-due_left args s (Arg arguments) told h = h
-due_left args s (Env assignments) told h = h
-due_left args s (Label labels) told h = h
-due_left args s (Expose ports) told h = h
-due_left args s (User user) told h = h
-due_left args s (Workdir path) told h = h
-due_left args s (StopSignal signal) told h = h
-due_left args s (Volume paths) told h = h
-due_left args s (Shell words) told h = h
-due_left args s (Cmd command) told h = h
-due_left args s (Entrypoint command) told h = h
-due_left args s (Run mounts command) told h = absurd (nothing_or told h)
-due_left args s (Copy sources destination flags) told h = absurd (nothing_or told h)
+due_left : (args : Values) (s : State) (kind : InstructionKind) (reported : Reason) → reason (left_due args s kind) (left_fault args s kind) ≡ Some reported → reason (due args s kind) (fault args s kind) ≡ Some reported
+due_left args s (From image name) reported h = h
+due_left args s (Arg arguments) reported h = h
+due_left args s (Env assignments) reported h = h
+due_left args s (Label labels) reported h = h
+due_left args s (Expose ports) reported h = h
+due_left args s (User user) reported h = h
+due_left args s (Workdir path) reported h = h
+due_left args s (StopSignal signal) reported h = h
+due_left args s (Volume paths) reported h = h
+due_left args s (Shell words) reported h = h
+due_left args s (Cmd command) reported h = h
+due_left args s (Entrypoint command) reported h = h
+due_left args s (Run mounts command) reported h = absurd (nothing_or reported h)
+due_left args s (Copy sources destination flags) reported h = absurd (nothing_or reported h)
 
-due_acted : (args outer : Values) (s : State) (kind : InstructionKind) (told : Reason) → reason (acted_due (after args outer s kind) kind) (acted_fault (after args outer s kind) kind) ≡ Some told → reason (due args s kind) (fault args s kind) ≡ Some told
-due_acted args outer s (From image name) told h = absurd (nothing_or told h)
-due_acted args outer s (Arg arguments) told h = absurd (nothing_or told h)
-due_acted args outer s (Env assignments) told h = absurd (nothing_or told h)
-due_acted args outer s (Label labels) told h = absurd (nothing_or told h)
-due_acted args outer s (Expose ports) told h = absurd (nothing_or told h)
-due_acted args outer s (User user) told h = absurd (nothing_or told h)
-due_acted args outer s (Workdir path) told h = absurd (nothing_or told h)
-due_acted args outer s (StopSignal signal) told h = absurd (nothing_or told h)
-due_acted args outer s (Volume paths) told h = absurd (nothing_or told h)
-due_acted args outer s (Shell words) told h = absurd (nothing_or told h)
-due_acted args outer s (Cmd command) told h = absurd (nothing_or told h)
-due_acted args outer s (Entrypoint command) told h = absurd (nothing_or told h)
-due_acted args outer s (Run mounts command) told h = h
-due_acted args outer s (Copy sources destination flags) told h = h
+due_acted : (args outer : Values) (s : State) (kind : InstructionKind) (reported : Reason) → reason (acted_due (after args outer s kind) kind) (acted_fault (after args outer s kind) kind) ≡ Some reported → reason (due args s kind) (fault args s kind) ≡ Some reported
+due_acted args outer s (From image name) reported h = absurd (nothing_or reported h)
+due_acted args outer s (Arg arguments) reported h = absurd (nothing_or reported h)
+due_acted args outer s (Env assignments) reported h = absurd (nothing_or reported h)
+due_acted args outer s (Label labels) reported h = absurd (nothing_or reported h)
+due_acted args outer s (Expose ports) reported h = absurd (nothing_or reported h)
+due_acted args outer s (User user) reported h = absurd (nothing_or reported h)
+due_acted args outer s (Workdir path) reported h = absurd (nothing_or reported h)
+due_acted args outer s (StopSignal signal) reported h = absurd (nothing_or reported h)
+due_acted args outer s (Volume paths) reported h = absurd (nothing_or reported h)
+due_acted args outer s (Shell words) reported h = absurd (nothing_or reported h)
+due_acted args outer s (Cmd command) reported h = absurd (nothing_or reported h)
+due_acted args outer s (Entrypoint command) reported h = absurd (nothing_or reported h)
+due_acted args outer s (Run mounts command) reported h = h
+due_acted args outer s (Copy sources destination flags) reported h = h
 
 done_of : State → Option Action → Done
 done_of state action = record { state = state; action = action }
 
-pub told_left : (args outer : Values) (s : State) (kind : InstructionKind) (origins : List Origin) (line : ℕ) (out : Fault Rejection)
+pub reported_left : (args outer : Values) (s : State) (kind : InstructionKind) (origins : List Origin) (line : ℕ) (out : Fault Rejection)
     → EvaluatesTo (after args outer s kind) (left_due args s kind) (left_fault args s kind) line (Err out)
     → EvaluatesTo (done args outer s kind origins) (due args s kind) (fault args s kind) line (Err out)
-told_left args outer s kind origins line (Because refusal) h = (h.0, due_left args s kind refusal.reason h.1)
-told_left args outer s kind origins line Memory h = tt
+reported_left args outer s kind origins line (Because refusal) h = (h.0, due_left args s kind refusal.reason h.1)
+reported_left args outer s kind origins line Memory h = tt
 
-pub told_both : (args outer : Values) (s next : State) (kind : InstructionKind) (origins : List Origin) (line : ℕ) (result : Result Done (Fault Rejection))
+pub reported_both : (args outer : Values) (s next : State) (kind : InstructionKind) (origins : List Origin) (line : ℕ) (result : Result Done (Fault Rejection))
     → EvaluatesTo (after args outer s kind) (left_due args s kind) (left_fault args s kind) line (Ok next)
     → EvaluatesTo (finished next kind origins) (acted_due next kind) (acted_fault next kind) line result
     → EvaluatesTo (done args outer s kind origins) (due args s kind) (fault args s kind) line result
 unfolding done_of
-told_both args outer s next kind origins line (Ok made) left act =
+reported_both args outer s next kind origins line (Ok made) left act =
     let acts = ap (λ (t : State). acted t kind origins) left.0 ∙ acted_is args outer s kind origins in
     let none = subst (λ (t : State). reason (acted_due t kind) (acted_fault t kind) ≡ None) left.0 act.1 in
     (act.0 ∙ ap₂ done_of left.0 acts, due_none args outer s kind left.1 none)
-told_both args outer s next kind origins line (Err (Because refusal)) left act =
+reported_both args outer s next kind origins line (Err (Because refusal)) left act =
     (act.0, due_acted args outer s kind refusal.reason (subst (λ (t : State). reason (acted_due t kind) (acted_fault t kind) ≡ Some refusal.reason) left.0 act.1))
-told_both args outer s next kind origins line (Err Memory) left act = tt
+reported_both args outer s next kind origins line (Err Memory) left act = tt

@@ -20,7 +20,7 @@ use Rattle.stages.specs.declared.stage.ResolvedStage.{ResolvedStage}
 use Rattle.imageconfig.specs.declared.config.Config.{Config}
 use Rattle.evaluation.specs.Evaluated.{no_stage, evaluated}
 use Rattle.evaluation.specs.Images.{with_origin, many_codes}
-use Rattle.evaluation.specs.NeededLines.{JudgedLine, judged, lines_judged, behind_all, stage_judged, behind_stage, stages_judged, needed_lines, IsFree, IsUpTo, IsLeastRefusal}
+use Rattle.evaluation.specs.NeededLines.{JudgedLine, judged, lines_judged, after_all, stage_judged, after_stage, stages_judged, needed_lines, IsFree, IsUpTo, IsLeastRefusal}
 use Rattle.imageconfig.specs.Stage.{unless_due}
 use Rattle.evaluation.specs.Refusals.{all_from}
 use Rattle.evaluation.specs.Stages.{with_instruction, next_instruction, instructions_from, begun, with_stage, with_ended, with_none, stage_from, next_stage, stages_from}
@@ -30,7 +30,7 @@ use Rattle.evaluation.proofs.FoldFacts.{refused_stays}
 
 -- the law of the least reason, as a premise
 pub record LeastLaws : Type 0 where
-  pub is_least : (codes : Code → Bool) (against : Option Unexpanded) (told : Reason) → reason codes against ≡ Some told → IsLeastReason codes against told
+  pub is_least : (codes : Code → Bool) (against : Option Unexpanded) (reported : Reason) → reason codes against ≡ Some reported → IsLeastReason codes against reported
   pub is_free : (codes : Code → Bool) (against : Option Unexpanded) → reason codes against ≡ None → (other : Reason) → IsReason codes against other → ⊥
 
 -- the first of some lines that there is a reason to refuse
@@ -83,9 +83,9 @@ come_then {X = X} step first rest (Err refusal) now ss last h k =
 
 -- one line
 
-line_by : {X : Type 0} (laws : LeastLaws) (j : JudgedLine) (lines : List JudgedLine) (rest : Result X Rejection) (last : X) (told : Option Reason) → reason j.codes j.fault ≡ told
-    → ComeTo lines rest last → ComeTo (j ∷ lines) (unless_due told j.line rest) last
-line_by laws j lines rest last (Some told) e h = first_here j lines (record { reason = told; line = j.line }) refl (laws.is_least j.codes j.fault told e)
+line_by : {X : Type 0} (laws : LeastLaws) (j : JudgedLine) (lines : List JudgedLine) (rest : Result X Rejection) (last : X) (reported : Option Reason) → reason j.codes j.fault ≡ reported
+    → ComeTo lines rest last → ComeTo (j ∷ lines) (unless_due reported j.line rest) last
+line_by laws j lines rest last (Some reported) e h = first_here j lines (record { reason = reported; line = j.line }) refl (laws.is_least j.codes j.fault reported e)
 line_by laws j lines rest last None e h =
     front_free (j ∷ []) lines rest last (All-cons IsFree j [] (laws.is_free j.codes j.fault e) (All-nil IsFree)) h
 
@@ -99,11 +99,11 @@ step_come laws args outer p r = line_come laws (judged args p r) [] (Ok (with_in
 -- the instructions of a stage
 
 lines_come : (laws : LeastLaws) (args outer : Values) (rs : List ResolvedInstruction) (p : Progress)
-    → ComeTo (lines_judged args outer p rs) (instructions_from args outer (Ok p) rs) (behind_all args outer p rs)
+    → ComeTo (lines_judged args outer p rs) (instructions_from args outer (Ok p) rs) (after_all args outer p rs)
 lines_come laws args outer [] p = (All-nil IsFree, refl)
 lines_come laws args outer (r ∷ rs) p =
     come_then (next_instruction args outer) (judged args p r ∷ []) (lines_judged args outer (with_instruction args outer p r) rs) (next_instruction args outer p r)
-    (with_instruction args outer p r) rs (behind_all args outer (with_instruction args outer p r) rs) (step_come laws args outer p r) (lines_come laws args outer rs (with_instruction args outer p r))
+    (with_instruction args outer p r) rs (after_all args outer (with_instruction args outer p r) rs) (step_come laws args outer p r) (lines_come laws args outer rs (with_instruction args outer p r))
 
 -- a needed stage
 
@@ -113,11 +113,11 @@ ended_come walk stage lines (Ok p) last h = (h.0, ap (with_stage walk stage) h.1
 ended_come walk stage lines (Err refusal) last h = h
 
 stage_come : (laws : LeastLaws) (args outer : Values) (images : ImagesValue Config) (walk : Walk) (stage : ResolvedStage)
-    → ComeTo (stage_judged args outer images walk stage) (stage_from args outer images walk stage) (with_stage walk stage (behind_all args outer (begun images walk stage) stage.instructions))
+    → ComeTo (stage_judged args outer images walk stage) (stage_from args outer images walk stage) (with_stage walk stage (after_all args outer (begun images walk stage) stage.instructions))
 stage_come laws args outer images walk stage =
     let first = begun images walk stage in
     let ended = instructions_from args outer (Ok first) stage.instructions in
-    let last = behind_all args outer first stage.instructions in
+    let last = after_all args outer first stage.instructions in
     let lines = lines_judged args outer first stage.instructions in
     line_come laws (record { line = stage.line; codes = many_codes (with_origin walk.names stage.base); fault = None }) lines (with_ended walk stage ended) (with_stage walk stage last)
     (ended_come walk stage lines ended last (lines_come laws args outer stage.instructions first))
@@ -126,26 +126,26 @@ stage_come laws args outer images walk stage =
 
 next_by : (laws : LeastLaws) (args outer : Values) (images : ImagesValue Config) (walk : Walk) (stage : ResolvedStage) (marked : Bool)
     → ComeTo (if marked then stage_judged args outer images walk stage else []) (if marked then stage_from args outer images walk stage else Ok (with_none walk))
-    (if marked then with_stage walk stage (behind_all args outer (begun images walk stage) stage.instructions) else with_none walk)
+    (if marked then with_stage walk stage (after_all args outer (begun images walk stage) stage.instructions) else with_none walk)
 next_by laws args outer images walk stage true = stage_come laws args outer images walk stage
 next_by laws args outer images walk stage false = (All-nil IsFree, refl)
 
 pub next_come : (laws : LeastLaws) (args outer : Values) (images : ImagesValue Config) (needed : List Bool) (walk : Walk) (stage : ResolvedStage)
     → ComeTo (if is_marked needed (length walk.rows) then stage_judged args outer images walk stage else []) (next_stage args outer images needed walk stage)
-    (behind_stage args outer images needed walk stage)
+    (after_stage args outer images needed walk stage)
 next_come laws args outer images needed walk stage = next_by laws args outer images walk stage (is_marked needed (length walk.rows))
 
-abbrev behind_stages : Values → Values → ImagesValue Config → List Bool → Walk → List ResolvedStage → Walk
-behind_stages args outer images needed walk [] = walk
-behind_stages args outer images needed walk (stage ∷ stages) = behind_stages args outer images needed (behind_stage args outer images needed walk stage) stages
+abbrev after_stages : Values → Values → ImagesValue Config → List Bool → Walk → List ResolvedStage → Walk
+after_stages args outer images needed walk [] = walk
+after_stages args outer images needed walk (stage ∷ stages) = after_stages args outer images needed (after_stage args outer images needed walk stage) stages
 
 stages_come : (laws : LeastLaws) (args outer : Values) (images : ImagesValue Config) (needed : List Bool) (stages : List ResolvedStage) (walk : Walk)
-    → ComeTo (stages_judged args outer images needed walk stages) (stages_from args outer images needed (Ok walk) stages) (behind_stages args outer images needed walk stages)
+    → ComeTo (stages_judged args outer images needed walk stages) (stages_from args outer images needed (Ok walk) stages) (after_stages args outer images needed walk stages)
 stages_come laws args outer images needed [] walk = (All-nil IsFree, refl)
 stages_come laws args outer images needed (stage ∷ stages) walk =
-    let now = behind_stage args outer images needed walk stage in
+    let now = after_stage args outer images needed walk stage in
     come_then (next_stage args outer images needed) (if is_marked needed (length walk.rows) then stage_judged args outer images walk stage else [])
-    (stages_judged args outer images needed now stages) (next_stage args outer images needed walk stage) now stages (behind_stages args outer images needed now stages)
+    (stages_judged args outer images needed now stages) (next_stage args outer images needed walk stage) now stages (after_stages args outer images needed now stages)
     (next_come laws args outer images needed walk stage) (stages_come laws args outer images needed stages now)
 
 -- the lines ascend
@@ -183,8 +183,8 @@ stages_ascend : (args outer : Values) (images : ImagesValue Config) (needed : Li
     → AscendFrom low (lines_of stages) → AscendFrom low (numbers_of (stages_judged args outer images needed walk stages))
 stages_ascend args outer images needed [] walk low a = tt
 stages_ascend args outer images needed (stage ∷ stages) walk low a =
-    ascend_by args outer images walk stage stages (stages_judged args outer images needed (behind_stage args outer images needed walk stage) stages) low
-    (is_marked needed (length walk.rows)) (stages_ascend args outer images needed stages (behind_stage args outer images needed walk stage)) a
+    ascend_by args outer images walk stage stages (stages_judged args outer images needed (after_stage args outer images needed walk stage) stages) low
+    (is_marked needed (length walk.rows)) (stages_ascend args outer images needed stages (after_stage args outer images needed walk stage)) a
 
 -- the first is the least
 
@@ -229,18 +229,18 @@ pub refused_least : LeastLaws → (args : Values) (images : ImagesValue Config) 
 refused_least laws args images needed table refusal is e =
     let outer = value_in table.outer in
     least_of (needed_lines args images needed table) refusal (stages_ascend args outer images needed table.stages no_stage 0 is.lines)
-    (refused_by (needed_lines args images needed table) (evaluated args images needed table) (behind_stages args outer images needed no_stage table.stages) refusal
+    (refused_by (needed_lines args images needed table) (evaluated args images needed table) (after_stages args outer images needed no_stage table.stages) refusal
     (stages_come laws args outer images needed table.stages no_stage) e)
 
 pub evaluated_free : LeastLaws → (args : Values) (images : ImagesValue Config) (needed : List Bool) (table : TableValue) (walk : Walk)
     → evaluated args images needed table ≡ Ok walk → All IsFree (needed_lines args images needed table)
 evaluated_free laws args images needed table walk e =
     let outer = value_in table.outer in
-    (free_by (needed_lines args images needed table) (evaluated args images needed table) (behind_stages args outer images needed no_stage table.stages) walk
+    (free_by (needed_lines args images needed table) (evaluated args images needed table) (after_stages args outer images needed no_stage table.stages) walk
     (stages_come laws args outer images needed table.stages no_stage) e).0
 
 pub next_is : LeastLaws → (args outer : Values) (images : ImagesValue Config) (needed : List Bool) (walk next : Walk) (stage : ResolvedStage)
-    → next_stage args outer images needed walk stage ≡ Ok next → next ≡ behind_stage args outer images needed walk stage
+    → next_stage args outer images needed walk stage ≡ Ok next → next ≡ after_stage args outer images needed walk stage
 next_is laws args outer images needed walk next stage e =
     (free_by (if is_marked needed (length walk.rows) then stage_judged args outer images walk stage else []) (next_stage args outer images needed walk stage)
-    (behind_stage args outer images needed walk stage) next (next_come laws args outer images needed walk stage) e).1
+    (after_stage args outer images needed walk stage) next (next_come laws args outer images needed walk stage) e).1

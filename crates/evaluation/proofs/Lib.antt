@@ -12,7 +12,6 @@ mod ImageFacts
 mod InstructionFacts
 mod LineFacts
 mod ReachedFacts
-mod ScopeFacts
 mod StepFacts
 mod WalkFacts
 mod EvaluatedFacts

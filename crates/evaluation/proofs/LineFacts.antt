@@ -20,18 +20,18 @@ use Rattle.evaluation.specs.PrivateRefusals.{EvaluatesTo}
 
 -- what is reported of a line is why it is refused
 abbrev pub Reports : Option Reason → Fault Reason → Type 0
-Reports why fault = (told : Reason) → fault ≡ Because told → why ≡ Some told
+Reports why fault = (reported : Reason) → fault ≡ Because reported → why ≡ Some reported
 
 same_reason : (this that : Reason) → Because this ≡ Because that → this ≡ that
 same_reason this that e = cc
 
-no_reason : (told : Reason) → Memory ≡ Because told → ⊥
-no_reason told e = cc
+no_reason : (reported : Reason) → Memory ≡ Because reported → ⊥
+no_reason reported e = cc
 
-pub line_told : {X : Type 0} (made : X) (codes : Code → Bool) (against : Option Unexpanded) (line : ℕ) (fault : Fault Reason) (out : Fault Rejection) → out ≡ with_line fault line
+pub line_reported : {X : Type 0} (made : X) (codes : Code → Bool) (against : Option Unexpanded) (line : ℕ) (fault : Fault Reason) (out : Fault Rejection) → out ≡ with_line fault line
     → Reports (reason codes against) fault → EvaluatesTo made codes against line (Err out)
-line_told made codes against line (Because told) out is h = subst (λ (o : Fault Rejection). EvaluatesTo made codes against line (Err o)) (sym is) (refl, h told refl)
-line_told made codes against line Memory out is h = subst (λ (o : Fault Rejection). EvaluatesTo made codes against line (Err o)) (sym is) tt
+line_reported made codes against line (Because reported) out is h = subst (λ (o : Fault Rejection). EvaluatesTo made codes against line (Err o)) (sym is) (refl, h reported refl)
+line_reported made codes against line Memory out is h = subst (λ (o : Fault Rejection). EvaluatesTo made codes against line (Err o)) (sym is) tt
 
 -- a line of which R18 is due if one of its texts is too long, and nothing else
 long_by : (why : Unexpanded) → reason_by (if is_long (Some why) then Some R18 else None) (required_in (Some why)) ≡ Some (reason_of why)
@@ -41,22 +41,22 @@ long_by (Required text) = refl
 long_of : (against : Option Unexpanded) (why : Unexpanded) → against ≡ Some why → reason_by (if is_long against then Some R18 else None) (required_in against) ≡ Some (reason_of why)
 long_of against why h = ap (λ (a : Option Unexpanded). reason_by (if is_long a then Some R18 else None) (required_in a)) h ∙ long_by why
 
-pub long_told : (old line new : List Declaration) (against : Option Unexpanded) (fault : Fault Unexpanded) (out : Fault Reason) → out ≡ text_fault fault
+pub long_reported : (old line new : List Declaration) (against : Option Unexpanded) (fault : Fault Unexpanded) (out : Fault Reason) → out ≡ text_fault fault
     → Declares old line against new (Err fault) → Reports (reason_by (if is_long against then Some R18 else None) (required_in against)) out
-long_told old line new against (Because why) out is h told e = long_of against why h.1 ∙ ap Some (same_reason (reason_of why) told (sym is ∙ e))
-long_told old line new against Memory out is h told e = absurd (no_reason told (sym is ∙ e))
+long_reported old line new against (Because why) out is h reported e = long_of against why h.1 ∙ ap Some (same_reason (reason_of why) reported (sym is ∙ e))
+long_reported old line new against Memory out is h reported e = absurd (no_reason reported (sym is ∙ e))
 
 -- a line that expands nothing
-pub code_told : {X : Type 0} (made : X) (codes : Code → Bool) (fault : Fault Code) (out : Fault Reason) → out ≡ code_fault fault
+pub code_reported : {X : Type 0} (made : X) (codes : Code → Bool) (fault : Fault Code) (out : Fault Reason) → out ≡ code_fault fault
     → Meets (Some made) codes (Err fault) → Evaluates (Some made) codes None (Err out)
-code_told made codes (Because code) out is h =
+code_reported made codes (Because code) out is h =
     subst (λ (o : Fault Reason). Evaluates (Some made) codes None (Err o)) (sym is) (ap (λ (c : Option Code). reason_by c None) h)
-code_told made codes Memory out is h = subst (λ (o : Fault Reason). Evaluates (Some made) codes None (Err o)) (sym is) tt
+code_reported made codes Memory out is h = subst (λ (o : Fault Reason). Evaluates (Some made) codes None (Err o)) (sym is) tt
 
 pub code_well : {X : Type 0} (made x : X) (codes : Code → Bool) → (Some made ≡ Some x) × (least codes ≡ None) → Evaluates (Some made) codes None (Ok x)
 code_well made x codes h = (h.0, ap (λ (c : Option Code). reason_by c None) h.1)
 
 pub reason_met : {X : Type 0} (made : Option X) (codes : Code → Bool) (against : Option Unexpanded) (fault : Fault Reason) → Evaluates made codes against (Err fault)
     → Reports (reason codes against) fault
-reason_met made codes against (Because this) h told e = h ∙ ap Some (same_reason this told e)
-reason_met made codes against Memory h told e = absurd (no_reason told e)
+reason_met made codes against (Because this) h reported e = h ∙ ap Some (same_reason this reported e)
+reason_met made codes against Memory h reported e = absurd (no_reason reported e)

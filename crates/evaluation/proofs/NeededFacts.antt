@@ -14,7 +14,7 @@ use Rattle.stages.specs.Table.{TableValue}
 use Rattle.stages.specs.declared.stage.ResolvedStage.{ResolvedStage}
 use Rattle.imageconfig.specs.declared.config.Config.{Config}
 use Rattle.evaluation.specs.Evaluated.{no_stage, evaluated}
-use Rattle.evaluation.specs.NeededLines.{behind_all, SameWhereMarked}
+use Rattle.evaluation.specs.NeededLines.{after_all, SameWhereMarked}
 use Rattle.evaluation.specs.Stages.{begun, with_stage, with_none, stage_from, next_stage, stages_from}
 use Rattle.evaluation.specs.declared.stage.Progress.{Progress}
 use Rattle.evaluation.specs.declared.walk.Walk.{Walk}
@@ -71,7 +71,7 @@ rows_more : LeastLaws → (args outer : Values) (images : ImagesValue Config) (m
     → next_stage args outer images marks walk stage ≡ Ok next → length next.rows ≡ length walk.rows + 1
 rows_more laws args outer images marks walk next stage e =
     ap (λ (w : Walk). length w.rows) (next_is laws args outer images marks walk next stage e)
-    ∙ rows_by walk stage (behind_all args outer (begun images walk stage) stage.instructions) (is_marked marks (length walk.rows))
+    ∙ rows_by walk stage (after_all args outer (begun images walk stage) stage.instructions) (is_marked marks (length walk.rows))
 
 some_same : {X : Type 0} (x y : X) → Some x ≡ Some y → x ≡ y
 some_same x y e = cc

@@ -52,7 +52,7 @@ pub stage_made : (args outer : Values) (images : ImagesValue Config) (walk : Wal
     → StageMade args outer images walk stage next
 stage_made args outer images walk stage next e =
     let ended = instructions_from args outer (Ok (begun images walk stage)) stage.instructions in
-    ended_made args outer images walk stage next ended refl (not_due (reason (many_codes (with_origin walk.names stage.base)) None) stage.line (with_ended walk stage ended) next e).behind
+    ended_made args outer images walk stage next ended refl (not_due (reason (many_codes (with_origin walk.names stage.base)) None) stage.line (with_ended walk stage ended) next e).after
 
 -- the environment
 

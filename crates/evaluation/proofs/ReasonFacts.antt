@@ -166,4 +166,4 @@ pub goes : (args outer : Values) (p next : Progress) (r : ResolvedInstruction) â
 goes args outer p next r h =
     let made = with_instruction args outer p r in
     let none = not_due (reason (line_codes args p r) (fault args p.state r.instruction.kind)) r.instruction.line (Ok made) next h in
-    record { free = both_free args p.state r.instruction.kind (with_origins p.names r.origins) none.none; is = same_ok made next none.behind }
+    record { free = both_free args p.state r.instruction.kind (with_origins p.names r.origins) none.none; is = same_ok made next none.after }

@@ -1,4 +1,4 @@
--- What holds behind some stages: of the rows, of what the stages leave, and of the images that are named.
+-- What holds after some stages: of the rows, of what the stages leave, and of the images that are named.
 use Rattle.std.specs.Prelude.{◌≡◌, ◌≤◌, ◌<◌, ◌+◌, ℕ, zero, suc, Bool, true, false, List, [], ◌∷◌, ◌++◌, map, Option, Some, None, Result, Ok, Err, Contains, length, nat_lt, slice_get, slice_index_or, refl, if◌then◌else◌}
 use Rattle.std.specs.List.{All, list_all}
 use Rattle.std.specs.FinMap.{get}
@@ -21,7 +21,7 @@ use Rattle.rows.specs.declared.row.Origin.{Origin}
 use Rattle.rows.specs.declared.row.Origin.TheVariants.{Source as SourceOf, Stage as StageOf}
 use Rattle.rows.specs.declared.row.Stage.{Stage}
 use Rattle.rows.specs.declared.row.Step.{Step}
-use Rattle.scopes.specs.Evaluate.{Values}
+use Rattle.scopes.specs.Evaluate.{Values, declaration_of}
 use Rattle.scopes.specs.Scope.{kept, names_in, is_environment_name}
 use Rattle.stages.specs.Needed.{origins_in, stage_origins}
 use Rattle.stages.specs.Table.{IsBefore, IsResolved, IsStage, stage_lines, lines_of}
@@ -35,7 +35,7 @@ use Rattle.evaluation.specs.Evaluated.{no_stage}
 use Rattle.evaluation.specs.Images.{with_origin, many_codes}
 use Rattle.evaluation.specs.PrivateNames.{HasNames, HasFoundNames, IsProperSource, IsProperBase}
 use Rattle.evaluation.specs.Stages.{instructions_from, begun, with_stage, with_ended, with_none, stage_from, next_stage, stages_from}
-use Rattle.evaluation.specs.State.{declaration_of, image_state, found_state, ended_state, source_state, start}
+use Rattle.evaluation.specs.State.{image_state, found_state, ended_state, source_state, start}
 use Rattle.evaluation.specs.declared.stage.Progress.{Progress}
 use Rattle.evaluation.specs.declared.state.State.{State}
 use Rattle.evaluation.specs.declared.walk.Walk.{Walk}
@@ -56,7 +56,7 @@ get-before [] ys n x e = absurd cc
 get-before (y ∷ xs) ys zero x e = e
 get-before (y ∷ xs) ys (suc n) x e = get-before xs ys n x e
 
--- each element of a list with one more behind those before it
+-- each element of a list with one more after those before it
 each-more : {X : Type 0} (P : List X → X → Type 0) (xs : List X) (x : X) → ((before after : List X) (y : X) → xs ≡ before ++ y ∷ after → P before y) → P xs x
     → (before after : List X) (y : X) → xs ++ x ∷ [] ≡ before ++ y ∷ after → P before y
 each-more P [] x each last [] after y e = (let same : x ≡ y = cc in subst (P []) same last)
@@ -147,7 +147,7 @@ start_names : Laws → (images : ImagesValue Config) (states : List (Option Stat
 start_names laws images states (SourceOf source) is are = source_names laws images source is
 start_names laws images states (StageOf number) is are = ended_names (slice_index_or states number None) (none_names states number are)
 
--- what holds behind some stages, of which those with these marks are needed; K is what is known of all that they name
+-- what holds after some stages, of which those with these marks are needed; K is what is known of all that they name
 
 pub record StageFits (K : Origin → Type 0) (images : ImagesValue Config) (needed : List Bool) (number : ℕ) (stage : ResolvedStage) : Type 0 where
   pub is : IsStage number stage
@@ -304,7 +304,7 @@ stage_more laws K args outer images needed stages walk stage next kept fits mark
     let first = begun images walk stage in
     let ended = instructions_from args outer (Ok first) stage.instructions in
     let well = not_due (reason (many_codes (with_origin walk.names stage.base)) None) stage.line (with_ended walk stage ended) next e in
-    let last = ended_well walk stage ended next well.behind in
+    let last = ended_well walk stage ended next well.after in
     let k = stage_kept laws args outer (length stages) stage.instructions first last.last fits.is.instructions fits.lines
     (start_names laws images walk.states stage.base fits.proper kept.names) (All-nil IsStep) last.ended_is in
     subst (WalkKept K needed (stages ++ stage ∷ [])) last.next_is (with_kept K images needed stages walk stage last.last kept fits marked (few_is (with_origin walk.names stage.base) well.none) k)

@@ -1,4 +1,4 @@
--- A step of a stage, and a stage behind those before it.
+-- A step of a stage, and a stage after those before it.
 use Rattle.std.specs.Prelude.{◌≡◌, ◌||◌, ℕ, suc, true, false, List, [], ◌∷◌, ◌++◌, Option, Some, None, Result, Ok, Err, length, nat_lt, refl}
 use Rattle.std.specs.List.{All}
 use Rattle.std.proofs.Common.{sym, ◌∙◌, ap, subst, arith}
@@ -24,7 +24,7 @@ use Rattle.evaluation.specs.Stages.{next_instruction, instructions_from}
 use Rattle.evaluation.specs.declared.instruction.Done.{Done}
 use Rattle.evaluation.specs.declared.stage.Progress.{Progress}
 use Rattle.evaluation.specs.declared.state.State.{State}
-use Rattle.evaluation.proofs.FoldFacts.{SoFar, so_far_first, so_far_more, so_far_told, so_far_all}
+use Rattle.evaluation.proofs.FoldFacts.{SoFar, so_far_first, so_far_more, so_far_reported, so_far_all}
 use Rattle.evaluation.proofs.ReasonFacts.{many_is, reason_is}
 
 -- an item of a list of which all elements are so
@@ -42,19 +42,19 @@ item_is P all before rest left x are split is = item_at P before left x (subst (
 -- a refusal by its parts
 
 refusal_of : ℕ → Reason → Rejection
-refusal_of line told = record { reason = told; line = line }
+refusal_of line reported = record { reason = reported; line = line }
 
-due_told : {X : Type 0} (told : Option Reason) (line : ℕ) (rest : Result X Rejection) (refusal : Rejection) → refusal.line ≡ line → told ≡ Some refusal.reason → unless_due told line rest ≡ Err refusal
+due_reported : {X : Type 0} (reported : Option Reason) (line : ℕ) (rest : Result X Rejection) (refusal : Rejection) → refusal.line ≡ line → reported ≡ Some refusal.reason → unless_due reported line rest ≡ Err refusal
 unfolding refusal_of
-due_told told line rest refusal at is =
+due_reported reported line rest refusal at is =
     ap (λ c. unless_due c line rest) is ∙ ap (λ (n : ℕ). Err (refusal_of n refusal.reason)) (sym at)
 
-not_due : {X : Type 0} (told : Option Reason) (line : ℕ) (rest : Result X Rejection) → told ≡ None → unless_due told line rest ≡ rest
-not_due told line rest none = ap (λ c. unless_due c line rest) none
+not_due : {X : Type 0} (reported : Option Reason) (line : ℕ) (rest : Result X Rejection) → reported ≡ None → unless_due reported line rest ≡ rest
+not_due reported line rest none = ap (λ c. unless_due c line rest) none
 
-pub many_told : {X : Type 0} (names : ImageNames) (line : ℕ) (rest : Result X Rejection) → nat_lt most_images (length names) ≡ true
+pub many_reported : {X : Type 0} (names : ImageNames) (line : ℕ) (rest : Result X Rejection) → nat_lt most_images (length names) ≡ true
     → Returns (unless_due (reason (many_codes names) None) line rest) (Err (many_refused line))
-many_told names line rest h = ap (λ c. unless_due c line rest) (many_is names true h)
+many_reported names line rest h = ap (λ c. unless_due c line rest) (many_is names true h)
 
 pub few_go_on : {X : Type 0} (names : ImageNames) (line : ℕ) (rest : Result X Rejection) → nat_lt most_images (length names) ≡ false
     → unless_due (reason (many_codes names) None) line rest ≡ rest
@@ -66,8 +66,8 @@ pub put_many : (steps : List Step) (names : ImageNames) (line : ℕ) (made : Don
     → IsPut steps names line made (Err fault)
 unfolding IsPut
 put_many steps names line made fault is h =
-    let told = many_told names line (Ok (put_to steps names line made)) h in
-    subst (λ (f : Fault Rejection). Returns (unless_due (reason (many_codes names) None) line (Ok (put_to steps names line made))) (Err f)) (sym is) told
+    let reported = many_reported names line (Ok (put_to steps names line made)) h in
+    subst (λ (f : Fault Rejection). Returns (unless_due (reason (many_codes names) None) line (Ok (put_to steps names line made))) (Err f)) (sym is) reported
 
 pub put_done : (steps : List Step) (names : ImageNames) (line : ℕ) (made : Done) (p : Progress) → nat_lt most_images (length names) ≡ false → p ≡ put_to steps names line made
     → IsPut steps names line made (Ok p)
@@ -83,32 +83,32 @@ put_none steps names line made = tt
 abbrev reason_both : Values → State → InstructionKind → ImageNames → Option Reason
 reason_both args s kind names = reason (λ code. due args s kind code || many_codes names code) (fault args s kind)
 
-told_with : (args : Values) (s : State) (kind : InstructionKind) (names : ImageNames) (told : Reason) → reason (due args s kind) (fault args s kind) ≡ Some told
-    → reason_both args s kind names ≡ Some (reason_with (nat_lt most_images (length names)) told)
-told_with args s kind names told h = reason_is args s kind names ∙ ap (with_many (nat_lt most_images (length names))) h
+reported_with : (args : Values) (s : State) (kind : InstructionKind) (names : ImageNames) (reported : Reason) → reason (due args s kind) (fault args s kind) ≡ Some reported
+    → reason_both args s kind names ≡ Some (reason_with (nat_lt most_images (length names)) reported)
+reported_with args s kind names reported h = reason_is args s kind names ∙ ap (with_many (nat_lt most_images (length names))) h
 
 none_with : (args : Values) (s : State) (kind : InstructionKind) (names : ImageNames) → reason (due args s kind) (fault args s kind) ≡ None
     → reason_both args s kind names ≡ reason (many_codes names) None
 none_with args s kind names h =
     reason_is args s kind names ∙ (ap (with_many (nat_lt most_images (length names))) h ∙ sym (many_is names (nat_lt most_images (length names)) refl))
 
-pub stepped_told : (args outer : Values) (s : State) (kind : InstructionKind) (origins : List Origin) (line : ℕ) (steps : List Step) (names : ImageNames) (told out : Fault Rejection)
-    → IsDone args outer s kind origins line (Err told) → out ≡ fault_with (nat_lt most_images (length names)) told → IsStepped args outer s kind origins line steps names (Err out)
+pub stepped_reported : (args outer : Values) (s : State) (kind : InstructionKind) (origins : List Origin) (line : ℕ) (steps : List Step) (names : ImageNames) (reported out : Fault Rejection)
+    → IsDone args outer s kind origins line (Err reported) → out ≡ fault_with (nat_lt most_images (length names)) reported → IsStepped args outer s kind origins line steps names (Err out)
 unfolding IsDone IsStepped
-stepped_told args outer s kind origins line steps names (Because refusal) out h is =
+stepped_reported args outer s kind origins line steps names (Because refusal) out h is =
     let rest : Result Progress Rejection = Ok (put_to steps names line (done args outer s kind origins)) in
-    let whole = due_told (reason_both args s kind names) line rest (record { reason = reason_with (nat_lt most_images (length names)) refusal.reason; line = refusal.line }) h.0
-    (told_with args s kind names refusal.reason h.1) in
+    let whole = due_reported (reason_both args s kind names) line rest (record { reason = reason_with (nat_lt most_images (length names)) refusal.reason; line = refusal.line }) h.0
+    (reported_with args s kind names refusal.reason h.1) in
     subst (λ (f : Fault Rejection). Returns (unless_due (reason_both args s kind names) line rest) (Err f)) (sym is) whole
-stepped_told args outer s kind origins line steps names Memory out h is =
+stepped_reported args outer s kind origins line steps names Memory out h is =
     subst (λ (f : Fault Rejection). Returns (unless_due (reason_both args s kind names) line (Ok (put_to steps names line (done args outer s kind origins)))) (Err f)) (sym is) tt
 
 pub stepped_put : (args outer : Values) (s : State) (kind : InstructionKind) (origins : List Origin) (line : ℕ) (steps : List Step) (names : ImageNames) (made : Done) (result : Result Progress (Fault Rejection))
     → IsDone args outer s kind origins line (Ok made) → IsPut steps names line made result → IsStepped args outer s kind origins line steps names result
 unfolding IsDone IsStepped IsPut
-stepped_put args outer s kind origins line steps names made result told put =
-    subst (λ (why : Option Reason). Returns (unless_due why line (Ok (put_to steps names line (done args outer s kind origins)))) result) (sym (none_with args s kind names told.1))
-    (subst (λ (d : Done). Returns (unless_due (reason (many_codes names) None) line (Ok (put_to steps names line d))) result) told.0 put)
+stepped_put args outer s kind origins line steps names made result reported put =
+    subst (λ (why : Option Reason). Returns (unless_due why line (Ok (put_to steps names line (done args outer s kind origins)))) result) (sym (none_with args s kind names reported.1))
+    (subst (λ (d : Done). Returns (unless_due (reason (many_codes names) None) line (Ok (put_to steps names line d))) result) reported.0 put)
 
 pub next_stepped : (args outer : Values) (p named : Progress) (r : ResolvedInstruction) (origins : List Origin) (result : Result Progress (Fault Rejection))
     → named ≡ (record { state = p.state; steps = p.steps; names = with_origins p.names origins }) → origins ≡ r.origins
@@ -143,9 +143,9 @@ next_more args outer first all rest left r now more far is made = so_far_more (n
 pub next_refused : (args outer : Values) (first : Progress) (all rest left whole : List ResolvedInstruction) (r : ResolvedInstruction) (now : Progress) (fault : Fault Rejection)
     → NextSoFar args outer first all rest now → rest ≡ r ∷ left → all ≡ whole → IsNext args outer now r (Err fault) → AreNext args outer first whole (Err fault)
 unfolding NextSoFar IsNext AreNext
-next_refused args outer first all rest left whole r now fault far is same told =
+next_refused args outer first all rest left whole r now fault far is same reported =
     subst (λ (rs : List ResolvedInstruction). Returns (instructions_from args outer (Ok first) rs) (Err fault)) same
-    (so_far_told (next_instruction args outer) first all rest left r now fault far is told)
+    (so_far_reported (next_instruction args outer) first all rest left r now fault far is reported)
 
 pub next_all : (args outer : Values) (first : Progress) (all rest whole : List ResolvedInstruction) (now : Progress)
     → NextSoFar args outer first all rest now → length rest ≡ 0 → all ≡ whole → AreNext args outer first whole (Ok now)

@@ -1,4 +1,4 @@
--- A stage behind those before it, and all stages one after another.
+-- A stage after those before it, and all stages one after another.
 use Rattle.std.specs.Prelude.{◌≡◌, ℕ, Bool, true, false, List, [], ◌∷◌, ◌++◌, Option, Some, None, Result, Ok, Err, length, nat_lt, if◌then◌else◌}
 use Rattle.std.specs.List.{All}
 use Rattle.std.proofs.Common.{sym, ◌∙◌, ap, subst}
@@ -27,16 +27,16 @@ use Rattle.evaluation.specs.Stages.{instructions_from, with_ended, with_none, st
 use Rattle.evaluation.specs.declared.stage.Progress.{Progress}
 use Rattle.evaluation.specs.declared.state.State.{State}
 use Rattle.evaluation.specs.declared.walk.Walk.{Walk}
-use Rattle.evaluation.proofs.FoldFacts.{SoFar, so_far_first, so_far_more, so_far_told, so_far_all, not_due}
-use Rattle.evaluation.proofs.StepFacts.{item_is, many_told, few_go_on}
+use Rattle.evaluation.proofs.FoldFacts.{SoFar, so_far_first, so_far_more, so_far_reported, so_far_all, not_due}
+use Rattle.evaluation.proofs.StepFacts.{item_is, many_reported, few_go_on}
 
 -- the names with a FROM's
 
 pub few_refused : (names : ImageNames) (line : ℕ) (fault : Fault Rejection) → fault ≡ many_refused line → nat_lt most_images (length names) ≡ true → AreFew names line (Err fault)
 unfolding AreFew
 few_refused names line fault is many =
-    let told = many_told names line (Ok names) many in
-    subst (λ (f : Fault Rejection). Returns (unless_due (reason (many_codes names) None) line (Ok names)) (Err f)) (sym is) told
+    let reported = many_reported names line (Ok names) many in
+    subst (λ (f : Fault Rejection). Returns (unless_due (reason (many_codes names) None) line (Ok names)) (Err f)) (sym is) reported
 
 pub few_all : (names : ImageNames) (line : ℕ) → nat_lt most_images (length names) ≡ false → AreFew names line (Ok names)
 unfolding AreFew
@@ -58,15 +58,15 @@ well_of x = Ok x
 same_ok : {X : Type 0} (x y : X) → well_of x ≡ well_of y → x ≡ y
 same_ok x y e = cc
 
-told_before : {X Y : Type 0} (code : Option Reason) (line : ℕ) (x : X) (rest : Result Y Rejection) (refusal : Rejection) → unless_due code line (Ok x) ≡ Err refusal → unless_due code line rest ≡ Err refusal
-told_before None line x rest refusal h = cc
-told_before (Some code) line x rest refusal h = cc
+reported_before : {X Y : Type 0} (code : Option Reason) (line : ℕ) (x : X) (rest : Result Y Rejection) (refusal : Rejection) → unless_due code line (Ok x) ≡ Err refusal → unless_due code line rest ≡ Err refusal
+reported_before None line x rest refusal h = cc
+reported_before (Some code) line x rest refusal h = cc
 
-pub ended_told : (args outer : Values) (images : ImagesValue Config) (states : List (Option State)) (names : ImageNames) (line : ℕ) (base : Origin) (rs : List ResolvedInstruction) (fault : Fault Rejection)
+pub ended_reported : (args outer : Values) (images : ImagesValue Config) (states : List (Option State)) (names : ImageNames) (line : ℕ) (base : Origin) (rs : List ResolvedInstruction) (fault : Fault Rejection)
     → AreNamed names base line (Err fault) → IsEnded args outer images states names line base rs (Err fault)
 unfolding AreNamed IsEnded
-ended_told args outer images states names line base rs (Because refusal) h = told_before (reason (many_codes (with_origin names base)) None) line (with_origin names base) _ refusal h
-ended_told args outer images states names line base rs Memory h = tt
+ended_reported args outer images states names line base rs (Because refusal) h = reported_before (reason (many_codes (with_origin names base)) None) line (with_origin names base) _ refusal h
+ended_reported args outer images states names line base rs Memory h = tt
 
 pub ended_none : (args outer : Values) (images : ImagesValue Config) (states : List (Option State)) (names : ImageNames) (line : ℕ) (base : Origin) (rs : List ResolvedInstruction)
     → IsEnded args outer images states names line base rs (Err Memory)
@@ -85,29 +85,29 @@ pub ended_next : (args outer : Values) (images : ImagesValue Config) (states : L
 unfolding AreNamed IsEnded AreNext
 ended_next args outer images states names more line base rs result named next =
     let few = not_due (reason (many_codes (with_origin names base)) None) line (Ok (with_origin names base)) more named in
-    let whole : more ≡ with_origin names base = sym (same_ok (with_origin names base) more few.behind) in
+    let whole : more ≡ with_origin names base = sym (same_ok (with_origin names base) more few.after) in
     subst (λ (c : Option Reason). Returns (unless_due c line (instructions_from args outer (Ok (begun_with images states base (with_origin names base))) rs)) result) (sym few.none)
     (subst (λ (ns : ImageNames). Returns (instructions_from args outer (Ok (begun_with images states base ns)) rs) result) whole next)
 
--- a needed stage behind those before it
+-- a needed stage after those before it
 
-told_behind : (code : Option Reason) (line : ℕ) (walk : Walk) (stage : ResolvedStage) (rest : Result Progress Rejection) (refusal : Rejection)
+reported_after : (code : Option Reason) (line : ℕ) (walk : Walk) (stage : ResolvedStage) (rest : Result Progress Rejection) (refusal : Rejection)
     → unless_due code line rest ≡ Err refusal → unless_due code line (with_ended walk stage rest) ≡ Err refusal
-told_behind None line walk stage (Ok p) refusal h = cc
-told_behind None line walk stage (Err r) refusal h = cc
-told_behind (Some code) line walk stage rest refusal h = cc
+reported_after None line walk stage (Ok p) refusal h = cc
+reported_after None line walk stage (Err r) refusal h = cc
+reported_after (Some code) line walk stage rest refusal h = cc
 
-pub added_told : (args outer : Values) (images : ImagesValue Config) (walk : Walk) (stage : ResolvedStage) (states : List (Option State)) (rs : List ResolvedInstruction) (fault : Fault Rejection)
+pub added_reported : (args outer : Values) (images : ImagesValue Config) (walk : Walk) (stage : ResolvedStage) (states : List (Option State)) (rs : List ResolvedInstruction) (fault : Fault Rejection)
     → states ≡ walk.states → rs ≡ stage.instructions → IsEnded args outer images states walk.names stage.line stage.base rs (Err fault) → IsStageAdded args outer images walk stage (Err fault)
 unfolding IsEnded IsStageAdded
-added_told args outer images walk stage states rs (Because refusal) same_states same h =
-    told_behind (reason (many_codes (with_origin walk.names stage.base)) None) stage.line walk stage
+added_reported args outer images walk stage states rs (Because refusal) same_states same h =
+    reported_after (reason (many_codes (with_origin walk.names stage.base)) None) stage.line walk stage
     (instructions_from args outer (Ok (begun_with images walk.states stage.base (with_origin walk.names stage.base))) stage.instructions) refusal
     (subst (λ (is : List ResolvedInstruction).
     unless_due (reason (many_codes (with_origin walk.names stage.base)) None) stage.line (instructions_from args outer (Ok (begun_with images walk.states stage.base (with_origin walk.names stage.base))) is) ≡ Err refusal) same
     (subst (λ (ss : List (Option State)).
     unless_due (reason (many_codes (with_origin walk.names stage.base)) None) stage.line (instructions_from args outer (Ok (begun_with images ss stage.base (with_origin walk.names stage.base))) rs) ≡ Err refusal) same_states h))
-added_told args outer images walk stage states rs Memory same_states same h = tt
+added_reported args outer images walk stage states rs Memory same_states same h = tt
 
 added_well : (args outer : Values) (images : ImagesValue Config) (walk : Walk) (stage : ResolvedStage) (p : Progress) (result : Result Walk (Fault Rejection))
     → IsEnded args outer images walk.states walk.names stage.line stage.base stage.instructions (Ok p)
@@ -118,7 +118,7 @@ added_well args outer images walk stage p result ended is =
     let begun : Result Progress Rejection = instructions_from args outer (Ok (begun_with images walk.states stage.base (with_origin walk.names stage.base))) stage.instructions in
     let well = not_due (reason (many_codes (with_origin walk.names stage.base)) None) stage.line begun p ended in
     subst (λ (c : Option Reason). Returns (unless_due c stage.line (with_ended walk stage begun)) result) (sym well.none)
-    (subst (λ (r : Result Progress Rejection). Returns (with_ended walk stage r) result) (sym well.behind) is)
+    (subst (λ (r : Result Progress Rejection). Returns (with_ended walk stage r) result) (sym well.after) is)
 
 pub added_put : (args outer : Values) (images : ImagesValue Config) (walk : Walk) (stage : ResolvedStage) (states : List (Option State)) (rs : List ResolvedInstruction) (p : Progress) (result : Result Walk (Fault Rejection))
     → states ≡ walk.states → rs ≡ stage.instructions → IsEnded args outer images states walk.names stage.line stage.base rs (Ok p)
@@ -143,7 +143,7 @@ walk_none rows states names = tt
 pub walk_rows : (rows more : List (Option Stage)) (states : List (Option State)) (names : ImageNames) (result : Result Walk (Fault Rejection)) → more ≡ rows → IsWalk more states names result → IsWalk rows states names result
 walk_rows rows more states names result is h = subst (λ (rs : List (Option Stage)). IsWalk rs states names result) is h
 
--- a stage behind those before it
+-- a stage after those before it
 
 next_by : (marked : Bool) (then_is else_is : Result Walk Rejection) (result : Result Walk (Fault Rejection)) → marked ≡ true → Returns then_is result → Returns (if marked then then_is else else_is) result
 next_by marked then_is else_is result h k = subst (λ (b : Bool). Returns (if b then then_is else else_is) result) (sym h) k
@@ -190,9 +190,9 @@ pub stages_refused : (args outer : Values) (images : ImagesValue Config) (needed
     → StagesSoFar args outer images needed all rest now → rest ≡ stage ∷ left → all ≡ whole → IsNextStage args outer images needed now stage (Err fault)
     → AreStages args outer images needed whole (Err fault)
 unfolding StagesSoFar IsNextStage AreStages
-stages_refused args outer images needed all rest left whole stage now fault far is same told =
+stages_refused args outer images needed all rest left whole stage now fault far is same reported =
     subst (λ (ss : List ResolvedStage). Returns (stages_from args outer images needed (Ok no_stage) ss) (Err fault)) same
-    (so_far_told (next_stage args outer images needed) no_stage all rest left stage now fault far is told)
+    (so_far_reported (next_stage args outer images needed) no_stage all rest left stage now fault far is reported)
 
 pub stages_all : (args outer : Values) (images : ImagesValue Config) (needed : List Bool) (all rest whole : List ResolvedStage) (now : Walk)
     → StagesSoFar args outer images needed all rest now → length rest ≡ 0 → all ≡ whole → AreStages args outer images needed whole (Ok now)

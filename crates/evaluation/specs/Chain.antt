@@ -8,14 +8,13 @@ use Rattle.plans.specs.declared.images.Image as image
 use Rattle.rows.specs.declared.row.Origin.TheVariants.{Source as SourceOf, Stage as StageOf}
 use Rattle.instructions.specs.declared.instruction.InstructionKind.{InstructionKind}
 use Rattle.instructions.specs.declared.instruction.InstructionKind.TheVariants.{Arg, Env}
-use Rattle.scopes.specs.Evaluate.{Values}
+use Rattle.scopes.specs.Evaluate.{Values, declaration_of}
 use Rattle.scopes.specs.History.{ScopeLine, sets, declares, history}
 use Rattle.scopes.specs.declared.declaration.Declaration.{Declaration}
 use Rattle.stages.specs.declared.stage.ResolvedInstruction.{ResolvedInstruction}
 use Rattle.stages.specs.declared.stage.ResolvedStage.{ResolvedStage}
 use Rattle.imageconfig.specs.Environment.{variables_of}
 use Rattle.imageconfig.specs.declared.config.Config.{Config}
-use Rattle.evaluation.specs.State.{declaration_of}
 
 -- the chain of bases of a stage: the stage that its FROM names, the one that that one's names, and so on, down to one that begins with no
 -- stage but with this source (Dockerfile reference, FROM)

@@ -39,9 +39,9 @@ lines_judged args outer p [] = []
 lines_judged args outer p (r ∷ rs) = judged args p r ∷ lines_judged args outer (with_instruction args outer p r) rs
 
 -- what a stage is after all of its instructions
-abbrev pub behind_all : Values → Values → Progress → List ResolvedInstruction → Progress
-behind_all args outer p [] = p
-behind_all args outer p (r ∷ rs) = behind_all args outer (with_instruction args outer p r) rs
+abbrev pub after_all : Values → Values → Progress → List ResolvedInstruction → Progress
+after_all args outer p [] = p
+after_all args outer p (r ∷ rs) = after_all args outer (with_instruction args outer p r) rs
 
 -- the lines of a needed stage: that of its FROM, which may name one image too many, and those of its instructions
 abbrev pub stage_judged : Values → Values → ImagesValue Config → Walk → ResolvedStage → List JudgedLine
@@ -49,15 +49,15 @@ stage_judged args outer images walk stage =
     record { line = stage.line; codes = many_codes (with_origin walk.names stage.base); fault = None } ∷ lines_judged args outer (begun images walk stage) stage.instructions
 
 -- the stages so far with one more, which is left out where it isn't needed
-abbrev pub behind_stage : Values → Values → ImagesValue Config → List Bool → Walk → ResolvedStage → Walk
-behind_stage args outer images needed walk stage =
-    if is_marked needed (length walk.rows) then with_stage walk stage (behind_all args outer (begun images walk stage) stage.instructions) else with_none walk
+abbrev pub after_stage : Values → Values → ImagesValue Config → List Bool → Walk → ResolvedStage → Walk
+after_stage args outer images needed walk stage =
+    if is_marked needed (length walk.rows) then with_stage walk stage (after_all args outer (begun images walk stage) stage.instructions) else with_none walk
 
 -- the lines of the needed ones among some stages
 abbrev pub stages_judged : Values → Values → ImagesValue Config → List Bool → Walk → List ResolvedStage → List JudgedLine
 stages_judged args outer images needed walk [] = []
 stages_judged args outer images needed walk (stage ∷ stages) =
-    (if is_marked needed (length walk.rows) then stage_judged args outer images walk stage else []) ++ stages_judged args outer images needed (behind_stage args outer images needed walk stage) stages
+    (if is_marked needed (length walk.rows) then stage_judged args outer images walk stage else []) ++ stages_judged args outer images needed (after_stage args outer images needed walk stage) stages
 
 -- the lines of the stages of a table that are needed
 abbrev pub needed_lines : Values → ImagesValue Config → List Bool → TableValue → List JudgedLine

@@ -1,8 +1,9 @@
 -- Parts of what an instruction does.
-use Rattle.std.specs.Prelude.{ℕ, Bool, List, ◌++◌, Option, Some, None}
+use Rattle.std.specs.Prelude.{ℕ, Bool, List, ◌++◌, map, Option, Some, None}
 use Rattle.plain.specs.declared.fault.Fault.{Fault}
 use Rattle.plain.specs.declared.fault.Fault.TheVariants.{Because, Memory}
 use Rattle.plain.specs.declared.refusal.Code.{Code}
+use Rattle.plain.specs.declared.variable.Variable.{Variable}
 use Rattle.expand.specs.declared.reason.Rejection.{Rejection}
 use Rattle.rows.specs.declared.row.Action.{Action}
 use Rattle.rows.specs.declared.row.Action.TheVariants.{MakeDirs}
@@ -15,8 +16,10 @@ use Rattle.expand.specs.declared.fault.Unexpanded.{Unexpanded}
 use Rattle.expand.specs.declared.reason.Reason.{Reason}
 use Rattle.expand.specs.declared.reason.Reason.TheVariants.{Coded}
 use Rattle.scopes.specs.Scope.{value_in, kept}
-use Rattle.scopes.specs.Evaluate.{Values, env_line, arg_fault}
+use Rattle.scopes.specs.Evaluate.{Values, declaration_of, env_line, arg_fault}
 use Rattle.stages.specs.Due.{argument_due}
+use Rattle.imageconfig.specs.Environment.{row_of}
+use Rattle.imageconfig.specs.Rows.{put_rows}
 use Rattle.imageconfig.specs.Steps.{changed, nothing_due}
 use Rattle.imageconfig.specs.Steps as config
 use Rattle.actions.specs.Copy.{copy_action, copy_due, copy_fault}
@@ -43,6 +46,13 @@ code_fault Memory = Memory
 -- what an instruction leaves that changes the configuration alone
 abbrev pub configured : State → InstructionKind → State
 configured s kind = record { scope = s.scope; config = changed (value_in s.scope) s.config kind }
+
+-- what setting variables leaves
+abbrev pub both_set : State → List Variable → State
+both_set s variables = record {
+  scope = kept (s.scope ++ map declaration_of variables);
+  config = record s.config { env = put_rows s.config.env (map row_of variables) };
+}
 
 -- what an ENV leaves
 abbrev pub variables_set : State → List Assignment → State

@@ -1,4 +1,4 @@
--- Parts of a stage behind those before it: what each of them answers.
+-- Parts of a stage after those before it: what each of them answers.
 use Rattle.std.specs.Prelude.{ℕ, Bool, List, [], Option, None, Result, Ok}
 use Rattle.plain.specs.declared.fault.Fault.{Fault}
 use Rattle.expand.specs.declared.reason.Rejection.{Rejection}
@@ -28,7 +28,7 @@ AreFew names line result = Returns (unless_due (reason (many_codes names) None) 
 unfoldable pub AreNamed : ImageNames → Origin → ℕ → Result ImageNames (Fault Rejection) → Type 0
 AreNamed names base line result = Returns (unless_due (reason (many_codes (with_origin names base)) None) line (Ok (with_origin names base))) result
 
--- what a stage begins with, behind stages that left these states
+-- what a stage begins with, after stages that left these states
 abbrev pub begun_with : ImagesValue Config → List (Option State) → Origin → ImageNames → Progress
 begun_with images states base names = record { state = start images states base; steps = []; names = names }
 
@@ -41,11 +41,11 @@ IsEnded args outer images states names line base rs result =
 unfoldable pub IsWalk : List (Option Stage) → List (Option State) → ImageNames → Result Walk (Fault Rejection) → Type 0
 IsWalk rows states names result = Returns (Ok (record { rows = rows; states = states; names = names })) result
 
--- what a needed stage answers behind those before it
+-- what a needed stage answers after those before it
 unfoldable pub IsStageAdded : Values → Values → ImagesValue Config → Walk → ResolvedStage → Result Walk (Fault Rejection) → Type 0
 IsStageAdded args outer images walk stage result = Returns (stage_from args outer images walk stage) result
 
--- what a stage answers behind those before it, with these marks
+-- what a stage answers after those before it, with these marks
 unfoldable pub IsNextStage : Values → Values → ImagesValue Config → List Bool → Walk → ResolvedStage → Result Walk (Fault Rejection) → Type 0
 IsNextStage args outer images needed walk stage result = Returns (next_stage args outer images needed walk stage) result
 

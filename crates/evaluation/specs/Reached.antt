@@ -18,8 +18,8 @@ use Rattle.evaluation.specs.declared.stage.Progress.{Progress}
 use Rattle.evaluation.specs.declared.state.State.{State}
 use Rattle.evaluation.specs.declared.walk.Walk.{Walk}
 
--- evaluating a table comes to this state, in the stage of this number behind these of its instructions: the stage is needed, and no line is
--- refused in the stages before it, nor among these. Behind none of them it is what the stage begins with, behind all of them its end (own)
+-- evaluating a table comes to this state, in the stage of this number after these of its instructions: the stage is needed, and no line is
+-- refused in the stages before it, nor among these. After none of them it is what the stage begins with, after all of them its end (own)
 pub record ComesTo (args : Values) (images : ImagesValue Config) (needed : List Bool) (table : TableValue) (number : ℕ) (before : List ResolvedInstruction) (state : State) : Type 0 where
   pub earlier : List ResolvedStage
   pub stage : ResolvedStage

@@ -2,7 +2,7 @@
 use Rattle.std.specs.Prelude.{List, [], ◌∷◌, Result, Ok, Err}
 use Rattle.expand.specs.declared.reason.Rejection.{Rejection}
 
--- a step behind what there is so far; once something is refused, nothing behind it counts
+-- a step after what there is so far; once something is refused, nothing after it counts
 abbrev pub one_more : {X P : Type 0} → (P → X → Result P Rejection) → Result P Rejection → X → Result P Rejection
 one_more step (Ok p) x = step p x
 one_more step (Err refusal) x = Err refusal

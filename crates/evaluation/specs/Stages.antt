@@ -50,7 +50,7 @@ instructions_from args outer so_far rs = all_from (next_instruction args outer) 
 
 -- stages
 
--- what a stage begins with, behind those before it: its FROM names what it begins with
+-- what a stage begins with, after those before it: its FROM names what it begins with
 abbrev pub begun : ImagesValue Config → Walk → ResolvedStage → Progress
 begun images walk stage = record { state = start images walk.states stage.base; steps = []; names = with_origin walk.names stage.base }
 
@@ -67,7 +67,7 @@ abbrev pub with_ended : Walk → ResolvedStage → Result Progress Rejection →
 with_ended walk stage (Ok p) = Ok (with_stage walk stage p)
 with_ended walk stage (Err refusal) = Err refusal
 
--- a needed stage behind those before it
+-- a needed stage after those before it
 abbrev pub stage_from : Values → Values → ImagesValue Config → Walk → ResolvedStage → Result Walk Rejection
 stage_from args outer images walk stage =
     unless_due (reason (many_codes (with_origin walk.names stage.base)) None) stage.line
@@ -77,7 +77,7 @@ stage_from args outer images walk stage =
 abbrev pub with_none : Walk → Walk
 with_none walk = record { rows = walk.rows ++ None ∷ []; states = walk.states ++ None ∷ []; names = walk.names }
 
--- a stage behind those before it, which is evaluated where it is needed
+-- a stage after those before it, which is evaluated where it is needed
 abbrev pub next_stage : Values → Values → ImagesValue Config → List Bool → Walk → ResolvedStage → Result Walk Rejection
 next_stage args outer images needed walk stage =
     if is_marked needed (length walk.rows) then stage_from args outer images walk stage else Ok (with_none walk)

@@ -2,16 +2,14 @@
 -- with.
 use Rattle.std.specs.Prelude.{List, [], map, Option, Some, None, slice_index_or}
 use Rattle.std.specs.FinMap.{get}
-use Rattle.plain.specs.declared.variable.Variable.{Variable}
 use Rattle.llb.specs.declared.op.Source.{Source}
 use Rattle.llb.specs.declared.op.Source.TheVariants.{Scratch, Context, Image}
 use Rattle.plans.specs.Images.{ImagesValue}
 use Rattle.plans.specs.declared.images.Image as image
 use Rattle.rows.specs.declared.row.Origin.{Origin}
 use Rattle.rows.specs.declared.row.Origin.TheVariants.{Source as SourceOf, Stage as StageOf}
+use Rattle.scopes.specs.Evaluate.{declaration_of}
 use Rattle.scopes.specs.Scope.{kept}
-use Rattle.scopes.specs.declared.declaration.Declaration.{Declaration}
-use Rattle.scopes.specs.declared.declaration.Declaration.TheVariants.{Env}
 use Rattle.imageconfig.specs.Environment.{variables_of}
 use Rattle.imageconfig.specs.Reading.{plain}
 use Rattle.imageconfig.specs.Steps.{child_of}
@@ -22,11 +20,8 @@ use Rattle.evaluation.specs.declared.state.State.{State}
 abbrev pub bare_state : State
 bare_state = record { scope = []; config = plain }
 
--- a variable of an image is as if an ENV had set it (Dockerfile reference, ENV)
-abbrev pub declaration_of : Variable → Declaration
-declaration_of variable = Env variable.name variable.value
-
--- what a stage from an image begins with: the image's environment, and its configuration (Dockerfile reference, FROM)
+-- what a stage from an image begins with: the image's environment, as if ENVs had set it, and its configuration (Dockerfile reference,
+-- FROM and ENV)
 abbrev pub image_state : Config → State
 image_state config = record { scope = kept (map declaration_of (variables_of config.env)); config = child_of config }
 

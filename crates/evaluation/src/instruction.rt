@@ -1,16 +1,17 @@
-ghost use Rattle.std.specs.Prelude.{◌≡◌, Some, None as NoneOf};
+ghost use Rattle.std.specs.Prelude.{◌≡◌, true, Some, None as NoneOf, OnOk};
+ghost use Rattle.std.specs.List.{list_all};
 ghost use Rattle.std.specs.FinMap.{get as arg_value};
 ghost use Rattle.instructions.specs.Instruction.{IsInstruction};
 ghost use Rattle.instructions.specs.Least.{Meets};
 ghost use Rattle.instructions.specs.Reason.{Evaluates};
 ghost use Rattle.instructions.specs.declared.instruction.InstructionKind.TheVariants as spelled;
-ghost use Rattle.scopes.specs.Scope.{value_in};
+ghost use Rattle.scopes.specs.Scope.{value_in, names_of, is_environment_name};
 ghost use Rattle.imageconfig.specs.Steps.{due as config_due, fault as config_fault};
 ghost use Rattle.actions.specs.Copy as of_copy;
 ghost use Rattle.actions.specs.Run as of_run;
 ghost use Rattle.evaluation.specs.Instruction.{after, due, fault as fault_of, dir_in, first_of};
 ghost use Rattle.evaluation.specs.PrivateRefusals.{EvaluatesTo};
-ghost use Rattle.evaluation.specs.PrivateInstruction.{configured, variables_set, left_due, left_fault, acted, acted_due, acted_fault, finished, with_line, text_fault, code_fault};
+ghost use Rattle.evaluation.specs.PrivateInstruction.{configured, both_set, variables_set, left_due, left_fault, acted, acted_due, acted_fault, finished, with_line, text_fault, code_fault};
 ghost use Rattle.evaluation.specs.PrivateStage.{IsDone};
 
 use crate::given::Given;
@@ -22,7 +23,7 @@ use instructions::{
     Source as CopySource,
 };
 use llb::Source;
-use plain::{Fault, Items};
+use plain::{Fault, Items, Memory, Variable};
 use rows::{Action, Origin};
 use std::alloc::Global;
 use words::TextFault;
@@ -87,30 +88,37 @@ fn declare(
     }
 }
 
-/// An ENV. The configuration takes it first, since both read the values before the line.
+/// Variables in the configuration and in the scope, which hold one text of each value.
+fn set_both(alloc: Global, state: &mut State, variables: &[Variable]) -> Result<(), Memory>
+    requires { list_all is_environment_name (names_of variables.now) ≡ true }
+    ensures { OnOk result (state.new ≡ both_set state.old variables.now) }
+{
+    state.config.env.set_variables(alloc, variables)?;
+    state.scope.set_variables(alloc, variables)
+}
+
+/// An ENV. Its words are expanded once, under the values before the line.
 fn set_variables(
     alloc: Global,
     state: State,
-    instruction: &Instruction,
+    line: u32,
     assignments: &[Assignment],
 ) -> Result<State, RejectionFault>
-    requires whole { IsInstruction instruction.now.kind }
-    requires kind { instruction.now.kind ≡ spelled.Env assignments.now }
-    ensures { EvaluatesTo (variables_set state assignments.now) (config_due (value_in state.scope) state.config (spelled.Env assignments.now)) (config_fault (value_in state.scope) (spelled.Env assignments.now)) instruction.now.line result }
+    requires { IsInstruction (spelled.Env assignments.now) }
+    ensures { EvaluatesTo (variables_set state assignments.now) (config_due (value_in state.scope) state.config (spelled.Env assignments.now)) (config_fault (value_in state.scope) (spelled.Env assignments.now)) line result }
 {
     let mut state = state;
-    match state.config.apply(alloc, instruction, &state.scope) {
-        Ok(()) => {}
+    match state.scope.variables(alloc, assignments) {
+        Ok(variables) => match set_both(alloc, &mut state, variables.as_slice()) {
+            Ok(()) => Ok(state),
+            Err(_) => {
+                drop(state);
+                Err(Fault::Memory)
+            }
+        },
         Err(fault) => {
             drop(state);
-            return Err(fault);
-        }
-    }
-    match state.scope.set_env(alloc, assignments) {
-        Ok(()) => Ok(state),
-        Err(fault) => {
-            drop(state);
-            Err(with_line(text_fault(fault), instruction.line))
+            Err(with_line(text_fault(fault), line))
         }
     }
 }
@@ -265,7 +273,7 @@ fn leave(
             declare(alloc, given, state, instruction.line, arguments.as_slice())
         }
         InstructionKind::Env { assignments } => {
-            set_variables(alloc, state, instruction, assignments.as_slice())
+            set_variables(alloc, state, instruction.line, assignments.as_slice())
         }
         InstructionKind::From { .. }
         | InstructionKind::Label { .. }

@@ -42,7 +42,7 @@ pub fn every_table_is_evaluated_or_refused()
 
 /// Of all reasons to refuse lines of needed stages, each line judged where it stands, the least is reported: by line, and on a line by
 /// number, R21 being the greatest. A table is evaluated only if there is none.
-pub fn the_least_refusal_is_told()
+pub fn the_least_refusal_is_reported()
     ensures refused { (args : Values) (images : ImagesValue Config) (needed : List Bool) (table : TableValue) (refusal : Rejection) → IsTable table
         → evaluated args images needed table ≡ Err refusal → IsLeastRefusal (needed_lines args images needed table) refusal }
     ensures evaluated { (args : Values) (images : ImagesValue Config) (needed : List Bool) (table : TableValue) (walk : Walk)
@@ -71,7 +71,7 @@ pub fn a_configuration_is_what_the_lines_make()
 {}
 
 /// Wherever evaluation comes, the environment of the configuration is that of the scope: at the beginning of a stage, be it from an image, from
-/// the empty tree or from another stage, and behind each of its instructions. So the `Env` that an image is answered with is what RUNs see of ENV,
+/// the empty tree or from another stage, and after each of its instructions. So the `Env` that an image is answered with is what RUNs see of ENV,
 /// in its order and before what they see of ARG.
 pub fn configurations_have_the_environment_of_their_scopes()
     ensures each { (args : Values) (images : ImagesValue Config) (needed : List Bool) (table : TableValue) (number : ℕ) (before : List ResolvedInstruction) (state : State)
@@ -105,7 +105,7 @@ pub fn scopes_mean_the_history_of_their_chain()
         → run_env state.scope ≡ run_env (chain_history args (value_in table.outer) images source below before) }
 {}
 
-/// What a needed stage of an evaluated table leaves is the state that evaluation comes to behind all of the stage's instructions.
+/// What a needed stage of an evaluated table leaves is the state that evaluation comes to after all of the stage's instructions.
 pub fn needed_stages_leave_what_evaluation_comes_to()
     ensures { (args : Values) (images : ImagesValue Config) (needed : List Bool) (table : TableValue) (walk : Walk) (number : ℕ) (stage : ResolvedStage)
         → evaluated args images needed table ≡ Ok walk → is_marked needed number ≡ true → slice_get table.stages number ≡ Some stage

@@ -1,8 +1,9 @@
 ghost use Rattle.std.specs.Prelude.{◌≡◌, map, IfOk};
 ghost use Rattle.std.specs.List.{All};
+ghost use Rattle.scopes.specs.Evaluate.{declaration_of};
 ghost use Rattle.scopes.specs.Scope.{kept};
 ghost use Rattle.stages.specs.declared.stage.ResolvedStage.{ResolvedStage as Resolved};
-ghost use Rattle.evaluation.specs.State.{bare_state, declaration_of, image_state, stage_state, source_state, start};
+ghost use Rattle.evaluation.specs.State.{bare_state, image_state, stage_state, source_state, start};
 ghost use Rattle.evaluation.specs.PrivateNames.{IsProperSource, IsProperBase};
 
 use imageconfig::Config;
@@ -38,7 +39,7 @@ impl State {
         ensures { IfOk result (λ state. state ≡ image_state config.now) }
     {
         let variables = config.env.variables(alloc)?;
-        let scope = inherited(alloc, variables.into_vec())?;
+        let scope = inherited(alloc, variables.as_slice())?;
         match config.child(alloc) {
             Ok(config) => Ok(State { scope, config }),
             Err(memory) => {
@@ -64,15 +65,17 @@ impl State {
 }
 
 /// The scope in which each of these variables was set.
-fn inherited(alloc: Global, variables: Vec<Variable>) -> Result<Scope, Memory>
-    ensures { IfOk result (λ scope. scope ≡ kept (map declaration_of variables.items)) }
+fn inherited(alloc: Global, variables: &[Variable]) -> Result<Scope, Memory>
+    ensures { IfOk result (λ scope. scope ≡ kept (map declaration_of variables.now)) }
 {
-    scopes::laws::kept_declarations_mean_the_same();
     let mut scope = Scope::new(alloc);
-    for variable in variables {
-        scope.inherit(alloc, variable.name.as_str(), &variable.value)?;
+    match scope.set_variables(alloc, variables) {
+        Ok(()) => Ok(scope),
+        Err(memory) => {
+            drop(scope);
+            Err(memory)
+        }
     }
-    Ok(scope)
 }
 
 /// What a stage from a source begins with. No stage is from the context, and `stages` refuses an image that isn't there: both begin with
@@ -90,7 +93,7 @@ fn begin_source(alloc: Global, images: &Images<Config>, source: &Source) -> Resu
     }
 }
 
-/// What a stage begins with, behind stages that left these states. A stage that a needed one is from is needed and stands before it, so the
+/// What a stage begins with, after stages that left these states. A stage that a needed one is from is needed and stands before it, so the
 /// cases without a state don't come.
 pub(crate) fn begin(
     alloc: Global,

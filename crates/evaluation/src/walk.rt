@@ -60,7 +60,7 @@ fn name_base(
     }
 }
 
-/// What a stage begins with, behind stages that left these states.
+/// What a stage begins with, after stages that left these states.
 fn begin_stage(
     alloc: Global,
     images: &Images<Config>,
@@ -83,7 +83,7 @@ fn begin_stage(
     }
 }
 
-/// What a stage's instructions leave and do, behind stages that left these states, with its FROM's image among the names.
+/// What a stage's instructions leave and do, after stages that left these states, with its FROM's image among the names.
 fn evaluate_begun(
     alloc: Global,
     given: &Given,
@@ -104,7 +104,7 @@ fn evaluate_begun(
     }
 }
 
-/// What a stage's instructions leave and do, behind stages that left these states.
+/// What a stage's instructions leave and do, after stages that left these states.
 fn evaluate_stage(
     alloc: Global,
     given: &Given,

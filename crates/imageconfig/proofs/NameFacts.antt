@@ -196,7 +196,7 @@ cut_all (text ∷ texts) rows h = by (cut_row text) refl (all_some (map cut_row 
         ap (λ (rs : List Row). list_all is_environment_name (names_of rs)) (sym same) ∙ both _ _ (cut_fits text row e) (g more r)
 
 -- an environment that rows were put into, or were not
-pub environment-kept : {E : Type 0} (told : Result (Unit {0}) E) (old new rows : List Row) → OnOk told (new ≡ put_rows old rows) → OnErr told (new ≡ old) → IsEnvironment old → list_all is_environment_name (names_of rows) ≡ true → IsEnvironment new
+pub environment-kept : {E : Type 0} (result : Result (Unit {0}) E) (old new rows : List Row) → OnOk result (new ≡ put_rows old rows) → OnErr result (new ≡ old) → IsEnvironment old → list_all is_environment_name (names_of rows) ≡ true → IsEnvironment new
 environment-kept (Ok u) old new rows ok err is fits = subst IsEnvironment (sym ok) (environment-rows old rows is fits)
 environment-kept (Err e) old new rows ok err is fits = subst IsEnvironment (sym err) is
 

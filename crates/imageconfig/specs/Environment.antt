@@ -10,6 +10,10 @@ pub record IsEnvironment (rows : List Row) : Type 0 where
   pub fit : list_all is_environment_name (names_of rows) ≡ true
   pub differ : names_differ (names_of rows) ≡ true
 
+-- a variable as a row
+abbrev pub row_of : Variable → Row
+row_of variable = (variable.name, variable.value)
+
 -- rows as variables
 abbrev pub variables_of : List Row → List Variable
 variables_of rows = map (λ row. record { name = row.0; value = row.1 }) rows

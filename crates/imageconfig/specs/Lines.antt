@@ -11,7 +11,8 @@ use Rattle.expand.specs.declared.fault.Unexpanded.{Unexpanded}
 use Rattle.instructions.specs.Reason.{is_long}
 use Rattle.instructions.specs.declared.instruction.Assignment.{Assignment}
 use Rattle.instructions.specs.declared.instruction.Label.{Label}
-use Rattle.scopes.specs.Evaluate.{Values, env_fault}
+use Rattle.scopes.specs.Evaluate.{Values, env_variables, env_fault}
+use Rattle.imageconfig.specs.Environment.{row_of}
 use Rattle.imageconfig.specs.Rows.{Row}
 use Rattle.imageconfig.specs.Ports.{port_key}
 
@@ -29,7 +30,7 @@ words_fault before words = worst (map (unexpanded before) words)
 
 -- ENV: the names with the values of their words (Dockerfile reference, ENV)
 abbrev pub env_rows : Values → List Assignment → List Row
-env_rows before assignments = map (λ a. (a.name, value before a.value)) assignments
+env_rows before assignments = map row_of (env_variables before assignments)
 
 abbrev pub env_due : Values → List Assignment → Code → Bool
 env_due before assignments R18 = is_long (env_fault before assignments)

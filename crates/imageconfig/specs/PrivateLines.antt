@@ -9,13 +9,11 @@ use Rattle.expand.specs.declared.fault.Unexpanded.{Unexpanded}
 use Rattle.expand.specs.declared.reason.Reason.{Reason}
 use Rattle.instructions.specs.Command.{words_of}
 use Rattle.instructions.specs.Reason.{reason}
-use Rattle.instructions.specs.declared.instruction.Assignment.{Assignment}
 use Rattle.instructions.specs.declared.instruction.Command.{Command}
 use Rattle.instructions.specs.declared.instruction.Label.{Label}
 use Rattle.instructions.specs.declared.instruction.InstructionKind.{InstructionKind}
 use Rattle.scopes.specs.Evaluate.{Values}
 use Rattle.imageconfig.specs.declared.config.Config.{Config}
-use Rattle.imageconfig.specs.declared.line.Assigned.{Assigned}
 use Rattle.imageconfig.specs.declared.line.Labelled.{Labelled}
 use Rattle.imageconfig.specs.declared.values.Found.{Found}
 use Rattle.imageconfig.specs.Rows.{Row}
@@ -27,10 +25,7 @@ row_with None value = None
 row_with (Some name) None = None
 row_with (Some name) (Some value) = Some (name, value)
 
--- the row of a variable, and of a label, if its texts have values
-abbrev pub assigned_row : Values → Assignment → Option Row
-assigned_row before assignment = row_with (Some assignment.name) (valued before assignment.value)
-
+-- the row of a label, if its texts have values
 abbrev pub labelled_row : Values → Label → Option Row
 labelled_row before label = row_with (valued before label.key) (valued before label.value)
 
@@ -38,11 +33,6 @@ labelled_row before label = row_with (valued before label.key) (valued before la
 pub record IsFound (before : Values) (old : Found) (word : Parts) (new : Found) : Type 0 where
   pub fault : new.fault ≡ worse old.fault (unexpanded before word)
   pub values : new.values ≡ old.values ++ cons_option (valued before word) []
-
--- variables with one more
-pub record IsAssigned (before : Values) (old : Assigned) (assignment : Assignment) (new : Assigned) : Type 0 where
-  pub fault : new.fault ≡ worse old.fault (unexpanded before assignment.value)
-  pub rows : new.rows ≡ old.rows ++ cons_option (assigned_row before assignment) []
 
 -- labels with one more
 pub record IsLabelled (before : Values) (old : Labelled) (label : Label) (new : Labelled) : Type 0 where

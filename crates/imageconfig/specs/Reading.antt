@@ -72,7 +72,7 @@ dir_of_text text =
 unfoldable pub dir_in : Data → Option (Option (List (List ℕ)))
 dir_in d = option_and_then dir_of_text (as_str d)
 
--- the words that a shell form stands behind where no SHELL was given (Dockerfile reference, SHELL)
+-- the words before a shell form's text where no SHELL was given (Dockerfile reference, SHELL)
 abbrev pub default_shell : List (List ℕ)
 default_shell = codes "/bin/sh" ∷ codes "-c" ∷ []
 

@@ -11,11 +11,11 @@ ghost use Rattle.imageconfig.specs.PrivateLines.{with_shell, with_cmd, with_entr
 ghost use Rattle.imageconfig.specs.Steps.{dir_of};
 
 use crate::config::Config;
-use crate::line::{directory, env_rows, label_rows, only_text, port_keys, volume_texts, words_of};
-use expand::{ReasonFault, Word};
+use crate::line::{directory, label_rows, only_text, port_keys, volume_texts, words_of};
+use expand::{Reason, ReasonFault, Word};
 use instructions::{Assignment, Command, InstructionKind, Label};
 use paths::Path;
-use plain::{Exact, Items, Memory, Text};
+use plain::{Exact, Fault, Items, Memory, Text};
 use scopes::Scope;
 use std::alloc::Global;
 
@@ -57,9 +57,11 @@ fn set_env(
     requires { IsInstruction (spelled.Env assignments.now) }
     ensures { IsChanged config.old (value_in before.now) (spelled.Env assignments.now) config.new result }
 {
-    let rows = env_rows(alloc, assignments.as_slice(), before)?;
-    config.env.set_all(alloc, rows)?;
-    Ok(())
+    match before.variables(alloc, assignments.as_slice()) {
+        Ok(variables) => Ok(config.env.set_variables(alloc, variables.as_slice())?),
+        Err(Fault::Because(why)) => Err(Fault::Because(Reason::of(why))),
+        Err(Fault::Memory) => Err(Fault::Memory),
+    }
 }
 
 /// A LABEL.

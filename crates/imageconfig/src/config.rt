@@ -41,7 +41,7 @@ pub struct Config {
     pub labels: Rows,
     pub exposed_ports: Names,
     pub volumes: Names,
-    /// The words that a shell form stands behind. It is never written.
+    /// The words before a shell form's text. They are never written.
     pub shell: Items<Text>,
 }
 
@@ -72,7 +72,7 @@ impl Config {
     }
 
     /// What a stage begins with whose base has this configuration: the base's Cmd isn't the stage's own. A base that is a stage is a base like
-    /// any other: the Cmd that it set itself counts as the base's in the stage behind it.
+    /// any other: the Cmd that it set itself counts as the base's in the stage after it.
     pub fn child(&self, alloc: Global) -> Result<Config, Memory>
         ensures { IfOk result (λ child. child ≡ child_of self.now) }
     {

@@ -1,15 +1,15 @@
-ghost use Rattle.std.specs.Prelude.{◌≡◌, ◌==◌, [], length, true, IfOk, OnOk, OnErr};
+ghost use Rattle.std.specs.Prelude.{◌≡◌, ◌==◌, [], length, map, true, IfOk, OnOk, OnErr};
 ghost use Rattle.std.specs.List.{list_all};
 ghost use Rattle.scopes.specs.Scope.{is_environment_name, names_differ, names_of as variable_names};
 ghost use Rattle.serde_json.specs.View.{view};
 ghost use Rattle.strict.specs.Gives.{Gives};
 ghost use Rattle.strict.specs.Written.{list_data};
-ghost use Rattle.imageconfig.specs.Environment.{IsEnvironment, variables_of};
+ghost use Rattle.imageconfig.specs.Environment.{IsEnvironment, row_of, variables_of};
 ghost use Rattle.imageconfig.specs.Reading.{if_they_differ};
 ghost use Rattle.imageconfig.specs.Rows.{names_of, put_rows};
 ghost use Rattle.imageconfig.specs.Writing.{variable_data};
 
-use crate::rows::Rows;
+use crate::rows::{Rows, variable_rows};
 use plain::{Items, Memory, Text, Variable};
 use serde_json::Value;
 use std::alloc::Global;
@@ -65,6 +65,19 @@ impl Environment {
         self.rows.variables(alloc)
     }
 
+    /// Gives variables their values, each in the place that its name has, or at the end where it has none. The values share the bytes of
+    /// those that are shared. After `Memory` the environment is as it was.
+    ///
+    /// The names are such as the environment keeps: those of what an ENV sets are, as `Scope::variables` says.
+    pub fn set_variables(&mut self, alloc: Global, variables: &[Variable]) -> Result<(), Memory>
+        requires { list_all is_environment_name (variable_names variables.now) ≡ true }
+        ensures ok { OnOk result (self.new ≡ put_rows self.old (map row_of variables.now)) }
+        ensures err { OnErr result (self.new ≡ self.old) }
+    {
+        let rows = variable_rows(alloc, variables)?;
+        self.rows.set_all(alloc, rows)
+    }
+
     /// An equal environment of its own.
     pub fn copy(&self, alloc: Global) -> Result<Environment, Memory>
         ensures { IfOk result (λ copied. copied ≡ self.now) }
@@ -87,15 +100,6 @@ impl Environment {
     {
         let rows = Rows::once(alloc, rows)?;
         Ok(Environment { rows })
-    }
-
-    /// Gives names values. After `Memory` the environment is as it was.
-    pub(crate) fn set_all(&mut self, alloc: Global, rows: Items<(Text, Text)>) -> Result<(), Memory>
-        requires { list_all is_environment_name (names_of rows) ≡ true }
-        ensures ok { OnOk result (self.new ≡ put_rows self.old rows) }
-        ensures err { OnErr result (self.new ≡ self.old) }
-    {
-        self.rows.set_all(alloc, rows)
     }
 
     /// The variables as a list of texts `NAME=VALUE`.

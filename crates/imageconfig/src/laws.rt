@@ -1,14 +1,12 @@
 // What is proved of the definitions alone. The functions do nothing: their contracts are laws.
 
-ghost use Rattle.std.specs.Prelude.{◌≡◌, ℕ, true, false, List, [], ◌∷◌, ◌++◌, Some, option_map};
+ghost use Rattle.std.specs.Prelude.{◌≡◌, ℕ, true, false, List, [], ◌∷◌, ◌++◌, Some};
 ghost use Rattle.serde_json.specs.Data.{Data};
-ghost use Rattle.expand.specs.Reasons.{reason_of};
-ghost use Rattle.instructions.specs.Reason.{reason};
 ghost use Rattle.instructions.specs.declared.instruction.Argument.{Argument};
 ghost use Rattle.instructions.specs.declared.instruction.Assignment.{Assignment};
 ghost use Rattle.instructions.specs.declared.instruction.Command.{Command};
 ghost use Rattle.instructions.specs.declared.instruction.InstructionKind.TheVariants.{Env, Entrypoint};
-ghost use Rattle.scopes.specs.Evaluate.{Values, env_line, env_fault, arg_line};
+ghost use Rattle.scopes.specs.Evaluate.{Values, env_line, arg_line};
 ghost use Rattle.scopes.specs.Scope.{kept};
 ghost use Rattle.scopes.specs.declared.declaration.Declaration.{Declaration};
 ghost use Rattle.scopes.specs.declared.declaration.Declaration.TheVariants.{Env as Set};
@@ -17,13 +15,7 @@ ghost use Rattle.imageconfig.specs.Environment.{IsEnvironment};
 ghost use Rattle.imageconfig.specs.Reading.{config_in};
 ghost use Rattle.imageconfig.specs.Rows.{put_row};
 ghost use Rattle.imageconfig.specs.declared.config.Config.{Config};
-ghost use Rattle.imageconfig.specs.Steps.{due, fault, changed};
-
-/// A configuration refuses an ENV just as a scope does: for what is against its texts.
-pub fn env_lines_are_refused_as_in_scopes()
-    ensures { (before : Values) (config : Config) (assignments : List Assignment)
-        → reason (due before config (Env assignments)) (fault before (Env assignments)) ≡ option_map reason_of (env_fault before assignments) }
-{}
+ghost use Rattle.imageconfig.specs.Steps.{changed};
 
 /// ENTRYPOINT unsets a Cmd that the stage began with, and keeps one that the stage has set itself.
 pub fn entrypoint_unsets_the_cmd_of_the_base()

@@ -1,28 +1,22 @@
 // What the lines of a configuration say.
 
-ghost use Rattle.std.specs.Prelude.{◌≡◌, true, Some, IfOk};
-ghost use Rattle.std.specs.List.{list_all};
-ghost use Rattle.ascii.specs.Names.{is_name};
+ghost use Rattle.std.specs.Prelude.{◌≡◌, Some, IfOk};
 ghost use Rattle.expand.specs.Expanding.{unexpanded};
 ghost use Rattle.expand.specs.Value.{value};
-ghost use Rattle.instructions.specs.Instruction.{assignment_names};
 ghost use Rattle.instructions.specs.Reason.{Evaluates};
 ghost use Rattle.paths.specs.Reading.{read_from};
-ghost use Rattle.scopes.specs.Evaluate.{env_fault};
-ghost use Rattle.scopes.specs.Scope.{value_in, is_environment_name};
+ghost use Rattle.scopes.specs.Scope.{value_in};
 ghost use Rattle.instructions.specs.Command.{words_of};
-ghost use Rattle.imageconfig.specs.Lines.{env_rows, env_due, label_rows, label_fault, label_due, texts_of, words_fault, port_keys, port_due, volume_due, text_due, dir_due};
-ghost use Rattle.imageconfig.specs.Rows.{names_of};
-ghost use Rattle.imageconfig.specs.PrivateLines.{row_with, IsAssigned, IsLabelled};
+ghost use Rattle.imageconfig.specs.Lines.{label_rows, label_fault, label_due, texts_of, words_fault, port_keys, port_due, volume_due, text_due, dir_due};
+ghost use Rattle.imageconfig.specs.PrivateLines.{row_with, IsLabelled};
 
 use crate::ports::{have_bad_port, keys_of};
 use crate::values::{Found, have_empty, is_empty, values_of};
 use expand::{Reason, ReasonFault, Unexpanded, Word, expand, expand_next};
-use instructions::{Assignment, Command, Label};
+use instructions::{Command, Label};
 use paths::Path;
 use plain::{Code, Exact, Fault, Items, Memory, Text};
 use scopes::Scope;
-use scopes::laws::names_fit_environments;
 use std::alloc::Global;
 
 /// The row of a name and a value, if both are there.
@@ -32,56 +26,6 @@ fn row_with(name: Option<Text>, value: Option<Text>) -> Option<(Text, Text)>
     match (name, value) {
         (Some(name), Some(value)) => Some((name, value)),
         _ => None,
-    }
-}
-
-/// The rows of an ENV so far, and what is against its texts.
-#[derive(Drop)]
-pub(crate) struct Assigned {
-    rows: Items<(Text, Text)>,
-    fault: Option<Unexpanded>,
-}
-
-/// The rows of an ENV with one variable more.
-fn with_assignment(
-    alloc: Global,
-    line: Assigned,
-    assignment: &Assignment,
-    before: &Scope,
-) -> Result<Assigned, Memory>
-    ensures { IfOk result (λ more. IsAssigned (value_in before.now) line assignment.now more) }
-{
-    let Assigned { mut rows, fault } = line;
-    let name = assignment.name.copy(alloc)?;
-    let (value, fault) = expand_next(alloc, &assignment.value, before, fault)?;
-    if let Some(row) = row_with(Some(name), value) {
-        rows.push(row)?;
-    }
-    Ok(Assigned { rows, fault })
-}
-
-/// The rows of an ENV.
-pub(crate) fn env_rows(
-    alloc: Global,
-    assignments: &[Assignment],
-    before: &Scope,
-) -> Result<Items<(Text, Text)>, ReasonFault>
-    requires { list_all is_name (assignment_names assignments.now) ≡ true }
-    ensures evaluates { Evaluates (Some (env_rows (value_in before.now) assignments.now)) (env_due (value_in before.now) assignments.now) (env_fault (value_in before.now) assignments.now) result }
-    ensures names { IfOk result (λ rows. list_all is_environment_name (names_of rows) ≡ true) }
-{
-    names_fit_environments();
-    let mut line = Assigned {
-        rows: Items::new(alloc),
-        fault: None,
-    };
-    for assignment in assignments {
-        line = with_assignment(alloc, line, assignment, before)?;
-    }
-    let Assigned { rows, fault } = line;
-    match fault {
-        Some(why) => Err(Fault::Because(Reason::of(why))),
-        None => Ok(rows),
     }
 }
 

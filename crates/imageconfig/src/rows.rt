@@ -5,7 +5,7 @@ ghost use Rattle.serde_json.specs.View.{view, members_view, items_view, items_of
 ghost use Rattle.serde_json.specs.Data.{no_members};
 ghost use Rattle.strict.specs.Gives.{Gives};
 ghost use Rattle.strict.specs.Written.{list_data};
-ghost use Rattle.imageconfig.specs.Environment.{variables_of};
+ghost use Rattle.imageconfig.specs.Environment.{row_of, variables_of};
 ghost use Rattle.imageconfig.specs.PrivateRows.{rows_of, has_row, add_rows};
 ghost use Rattle.imageconfig.specs.Reading.{if_they_differ};
 ghost use Rattle.imageconfig.specs.Rows.{put_rows};
@@ -130,6 +130,22 @@ fn keyed(alloc: Global, rows: Items<(Text, Text)>) -> Result<Vec<(String, Text)>
         keyed.push((name.into_string(alloc)?, value))?;
     }
     Ok(keyed)
+}
+
+/// Variables as rows.
+pub(crate) fn variable_rows(
+    alloc: Global,
+    variables: &[Variable],
+) -> Result<Items<(Text, Text)>, Memory>
+    ensures { IfOk result (λ rows. rows ≡ map row_of variables.now) }
+{
+    let mut rows = Items::new(alloc);
+    for variable in variables {
+        let name = variable.name.copy(alloc)?;
+        let value = variable.value.copy(alloc)?;
+        rows.push((name, value))?;
+    }
+    Ok(rows)
 }
 
 /// Gives names values, for which there is room.

@@ -1,5 +1,5 @@
 use crate::reading::add_text;
-use plain::{Memory, Text};
+use plain::{Memory, Text, Variable};
 use scopes::{Args, Scope};
 use std::alloc::Global;
 use std::process::Abort;
@@ -57,9 +57,10 @@ fn expect_mebibyte(
 
 /// A scope in which `k` has 1,024 bytes.
 fn scope_with(alloc: Global) -> Result<Scope, Memory> {
-    let text = Text::from_string(repeated(alloc, "", "0123456789abcdef", 64)?);
+    let name = Text::from_str(alloc, "k")?;
+    let value = Text::from_string(repeated(alloc, "", "0123456789abcdef", 64)?);
     let mut scope = Scope::new(alloc);
-    match scope.inherit(alloc, "k", &text) {
+    match scope.set_variables(alloc, &[Variable { name, value }]) {
         Ok(()) => Ok(scope),
         Err(memory) => {
             drop(scope);

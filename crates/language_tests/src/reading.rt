@@ -1,6 +1,7 @@
 // Dockerfiles of tests, read. What is heavy is lent to a function and let go by name: a `?` walks all that is held at it.
 
-use instructions::{InstructionKind, parse};
+use expand::ExpandFault;
+use instructions::{Assignment, InstructionKind, parse};
 use lines::{Line, Reader};
 use plain::{Code, Fault, Variable};
 use scopes::{Args, Scope};
@@ -74,12 +75,22 @@ fn add(
     kind: &InstructionKind,
 ) -> Option<()> {
     match kind {
-        InstructionKind::Env { assignments } => scope.set_env(alloc, assignments.as_slice()).ok(),
+        InstructionKind::Env { assignments } => set_env(alloc, scope, assignments.as_slice()).ok(),
         InstructionKind::Arg { arguments } => scope
             .declare(alloc, arguments.as_slice(), args, outer)
             .ok(),
         _ => Some(()),
     }
+}
+
+fn set_env(
+    alloc: Global,
+    scope: &mut Scope,
+    assignments: &[Assignment],
+) -> Result<(), ExpandFault> {
+    let variables = scope.variables(alloc, assignments)?;
+    scope.set_variables(alloc, variables.as_slice())?;
+    Ok(())
 }
 
 /// The code that refuses the first line that is refused; none where each spells an instruction.

@@ -6,11 +6,12 @@ use Rattle.plain.specs.Limits.{most_text_bytes}
 use Rattle.instructions.specs.declared.instruction.Argument.{Argument}
 use Rattle.instructions.specs.declared.instruction.Assignment.{Assignment}
 use Rattle.scopes.specs.Scope.{or_else, value_in, kept}
-use Rattle.scopes.specs.Evaluate.{Values, fallback, default_fault}
+use Rattle.scopes.specs.Evaluate.{Values, assigned_variable, env_variables, declaration_of, fallback, default_fault}
 use Rattle.scopes.proofs.ScopeLemmas.{value_in-kept, kept-append}
 use Rattle.scopes.specs.History.{ScopeLine, sets, declares, said, line_fault, history, scope_after}
 use Rattle.scopes.specs.declared.declaration.Declaration.{Declaration}
-use Rattle.scopes.specs.declared.declaration.Declaration.TheVariants.{Env, Arg}
+use Rattle.scopes.specs.declared.declaration.Declaration.TheVariants.{Arg}
+use Rattle.plain.specs.declared.variable.Variable.{Variable}
 
 -- two look-ups give each name the same
 abbrev pub Agree : Values → Values → Type 0
@@ -44,13 +45,19 @@ default-agree s t h (Some text) default = refl
 default-agree s t h None None = refl
 default-agree s t h None (Some word) = unexpanded-agree s t h word
 
+variables-agree : (s t : Values) → Agree s t → (assignments : List Assignment) → env_variables s assignments ≡ env_variables t assignments
+variables-agree s t h assignments = map-agree (assigned_variable s) (assigned_variable t) (λ (a : Assignment). ap (with_value a.name) (value-agree s t h a.value)) assignments
+  where
+    with_value : List ℕ → List ℕ → Variable
+    with_value name text = record { name = name; value = text }
+
 pub said-agree : (s t args outer other : Values) → Agree s t → Agree outer other → (line : ScopeLine) → said s args outer line ≡ said t args other line
-said-agree s t args outer other h k (sets variables) = map-agree _ _ (λ (v : Assignment). ap (λ text. Env v.name text) (value-agree s t h v.value)) variables
+said-agree s t args outer other h k (sets assignments) = ap (map declaration_of) (variables-agree s t h assignments)
 said-agree s t args outer other h k (declares arguments) =
     map-agree _ _ (λ (a : Argument). ap (λ o. Arg a.name (or_else (args a.name) o)) (fallback-agree s t h (outer a.name) (other a.name) (k a.name) a.default)) arguments
 
 pub fault-agree : (s t args : Values) → Agree s t → (line : ScopeLine) → line_fault s args line ≡ line_fault t args line
-fault-agree s t args h (sets variables) = ap worst (map-agree _ _ (λ (v : Assignment). unexpanded-agree s t h v.value) variables)
+fault-agree s t args h (sets assignments) = ap worst (map-agree _ _ (λ (a : Assignment). unexpanded-agree s t h a.value) assignments)
 fault-agree s t args h (declares arguments) = ap worst (map-agree _ _ (λ (a : Argument). default-agree s t h (args a.name) a.default) arguments)
 
 -- so a scope that was kept says the same of a line as the history that it stands for

@@ -1,6 +1,6 @@
 -- The names of what is kept and of RUN's environment: those of the declarations, and in the environment each once.
 use Rattle.std.proofs.Common.{◌≡◌, ℕ, Bool, true, false, List, [], ◌∷◌, ◌++◌, length, map, Option, Some, None, refl, ap, ap₂, sym, ◌∙◌, is_some, arith}
-use Rattle.std.specs.Prelude.{◌==◌, ◌&&◌, ◌||◌, not, if◌then◌else◌}
+use Rattle.std.specs.Prelude.{◌==◌, ◌&&◌, ◌||◌, not, if◌then◌else◌, Result, Ok, Err, IfOk}
 use Rattle.std.specs.List.{filter_map, list_all, list_any}
 use Rattle.std.specs.Str.{bytes_eq}
 use Rattle.std.specs.Cmp.Lexicographic.{nat_list_eq_equiv}
@@ -10,7 +10,10 @@ use Rattle.std.proofs.lemmas.List.{map-append}
 use Rattle.ascii.specs.Names.{begins_name, is_in_name, are_in_name, is_name}
 use Rattle.instructions.specs.declared.instruction.Argument.{Argument}
 use Rattle.instructions.specs.declared.instruction.Assignment.{Assignment}
-use Rattle.scopes.specs.Evaluate.{Values, env_line, arg_line}
+use Rattle.plain.specs.declared.fault.Fault.{Fault}
+use Rattle.expand.specs.declared.fault.Unexpanded.{Unexpanded}
+use Rattle.instructions.specs.Instruction.{assignment_names}
+use Rattle.scopes.specs.Evaluate.{Values, env_variables, env_line, arg_line, Says}
 use Rattle.scopes.specs.Scope.{or_else, where_same, run_env, kept, name_of, names_in, names_of, names_differ, equals_byte, is_environment_name}
 use Rattle.scopes.proofs.Said.{Said, env_said, arg_said, last, apart, settled}
 use Rattle.scopes.proofs.SaidLemmas.{either, apart-twice, apart-turned, last-settled}
@@ -275,3 +278,16 @@ env_line-names before (v ∷ vs) = ap (λ (ns : List (List ℕ)). v.name ∷ ns)
 pub arg_line-names : (before args outer : Values) (arguments : List Argument) → names_in (arg_line before args outer arguments) ≡ map (λ a. a.name) arguments
 arg_line-names before args outer [] = refl
 arg_line-names before args outer (a ∷ rest) = ap (λ (ns : List (List ℕ)). a.name ∷ ns) (arg_line-names before args outer rest)
+
+-- if those of an ENV are names, an environment may have them
+
+pub variables-fit : (before : Values) (assignments : List Assignment) → list_all is_name (assignment_names assignments) ≡ true → list_all is_environment_name (names_of (env_variables before assignments)) ≡ true
+variables-fit before [] h = refl
+variables-fit before (a ∷ rest) h =
+    let s = and-split (is_name a.name) (list_all is_name (assignment_names rest)) h in
+    rw (name-fits a.name s.0) (variables-fit before rest s.1)
+
+pub names-fit : (before : Values) (assignments : List Assignment) (fault : Option Unexpanded) (r : Result (List Variable) (Fault Unexpanded)) → Says (env_variables before assignments) fault r
+    → list_all is_name (assignment_names assignments) ≡ true → IfOk r (λ variables. list_all is_environment_name (names_of variables) ≡ true)
+names-fit before assignments fault (Ok variables) s h = ap (λ (found : List Variable). list_all is_environment_name (names_of found)) s.0 ∙ variables-fit before assignments h
+names-fit before assignments fault (Err why) s h = tt

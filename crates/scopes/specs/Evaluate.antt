@@ -10,15 +10,28 @@ use Rattle.instructions.specs.declared.instruction.Assignment.{Assignment}
 use Rattle.scopes.specs.declared.declaration.Declaration.{Declaration}
 use Rattle.scopes.specs.declared.declaration.Declaration.TheVariants.{Env, Arg}
 use Rattle.scopes.specs.Scope.{or_else, kept}
+use Rattle.plain.specs.declared.variable.Variable.{Variable}
 
 -- what gives names their values
 abbrev pub Values : Type 0
 Values = List ℕ → Option (List ℕ)
 
--- what an ENV line says: each variable has the value of its word under the scope before the line, which the line itself
+-- the variable that an assignment sets: its value is that of its word
+abbrev pub assigned_variable : Values → Assignment → Variable
+assigned_variable before assignment = record { name = assignment.name; value = value before assignment.value }
+
+-- what an ENV line sets: each variable has the value of its word under the scope before the line, which the line itself
 -- doesn't change (Dockerfile reference, environment replacement)
+abbrev pub env_variables : Values → List Assignment → List Variable
+env_variables before assignments = map (assigned_variable before) assignments
+
+-- a variable that is set is an ENV of its name, whether a line sets it or an image does (Dockerfile reference, ENV)
+abbrev pub declaration_of : Variable → Declaration
+declaration_of variable = Env variable.name variable.value
+
+-- what an ENV line says: the variables that it sets
 abbrev pub env_line : Values → List Assignment → List Declaration
-env_line before assignments = map (λ a. Env a.name (value before a.value)) assignments
+env_line before assignments = map declaration_of (env_variables before assignments)
 
 -- what an argument has without a build argument: the value of its default under the scope before the line; where it is bare,
 -- the value that its name had before the first FROM, which is none for a line that stands there itself (Dockerfile reference,
@@ -46,6 +59,13 @@ default_fault before None None = None
 -- what is against the texts that an ARG line expands
 abbrev pub arg_fault : Values → Values → List Argument → Option Unexpanded
 arg_fault before args arguments = worst (map (λ a. default_fault before (args a.name) a.default) arguments)
+
+-- what evaluating a line answers, of which this is made, and against whose texts `fault` is: what is made if nothing is against
+-- them, else that; want of memory says nothing of the line
+abbrev pub Says : {X : Type 0} → X → Option Unexpanded → Result X (Fault Unexpanded) → Type 0
+Says made fault (Ok found) = (found ≡ made) × (fault ≡ None)
+Says made fault (Err (Because why)) = fault ≡ Some why
+Says made fault (Err Memory) = Unit {0}
 
 -- what a call on a line answers, and the scope after it, `fault` being what is against the texts that the line expands: the line
 -- is added if nothing is; else that is reported, and the scope is as it was, as it is for want of memory

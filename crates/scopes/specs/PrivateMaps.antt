@@ -13,9 +13,9 @@ use Rattle.scopes.specs.declared.maps.Keyed.TheVariants as keyed
 use Rattle.plain.specs.declared.variable.Variable.{Variable}
 
 -- the declaration whose name is a key
-abbrev pub declaration_of : Keyed → Declaration
-declaration_of (keyed.Env name text) = Env (string_bytes name) text
-declaration_of (keyed.Arg name value) = Arg (string_bytes name) value
+abbrev pub keyed_declaration : Keyed → Declaration
+keyed_declaration (keyed.Env name text) = Env (string_bytes name) text
+keyed_declaration (keyed.Arg name value) = Arg (string_bytes name) value
 
 -- the ENV of each entry of one map, then the ARG of each of the other
 abbrev pub declared : {Z : Type 0} → List (String Z × List ℕ) → List (String Z × Option (List ℕ)) → List Declaration

@@ -1,75 +1,94 @@
-ghost use Rattle.std.specs.Prelude.{◌≡◌, None, IfOk};
+ghost use Rattle.std.specs.Prelude.{◌≡◌, map, None, IfOk};
 ghost use Rattle.std.specs.FinMap.{get as arg_value};
 ghost use Rattle.expand.specs.Expanding.{unexpanded, worse};
-ghost use Rattle.expand.specs.Value.{value};
 ghost use Rattle.scopes.specs.Scope.{or_else, value_in};
-ghost use Rattle.scopes.specs.Evaluate.{env_line, env_fault, arg_line, arg_fault, fallback, default_fault};
-ghost use Rattle.scopes.specs.PrivateEvaluate.{Says, IsLonger};
-ghost use Rattle.scopes.specs.declared.declaration.Declaration.TheVariants.{Env, Arg};
+ghost use Rattle.scopes.specs.Evaluate.{assigned_variable, declaration_of, env_variables, env_fault, arg_line, arg_fault, fallback, default_fault, Says};
+ghost use Rattle.scopes.specs.PrivateEvaluate.{IsLonger};
+ghost use Rattle.scopes.specs.declared.declaration.Declaration.TheVariants.{Arg};
 
 use crate::args::Args;
 use crate::declaration::Declaration;
 use crate::scope::Scope;
 use expand::{ExpandFault, Unexpanded, expand_next};
 use instructions::{Argument, Assignment};
-use plain::{Exact, Fault, Items, Memory, Text};
+use plain::{Exact, Fault, Items, Memory, Text, Variable};
 use std::alloc::Global;
 
-/// What a line says so far, and what is against its texts: if something is, what it says doesn't count.
+/// What an ENV line sets so far, and what is against its texts: if something is, what it sets doesn't count.
 #[derive(Drop)]
-pub(crate) struct Saying {
-    pub(crate) line: Items<Declaration>,
+pub(crate) struct Setting {
+    pub(crate) variables: Items<Variable>,
     pub(crate) fault: Option<Unexpanded>,
 }
 
-/// What an ENV line says under the scope before it, unless something is against its texts.
-pub(crate) fn assignment_declarations(
+/// What an ENV line sets under the scope before it, unless something is against its texts.
+pub(crate) fn assigned_variables(
     alloc: Global,
     assignments: &[Assignment],
     before: &Scope,
-) -> Result<Items<Declaration>, ExpandFault>
-    ensures { Says (env_line (value_in before.now) assignments.now) (env_fault (value_in before.now) assignments.now) result }
+) -> Result<Items<Variable>, ExpandFault>
+    ensures { Says (env_variables (value_in before.now) assignments.now) (env_fault (value_in before.now) assignments.now) result }
 {
-    let mut saying = Saying {
-        line: Items::new(alloc),
+    let mut setting = Setting {
+        variables: Items::new(alloc),
         fault: None,
     };
     for assignment in assignments {
-        saying = assigned(alloc, saying, assignment, before)?;
+        setting = assigned(alloc, setting, assignment, before)?;
     }
-    said(saying)
-}
-
-/// What a line says, unless something is against its texts.
-fn said(saying: Saying) -> Result<Items<Declaration>, ExpandFault>
-    ensures { Says saying.line saying.fault result }
-{
-    let Saying { line, fault } = saying;
+    let Setting { variables, fault } = setting;
     match fault {
-        None => Ok(line),
+        None => Ok(variables),
         Some(why) => {
-            drop(line);
+            drop(variables);
             Err(Fault::Because(why))
         }
     }
 }
 
-/// A line with one variable more of an ENV.
+/// What an ENV line sets, with one variable more.
 fn assigned(
     alloc: Global,
-    saying: Saying,
+    setting: Setting,
     assignment: &Assignment,
     before: &Scope,
-) -> Result<Saying, Memory>
-    ensures { IfOk result (λ more. IsLonger saying (Env assignment.now.name (value (value_in before.now) assignment.now.value)) (unexpanded (value_in before.now) assignment.now.value) more) }
+) -> Result<Setting, Memory>
+    ensures { IfOk result (λ more. IsLonger setting.variables setting.fault (assigned_variable (value_in before.now) assignment.now) (unexpanded (value_in before.now) assignment.now.value) more.variables more.fault) }
 {
-    let Saying { mut line, fault } = saying;
+    let Setting {
+        mut variables,
+        fault,
+    } = setting;
     let name = assignment.name.copy(alloc)?;
     let (value, fault) = expand_next(alloc, &assignment.value, before, fault)?;
     if let Some(value) = value {
+        variables.push(Variable { name, value })?;
+    }
+    Ok(Setting { variables, fault })
+}
+
+/// Variables as ENVs, whose copies share the bytes of the values.
+pub(crate) fn variable_declarations(
+    alloc: Global,
+    variables: &[Variable],
+) -> Result<Items<Declaration>, Memory>
+    ensures { IfOk result (λ line. line ≡ map declaration_of variables.now) }
+{
+    let mut line = Items::new(alloc);
+    for variable in variables {
+        let name = variable.name.copy(alloc)?;
+        let value = variable.value.copy(alloc)?;
+        let value = value.shared(alloc)?;
         line.push(Declaration::Env { name, value })?;
     }
-    Ok(Saying { line, fault })
+    Ok(line)
+}
+
+/// What an ARG line says so far, and what is against its texts: if something is, what it says doesn't count.
+#[derive(Drop)]
+pub(crate) struct Saying {
+    pub(crate) line: Items<Declaration>,
+    pub(crate) fault: Option<Unexpanded>,
 }
 
 /// What an ARG line says under the scope before it, unless something is against its defaults that count.
@@ -89,7 +108,14 @@ pub(crate) fn argument_declarations(
     for argument in arguments {
         saying = argued(alloc, saying, argument, before, args, outer)?;
     }
-    said(saying)
+    let Saying { line, fault } = saying;
+    match fault {
+        None => Ok(line),
+        Some(why) => {
+            drop(line);
+            Err(Fault::Because(why))
+        }
+    }
 }
 
 /// A line with one argument more of an ARG.
@@ -101,7 +127,7 @@ fn argued(
     args: &Args,
     outer: &Scope,
 ) -> Result<Saying, Memory>
-    ensures { IfOk result (λ more. IsLonger saying (Arg argument.now.name (or_else (arg_value args.now argument.now.name) (fallback (value_in before.now) (value_in outer.now argument.now.name) argument.now.default))) (default_fault (value_in before.now) (arg_value args.now argument.now.name) argument.now.default) more) }
+    ensures { IfOk result (λ more. IsLonger saying.line saying.fault (Arg argument.now.name (or_else (arg_value args.now argument.now.name) (fallback (value_in before.now) (value_in outer.now argument.now.name) argument.now.default))) (default_fault (value_in before.now) (arg_value args.now argument.now.name) argument.now.default) more.line more.fault) }
 {
     let Saying { mut line, fault } = saying;
     let name = argument.name.copy(alloc)?;

@@ -13,9 +13,10 @@
 //
 // ```
 // scope.declare(alloc, arguments, &args, &outer)?;   // ARG abc=default, with the build arguments and the scope before the first FROM
-// scope.set_env(alloc, variables)?;             // ENV abc=hello
-// scope.get("abc")                              // hello
-// scope.run_env(alloc)?                         // abc=hello
+// let variables = scope.variables(alloc, assignments)?;   // what ENV abc=hello sets
+// scope.set_variables(alloc, variables.as_slice())?;
+// scope.get("abc")                                  // hello
+// scope.run_env(alloc)?                             // abc=hello
 // ```
 #![tactic(auto)]
 

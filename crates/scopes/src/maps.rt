@@ -4,7 +4,7 @@ ghost use Rattle.std.specs.Prelude.{◌≡◌, ◌+◌, ◌≤◌, ◌∷◌, �
 ghost use Rattle.std.specs.String.{string_bytes};
 ghost use Rattle.indexmap.specs.IndexMap.{spare};
 ghost use Rattle.scopes.specs.Scope.{kept, env_names, arg_names};
-ghost use Rattle.scopes.specs.PrivateMaps.{declaration_of, declared, variable_rows, argument_rows};
+ghost use Rattle.scopes.specs.PrivateMaps.{keyed_declaration, declared, variable_rows, argument_rows};
 
 use crate::declaration::Declaration;
 use indexmap::IndexMap;
@@ -34,7 +34,7 @@ pub(crate) fn env_count(line: &[Declaration]) -> usize
 
 /// Declarations whose names are keys. That takes memory, and so comes before there is a change that could stop halfway.
 pub(crate) fn with_keys(alloc: Global, line: Vec<Declaration>) -> Result<Vec<Keyed>, Memory>
-    ensures { IfOk result (λ keyed. map declaration_of keyed.items ≡ line.items) }
+    ensures { IfOk result (λ keyed. map keyed_declaration keyed.items ≡ line.items) }
 {
     let mut keyed = Vec::new(alloc);
     for declaration in line {
@@ -45,7 +45,7 @@ pub(crate) fn with_keys(alloc: Global, line: Vec<Declaration>) -> Result<Vec<Key
 
 /// A declaration whose name is a key.
 fn with_key(alloc: Global, declaration: Declaration) -> Result<Keyed, Memory>
-    ensures { IfOk result (λ keyed. declaration_of keyed ≡ declaration) }
+    ensures { IfOk result (λ keyed. keyed_declaration keyed ≡ declaration) }
 {
     match declaration {
         Declaration::Env { name, value } => {
@@ -66,9 +66,9 @@ pub(crate) fn put_all(
     line: Vec<Keyed>,
 )
     requires kept { kept (declared variables.old.entries arguments.old.entries) ≡ declared variables.old.entries arguments.old.entries }
-    requires variables { length (env_names (map declaration_of line.items)) ≤ spare variables.old }
-    requires arguments { length (arg_names (map declaration_of line.items)) ≤ spare arguments.old }
-    ensures { declared variables.new.entries arguments.new.entries ≡ kept (declared variables.old.entries arguments.old.entries ++ map declaration_of line.items) }
+    requires variables { length (env_names (map keyed_declaration line.items)) ≤ spare variables.old }
+    requires arguments { length (arg_names (map keyed_declaration line.items)) ≤ spare arguments.old }
+    ensures { declared variables.new.entries arguments.new.entries ≡ kept (declared variables.old.entries arguments.old.entries ++ map keyed_declaration line.items) }
 {
     for declaration in line {
         put(variables, arguments, declaration);
@@ -82,11 +82,11 @@ fn put(
     declaration: Keyed,
 )
     requires kept { kept (declared variables.old.entries arguments.old.entries) ≡ declared variables.old.entries arguments.old.entries }
-    requires variables { length (env_names (declaration_of declaration ∷ [])) ≤ spare variables.old }
-    requires arguments { length (arg_names (declaration_of declaration ∷ [])) ≤ spare arguments.old }
-    ensures put { declared variables.new.entries arguments.new.entries ≡ kept (declared variables.old.entries arguments.old.entries ++ declaration_of declaration ∷ []) }
-    ensures variables { spare variables.old ≤ spare variables.new + length (env_names (declaration_of declaration ∷ [])) }
-    ensures arguments { spare arguments.old ≤ spare arguments.new + length (arg_names (declaration_of declaration ∷ [])) }
+    requires variables { length (env_names (keyed_declaration declaration ∷ [])) ≤ spare variables.old }
+    requires arguments { length (arg_names (keyed_declaration declaration ∷ [])) ≤ spare arguments.old }
+    ensures put { declared variables.new.entries arguments.new.entries ≡ kept (declared variables.old.entries arguments.old.entries ++ keyed_declaration declaration ∷ []) }
+    ensures variables { spare variables.old ≤ spare variables.new + length (env_names (keyed_declaration declaration ∷ [])) }
+    ensures arguments { spare arguments.old ≤ spare arguments.new + length (arg_names (keyed_declaration declaration ∷ [])) }
 {
     match declaration {
         Keyed::Env { name, value } => {

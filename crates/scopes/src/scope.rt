@@ -1,12 +1,14 @@
-ghost use Rattle.std.specs.Prelude.{◌≡◌, [], ◌∷◌, ◌++◌, option_map, OnOk, OnErr, IfOk};
+ghost use Rattle.std.specs.Prelude.{◌≡◌, true, [], ◌++◌, map, option_map, OnOk, OnErr, IfOk};
+ghost use Rattle.std.specs.List.{list_all};
 ghost use Rattle.std.specs.FinMap.{get as arg_value};
-ghost use Rattle.scopes.specs.Scope.{value_in, kept, run_env};
-ghost use Rattle.scopes.specs.Evaluate.{env_line, env_fault, arg_line, arg_fault, Declares};
-ghost use Rattle.scopes.specs.declared.declaration.Declaration.TheVariants.{Env};
+ghost use Rattle.ascii.specs.Names.{is_name};
+ghost use Rattle.instructions.specs.Instruction.{assignment_names};
+ghost use Rattle.scopes.specs.Scope.{value_in, kept, run_env, names_of, is_environment_name};
+ghost use Rattle.scopes.specs.Evaluate.{declaration_of, env_variables, env_fault, arg_line, arg_fault, Says, Declares};
 
 use crate::args::Args;
 use crate::declaration::Declaration;
-use crate::evaluate::{argument_declarations, assignment_declarations};
+use crate::evaluate::{argument_declarations, assigned_variables, variable_declarations};
 use crate::maps::{env_count, listed, push_arguments, push_variables, put_all, with_keys};
 use expand::{ExpandFault, Lookup};
 use indexmap::IndexMap;
@@ -71,30 +73,30 @@ impl Scope {
         Ok(())
     }
 
-    /// Adds an ENV line: each variable has the value of its word under the scope before the line (Dockerfile reference,
-    /// environment replacement).
+    /// What an ENV line sets: each variable with the value of its word under this scope, the one before the line (Dockerfile
+    /// reference, environment replacement). The line is added by `set_variables`, and whoever else takes what it sets needn't expand
+    /// its words again. The copies of a value share its bytes.
     ///
-    /// `TooLong` where a value can't be expanded for that reason; else `Required` with the first text that one is refused with.
-    /// After a fault the scope is as it was.
-    pub fn set_env(&mut self, alloc: Global, assignments: &[Assignment]) -> Result<(), ExpandFault>
-        ensures { Declares self.old (env_line (value_in self.old) assignments.now) (env_fault (value_in self.old) assignments.now) self.new result }
+    /// `TooLong` where a value can't be expanded for that reason; else `Required` with the first text that one is refused with. Where
+    /// the names of the line are names, an environment may have those of the result.
+    pub fn variables(
+        &self,
+        alloc: Global,
+        assignments: &[Assignment],
+    ) -> Result<Items<Variable>, ExpandFault>
+        ensures says { Says (env_variables (value_in self.now) assignments.now) (env_fault (value_in self.now) assignments.now) result }
+        ensures names { list_all is_name (assignment_names assignments.now) ≡ true → IfOk result (λ variables. list_all is_environment_name (names_of variables) ≡ true) }
     {
-        let line = assignment_declarations(alloc, assignments, self)?;
-        self.add(alloc, line)?;
-        Ok(())
+        assigned_variables(alloc, assignments, self)
     }
 
-    /// Adds a variable of a base image, whose value is taken as it stands: it shares the bytes of one that is shared. After `Memory` the
-    /// scope is as it was.
-    pub fn inherit(&mut self, alloc: Global, name: &str, value: &Text) -> Result<(), Memory>
-        ensures ok { OnOk result (self.new ≡ kept (self.old ++ Env name.now value.now ∷ [])) }
+    /// Adds variables, each as an ENV of its name: those that an ENV line sets, or those of a base image, whose values are taken as
+    /// they stand. The values share the bytes of those that are shared. After `Memory` the scope is as it was.
+    pub fn set_variables(&mut self, alloc: Global, variables: &[Variable]) -> Result<(), Memory>
+        ensures ok { OnOk result (self.new ≡ kept (self.old ++ map declaration_of variables.now)) }
         ensures err { OnErr result (self.new ≡ self.old) }
     {
-        let mut line = Items::new(alloc);
-        let name = Text::from_str(alloc, name)?;
-        let value = value.copy(alloc)?;
-        let value = value.shared(alloc)?;
-        line.push(Declaration::Env { name, value })?;
+        let line = variable_declarations(alloc, variables)?;
         self.add(alloc, line)
     }
 

@@ -1,4 +1,4 @@
--- What stands before an instruction that comes behind others.
+-- What stands before an instruction that comes after others.
 use Rattle.std.proofs.Common.{◌≡◌, ◌++◌, ◌-◌, ℕ, List, [], ◌∷◌, Option, Some, None, length, take, refl, sym, ap, ◌∙◌, arith}
 use Rattle.std.specs.List.{cons_option}
 use Rattle.std.specs.Option.{option_map}
@@ -61,7 +61,7 @@ lines_closed (i ∷ is) js name names there =
     lines_closed_by (begun i.kind) (declared_by i.kind) (stage_names is) names name (outer_lines (is ++ js)) (outer_lines is) there
     (λ e. lines_closed is js name names e)
 
--- the scope that one more instruction leaves: behind a FROM nothing changes it
+-- the scope that one more instruction leaves: after a FROM nothing changes it
 pub scope_closed : (args : Values) (is : List Instruction) (i : Instruction) (name : Option (List ℕ)) (names : Names) → stage_names is ≡ name ∷ names
     → outer_scope args (is ++ i ∷ []) ≡ outer_scope args is
 scope_closed args is i name names there = ap (λ ls. scope_after args (λ n. None) [] ls) (lines_closed is (i ∷ []) name names there)

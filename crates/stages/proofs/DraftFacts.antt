@@ -29,9 +29,9 @@ use Rattle.stages.specs.declared.stage.ResolvedInstruction.{ResolvedInstruction}
 use Rattle.stages.specs.declared.stage.ResolvedStage.{ResolvedStage}
 use Rattle.stages.specs.Naming.{Names, Known, origins_of, leads_nowhere}
 use Rattle.stages.specs.Before.{begun, declared_by, stage_names, all_but_last, outer_scope}
-use Rattle.stages.specs.Due.{base_text, base_fault, is_taken, base_due, argument_due, outer_due, outer_fault, inner_due, other_due, other_fault, begun_due, begun_fault, kind_due, kind_fault, reason_behind}
-use Rattle.stages.specs.Table.{stages_behind, stages_of}
-use Rattle.stages.specs.Resolved.{told_at, first_refusal}
+use Rattle.stages.specs.Due.{base_text, base_fault, is_taken, base_due, argument_due, outer_due, outer_fault, inner_due, other_due, other_fault, begun_due, begun_fault, kind_due, kind_fault, reason_after}
+use Rattle.stages.specs.Table.{stages_after, stages_of}
+use Rattle.stages.specs.Resolved.{reported_at, first_refusal}
 use Rattle.stages.specs.PrivateResolving.{with_last, last_with, draft_begun, draft_declared, draft_outer, draft_extended, draft_other, draft_by, draft_after, IsCounted, AreCounted, IsDraft}
 use Rattle.stages.proofs.BeforeFacts.{stage_names-push, scope_closed, scope_begun, scope_declared}
 use Rattle.stages.proofs.NamingFacts.{origins_counted}
@@ -126,7 +126,7 @@ names_other is i begins =
 stages_of_begun : (known : Known) (args : Values) (is : List Instruction) (i : Instruction) (stage : Parts × Option (List ℕ)) → begun i.kind ≡ Some stage
     → stages_of known args (is ++ i ∷ []) ≡ stages_of known args is ++ new_stage known (outer_scope args is) (stage_names is) i.line stage [] ∷ []
 stages_of_begun known args is i stage begins =
-    ap (λ scope. stages_behind known scope [] (is ++ i ∷ [])) (scope_begun args is i stage (stage_names is) refl begins)
+    ap (λ scope. stages_after known scope [] (is ++ i ∷ [])) (scope_begun args is i stage (stage_names is) refl begins)
     ∙ stages_begun known (outer_scope args is) [] is i stage begins
 
 after_begun : (known : Known) (args : Values) (is : List Instruction) (i : Instruction) (draft : Draft) (stage : Parts × Option (List ℕ)) → IsDraft known args is draft
@@ -190,7 +190,7 @@ after_extended known args is i draft name names of begins some leads =
           ∙ ap (λ ns. extended (resolved_as known (all_but_last ns) i) (with_last draft.stages draft.last)) of.names
           ∙ ap (λ ss. extended (resolved_as known (all_but_last (stage_names is)) i) ss) of.stages
           ∙ sym (stages_extended known (outer_scope args is) is i [] begins)
-          ∙ ap (λ scope. stages_behind known scope [] (is ++ i ∷ [])) (sym (scope_closed args is i name names before));
+          ∙ ap (λ scope. stages_after known scope [] (is ++ i ∷ [])) (sym (scope_closed args is i name names before));
       few = of.few;
       none = λ e. absurd (cons_none name names (sym some ∙ e));
       first = λ e. of.first (last_with_none r draft.last e);
@@ -243,7 +243,7 @@ so_far_first known args all rest draft same outer names stages last = record {
 }
 
 pub due_same : (known : Known) (args : Values) (is : List Instruction) (draft : Draft) (i : Instruction) → IsDraft known args is draft
-    → reason_behind known args is i.kind ≡ reason (kind_due known args draft.outer draft.names i.kind) (kind_fault args draft.outer draft.names i.kind)
+    → reason_after known args is i.kind ≡ reason (kind_due known args draft.outer draft.names i.kind) (kind_fault args draft.outer draft.names i.kind)
 due_same known args is draft i of =
     ap (λ scope. reason (kind_due known args scope (stage_names is) i.kind) (kind_fault args scope (stage_names is) i.kind)) (sym of.outer)
     ∙ ap (λ ns. reason (kind_due known args draft.outer ns i.kind) (kind_fault args draft.outer ns i.kind)) (sym of.names)
@@ -258,7 +258,7 @@ so_far_step known args all i old rest draft next so_far left made clear = record
   are = draft_step known args so_far.done i draft next so_far.are clear made;
   clear =
       so_far.clear ∙ ap (λ is. first_refusal known args so_far.done is) left
-      ∙ ap (λ o. told_at i.line o (first_refusal known args (so_far.done ++ i ∷ []) rest)) (due_same known args so_far.done draft i so_far.are ∙ clear);
+      ∙ ap (λ o. reported_at i.line o (first_refusal known args (so_far.done ++ i ∷ []) rest)) (due_same known args so_far.done draft i so_far.are ∙ clear);
 }
 
 pub so_far_refused : (known : Known) (args : Values) (all : List Instruction) (i : Instruction) (old rest : List Instruction) (draft : Draft) (why : Reason)
@@ -266,7 +266,7 @@ pub so_far_refused : (known : Known) (args : Values) (all : List Instruction) (i
     → first_refusal known args [] all ≡ Some (record { reason = why; line = i.line })
 so_far_refused known args all i old rest draft why so_far left due =
     so_far.clear ∙ ap (λ is. first_refusal known args so_far.done is) left
-    ∙ ap (λ o. told_at i.line o (first_refusal known args (so_far.done ++ i ∷ []) rest)) (due_same known args so_far.done draft i so_far.are ∙ due)
+    ∙ ap (λ o. reported_at i.line o (first_refusal known args (so_far.done ++ i ∷ []) rest)) (due_same known args so_far.done draft i so_far.are ∙ due)
 
 empty_of_length : {X : Type 0} (xs : List X) → length xs ≡ 0 → xs ≡ []
 empty_of_length [] e = refl

@@ -27,15 +27,15 @@ use Rattle.scopes.specs.Evaluate.{Values, arg_line, arg_fault}
 use Rattle.scopes.specs.declared.declaration.Declaration.{Declaration}
 use Rattle.stages.specs.Naming.{Names, Known}
 use Rattle.stages.specs.Before.{begun, declared_by, stage_names, all_but_last, with_declared, up_to, outer_scope}
-use Rattle.stages.specs.Due.{argument_due, outer_due, outer_fault, inner_due, other_due, other_fault, begun_due, begun_fault, kind_due, kind_fault, due_behind, fault_behind, reason_behind, IsReasonBehind}
-use Rattle.stages.specs.Faults.{is_outer_argument, told_before, refusals_behind, target_refusals, empty_refusals, stage_refusals, AreJudged}
+use Rattle.stages.specs.Due.{argument_due, outer_due, outer_fault, inner_due, other_due, other_fault, begun_due, begun_fault, kind_due, kind_fault, due_after, fault_after, reason_after, IsReasonAfter}
+use Rattle.stages.specs.Faults.{is_outer_argument, reported_before, refusals_after, target_refusals, empty_refusals, stage_refusals, AreJudged}
 use Rattle.stages.specs.Refusals.{LacksTarget, LacksStages, IsDueAtLine, IsDue}
-use Rattle.stages.specs.Resolved.{target_of, told_at, first_refusal, are_arguments, unless_refused, with_target, resolved}
+use Rattle.stages.specs.Resolved.{target_of, reported_at, first_refusal, are_arguments, unless_refused, with_target, resolved}
 use Rattle.stages.specs.Table.{TableValue, stages_of}
-use Rattle.stages.specs.PrivateFaults.{outer_with, outer_other, outer_by, names_by, told, ReasonTold, Judges}
+use Rattle.stages.specs.PrivateFaults.{outer_with, outer_other, outer_by, names_by, reported, ReasonReported, Judges}
 use Rattle.stages.proofs.BeforeFacts.{scope_open, scope_closed, scope_begun, scope_declared}
 use Rattle.stages.proofs.DraftFacts.{names_begun, names_other}
-use Rattle.stages.proofs.RefusalFacts.{LeastLaws, IsDueBehind, due_here, due_later, due_at_line}
+use Rattle.stages.proofs.RefusalFacts.{LeastLaws, IsDueAfter, due_here, due_later, due_at_line}
 
 -- what one more instruction leaves
 
@@ -74,13 +74,13 @@ none_some : {X : Type 0} (x : X) → None ≡ Some x → ⊥
 none_some x e = cc
 
 evaluates_reason : {X : Type 0} (made : Option X) (due : Code → Bool) (fault : Option Unexpanded) (result : Result X (Fault Reason)) (why : Option Reason) → Evaluates made due fault result
-    → ReasonTold result why → why ≡ reason due fault
+    → ReasonReported result why → why ≡ reason due fault
 evaluates_reason made due fault (Ok x) why evaluates is = is ∙ sym evaluates.1
 evaluates_reason made due fault (Err (Because other)) why evaluates is = is ∙ sym evaluates
 evaluates_reason made due fault (Err Memory) why evaluates is = absurd is
 
 pub all_evaluate : {X : Type 0} (made : Option X) (due : Code → Bool) (fault : Option Unexpanded) (result : Result X (Fault Reason)) (answer : Result (Option Reason) Want) → Evaluates made due fault result
-    → IfOk answer (ReasonTold result) → IfOk answer (λ why. why ≡ reason due fault)
+    → IfOk answer (ReasonReported result) → IfOk answer (λ why. why ≡ reason due fault)
 all_evaluate made due fault result (Ok why) evaluates is = evaluates_reason made due fault result why evaluates is
 all_evaluate made due fault result (Err want) evaluates is = tt
 
@@ -126,24 +126,24 @@ kind_other_judged known args outer new names lent kind result begins same h =
     subst (λ b. IfOk result (Judges (begun_due known args outer names kind b) (begun_fault args outer names kind b) (outer_by args outer names (declared_by kind) b) outer new)) (sym begins)
     (subst (λ ns. IfOk result (Judges (other_due known args outer ns kind) (other_fault args outer ns kind) (outer_other args outer ns (declared_by kind)) outer new)) same h)
 
--- what is known behind some instructions, and which refusals are still to come
+-- what is known after some instructions, and which refusals are still to come
 pub record FaultsSoFar (known : Known) (args : Values) (all : List Rejection) (done rest : List Instruction) (count : ℕ) (outer : List Declaration) (names : Names) (refusals : List Rejection) : Type 0 where
   pub outer_is : outer ≡ outer_scope args done
   pub names_are : names ≡ stage_names done
   pub few : length names ≤ count
-  pub told : refusals ++ refusals_behind known args done rest ≡ all
+  pub reported : refusals ++ refusals_after known args done rest ≡ all
 
 pub faults_first : (known : Known) (args : Values) (is : List Instruction) (outer : List Declaration) (names : Names) (refusals : List Rejection) → outer ≡ [] → names ≡ []
-    → FaultsSoFar known args (refusals ++ refusals_behind known args [] is) [] is 0 outer names refusals
+    → FaultsSoFar known args (refusals ++ refusals_after known args [] is) [] is 0 outer names refusals
 faults_first known args is outer names refusals no_scope no_names = record {
   outer_is = no_scope;
   names_are = no_names;
   few = let h = ap length no_names in omega (arith, h);
-  told = refl;
+  reported = refl;
 }
 
 due_as : (known : Known) (args : Values) (done : List Instruction) (outer : List Declaration) (names : Names) (i : Instruction) → outer ≡ outer_scope args done → names ≡ stage_names done
-    → reason_behind known args done i.kind ≡ reason (kind_due known args outer names i.kind) (kind_fault args outer names i.kind)
+    → reason_after known args done i.kind ≡ reason (kind_due known args outer names i.kind) (kind_fault args outer names i.kind)
 due_as known args done outer names i outer_is names_are =
     ap (λ scope. reason (kind_due known args scope (stage_names done) i.kind) (kind_fault args scope (stage_names done) i.kind)) (sym outer_is)
     ∙ ap (λ ns. reason (kind_due known args outer ns i.kind) (kind_fault args outer ns i.kind)) (sym names_are)
@@ -171,23 +171,23 @@ faults_free known args all done i rest count outer next_outer names next_names r
   outer_is = judged.1 ∙ made_as args done outer names i far.outer_is far.names_are;
   names_are = names_as done names next_names i far.names_are more;
   few = few_as names next_names i count more far.few;
-  told =
-      ap (λ o. refusals ++ told_before i.line o (is_outer_argument (stage_names done) (declared_by i.kind)) (refusals_behind known args (done ++ i ∷ []) rest))
+  reported =
+      ap (λ o. refusals ++ reported_before i.line o (is_outer_argument (stage_names done) (declared_by i.kind)) (refusals_after known args (done ++ i ∷ []) rest))
       (sym (due_as known args done outer names i far.outer_is far.names_are ∙ judged.0))
-      ∙ far.told;
+      ∙ far.reported;
 }
 
-told_all : (known : Known) (args : Values) (all : List Rejection) (done : List Instruction) (i : Instruction) (rest : List Instruction) (count : ℕ)
+reported_all : (known : Known) (args : Values) (all : List Rejection) (done : List Instruction) (i : Instruction) (rest : List Instruction) (count : ℕ)
     (outer : List Declaration) (names : Names) (refusals : List Rejection) (why : Reason) (is_last : Bool)
     → FaultsSoFar known args all done (i ∷ rest) count outer names refusals
     → reason (kind_due known args outer names i.kind) (kind_fault args outer names i.kind) ≡ Some why → is_outer_argument names (declared_by i.kind) ≡ is_last
-    → refusals ++ (record { reason = why; line = i.line } ∷ (if is_last then [] else refusals_behind known args (done ++ i ∷ []) rest)) ≡ all
-told_all known args all done i rest count outer names refusals why is_last far due last =
-    ap (λ b. refusals ++ told_before i.line (Some why) b (refusals_behind known args (done ++ i ∷ []) rest))
+    → refusals ++ (record { reason = why; line = i.line } ∷ (if is_last then [] else refusals_after known args (done ++ i ∷ []) rest)) ≡ all
+reported_all known args all done i rest count outer names refusals why is_last far due last =
+    ap (λ b. refusals ++ reported_before i.line (Some why) b (refusals_after known args (done ++ i ∷ []) rest))
     (sym (ap (λ ns. is_outer_argument ns (declared_by i.kind)) (sym far.names_are) ∙ last))
-    ∙ (ap (λ o. refusals ++ told_before i.line o (is_outer_argument (stage_names done) (declared_by i.kind)) (refusals_behind known args (done ++ i ∷ []) rest))
+    ∙ (ap (λ o. refusals ++ reported_before i.line o (is_outer_argument (stage_names done) (declared_by i.kind)) (refusals_after known args (done ++ i ∷ []) rest))
     (sym (due_as known args done outer names i far.outer_is far.names_are ∙ due))
-    ∙ far.told)
+    ∙ far.reported)
 
 -- an instruction that is refused, and isn't the last that is
 pub faults_refused : (known : Known) (args : Values) (all : List Rejection) (done : List Instruction) (i : Instruction) (rest : List Instruction) (count : ℕ)
@@ -202,10 +202,10 @@ faults_refused known args all done i rest count outer next_outer names next_name
       judged.1 ∙ (sym (outer_same args outer names (declared_by i.kind) (begun i.kind) goes_on) ∙ made_as args done outer names i far.outer_is far.names_are);
   names_are = names_as done names next_names i far.names_are longer;
   few = few_as names next_names i count longer far.few;
-  told =
-      ap (λ rs. rs ++ refusals_behind known args (done ++ i ∷ []) rest) added
-      ∙ (append_assoc refusals (record { reason = why; line = i.line } ∷ []) (refusals_behind known args (done ++ i ∷ []) rest)
-      ∙ told_all known args all done i rest count outer names refusals why false far judged.0 goes_on);
+  reported =
+      ap (λ rs. rs ++ refusals_after known args (done ++ i ∷ []) rest) added
+      ∙ (append_assoc refusals (record { reason = why; line = i.line } ∷ []) (refusals_after known args (done ++ i ∷ []) rest)
+      ∙ reported_all known args all done i rest count outer names refusals why false far judged.0 goes_on);
 }
 
 -- an ARG before the first FROM that is refused is the last
@@ -215,7 +215,7 @@ pub faults_ended : (known : Known) (args : Values) (all : List Rejection) (done 
     → Judges (kind_due known args outer names i.kind) (kind_fault args outer names i.kind) (outer_by args outer names (declared_by i.kind) (begun i.kind)) outer next_outer (Some why)
     → is_outer_argument names (declared_by i.kind) ≡ true → more ≡ refusals ++ record { reason = why; line = i.line } ∷ [] → more ≡ all
 faults_ended known args all done i rest count outer next_outer names refusals more why far judged ends added =
-    added ∙ told_all known args all done i rest count outer names refusals why true far judged.0 ends
+    added ∙ reported_all known args all done i rest count outer names refusals why true far judged.0 ends
 
 -- one more instruction, unless its refusal is the last
 pub faults_step : (known : Known) (args : Values) (all : List Rejection) (done : List Instruction) (i : Instruction) (rest : List Instruction) (count : ℕ)
@@ -223,7 +223,7 @@ pub faults_step : (known : Known) (args : Values) (all : List Rejection) (done :
     → FaultsSoFar known args all done (i ∷ rest) count outer names refusals
     → Judges (kind_due known args outer names i.kind) (kind_fault args outer names i.kind) (outer_by args outer names (declared_by i.kind) (begun i.kind)) outer next_outer why
     → next_names ≡ names_by names (begun i.kind) → is_outer ≡ is_outer_argument names (declared_by i.kind)
-    → more ≡ refusals ++ told i.line why → (is_some why && is_outer) ≡ false
+    → more ≡ refusals ++ reported i.line why → (is_some why && is_outer) ≡ false
     → FaultsSoFar known args all (done ++ i ∷ []) rest (count + 1) next_outer next_names more
 faults_step known args all done i rest count outer next_outer names next_names refusals more None is_outer far judged longer tests added goes_on =
     faults_free known args all done i rest count outer next_outer names next_names more
@@ -236,14 +236,14 @@ pub faults_last : (known : Known) (args : Values) (all : List Rejection) (done :
     → FaultsSoFar known args all done (i ∷ rest) count outer names refusals
     → Judges (kind_due known args outer names i.kind) (kind_fault args outer names i.kind) (outer_by args outer names (declared_by i.kind) (begun i.kind)) outer next_outer why
     → is_outer ≡ is_outer_argument names (declared_by i.kind)
-    → more ≡ refusals ++ told i.line why → (is_some why && is_outer) ≡ true → more ≡ all
+    → more ≡ refusals ++ reported i.line why → (is_some why && is_outer) ≡ true → more ≡ all
 faults_last known args all done i rest count outer next_outer names refusals more None is_outer far judged tests added ends = absurd (true≢false (sym ends))
 faults_last known args all done i rest count outer next_outer names refusals more (Some other) is_outer far judged tests added ends =
     faults_ended known args all done i rest count outer next_outer names refusals more other far judged (sym tests ∙ ends) added
 
 pub faults_all : (known : Known) (args : Values) (all : List Rejection) (done : List Instruction) (count : ℕ) (outer : List Declaration) (names : Names) (refusals : List Rejection)
     → FaultsSoFar known args all done [] count outer names refusals → refusals ≡ all
-faults_all known args all done count outer names refusals far = sym (append-nil refusals) ∙ far.told
+faults_all known args all done count outer names refusals far = sym (append-nil refusals) ∙ far.reported
 
 -- over the list that the loop goes through
 
@@ -260,7 +260,7 @@ pub turn_step : (known : Known) (args : Values) (all : List Rejection) (is : Lis
     → index < length is → i ≡ get_or is index i → FaultsSoFar known args all (take index is) (drop index is) index outer names refusals
     → Judges (kind_due known args outer names i.kind) (kind_fault args outer names i.kind) (outer_by args outer names (declared_by i.kind) (begun i.kind)) outer next_outer why
     → next_names ≡ names_by names (begun i.kind) → is_outer ≡ is_outer_argument names (declared_by i.kind)
-    → more ≡ refusals ++ told i.line why → (is_some why && is_outer) ≡ false
+    → more ≡ refusals ++ reported i.line why → (is_some why && is_outer) ≡ false
     → FaultsSoFar known args all (take (index + 1) is) (drop (index + 1) is) (index + 1) next_outer next_names more
 turn_step known args all is index i outer next_outer names next_names refusals more why is_outer lt here far judged longer tests added goes_on =
     subst (λ (done : List Instruction). FaultsSoFar known args all done (drop (index + 1) is) (index + 1) next_outer next_names more) (sym (taken is index i lt here))
@@ -273,7 +273,7 @@ pub turn_last : (known : Known) (args : Values) (all : List Rejection) (is : Lis
     → index < length is → i ≡ get_or is index i → FaultsSoFar known args all (take index is) (drop index is) index outer names refusals
     → Judges (kind_due known args outer names i.kind) (kind_fault args outer names i.kind) (outer_by args outer names (declared_by i.kind) (begun i.kind)) outer next_outer why
     → is_outer ≡ is_outer_argument names (declared_by i.kind)
-    → more ≡ refusals ++ told i.line why → (is_some why && is_outer) ≡ true → more ≡ all
+    → more ≡ refusals ++ reported i.line why → (is_some why && is_outer) ≡ true → more ≡ all
 turn_last known args all is index i outer next_outer names refusals more why is_outer lt here far judged tests added ends =
     faults_last known args all (take index is) i (drop (index + 1) is) index outer next_outer names refusals more why is_outer
     (subst (λ (rest : List Instruction). FaultsSoFar known args all (take index is) rest index outer names refusals) (dropped is index i lt here) far)
@@ -285,12 +285,12 @@ turn_over known args all is index outer names refusals over far =
     faults_all known args all (take index is) index outer names refusals
     (subst (λ (rest : List Instruction). FaultsSoFar known args all (take index is) rest index outer names refusals) (drop_all index is over) far)
 
-pub all_told : (known : Known) (args : Values) (target : Option (List ℕ)) (is : List Instruction) (refusals : List Rejection) (result : Result (List Rejection) Want)
+pub all_reported : (known : Known) (args : Values) (target : Option (List ℕ)) (is : List Instruction) (refusals : List Rejection) (result : Result (List Rejection) Want)
     → refusals ≡ target_refusals (target_of (stage_names is) target) ++ empty_refusals is
-    → IfOk result (λ all. all ≡ refusals ++ refusals_behind known args [] is) → IfOk result (λ all. all ≡ stage_refusals known args target is)
+    → IfOk result (λ all. all ≡ refusals ++ refusals_after known args [] is) → IfOk result (λ all. all ≡ stage_refusals known args target is)
 unfolding stage_refusals
-all_told known args target is refusals (Ok all) whole h = h ∙ ap (λ rs. rs ++ refusals_behind known args [] is) whole
-all_told known args target is refusals (Err want) whole h = tt
+all_reported known args target is refusals (Ok all) whole h = h ∙ ap (λ rs. rs ++ refusals_after known args [] is) whole
+all_reported known args target is refusals (Err want) whole h = tt
 
 -- the first refusal is what resolving is refused with
 
@@ -298,15 +298,15 @@ abbrev pub BeginsBy : Option Rejection → List Rejection → Type 0
 BeginsBy None refusals = refusals ≡ []
 BeginsBy (Some refusal) refusals = (more : List Rejection) × (refusals ≡ refusal ∷ more)
 
-begins_by : (line : ℕ) (o : Option Reason) (is_last : Bool) (first : Option Rejection) (more : List Rejection) → BeginsBy first more → BeginsBy (told_at line o first) (told_before line o is_last more)
+begins_by : (line : ℕ) (o : Option Reason) (is_last : Bool) (first : Option Rejection) (more : List Rejection) → BeginsBy first more → BeginsBy (reported_at line o first) (reported_before line o is_last more)
 begins_by line None is_last first more h = h
 begins_by line (Some why) is_last first more h = (if is_last then [] else more, refl)
 
-begins_behind : (known : Known) (args : Values) (before is : List Instruction) → BeginsBy (first_refusal known args before is) (refusals_behind known args before is)
-begins_behind known args before [] = refl
-begins_behind known args before (i ∷ is) =
-    begins_by i.line (reason_behind known args before i.kind) (is_outer_argument (stage_names before) (declared_by i.kind))
-    (first_refusal known args (before ++ i ∷ []) is) (refusals_behind known args (before ++ i ∷ []) is) (begins_behind known args (before ++ i ∷ []) is)
+begins_after : (known : Known) (args : Values) (before is : List Instruction) → BeginsBy (first_refusal known args before is) (refusals_after known args before is)
+begins_after known args before [] = refl
+begins_after known args before (i ∷ is) =
+    begins_by i.line (reason_after known args before i.kind) (is_outer_argument (stage_names before) (declared_by i.kind))
+    (first_refusal known args (before ++ i ∷ []) is) (refusals_after known args (before ++ i ∷ []) is) (begins_after known args (before ++ i ∷ []) is)
 
 abbrev pub Relates : Result TableValue Rejection → List Rejection → Type 0
 Relates (Ok table) refusals = refusals ≡ []
@@ -318,13 +318,13 @@ relates_first (Some refusal) table refusals h = h
 
 relates_stages : (known : Known) (args : Values) (is : List Instruction) (table : TableValue) (b : Bool)
     → Relates (unless_refused (if b then Some (record { reason = Coded R05; line = 1 }) else first_refusal known args [] is) table)
-    ((if b then record { reason = Coded R05; line = 1 } ∷ [] else []) ++ refusals_behind known args [] is)
-relates_stages known args is table true = (refusals_behind known args [] is, refl)
-relates_stages known args is table false = relates_first (first_refusal known args [] is) table (refusals_behind known args [] is) (begins_behind known args [] is)
+    ((if b then record { reason = Coded R05; line = 1 } ∷ [] else []) ++ refusals_after known args [] is)
+relates_stages known args is table true = (refusals_after known args [] is, refl)
+relates_stages known args is table false = relates_first (first_refusal known args [] is) table (refusals_after known args [] is) (begins_after known args [] is)
 
 relates_target : (known : Known) (args : Values) (is : List Instruction) (target : Option ℕ)
-    → Relates (with_target known args is target) ((target_refusals target ++ empty_refusals is) ++ refusals_behind known args [] is)
-relates_target known args is None = (empty_refusals is ++ refusals_behind known args [] is, refl)
+    → Relates (with_target known args is target) ((target_refusals target ++ empty_refusals is) ++ refusals_after known args [] is)
+relates_target known args is None = (empty_refusals is ++ refusals_after known args [] is, refl)
 relates_target known args is (Some target) =
     relates_stages known args is (record { outer = outer_scope args is; stages = stages_of known args is; target = target }) (are_arguments is)
 
@@ -375,27 +375,27 @@ in_one y x (suc k, within, e) = absurd (omega (arith, within))
 in_cons : {X : Type 0} (y : X) (ys : List X) (x : X) → Contains (y ∷ ys) x → (y ≡ x) ⊎ Contains ys x
 in_cons y ys x h = elim (Contains-append_cases (y ∷ []) ys x h) [ inl here ↦ inl (in_one y x here) | inr there ↦ inr there ]
 
-due_told : LeastLaws → (known : Known) (args : Values) (before : List Instruction) (i : Instruction) (is : List Instruction) (o : Option Reason) (is_last : Bool) (refusal : Rejection)
-    → reason_behind known args before i.kind ≡ o
-    → (Contains (refusals_behind known args (before ++ i ∷ []) is) refusal → IsDueBehind known args (before ++ i ∷ []) is refusal)
-    → Contains (told_before i.line o is_last (refusals_behind known args (before ++ i ∷ []) is)) refusal → IsDueBehind known args before (i ∷ is) refusal
-due_told laws known args before i is None is_last refusal e more h = due_later known args before i is refusal (more h)
-due_told laws known args before i is (Some why) true refusal e more h =
+due_reported : LeastLaws → (known : Known) (args : Values) (before : List Instruction) (i : Instruction) (is : List Instruction) (o : Option Reason) (is_last : Bool) (refusal : Rejection)
+    → reason_after known args before i.kind ≡ o
+    → (Contains (refusals_after known args (before ++ i ∷ []) is) refusal → IsDueAfter known args (before ++ i ∷ []) is refusal)
+    → Contains (reported_before i.line o is_last (refusals_after known args (before ++ i ∷ []) is)) refusal → IsDueAfter known args before (i ∷ is) refusal
+due_reported laws known args before i is None is_last refusal e more h = due_later known args before i is refusal (more h)
+due_reported laws known args before i is (Some why) true refusal e more h =
     let same = in_one (record { reason = why; line = i.line }) refusal h in
-    subst (λ r. IsDueBehind known args before (i ∷ is) r) same
-    (due_here known args before i is (record { reason = why; line = i.line }) (refl, (laws.is_least (due_behind known args before i.kind) (fault_behind args before i.kind) why e).0))
-due_told laws known args before i is (Some why) false refusal e more h = elim (in_cons (record { reason = why; line = i.line }) (refusals_behind known args (before ++ i ∷ []) is) refusal h) [
+    subst (λ r. IsDueAfter known args before (i ∷ is) r) same
+    (due_here known args before i is (record { reason = why; line = i.line }) (refl, (laws.is_least (due_after known args before i.kind) (fault_after args before i.kind) why e).0))
+due_reported laws known args before i is (Some why) false refusal e more h = elim (in_cons (record { reason = why; line = i.line }) (refusals_after known args (before ++ i ∷ []) is) refusal h) [
   | inl same ↦
-      subst (λ r. IsDueBehind known args before (i ∷ is) r) same
-      (due_here known args before i is (record { reason = why; line = i.line }) (refl, (laws.is_least (due_behind known args before i.kind) (fault_behind args before i.kind) why e).0))
+      subst (λ r. IsDueAfter known args before (i ∷ is) r) same
+      (due_here known args before i is (record { reason = why; line = i.line }) (refl, (laws.is_least (due_after known args before i.kind) (fault_after args before i.kind) why e).0))
   | inr there ↦ due_later known args before i is refusal (more there)
 ]
 
-due_in : LeastLaws → (known : Known) (args : Values) (before is : List Instruction) (refusal : Rejection) → Contains (refusals_behind known args before is) refusal
-    → IsDueBehind known args before is refusal
+due_in : LeastLaws → (known : Known) (args : Values) (before is : List Instruction) (refusal : Rejection) → Contains (refusals_after known args before is) refusal
+    → IsDueAfter known args before is refusal
 due_in laws known args before [] refusal h = absurd (in_none refusal h)
 due_in laws known args before (i ∷ is) refusal h =
-    due_told laws known args before i is (reason_behind known args before i.kind) (is_outer_argument (stage_names before) (declared_by i.kind)) refusal refl
+    due_reported laws known args before i is (reason_after known args before i.kind) (is_outer_argument (stage_names before) (declared_by i.kind)) refusal refl
     (λ there. due_in laws known args (before ++ i ∷ []) is refusal there) h
 
 target_due : (known : Known) (args : Values) (target : Option (List ℕ)) (is : List Instruction) (o : Option ℕ) (refusal : Rejection) → target_of (stage_names is) target ≡ o
@@ -412,7 +412,7 @@ pub each_due : LeastLaws → (known : Known) (args : Values) (target : Option (L
     → Contains (stage_refusals known args target is) refusal → IsDue known args target is refusal
 unfolding stage_refusals
 each_due laws known args target is refusal h =
-    elim (Contains-append_cases (target_refusals (target_of (stage_names is) target) ++ empty_refusals is) (refusals_behind known args [] is) refusal h) [
+    elim (Contains-append_cases (target_refusals (target_of (stage_names is) target) ++ empty_refusals is) (refusals_after known args [] is) refusal h) [
       | inl whole ↦ elim (Contains-append_cases (target_refusals (target_of (stage_names is) target)) (empty_refusals is) refusal whole) [
         | inl lacks ↦ target_due known args target is (target_of (stage_names is) target) refusal refl lacks
         | inr empty ↦ empty_due known args target is (are_arguments is) refusal refl empty
@@ -432,57 +432,57 @@ IsCovered all refusal = (listed : Rejection) × Contains all listed × (listed.l
 covered_more : (one : Rejection) (all : List Rejection) (refusal : Rejection) → IsCovered all refusal → IsCovered (one ∷ all) refusal
 covered_more one all refusal h = (h.0, Contains-append_right (one ∷ []) all h.0 h.1, h.2, h.3)
 
-abbrev AreJudgedBehind : Known → Values → List Instruction → List Instruction → Type 0
-AreJudgedBehind known args first is = (before : List Instruction) (i : Instruction) (after : List Instruction) → is ≡ before ++ i ∷ after
-    → is_outer_argument (stage_names (first ++ before)) (declared_by i.kind) ≡ true → reason_behind known args (first ++ before) i.kind ≡ None
+abbrev AreJudgedAfter : Known → Values → List Instruction → List Instruction → Type 0
+AreJudgedAfter known args first is = (before : List Instruction) (i : Instruction) (after : List Instruction) → is ≡ before ++ i ∷ after
+    → is_outer_argument (stage_names (first ++ before)) (declared_by i.kind) ≡ true → reason_after known args (first ++ before) i.kind ≡ None
 
 covered_here : LeastLaws → (known : Known) (args : Values) (first : List Instruction) (i : Instruction) (is : List Instruction) (refusal : Rejection) (o : Option Reason) (is_last : Bool)
-    (more : List Rejection) → reason_behind known args first i.kind ≡ o → refusal.line ≡ i.line → IsReasonBehind known args first i.kind refusal.reason
-    → IsCovered (told_before i.line o is_last more) refusal
+    (more : List Rejection) → reason_after known args first i.kind ≡ o → refusal.line ≡ i.line → IsReasonAfter known args first i.kind refusal.reason
+    → IsCovered (reported_before i.line o is_last more) refusal
 covered_here laws known args first i is refusal None is_last more e line due =
-    absurd (laws.is_free (due_behind known args first i.kind) (fault_behind args first i.kind) e refusal.reason due)
+    absurd (laws.is_free (due_after known args first i.kind) (fault_after args first i.kind) e refusal.reason due)
 covered_here laws known args first i is refusal (Some why) is_last more e line due = (
   record { reason = why; line = i.line },
   first_in (record { reason = why; line = i.line }) (if is_last then [] else more),
   sym line,
-  (laws.is_least (due_behind known args first i.kind) (fault_behind args first i.kind) why e).1 refusal.reason due,
+  (laws.is_least (due_after known args first i.kind) (fault_after args first i.kind) why e).1 refusal.reason due,
 )
 
-covered_told : (known : Known) (args : Values) (first : List Instruction) (i : Instruction) (refusal : Rejection) (o : Option Reason) (is_last : Bool) (more : List Rejection)
-    → (is_last ≡ true → o ≡ None) → IsCovered more refusal → IsCovered (told_before i.line o is_last more) refusal
-covered_told known args first i refusal None is_last more judged h = h
-covered_told known args first i refusal (Some why) true more judged h = absurd (none_some why (sym (judged refl)))
-covered_told known args first i refusal (Some why) false more judged h = covered_more (record { reason = why; line = i.line }) more refusal h
+covered_reported : (known : Known) (args : Values) (first : List Instruction) (i : Instruction) (refusal : Rejection) (o : Option Reason) (is_last : Bool) (more : List Rejection)
+    → (is_last ≡ true → o ≡ None) → IsCovered more refusal → IsCovered (reported_before i.line o is_last more) refusal
+covered_reported known args first i refusal None is_last more judged h = h
+covered_reported known args first i refusal (Some why) true more judged h = absurd (none_some why (sym (judged refl)))
+covered_reported known args first i refusal (Some why) false more judged h = covered_more (record { reason = why; line = i.line }) more refusal h
 
-judged_here : (known : Known) (args : Values) (first : List Instruction) (b : Instruction) (bs : List Instruction) → AreJudgedBehind known args first (b ∷ bs)
-    → is_outer_argument (stage_names first) (declared_by b.kind) ≡ true → reason_behind known args first b.kind ≡ None
+judged_here : (known : Known) (args : Values) (first : List Instruction) (b : Instruction) (bs : List Instruction) → AreJudgedAfter known args first (b ∷ bs)
+    → is_outer_argument (stage_names first) (declared_by b.kind) ≡ true → reason_after known args first b.kind ≡ None
 judged_here known args first b bs judged outer =
-    subst (λ (is : List Instruction). reason_behind known args is b.kind ≡ None) (append-nil first)
+    subst (λ (is : List Instruction). reason_after known args is b.kind ≡ None) (append-nil first)
     (judged [] b bs refl (ap (λ (is : List Instruction). is_outer_argument (stage_names is) (declared_by b.kind)) (append-nil first) ∙ outer))
 
-judged_later : (known : Known) (args : Values) (first : List Instruction) (b : Instruction) (bs : List Instruction) → AreJudgedBehind known args first (b ∷ bs)
-    → AreJudgedBehind known args (first ++ b ∷ []) bs
+judged_later : (known : Known) (args : Values) (first : List Instruction) (b : Instruction) (bs : List Instruction) → AreJudgedAfter known args first (b ∷ bs)
+    → AreJudgedAfter known args (first ++ b ∷ []) bs
 judged_later known args first b bs judged before i after cut outer =
     let along : (first ++ b ∷ []) ++ before ≡ first ++ b ∷ before = append_assoc first (b ∷ []) before in
-    ap (λ (is : List Instruction). reason_behind known args is i.kind) along
+    ap (λ (is : List Instruction). reason_after known args is i.kind) along
     ∙ judged (b ∷ before) i after (ap (λ (is : List Instruction). b ∷ is) cut)
     (ap (λ (is : List Instruction). is_outer_argument (stage_names is) (declared_by i.kind)) (sym along) ∙ outer)
 
 covered : LeastLaws → (known : Known) (args : Values) (first before : List Instruction) (i : Instruction) (after : List Instruction) (refusal : Rejection)
-    → refusal.line ≡ i.line → IsReasonBehind known args (first ++ before) i.kind refusal.reason → AreJudgedBehind known args first before
-    → IsCovered (refusals_behind known args first (before ++ i ∷ after)) refusal
+    → refusal.line ≡ i.line → IsReasonAfter known args (first ++ before) i.kind refusal.reason → AreJudgedAfter known args first before
+    → IsCovered (refusals_after known args first (before ++ i ∷ after)) refusal
 covered laws known args first [] i after refusal line due judged =
-    covered_here laws known args first i after refusal (reason_behind known args first i.kind) (is_outer_argument (stage_names first) (declared_by i.kind))
-    (refusals_behind known args (first ++ i ∷ []) after) refl line
-    (subst (λ (is : List Instruction). IsReasonBehind known args is i.kind refusal.reason) (append-nil first) due)
+    covered_here laws known args first i after refusal (reason_after known args first i.kind) (is_outer_argument (stage_names first) (declared_by i.kind))
+    (refusals_after known args (first ++ i ∷ []) after) refl line
+    (subst (λ (is : List Instruction). IsReasonAfter known args is i.kind refusal.reason) (append-nil first) due)
 covered laws known args first (b ∷ bs) i after refusal line due judged =
-    covered_told known args first b refusal (reason_behind known args first b.kind) (is_outer_argument (stage_names first) (declared_by b.kind))
-    (refusals_behind known args (first ++ b ∷ []) (bs ++ i ∷ after)) (judged_here known args first b bs judged)
+    covered_reported known args first b refusal (reason_after known args first b.kind) (is_outer_argument (stage_names first) (declared_by b.kind))
+    (refusals_after known args (first ++ b ∷ []) (bs ++ i ∷ after)) (judged_here known args first b bs judged)
     (covered laws known args (first ++ b ∷ []) bs i after refusal line
-    (subst (λ (is : List Instruction). IsReasonBehind known args is i.kind refusal.reason) (sym (append_assoc first (b ∷ []) bs)) due)
+    (subst (λ (is : List Instruction). IsReasonAfter known args is i.kind refusal.reason) (sym (append_assoc first (b ∷ []) bs)) due)
     (judged_later known args first b bs judged))
 
-judged_all : (known : Known) (args : Values) (is : List Instruction) → AreJudged known args is → AreJudgedBehind known args [] is
+judged_all : (known : Known) (args : Values) (is : List Instruction) → AreJudged known args is → AreJudgedAfter known args [] is
 judged_all known args is judged = judged
 
 covered_append : (one all : List Rejection) (refusal : Rejection) → IsCovered all refusal → IsCovered (one ++ all) refusal
@@ -492,15 +492,15 @@ pub none_missing : LeastLaws → (known : Known) (args : Values) (target : Optio
     → AreJudged known args due.before → IsCovered (stage_refusals known args target is) refusal
 unfolding stage_refusals
 none_missing laws known args target is refusal due judged =
-    covered_append (target_refusals (target_of (stage_names is) target) ++ empty_refusals is) (refusals_behind known args [] is) refusal
-    (subst (λ (js : List Instruction). IsCovered (refusals_behind known args [] js) refusal) (sym due.cut)
+    covered_append (target_refusals (target_of (stage_names is) target) ++ empty_refusals is) (refusals_after known args [] is) refusal
+    (subst (λ (js : List Instruction). IsCovered (refusals_after known args [] js) refusal) (sym due.cut)
     (covered laws known args [] due.before due.instruction due.after refusal due.line due.due (judged_all known args due.before judged)))
 
 pub target_listed : (known : Known) (args : Values) (target : Option (List ℕ)) (is : List Instruction) (refusal : Rejection) → LacksTarget target is refusal
     → Contains (stage_refusals known args target is) refusal
 unfolding stage_refusals
 target_listed known args target is refusal lacks =
-    Contains-append_left (target_refusals (target_of (stage_names is) target) ++ empty_refusals is) (refusals_behind known args [] is) refusal
+    Contains-append_left (target_refusals (target_of (stage_names is) target) ++ empty_refusals is) (refusals_after known args [] is) refusal
     (Contains-append_left (target_refusals (target_of (stage_names is) target)) (empty_refusals is) refusal
     (subst (λ (o : Option ℕ). Contains (target_refusals o) refusal) (sym lacks.0)
     (subst (λ (r : Rejection). Contains (record { reason = Coded R13; line = 0 } ∷ []) r) (sym lacks.1) (first_in (record { reason = Coded R13; line = 0 }) []))))
@@ -513,5 +513,5 @@ pub empty_listed : (known : Known) (args : Values) (target : Option (List ℕ)) 
     → Contains (stage_refusals known args target is) refusal
 unfolding stage_refusals
 empty_listed known args target is refusal lacks =
-    Contains-append_left (target_refusals (target_of (stage_names is) target) ++ empty_refusals is) (refusals_behind known args [] is) refusal
+    Contains-append_left (target_refusals (target_of (stage_names is) target) ++ empty_refusals is) (refusals_after known args [] is) refusal
     (Contains-append_right (target_refusals (target_of (stage_names is) target)) (empty_refusals is) refusal (empty_by (are_arguments is) refusal lacks.0 lacks.1))

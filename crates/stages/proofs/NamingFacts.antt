@@ -75,7 +75,7 @@ found_within names text number e =
     found_by (all_ascii_digits text) (length names) number (stage_numbered names text) (stage_called names text)
     (numbered_within names text number) (called_within names text number) e
 
--- what a predicate says of all origins that may be found behind stages of these names, it says of what a name leads to
+-- what a predicate says of all origins that may be found after stages of these names, it says of what a name leads to
 
 -- of each of some stages, of the sources that stand for no image, and of the images that are known
 record MaySay (known : Known) (count : ℕ) (P : Origin → Type 0) : Type 0 where
@@ -206,28 +206,28 @@ origins_counted known names kind none = origins_count known names (references ki
 -- origins one after another
 
 -- a list before another, if there is another
-abbrev pub behind : List Origin → Option (List Origin) → Option (List Origin)
-behind xs o = option_map (λ ys. xs ++ ys) o
+abbrev pub after : List Origin → Option (List Origin) → Option (List Origin)
+after xs o = option_map (λ ys. xs ++ ys) o
 
-behind_more : (xs : List Origin) (x : Origin) (o : Option (List Origin)) → behind xs (option_map (λ ys. x ∷ ys) o) ≡ behind (xs ++ x ∷ []) o
-behind_more xs x None = refl
-behind_more xs x (Some ys) = ap (λ zs. Some zs) (sym (append_assoc xs (x ∷ []) ys))
+after_more : (xs : List Origin) (x : Origin) (o : Option (List Origin)) → after xs (option_map (λ ys. x ∷ ys) o) ≡ after (xs ++ x ∷ []) o
+after_more xs x None = refl
+after_more xs x (Some ys) = ap (λ zs. Some zs) (sym (append_assoc xs (x ∷ []) ys))
 
-pub behind_first : (o : Option (List Origin)) → behind [] o ≡ o
-behind_first None = refl
-behind_first (Some ys) = refl
+pub after_first : (o : Option (List Origin)) → after [] o ≡ o
+after_first None = refl
+after_first (Some ys) = refl
 
-pub behind_none : (known : Known) (names : Names) (xs : List Origin) (r : Reference) (rs : List Reference) → led_to known names r ≡ None
-    → behind xs (all_led known names (r ∷ rs)) ≡ None
-behind_none known names xs r rs none = ap (λ o. behind xs (all_some (o ∷ map (led_to known names) rs))) none
+pub after_none : (known : Known) (names : Names) (xs : List Origin) (r : Reference) (rs : List Reference) → led_to known names r ≡ None
+    → after xs (all_led known names (r ∷ rs)) ≡ None
+after_none known names xs r rs none = ap (λ o. after xs (all_some (o ∷ map (led_to known names) rs))) none
 
-pub behind_some : (known : Known) (names : Names) (xs : List Origin) (x : Origin) (r : Reference) (rs : List Reference) → led_to known names r ≡ Some x
-    → behind xs (all_led known names (r ∷ rs)) ≡ behind (xs ++ x ∷ []) (all_led known names rs)
-behind_some known names xs x r rs some =
-    ap (λ o. behind xs (all_some (o ∷ map (led_to known names) rs))) some ∙ behind_more xs x (all_led known names rs)
+pub after_some : (known : Known) (names : Names) (xs : List Origin) (x : Origin) (r : Reference) (rs : List Reference) → led_to known names r ≡ Some x
+    → after xs (all_led known names (r ∷ rs)) ≡ after (xs ++ x ∷ []) (all_led known names rs)
+after_some known names xs x r rs some =
+    ap (λ o. after xs (all_some (o ∷ map (led_to known names) rs))) some ∙ after_more xs x (all_led known names rs)
 
-pub behind_last : (known : Known) (names : Names) (xs : List Origin) (rs : List Reference) → rs ≡ [] → behind xs (all_led known names rs) ≡ Some xs
-behind_last known names xs rs none = ap (λ qs. behind xs (all_led known names qs)) none ∙ ap (λ ys. Some ys) (append-nil xs)
+pub after_last : (known : Known) (names : Names) (xs : List Origin) (rs : List Reference) → rs ≡ [] → after xs (all_led known names rs) ≡ Some xs
+after_last known names xs rs none = ap (λ qs. after xs (all_led known names qs)) none ∙ ap (λ ys. Some ys) (append-nil xs)
 
 -- where all lead somewhere none leads nowhere
 

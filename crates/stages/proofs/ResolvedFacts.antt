@@ -12,23 +12,23 @@ use Rattle.dockerfile.specs.Dockerfile.{IsDockerfile}
 use Rattle.stages.specs.declared.resolving.Draft.{Draft}
 use Rattle.stages.specs.Naming.{Known}
 use Rattle.stages.specs.Before.{stage_names, outer_scope}
-use Rattle.stages.specs.Due.{reason_behind}
+use Rattle.stages.specs.Due.{reason_after}
 use Rattle.stages.specs.Table.{TableValue, stages_of, IsTable, NamesKnown}
 use Rattle.stages.specs.Resolved.{target_of, first_refusal, are_arguments, refusal_of, unless_refused, with_target, resolved}
 use Rattle.stages.specs.PrivateResolving.{draft_after, IsDraft}
 use Rattle.stages.specs.PrivateTable.{table_by}
 use Rattle.stages.proofs.DraftFacts.{draft_first, draft_step, due_same}
-use Rattle.stages.proofs.WholeFacts.{told_none, table_whole, names_known}
+use Rattle.stages.proofs.WholeFacts.{reported_none, table_whole, names_known}
 
 -- where no line of some instructions is refused, all of them are gone through
 gone_through : (known : Known) (args : Values) (done rest : List Instruction) (draft : Draft) → IsDraft known args done draft → first_refusal known args done rest ≡ None
     → (last : Draft) × IsDraft known args (done ++ rest) last
 gone_through known args done [] draft of clear = (draft, subst (λ is. IsDraft known args is draft) (sym (append-nil done)) of)
 gone_through known args done (i ∷ rest) draft of clear =
-    let told = told_none i.line (reason_behind known args done i.kind) (first_refusal known args (done ++ i ∷ []) rest) clear in
+    let reported = reported_none i.line (reason_after known args done i.kind) (first_refusal known args (done ++ i ∷ []) rest) clear in
     let next = draft_after known args draft i in
-    let after = draft_step known args done i draft next of (sym (due_same known args done draft i of) ∙ told.0) refl in
-    let more = gone_through known args (done ++ i ∷ []) rest next after told.1 in
+    let after = draft_step known args done i draft next of (sym (due_same known args done draft i of) ∙ reported.0) refl in
+    let more = gone_through known args (done ++ i ∷ []) rest next after reported.1 in
     (more.0, subst (λ is. IsDraft known args is more.0) (append_assoc done (i ∷ []) rest) more.1)
 
 abbrev no_draft : Draft

@@ -33,9 +33,9 @@ use Rattle.stages.specs.declared.stage.ResolvedInstruction.{ResolvedInstruction}
 use Rattle.stages.specs.declared.stage.ResolvedStage.{ResolvedStage}
 use Rattle.stages.specs.Naming.{Names, Known, copy_reference, led_to, origins_of}
 use Rattle.stages.specs.Before.{begun, declared_by, name_begun, stage_names, outer_scope}
-use Rattle.stages.specs.Due.{outer_due, outer_fault, other_due, other_fault, reason_behind, begun_due, begun_fault}
-use Rattle.stages.specs.Table.{TableValue, unless_begun, stage_instructions, stages_behind, stages_of, lines_of, IsResolved, IsStage, IsTable, IsKnown, NamesKnown}
-use Rattle.stages.specs.Resolved.{target_of, told_at, first_refusal, are_arguments, unless_refused, with_target, resolved, Returns}
+use Rattle.stages.specs.Due.{outer_due, outer_fault, other_due, other_fault, reason_after, begun_due, begun_fault}
+use Rattle.stages.specs.Table.{TableValue, unless_begun, stage_instructions, stages_after, stages_of, lines_of, IsResolved, IsStage, IsTable, IsKnown, NamesKnown}
+use Rattle.stages.specs.Resolved.{target_of, reported_at, first_refusal, are_arguments, unless_refused, with_target, resolved, Returns}
 use Rattle.stages.specs.PrivateResolving.{with_last, IsCounted, AreCounted, IsDraft, Drafts}
 use Rattle.stages.specs.PrivateTable.{table_by}
 use Rattle.stages.proofs.NamingFacts.{found_within, base_before, base_known, origins_before, origins_known}
@@ -120,15 +120,15 @@ from_cons first s ss is more (suc number) stage there =
 
 stages_from_by : (known : Known) (scope : List Declaration) (names : Names) (is : List Instruction) (line : ℕ) (b : Option (Parts × Option (List ℕ)))
     → All IsWhole is
-    → ((ns : Names) → All AreCounted (stages_behind known scope ns is) → AreFrom (length ns) (stages_behind known scope ns is))
-    → All AreCounted (stages_by known scope names line b (stage_instructions known names is) (λ ns. stages_behind known scope ns is))
-    → AreFrom (length names) (stages_by known scope names line b (stage_instructions known names is) (λ ns. stages_behind known scope ns is))
+    → ((ns : Names) → All AreCounted (stages_after known scope ns is) → AreFrom (length ns) (stages_after known scope ns is))
+    → All AreCounted (stages_by known scope names line b (stage_instructions known names is) (λ ns. stages_after known scope ns is))
+    → AreFrom (length names) (stages_by known scope names line b (stage_instructions known names is) (λ ns. stages_after known scope ns is))
 stages_from_by known scope names is line None whole more counted =
     let h = more (names ++ []) counted in
-    subst (λ n. AreFrom n (stages_behind known scope (names ++ []) is)) (let e = length-append names [] in omega (arith, e)) h
+    subst (λ n. AreFrom n (stages_after known scope (names ++ []) is)) (let e = length-append names [] in omega (arith, e)) h
 stages_from_by known scope names is line (Some stage) whole more counted =
     let s = new_stage known scope names line stage (stage_instructions known names is) in
-    let ss = stages_behind known scope (names ++ stage.1 ∷ []) is in
+    let ss = stages_after known scope (names ++ stage.1 ∷ []) is in
     from_cons (length names) s ss
     (record {
       base = base_before known scope names stage.0;
@@ -136,8 +136,8 @@ stages_from_by known scope names is line (Some stage) whole more counted =
     })
     (subst (λ n. AreFrom n ss) (length_push names stage.1) (more (names ++ stage.1 ∷ []) (All-tail AreCounted s ss counted)))
 
-stages_from : (known : Known) (scope : List Declaration) (names : Names) (is : List Instruction) → All IsWhole is → All AreCounted (stages_behind known scope names is)
-    → AreFrom (length names) (stages_behind known scope names is)
+stages_from : (known : Known) (scope : List Declaration) (names : Names) (is : List Instruction) → All IsWhole is → All AreCounted (stages_after known scope names is)
+    → AreFrom (length names) (stages_after known scope names is)
 stages_from known scope names [] whole counted = from_none (length names)
 stages_from known scope names (i ∷ is) whole counted =
     stages_from_by known scope names is i.line (begun i.kind) (All-tail IsWhole i is whole)
@@ -155,14 +155,14 @@ body_known known names [] = All-nil (λ r. All (IsKnown known) r.origins)
 body_known known names (i ∷ is) = body_known_by known names i (begun i.kind) (stage_instructions known names is) (body_known known names is)
 
 stages_known_by : (known : Known) (scope : List Declaration) (names : Names) (is : List Instruction) (line : ℕ) (b : Option (Parts × Option (List ℕ)))
-    → ((ns : Names) → All (NamesKnown known) (stages_behind known scope ns is))
-    → All (NamesKnown known) (stages_by known scope names line b (stage_instructions known names is) (λ ns. stages_behind known scope ns is))
+    → ((ns : Names) → All (NamesKnown known) (stages_after known scope ns is))
+    → All (NamesKnown known) (stages_by known scope names line b (stage_instructions known names is) (λ ns. stages_after known scope ns is))
 stages_known_by known scope names is line None more = more (names ++ [])
 stages_known_by known scope names is line (Some stage) more =
-    All-cons (NamesKnown known) (new_stage known scope names line stage (stage_instructions known names is)) (stages_behind known scope (names ++ stage.1 ∷ []) is)
+    All-cons (NamesKnown known) (new_stage known scope names line stage (stage_instructions known names is)) (stages_after known scope (names ++ stage.1 ∷ []) is)
     (record { base = base_known known scope names stage.0; instructions = body_known known names is }) (more (names ++ stage.1 ∷ []))
 
-stages_known : (known : Known) (scope : List Declaration) (names : Names) (is : List Instruction) → All (NamesKnown known) (stages_behind known scope names is)
+stages_known : (known : Known) (scope : List Declaration) (names : Names) (is : List Instruction) → All (NamesKnown known) (stages_after known scope names is)
 stages_known known scope names [] = All-nil (NamesKnown known)
 stages_known known scope names (i ∷ is) = stages_known_by known scope names is i.line (begun i.kind) (λ ns. stages_known known scope ns is)
 
@@ -176,15 +176,15 @@ abbrev lines_in : List Instruction → List ℕ
 lines_in is = map (λ i. i.line) is
 
 body_lines_by : (known : Known) (scope : List Declaration) (earlier names : Names) (i : Instruction) (is : List Instruction) (b : Option (Parts × Option (List ℕ)))
-    → ((es ns : Names) → map (λ r. r.instruction.line) (stage_instructions known es is) ++ lines_of (stages_behind known scope ns is) ≡ lines_in is)
+    → ((es ns : Names) → map (λ r. r.instruction.line) (stage_instructions known es is) ++ lines_of (stages_after known scope ns is) ≡ lines_in is)
     → map (λ r. r.instruction.line) (unless_begun b (resolved_as known earlier i) (stage_instructions known earlier is))
-    ++ lines_of (stages_by known scope names i.line b (stage_instructions known names is) (λ ns. stages_behind known scope ns is)) ≡ i.line ∷ lines_in is
+    ++ lines_of (stages_by known scope names i.line b (stage_instructions known names is) (λ ns. stages_after known scope ns is)) ≡ i.line ∷ lines_in is
 body_lines_by known scope earlier names i is None more = ap (λ ls. i.line ∷ ls) (more earlier (names ++ []))
 body_lines_by known scope earlier names i is (Some stage) more = ap (λ ls. i.line ∷ ls) (more names (names ++ stage.1 ∷ []))
 
 -- the instructions of the stage that goes on, and the stages that follow, have all lines
 body_lines : (known : Known) (scope : List Declaration) (earlier names : Names) (is : List Instruction)
-    → map (λ r. r.instruction.line) (stage_instructions known earlier is) ++ lines_of (stages_behind known scope names is) ≡ lines_in is
+    → map (λ r. r.instruction.line) (stage_instructions known earlier is) ++ lines_of (stages_after known scope names is) ≡ lines_in is
 body_lines known scope earlier names [] = refl
 body_lines known scope earlier names (i ∷ is) = body_lines_by known scope earlier names i is (begun i.kind) (λ es ns. body_lines known scope es ns is)
 
@@ -206,12 +206,12 @@ lines_long (i ∷ is) = let h = lines_long is in omega (arith, h)
 
 stages_lines_by : (known : Known) (scope : List Declaration) (names : Names) (low : ℕ) (i : Instruction) (is : List Instruction) (b : Option (Parts × Option (List ℕ)))
     → AscendBelow low (i ∷ is)
-    → ((ns : Names) → IsTail i.line (length is) (lines_of (stages_behind known scope ns is)))
-    → IsTail low (length is + 1) (lines_of (stages_by known scope names i.line b (stage_instructions known names is) (λ ns. stages_behind known scope ns is)))
+    → ((ns : Names) → IsTail i.line (length is) (lines_of (stages_after known scope ns is)))
+    → IsTail low (length is + 1) (lines_of (stages_by known scope names i.line b (stage_instructions known names is) (λ ns. stages_after known scope ns is)))
 stages_lines_by known scope names low i is None ascend more =
     let h = more (names ++ []) in
     let lt : low < i.line = ascend.0 in
-    (ascend_lower low i.line (lines_of (stages_behind known scope (names ++ []) is)) (omega (arith, lt)) h.0, omega (arith, h.1))
+    (ascend_lower low i.line (lines_of (stages_after known scope (names ++ []) is)) (omega (arith, lt)) h.0, omega (arith, h.1))
 stages_lines_by known scope names low i is (Some stage) ascend more =
     let same = ap (λ ls. i.line ∷ ls) (body_lines known scope names (names ++ stage.1 ∷ []) is) in (
       subst (λ ls. AscendFrom low ls) (sym same) (ascend_lines low (i ∷ is) ascend),
@@ -219,7 +219,7 @@ stages_lines_by known scope names low i is (Some stage) ascend more =
     )
 
 stages_lines : (known : Known) (scope : List Declaration) (names : Names) (low : ℕ) (is : List Instruction) → AscendBelow low is
-    → IsTail low (length is) (lines_of (stages_behind known scope names is))
+    → IsTail low (length is) (lines_of (stages_after known scope names is))
 stages_lines known scope names low [] ascend = (tt, omega arith)
 stages_lines known scope names low (i ∷ is) ascend =
     let h = stages_lines_by known scope names low i is (begun i.kind) ascend (λ ns. stages_lines known scope ns i.line is ascend.2) in
@@ -231,9 +231,9 @@ outer_declares : (args : Values) (scope : List Declaration) (d : Option (List Ar
 outer_declares args scope None clear = absurd (some_none (Coded R05) clear)
 outer_declares args scope (Some arguments) clear = refl
 
-pub told_none : (line : ℕ) (o : Option Reason) (more : Option Rejection) → told_at line o more ≡ None → (o ≡ None) × (more ≡ None)
-told_none line None more e = (refl, e)
-told_none line (Some why) more e = absurd (some_none _ e)
+pub reported_none : (line : ℕ) (o : Option Reason) (more : Option Rejection) → reported_at line o more ≡ None → (o ≡ None) × (more ≡ None)
+reported_none line None more e = (refl, e)
+reported_none line (Some why) more e = absurd (some_none _ e)
 
 and_is : (a b : Bool) → a ≡ true → b ≡ true → (a && b) ≡ true
 and_is a b e f = rw (e, f) refl
@@ -255,12 +255,12 @@ all_declare : (known : Known) (args : Values) (before is : List Instruction) →
     → are_arguments is ≡ true
 all_declare known args before [] clear none = refl
 all_declare known args before (i ∷ is) clear none =
-    let told = told_none i.line (reason_behind known args before i.kind) (first_refusal known args (before ++ i ∷ []) is) clear in
+    let reported = reported_none i.line (reason_after known args before i.kind) (first_refusal known args (before ++ i ∷ []) is) clear in
     let along : stage_names ((before ++ i ∷ []) ++ is) ≡ [] = ap stage_names (append_assoc before (i ∷ []) is) ∙ none in
     let still = append_none (stage_names (before ++ i ∷ [])) (stage_names is) (sym (filter_map-append name_begun (before ++ i ∷ []) is) ∙ along) in
     let first = append_none (stage_names before) (cons_option (name_begun i) []) (sym (stage_names-push before i) ∙ still) in
     and_is (is_some (declared_by i.kind)) (are_arguments is)
-    (declares_by known args before i (begun i.kind) refl first still told.0) (all_declare known args (before ++ i ∷ []) is told.1 along)
+    (declares_by known args before i (begun i.kind) refl first still reported.0) (all_declare known args (before ++ i ∷ []) is reported.1 along)
 
 has_stage_by : (names : Names) → (names ≡ [] → ⊥) → 0 < length names
 has_stage_by [] some = absurd (some refl)
@@ -343,15 +343,15 @@ flag_along is slice flag wanted same asked is_so = ap are_arguments (sym same) �
 pub answers_target : (known : Known) (args : Values) (target : Option (List ℕ)) (is slice : List Instruction) (result : Option ℕ) (fault : Fault Rejection) → slice ≡ is
     → result ≡ target_of (stage_names slice) target → result ≡ None → fault ≡ Because (record { reason = Coded R13; line = 0 })
     → Returns (resolved known args target is) (Err fault)
-answers_target known args target is slice result fault same asked none told =
-    subst (λ f. Returns (resolved known args target is) (Err f)) (sym told)
+answers_target known args target is slice result fault same asked none reported =
+    subst (λ f. Returns (resolved known args target is) (Err f)) (sym reported)
     (unknown_target known args target is (target_along target is slice result None same asked none))
 
 pub answers_arguments : (known : Known) (args : Values) (target : Option (List ℕ)) (is slice other : List Instruction) (result : Option ℕ) (number : ℕ) (flag : Bool) (fault : Fault Rejection)
     → slice ≡ is → other ≡ is → result ≡ target_of (stage_names slice) target → result ≡ Some number → flag ≡ are_arguments other → flag ≡ true
     → fault ≡ Because (record { reason = Coded R05; line = 1 }) → Returns (resolved known args target is) (Err fault)
-answers_arguments known args target is slice other result number flag fault same same_other asked some tested holds told =
-    subst (λ f. Returns (resolved known args target is) (Err f)) (sym told)
+answers_arguments known args target is slice other result number flag fault same same_other asked some tested holds reported =
+    subst (λ f. Returns (resolved known args target is) (Err f)) (sym reported)
     (no_stage known args target is number (target_along target is slice result (Some number) same asked some) (flag_along is other flag true same_other tested holds))
 
 refused_by : (known : Known) (args : Values) (target : Option (List ℕ)) (is : List Instruction) (number : ℕ) (fault : Fault Rejection)

@@ -53,11 +53,11 @@ name_begun i = option_map (λ stage. stage.1) (begun i.kind)
 abbrev pub stage_names : List Instruction → Names
 stage_names is = filter_map name_begun is
 
--- the names of all stages but the last: of those before the stage that the instruction behind these stands in
+-- the names of all stages but the last: of those before the stage that the instruction after these stands in
 abbrev pub all_but_last : Names → Names
 all_but_last names = take (length names - 1) names
 
--- a line and those behind it, where it is an ARG, or those behind it alone
+-- a line and those after it, where it is an ARG, or those after it alone
 abbrev pub with_declared : Option (List Argument) → List ScopeLine → List ScopeLine
 with_declared None lines = lines
 with_declared (Some arguments) lines = declares arguments ∷ lines

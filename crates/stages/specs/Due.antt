@@ -105,17 +105,17 @@ abbrev pub kind_fault : Values → List Declaration → Names → InstructionKin
 kind_fault args scope names kind = begun_fault args scope names kind (begun kind)
 
 -- the codes that are due for an instruction after some instructions
-abbrev pub due_behind : Known → Values → List Instruction → InstructionKind → Code → Bool
-due_behind known args before kind = kind_due known args (outer_scope args before) (stage_names before) kind
+abbrev pub due_after : Known → Values → List Instruction → InstructionKind → Code → Bool
+due_after known args before kind = kind_due known args (outer_scope args before) (stage_names before) kind
 
 -- what is against the texts of an instruction after some instructions
-abbrev pub fault_behind : Values → List Instruction → InstructionKind → Option Unexpanded
-fault_behind args before kind = kind_fault args (outer_scope args before) (stage_names before) kind
+abbrev pub fault_after : Values → List Instruction → InstructionKind → Option Unexpanded
+fault_after args before kind = kind_fault args (outer_scope args before) (stage_names before) kind
 
 -- the reason for which an instruction after some instructions is refused, if it is: the least code that is due, else R21 with its text
-abbrev pub reason_behind : Known → Values → List Instruction → InstructionKind → Option Reason
-reason_behind known args before kind = reason (due_behind known args before kind) (fault_behind args before kind)
+abbrev pub reason_after : Known → Values → List Instruction → InstructionKind → Option Reason
+reason_after known args before kind = reason (due_after known args before kind) (fault_after args before kind)
 
 -- this is a reason to refuse an instruction after some instructions
-abbrev pub IsReasonBehind : Known → Values → List Instruction → InstructionKind → Reason → Type 0
-IsReasonBehind known args before kind why = IsReason (due_behind known args before kind) (fault_behind args before kind) why
+abbrev pub IsReasonAfter : Known → Values → List Instruction → InstructionKind → Reason → Type 0
+IsReasonAfter known args before kind why = IsReason (due_after known args before kind) (fault_after args before kind) why

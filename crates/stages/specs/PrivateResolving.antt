@@ -73,7 +73,7 @@ abbrev pub draft_extended : Known → Draft → Instruction → Draft
 draft_extended known draft i =
     record draft { last = last_with (record { instruction = i; origins = origins_of known (all_but_last draft.names) i.kind }) draft.last }
 
--- what an instruction other than FROM leaves, behind stages of these names
+-- what an instruction other than FROM leaves, after stages of these names
 abbrev pub draft_other : Known → Values → Draft → Names → Instruction → Draft
 draft_other known args draft [] i = draft_outer args draft (declared_by i.kind)
 draft_other known args draft (name ∷ names) i = draft_extended known draft i

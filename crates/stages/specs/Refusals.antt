@@ -9,7 +9,7 @@ use Rattle.instructions.specs.declared.instruction.Instruction.{Instruction}
 use Rattle.scopes.specs.Evaluate.{Values}
 use Rattle.stages.specs.Naming.{Known}
 use Rattle.stages.specs.Before.{stage_names}
-use Rattle.stages.specs.Due.{IsReasonBehind}
+use Rattle.stages.specs.Due.{IsReasonAfter}
 use Rattle.stages.specs.Resolved.{target_of, are_arguments}
 
 -- a target is named that isn't one of the file's stages: R13, without a line
@@ -27,7 +27,7 @@ pub record IsDueAtLine (known : Known) (args : Values) (is : List Instruction) (
   pub after : List Instruction
   pub cut : is ≡ before ++ instruction ∷ after
   pub line : refusal.line ≡ instruction.line
-  pub due : IsReasonBehind known args before instruction.kind refusal.reason
+  pub due : IsReasonAfter known args before instruction.kind refusal.reason
 
 -- a refusal is due for a file, with these images, build arguments and target
 abbrev pub IsDue : Known → Values → Option (List ℕ) → List Instruction → Rejection → Type 0

@@ -11,7 +11,7 @@ use Rattle.instructions.specs.declared.instruction.Instruction.{Instruction}
 use Rattle.scopes.specs.Evaluate.{Values}
 use Rattle.stages.specs.Naming.{Names, Known, stage_found}
 use Rattle.stages.specs.Before.{declared_by, stage_names, outer_scope}
-use Rattle.stages.specs.Due.{reason_behind}
+use Rattle.stages.specs.Due.{reason_after}
 use Rattle.stages.specs.Table.{TableValue, stages_of}
 
 -- the number of the target among the stages of these names: of the one that is named by its number or its name, and none where there is no
@@ -22,14 +22,14 @@ target_of names None = Some (length names - 1)
 target_of names (Some text) = stage_found names text
 
 -- a refusal with its line, if there is a reason, else what comes after
-abbrev pub told_at : ℕ → Option Reason → Option Rejection → Option Rejection
-told_at line None more = more
-told_at line (Some reason) more = Some (record { reason = reason; line = line })
+abbrev pub reported_at : ℕ → Option Reason → Option Rejection → Option Rejection
+reported_at line None more = more
+reported_at line (Some reason) more = Some (record { reason = reason; line = line })
 
 -- the refusal of the first of some instructions that is refused after those before it: its line, with the least of its reasons
 abbrev pub first_refusal : Known → Values → List Instruction → List Instruction → Option Rejection
 first_refusal known args before [] = None
-first_refusal known args before (i ∷ is) = told_at i.line (reason_behind known args before i.kind) (first_refusal known args (before ++ i ∷ []) is)
+first_refusal known args before (i ∷ is) = reported_at i.line (reason_after known args before i.kind) (first_refusal known args (before ++ i ∷ []) is)
 
 -- all of some instructions are ARGs
 abbrev pub are_arguments : List Instruction → Bool
@@ -52,7 +52,7 @@ with_target known args is (Some target) =
     unless_refused (refusal_of known args is) (record { outer = outer_scope args is; stages = stages_of known args is; target = target })
 
 -- what the instructions of a file are resolved to, with these images, build arguments and target: the table of its stages; or its refusal,
--- which is the least by line, and on a line by number, as the law `the_least_refusal_is_told` says (own)
+-- which is the least by line, and on a line by number, as the law `the_least_refusal_is_reported` says (own)
 unfoldable pub resolved : Known → Values → Option (List ℕ) → List Instruction → Result TableValue Rejection
 resolved known args target is = with_target known args is (target_of (stage_names is) target)
 

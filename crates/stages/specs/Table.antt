@@ -49,15 +49,15 @@ abbrev pub stage_begun : Known → List Declaration → Names → Instruction �
 stage_begun known scope names i is = option_map
     (λ stage. record { line = i.line; base = base_of known scope names stage.0; instructions = stage_instructions known names is }) (begun i.kind)
 
--- the stages that some instructions begin, behind stages of these names, with this scope of the ARGs before the first FROM
-abbrev pub stages_behind : Known → List Declaration → Names → List Instruction → List ResolvedStage
-stages_behind known scope names [] = []
-stages_behind known scope names (i ∷ is) =
-    cons_option (stage_begun known scope names i is) (stages_behind known scope (names ++ cons_option (name_begun i) []) is)
+-- the stages that some instructions begin, after stages of these names, with this scope of the ARGs before the first FROM
+abbrev pub stages_after : Known → List Declaration → Names → List Instruction → List ResolvedStage
+stages_after known scope names [] = []
+stages_after known scope names (i ∷ is) =
+    cons_option (stage_begun known scope names i is) (stages_after known scope (names ++ cons_option (name_begun i) []) is)
 
 -- the stages of a file, with these images and build arguments
 abbrev pub stages_of : Known → Values → List Instruction → List ResolvedStage
-stages_of known args is = stages_behind known (outer_scope args is) [] is
+stages_of known args is = stages_after known (outer_scope args is) [] is
 
 -- the lines of a stage: that of its FROM, and those of its instructions
 abbrev pub stage_lines : ResolvedStage → List ℕ

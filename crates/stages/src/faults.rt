@@ -9,8 +9,8 @@ ghost use Rattle.stages.specs.Naming.{names_in};
 ghost use Rattle.stages.specs.Before.{begun, declared_by, all_but_last, stage_names};
 ghost use Rattle.stages.specs.Due.{base_text, base_fault, base_due, argument_due, outer_due, outer_fault, inner_due, other_due, other_fault, kind_due, kind_fault};
 ghost use Rattle.stages.specs.Resolved.{target_of};
-ghost use Rattle.stages.specs.Faults.{is_outer_argument, refusals_behind, target_refusals, empty_refusals, stage_refusals};
-ghost use Rattle.stages.specs.PrivateFaults.{outer_with, outer_other, outer_by, names_by, told, ReasonTold, Judges};
+ghost use Rattle.stages.specs.Faults.{is_outer_argument, refusals_after, target_refusals, empty_refusals, stage_refusals};
+ghost use Rattle.stages.specs.PrivateFaults.{outer_with, outer_other, outer_by, names_by, reported, ReasonReported, Judges};
 
 use crate::resolving::{base, begun, declared_by, inner_origins};
 use crate::target::{are_arguments, target_of};
@@ -23,7 +23,7 @@ use std::alloc::Global;
 
 /// The reason for which nothing was made, if that is so.
 fn reason_of<X: Drop>(made: Result<X, ReasonFault>) -> Result<Option<Reason>, Memory>
-    ensures { IfOk result (ReasonTold made) }
+    ensures { IfOk result (ReasonReported made) }
 {
     match made {
         Ok(made) => {
@@ -210,7 +210,7 @@ fn tell(
     reason: Option<Reason>,
     is_outer_argument: bool,
 ) -> Result<bool, Memory>
-    ensures refusals { OnOk result (refusals.new ≡ refusals.old ++ told line reason) }
+    ensures refusals { OnOk result (refusals.new ≡ refusals.old ++ reported line reason) }
     ensures last { IfOk result (λ is_last. is_last ≡ (is_some reason && is_outer_argument)) }
 {
     match reason {
@@ -231,7 +231,7 @@ fn with_line_refusals<C>(
     refusals: Items<Rejection>,
 ) -> Result<Items<Rejection>, Memory>
     requires { length instructions.now ≤ most_lines }
-    ensures { IfOk result (λ all. all ≡ refusals ++ refusals_behind (names_in images.now) (arg_value args.now) [] instructions.now) }
+    ensures { IfOk result (λ all. all ≡ refusals ++ refusals_after (names_in images.now) (arg_value args.now) [] instructions.now) }
 {
     let mut refusals = refusals;
     let mut outer = Scope::new(alloc);

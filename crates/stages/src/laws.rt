@@ -23,7 +23,7 @@ ghost use Rattle.stages.specs.declared.stage.ResolvedStage.{ResolvedStage};
 
 /// Of all that is due for a file whose instructions stand on ascending lines, as those of each `Dockerfile` do, the least is reported: by
 /// line, and on a line by number. So it is refused only for what is due, and resolved only where nothing is.
-pub fn the_least_refusal_is_told()
+pub fn the_least_refusal_is_reported()
     ensures refused { (known : Known) (args : Values) (target : Option (List ℕ)) (instructions : List Instruction) (refusal : Rejection) → AscendBelow 0 instructions
         → resolved known args target instructions ≡ Err refusal → IsLeastDue known args target instructions refusal }
     ensures resolved { (known : Known) (args : Values) (target : Option (List ℕ)) (instructions : List Instruction) (table : TableValue)
@@ -46,7 +46,7 @@ pub fn the_first_fault_is_the_refusal()
 
 /// Each of a file's refusals is due, and none is missing: that of the target, that of a file without stages, and for each line that there is a
 /// reason to refuse one with that reason or one of a lesser number; but for the lines after an ARG before the first FROM that is refused.
-pub fn all_that_is_due_is_told()
+pub fn all_that_is_due_is_reported()
     ensures due { (known : Known) (args : Values) (target : Option (List ℕ)) (instructions : List Instruction) (refusal : Rejection)
         → Contains (stage_refusals known args target instructions) refusal → IsDue known args target instructions refusal }
     ensures target { (known : Known) (args : Values) (target : Option (List ℕ)) (instructions : List Instruction) (refusal : Rejection)

@@ -112,7 +112,7 @@ pub(crate) fn base_named<C>(
     image_named(alloc, images, text)
 }
 
-/// What a COPY's `--from` leads to, from behind stages of these names.
+/// What a COPY's `--from` leads to, after stages of these names.
 fn flag_origin<C>(
     alloc: Global,
     images: &Images<C>,
@@ -134,7 +134,7 @@ fn flag_origin<C>(
     stage_or_image(alloc, images, names, text)
 }
 
-/// What a bind's `from` leads to, from behind stages of these names.
+/// What a bind's `from` leads to, after stages of these names.
 fn bind_origin<C>(
     alloc: Global,
     images: &Images<C>,
@@ -190,7 +190,7 @@ fn run_origins<C>(
     Ok(Some(origins))
 }
 
-/// What an instruction names beside its stage, where all of that leads somewhere, from behind stages of these names.
+/// What an instruction names beside its stage, where all of that leads somewhere, after stages of these names.
 fn origins<C>(
     alloc: Global,
     images: &Images<C>,
@@ -218,7 +218,7 @@ fn origins<C>(
     }
 }
 
-/// What an instruction names beside its stage, from behind stages of these names; R12 where one of its names leads nowhere.
+/// What an instruction names beside its stage, after stages of these names; R12 where one of its names leads nowhere.
 pub(crate) fn origins_of<C>(
     alloc: Global,
     images: &Images<C>,

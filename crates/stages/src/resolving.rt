@@ -21,7 +21,7 @@ use rows::Origin;
 use scopes::{Args, Scope};
 use std::alloc::Global;
 
-/// What is known of a file behind some of its instructions.
+/// What is known of a file after some of its instructions.
 #[derive(Drop)]
 pub(crate) struct Draft {
     /// The scope of the ARGs before the first FROM.
@@ -273,7 +273,7 @@ fn with_arguments(
     }
 }
 
-/// What is known behind an ARG before the first FROM.
+/// What is known after an ARG before the first FROM.
 fn declare_arguments(
     alloc: Global,
     draft: Draft,
@@ -346,7 +346,7 @@ pub(crate) fn inner_origins<C>(
     }
 }
 
-/// What is known behind an instruction of the last stage.
+/// What is known after an instruction of the last stage.
 fn with_resolved(draft: Draft, resolved: ResolvedInstruction) -> Result<Draft, Memory>
     ensures { IfOk result (λ more. more ≡ record draft { last = last_with resolved draft.last }) }
 {

@@ -98,7 +98,7 @@ impl StageTable {
         all_refusals(alloc, images, args, file.instructions(), target)
     }
 
-    /// The table of all that is known behind a file's last instruction.
+    /// The table of all that is known after a file's last instruction.
     fn of_draft(draft: Draft, target: u32) -> Result<StageTable, Memory>
         requires { IsTable (table_by draft.outer (with_last draft.stages draft.last) target) }
         ensures { IfOk result (λ table. table ≡ table_by draft.outer (with_last draft.stages draft.last) target) }

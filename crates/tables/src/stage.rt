@@ -1,8 +1,8 @@
 use crate::spelling::lines_of;
 use expand::{ExpandFault, Reason, ReasonFault};
-use instructions::{InstructionKind, parse};
+use instructions::{Assignment, InstructionKind, parse};
 use lines::{Line, LineFault};
-use plain::{Fault, Memory, Text};
+use plain::{Fault, Memory, Text, Variable};
 use scopes::{Args, Scope};
 use std::alloc::Global;
 
@@ -52,8 +52,9 @@ impl Stage {
     fn inherit(&mut self, alloc: Global, pair: &str) -> Result<(), Memory> {
         match pair.split_once('=') {
             Some((name, value)) => {
+                let name = Text::from_str(alloc, name)?;
                 let value = Text::from_str(alloc, value)?;
-                self.scope.inherit(alloc, name, &value)
+                self.scope.set_variables(alloc, &[Variable { name, value }])
             }
             None => Ok(()),
         }
@@ -98,10 +99,16 @@ impl Stage {
                 evaluated(told)
             }
             InstructionKind::Env { assignments } => {
-                evaluated(self.scope.set_env(alloc, assignments.as_slice()))
+                evaluated(self.set_env(alloc, assignments.as_slice()))
             }
             _ => Ok(()),
         }
+    }
+
+    fn set_env(&mut self, alloc: Global, assignments: &[Assignment]) -> Result<(), ExpandFault> {
+        let variables = self.scope.variables(alloc, assignments)?;
+        self.scope.set_variables(alloc, variables.as_slice())?;
+        Ok(())
     }
 
     /// Begins the stage behind the lines before the first FROM.

@@ -1,6 +1,6 @@
 use Rattle.std.proofs.Common.{◌∙◌}
 use Rattle.std.specs.FinMap.{get}
-use Rattle.evaluation.proofs.EvaluatedFacts.{all_whole, answers_told, answers_made}
+use Rattle.evaluation.proofs.EvaluatedFacts.{all_whole, answers_reported, answers_made}
 use Rattle.evaluation.proofs.WholeFacts.{answers_whole, whole_none}
 use Rattle.evaluation.proofs.evaluated.evaluate_needed.Goals as goal
 
@@ -29,7 +29,7 @@ returns-in-Ok-clause-whole c =
 
 pub returns-clause-answers : goal.returns-clause-answers
 returns-clause-answers c =
-    answers_told (get c.args.args.now) c.args.images c.args.context c.args.table _ _ _ c.in-Err.fault
+    answers_reported (get c.args.args.now) c.args.images c.args.context c.args.table _ _ _ c.in-Err.fault
     c.into_parts-outer.ensures.outer (c.into_vec.ensures ∙ c.into_parts-outer.ensures.stages) c.requires c.in-Err.ensures
 
 pub returns-clause-whole : goal.returns-clause-whole

@@ -1,6 +1,6 @@
 use Rattle.std.specs.Prelude.{Some}
 use Rattle.evaluation.specs.PrivateInstruction.{acted, acted_due, acted_fault, finished}
-use Rattle.evaluation.proofs.LineFacts.{line_told, reason_met}
+use Rattle.evaluation.proofs.LineFacts.{line_reported, reason_met}
 use Rattle.evaluation.proofs.instruction.finish.Goals as goal
 
 pub returns-in-Err : goal.returns-in-Err
@@ -8,5 +8,5 @@ returns-in-Err c =
     let kind = c.args.instruction.kind in
     let codes = acted_due c.args.state kind in
     let against = acted_fault c.args.state kind in
-    line_told (finished c.args.state kind c.args.origins) codes against c.args.instruction.line c.in-Err.fault _ c.with_line.ensures
+    line_reported (finished c.args.state kind c.args.origins) codes against c.args.instruction.line c.in-Err.fault _ c.with_line.ensures
     (reason_met (Some (acted c.args.state kind c.args.origins)) codes against c.in-Err.fault c.in-Err.ensures)

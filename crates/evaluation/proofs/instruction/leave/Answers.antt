@@ -14,8 +14,8 @@ pub returns-in-Env : goal.returns-in-Env
 returns-in-Env c =
     let args = get c.args.given.now.args.now in
     let s = c.args.state in
-    let told =
+    let reported =
     subst (λ (as_now : List Assignment). EvaluatesTo (variables_set s as_now) (due (value_in s.scope) s.config (Env as_now)) (fault (value_in s.scope) (Env as_now)) c.args.instruction.now.line c.set_variables.result)
     c.as_slice-in-Env.ensures c.set_variables.ensures in
     subst (λ (kind : InstructionKind). EvaluatesTo (after args (value_in c.args.given.now.outer.now) s kind) (left_due args s kind) (left_fault args s kind) c.args.instruction.now.line c.set_variables.result)
-    (sym c.in-Env.is) told
+    (sym c.in-Env.is) reported

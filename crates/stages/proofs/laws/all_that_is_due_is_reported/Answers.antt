@@ -1,6 +1,6 @@
 use Rattle.stages.proofs.FaultsFacts.{each_due, target_listed, empty_listed, none_missing}
 use Rattle.stages.proofs.RefusalFacts.{LeastLaws}
-use Rattle.stages.proofs.laws.all_that_is_due_is_told.Goals as goal
+use Rattle.stages.proofs.laws.all_that_is_due_is_reported.Goals as goal
 
 pub returns : goal.returns
 returns c =

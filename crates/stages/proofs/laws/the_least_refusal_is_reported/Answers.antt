@@ -1,5 +1,5 @@
 use Rattle.stages.proofs.RefusalFacts.{LeastLaws, refused_least, resolved_free}
-use Rattle.stages.proofs.laws.the_least_refusal_is_told.Goals as goal
+use Rattle.stages.proofs.laws.the_least_refusal_is_reported.Goals as goal
 
 pub returns : goal.returns
 returns c =

@@ -1,5 +1,5 @@
 use Rattle.evaluation.proofs.JudgedFacts.{LeastLaws, refused_least, evaluated_free}
-use Rattle.evaluation.proofs.laws.the_least_refusal_is_told.Goals as goal
+use Rattle.evaluation.proofs.laws.the_least_refusal_is_reported.Goals as goal
 
 pub returns : goal.returns
 returns c =
