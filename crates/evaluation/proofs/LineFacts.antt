@@ -13,7 +13,7 @@ use Rattle.expand.specs.declared.reason.Reason.TheVariants.{Coded}
 use Rattle.expand.specs.declared.reason.Rejection.{Rejection}
 use Rattle.instructions.specs.Least.{least, Meets}
 use Rattle.instructions.specs.Reason.{reason, reason_by, required_in, is_long, Evaluates}
-use Rattle.scopes.specs.Evaluate.{Declares}
+use Rattle.scopes.specs.Evaluate.{Says, Declares}
 use Rattle.scopes.specs.declared.declaration.Declaration.{Declaration}
 use Rattle.evaluation.specs.PrivateInstruction.{with_line, text_fault, code_fault}
 use Rattle.evaluation.specs.PrivateRefusals.{EvaluatesTo}
@@ -41,10 +41,20 @@ long_by (Required text) = refl
 long_of : (against : Option Unexpanded) (why : Unexpanded) → against ≡ Some why → reason_by (if is_long against then Some R18 else None) (required_in against) ≡ Some (reason_of why)
 long_of against why h = ap (λ (a : Option Unexpanded). reason_by (if is_long a then Some R18 else None) (required_in a)) h ∙ long_by why
 
+pub long_said : {X : Type 0} (made : X) (against : Option Unexpanded) (fault : Fault Unexpanded) (out : Fault Reason) → out ≡ text_fault fault → Says made against (Err fault)
+    → Reports (reason_by (if is_long against then Some R18 else None) (required_in against)) out
+long_said made against (Because why) out is h reported e = long_of against why h ∙ ap Some (same_reason (reason_of why) reported (sym is ∙ e))
+long_said made against Memory out is h reported e = absurd (no_reason reported (sym is ∙ e))
+
 pub long_reported : (old line new : List Declaration) (against : Option Unexpanded) (fault : Fault Unexpanded) (out : Fault Reason) → out ≡ text_fault fault
     → Declares old line against new (Err fault) → Reports (reason_by (if is_long against then Some R18 else None) (required_in against)) out
-long_reported old line new against (Because why) out is h reported e = long_of against why h.1 ∙ ap Some (same_reason (reason_of why) reported (sym is ∙ e))
-long_reported old line new against Memory out is h reported e = absurd (no_reason reported (sym is ∙ e))
+long_reported old line new against (Because why) out is h = long_said line against (Because why) out is h.1
+long_reported old line new against Memory out is h = long_said line against Memory out is tt
+
+-- what a line leaves that nothing is against, `made` being made of it
+pub long_none : {X Y : Type 0} (made : X → Y) (found said : X) (after : Y) (against : Option Unexpanded) → (found ≡ said) × (against ≡ None) → after ≡ made found
+    → (after ≡ made said) × (reason_by (if is_long against then Some R18 else None) (required_in against) ≡ None)
+long_none made found said after against h is = (is ∙ ap made h.0, ap (λ (a : Option Unexpanded). reason_by (if is_long a then Some R18 else None) (required_in a)) h.1)
 
 -- a line that expands nothing
 pub code_reported : {X : Type 0} (made : X) (codes : Code → Bool) (fault : Fault Code) (out : Fault Reason) → out ≡ code_fault fault

@@ -7,12 +7,11 @@ use Rattle.expand.specs.Value.{Parts, value}
 use Rattle.expand.specs.Expanding.{unexpanded, valued, is_valued, is_empty, worse, worst}
 use Rattle.expand.specs.declared.fault.Unexpanded.{Unexpanded}
 use Rattle.expand.proofs.WorseLaws.{worse-none, worse-assoc, worse_none-left, worse_none-right, valued-is}
-use Rattle.instructions.specs.declared.instruction.Assignment.{Assignment}
 use Rattle.instructions.specs.declared.instruction.Label.{Label}
-use Rattle.scopes.specs.Evaluate.{Values, env_fault}
-use Rattle.imageconfig.specs.Lines.{texts_of, values_of, words_fault, env_rows, label_rows, label_fault}
+use Rattle.scopes.specs.Evaluate.{Values}
+use Rattle.imageconfig.specs.Lines.{texts_of, values_of, words_fault, label_rows, label_fault}
 use Rattle.imageconfig.specs.Rows.{Row}
-use Rattle.imageconfig.specs.PrivateLines.{row_with, assigned_row, labelled_row, IsLabelled}
+use Rattle.imageconfig.specs.PrivateLines.{row_with, labelled_row, IsLabelled}
 use Rattle.imageconfig.specs.declared.line.Labelled.{Labelled}
 
 -- any line
@@ -58,11 +57,6 @@ so_far-ended {X} {Y} fault made all rest so_far found e g = record {
   items = sym (append-nil found) ∙ ap (λ (xs : List X). found ++ filter_map made xs) (sym e) ∙ g.items;
 }
 
--- the same at the end of the list
-pub so_far-done : {X Y : Type 0} (fault : X → Option Unexpanded) (made : X → Option Y) (all : List X) (i : ℕ) (so_far : Option Unexpanded) (found : List Y) → length all ≤ i → IsSoFar fault made all (drop i all) so_far found
-    → AreFound fault made all so_far found
-so_far-done {X} fault made all i so_far found h g = so_far-ended fault made all (drop i all) so_far found (at_drop_all (λ (xs : List X). xs) all i h) g
-
 -- if nothing is against the items, each gives what it says
 pub all_given : {X Y : Type 0} (fault : X → Option Unexpanded) (made : X → Option Y) (said : X → Y) → ((x : X) → fault x ≡ None → made x ≡ Some (said x)) → (all : List X) → worst (map fault all) ≡ None
     → filter_map made all ≡ map said all
@@ -73,17 +67,9 @@ all_given {X} {Y} fault made said each (x ∷ all) e =
 
 -- the lines
 
--- what is against a variable, and against a label
-abbrev pub assigned_fault : Values → Assignment → Option Unexpanded
-assigned_fault before assignment = unexpanded before assignment.value
-
+-- what is against a label
 abbrev pub labelled_fault : Values → Label → Option Unexpanded
 labelled_fault before label = worse (unexpanded before label.key) (unexpanded before label.value)
-
-pub env_given : (before : Values) (assignments : List Assignment) → env_fault before assignments ≡ None → filter_map (assigned_row before) assignments ≡ env_rows before assignments
-env_given before assignments e =
-    all_given (assigned_fault before) (assigned_row before) (λ a. (a.name, value before a.value))
-    (λ a none. ap (row_with (Some a.name)) (valued-is before a.value none)) assignments e
 
 label_given : (before : Values) (key value_word : Parts) → worse (unexpanded before key) (unexpanded before value_word) ≡ None
     → row_with (valued before key) (valued before value_word) ≡ Some (value before key, value before value_word)

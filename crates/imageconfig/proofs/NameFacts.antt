@@ -5,8 +5,9 @@ use Rattle.std.specs.List.{list_any, list_all, before_first, after_first, positi
 use Rattle.std.specs.Cmp.Lexicographic.{nat_list_eq_equiv}
 use Rattle.std.proofs.lemmas.Bool.{and_parts, or_parts}
 use Rattle.options.specs.Lists.{all_some}
-use Rattle.scopes.specs.Scope.{is_environment_name, names_differ}
-use Rattle.imageconfig.specs.Environment.{IsEnvironment, variables_of}
+use Rattle.plain.specs.declared.variable.Variable.{Variable}
+use Rattle.scopes.specs.Scope.{is_environment_name, names_differ, names_of as variable_names}
+use Rattle.imageconfig.specs.Environment.{IsEnvironment, row_of, variables_of}
 use Rattle.imageconfig.specs.Reading.{cut_row, if_they_differ}
 use Rattle.imageconfig.specs.Rows.{Row, names_of, put_row, put_rows, add_name}
 use Rattle.imageconfig.specs.PrivateRows.{has_row, add_rows}
@@ -199,6 +200,11 @@ cut_all (text ∷ texts) rows h = by (cut_row text) refl (all_some (map cut_row 
 pub environment-kept : {E : Type 0} (result : Result (Unit {0}) E) (old new rows : List Row) → OnOk result (new ≡ put_rows old rows) → OnErr result (new ≡ old) → IsEnvironment old → list_all is_environment_name (names_of rows) ≡ true → IsEnvironment new
 environment-kept (Ok u) old new rows ok err is fits = subst IsEnvironment (sym ok) (environment-rows old rows is fits)
 environment-kept (Err e) old new rows ok err is fits = subst IsEnvironment (sym err) is
+
+-- the names of variables as rows
+pub row_names : (variables : List Variable) → names_of (map row_of variables) ≡ variable_names variables
+row_names [] = refl
+row_names (variable ∷ variables) = ap (λ (ns : List (List ℕ)). variable.name ∷ ns) (row_names variables)
 
 -- the names of rows as variables
 pub variables_names : (rows : List Row) → map (λ v. v.name) (variables_of rows) ≡ names_of rows

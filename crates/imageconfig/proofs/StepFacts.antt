@@ -1,26 +1,24 @@
 -- What is reported of a line, by the code that is found and what is against its texts.
-use Rattle.std.proofs.Common.{◌≡◌, ℕ, Bool, true, false, ◌&&◌, List, [], ◌∷◌, Option, Some, None, refl, ap, sym, subst, ◌∙◌}
+use Rattle.std.proofs.Common.{◌≡◌, ℕ, Bool, true, false, List, map, Option, Some, None, refl, ap, sym, subst, ◌∙◌}
 use Rattle.std.specs.Prelude.{option_map, Result, Ok, Err, if◌then◌else◌}
-use Rattle.std.specs.List.{list_all}
 use Rattle.std.specs.Result.{IsErrAnd}
 use Rattle.plain.specs.declared.fault.Fault.{Fault}
 use Rattle.plain.specs.declared.fault.Fault.TheVariants.{Because, Memory}
 use Rattle.plain.specs.declared.refusal.Code.{Code}
 use Rattle.plain.specs.declared.refusal.Code.TheVariants.{R18}
-use Rattle.ascii.specs.Names.{is_name}
+use Rattle.plain.specs.declared.variable.Variable.{Variable}
 use Rattle.expand.specs.Reasons.{reason_of}
 use Rattle.expand.specs.declared.fault.Unexpanded.{Unexpanded}
 use Rattle.expand.specs.declared.fault.Unexpanded.TheVariants.{TooLong, Required}
 use Rattle.expand.specs.declared.reason.Reason.{Reason}
-use Rattle.instructions.specs.Instruction.{assignment_names}
 use Rattle.instructions.specs.Reason.{is_long, required_in, reason_by, reason, Evaluates}
 use Rattle.instructions.specs.declared.instruction.Assignment.{Assignment}
 use Rattle.instructions.specs.declared.instruction.InstructionKind.{InstructionKind}
-use Rattle.scopes.specs.Evaluate.{Values}
-use Rattle.scopes.specs.Scope.{is_environment_name}
-use Rattle.imageconfig.specs.Lines.{env_rows}
+use Rattle.instructions.specs.declared.instruction.InstructionKind.TheVariants.{Env}
+use Rattle.scopes.specs.Evaluate.{Values, env_variables, env_fault}
+use Rattle.imageconfig.specs.Environment.{row_of}
 use Rattle.imageconfig.specs.PrivateLines.{IsChanged}
-use Rattle.imageconfig.specs.Rows.{names_of}
+use Rattle.imageconfig.specs.Rows.{put_rows}
 use Rattle.imageconfig.specs.Steps.{due, fault}
 use Rattle.imageconfig.specs.declared.config.Config.{Config}
 
@@ -41,18 +39,18 @@ no_text fault e = by_texts fault ∙ ap (option_map reason_of) e
 pub no_reason : (code : Code) (due : Bool) (fault : Option Unexpanded) → due ≡ false → fault ≡ None → reason_by (if due then Some code else if is_long fault then Some R18 else None) (required_in fault) ≡ None
 no_reason code due fault e f = after_code code due fault e ∙ ap (option_map reason_of) f
 
-fit : (vs : List Assignment) (v : Values) → ((n : List ℕ) → is_name n ≡ true → is_environment_name n ≡ true) → list_all is_name (assignment_names vs) ≡ true → list_all is_environment_name (names_of (env_rows v vs)) ≡ true
-fit [] v g h = refl
-fit (x ∷ vs) v g h = by (is_name x.name) refl h (λ i. fit vs v g i)
-  where
-    by : (b : Bool) → is_name x.name ≡ b → (b && list_all is_name (assignment_names vs)) ≡ true → (list_all is_name (assignment_names vs) ≡ true → list_all is_environment_name (names_of (env_rows v vs)) ≡ true)
-        → (is_environment_name x.name && list_all is_environment_name (names_of (env_rows v vs))) ≡ true
-    by true e h r = rw (g x.name e) (r h)
-    by false e h r = cc
+-- an ENV: what it sets is put among the rows, or what is against its words is reported
 
--- the rows of an ENV have names of an environment
-pub env-fit : (v : Values) (vs : List Assignment) → ((n : List ℕ) → is_name n ≡ true → is_environment_name n ≡ true) → list_all is_name (assignment_names vs) ≡ true → list_all is_environment_name (names_of (env_rows v vs)) ≡ true
-env-fit v vs g h = fit vs v g h
+pub env_changed : (old new : Config) (before : Values) (assignments : List Assignment) (variables : List Variable) → variables ≡ env_variables before assignments → env_fault before assignments ≡ None
+    → new ≡ record old { env = put_rows old.env (map row_of variables) } → IsChanged old before (Env assignments) new (Ok tt)
+env_changed old new before assignments variables h none e = (
+  e ∙ ap (λ (vs : List Variable). record old { env = put_rows old.env (map row_of vs) }) h,
+  no_text (env_fault before assignments) none,
+)
+
+pub env_refused : (old : Config) (before : Values) (assignments : List Assignment) (why : Unexpanded) → env_fault before assignments ≡ Some why
+    → IsChanged old before (Env assignments) old (Err (Because (reason_of why)))
+env_refused old before assignments why h = (refl, by_texts (env_fault before assignments) ∙ ap (option_map reason_of) h)
 
 -- what is reported of a line is reported of the change that it makes
 

@@ -45,11 +45,11 @@ default-agree s t h (Some text) default = refl
 default-agree s t h None None = refl
 default-agree s t h None (Some word) = unexpanded-agree s t h word
 
+abbrev variable_with : List ℕ → List ℕ → Variable
+variable_with name text = record { name = name; value = text }
+
 variables-agree : (s t : Values) → Agree s t → (assignments : List Assignment) → env_variables s assignments ≡ env_variables t assignments
-variables-agree s t h assignments = map-agree (assigned_variable s) (assigned_variable t) (λ (a : Assignment). ap (with_value a.name) (value-agree s t h a.value)) assignments
-  where
-    with_value : List ℕ → List ℕ → Variable
-    with_value name text = record { name = name; value = text }
+variables-agree s t h assignments = map-agree (assigned_variable s) (assigned_variable t) (λ (a : Assignment). ap (variable_with a.name) (value-agree s t h a.value)) assignments
 
 pub said-agree : (s t args outer other : Values) → Agree s t → Agree outer other → (line : ScopeLine) → said s args outer line ≡ said t args other line
 said-agree s t args outer other h k (sets assignments) = ap (map declaration_of) (variables-agree s t h assignments)

@@ -29,7 +29,7 @@ env_variables before assignments = map (assigned_variable before) assignments
 abbrev pub declaration_of : Variable → Declaration
 declaration_of variable = Env variable.name variable.value
 
--- what an ENV line says: the variables that it sets
+-- what an ENV line says: the variables that it sets (Dockerfile reference, ENV)
 abbrev pub env_line : Values → List Assignment → List Declaration
 env_line before assignments = map declaration_of (env_variables before assignments)
 

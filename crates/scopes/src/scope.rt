@@ -13,7 +13,7 @@ use crate::maps::{env_count, listed, push_arguments, push_variables, put_all, wi
 use expand::{ExpandFault, Lookup};
 use indexmap::IndexMap;
 use instructions::{Argument, Assignment};
-use plain::{Exact, Items, Memory, Text, Variable};
+use plain::{Items, Memory, Text, Variable};
 use std::alloc::Global;
 use std::marker::Model;
 
