@@ -1,5 +1,5 @@
 -- What is claimed of a step.
-use Rattle.std.proofs.Common.{◌≡◌, true, false, cond, List, [], ap}
+use Rattle.std.proofs.Common.{◌≡◌, true, false, cond, [], ap}
 use Rattle.instructions.specs.declared.instruction.Command.{Command}
 use Rattle.instructions.specs.declared.instruction.InstructionKind.TheVariants.{Entrypoint}
 use Rattle.scopes.specs.Evaluate.{Values}

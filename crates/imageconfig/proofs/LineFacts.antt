@@ -10,7 +10,6 @@ use Rattle.expand.proofs.WorseLaws.{worse-none, worse-assoc, worse_none-left, wo
 use Rattle.instructions.specs.declared.instruction.Label.{Label}
 use Rattle.scopes.specs.Evaluate.{Values}
 use Rattle.imageconfig.specs.Lines.{texts_of, values_of, words_fault, label_rows, label_fault}
-use Rattle.imageconfig.specs.Rows.{Row}
 use Rattle.imageconfig.specs.PrivateLines.{row_with, labelled_row, IsLabelled}
 use Rattle.imageconfig.specs.declared.line.Labelled.{Labelled}
 

@@ -1,24 +1,19 @@
 -- What is reported of a line, by the code that is found and what is against its texts.
-use Rattle.std.proofs.Common.{◌≡◌, ℕ, Bool, true, false, List, map, Option, Some, None, refl, ap, sym, subst, ◌∙◌}
+use Rattle.std.proofs.Common.{◌≡◌, Bool, false, Option, Some, None, refl, ap, sym, subst, ◌∙◌}
 use Rattle.std.specs.Prelude.{option_map, Result, Ok, Err, if◌then◌else◌}
 use Rattle.std.specs.Result.{IsErrAnd}
 use Rattle.plain.specs.declared.fault.Fault.{Fault}
 use Rattle.plain.specs.declared.fault.Fault.TheVariants.{Because, Memory}
 use Rattle.plain.specs.declared.refusal.Code.{Code}
 use Rattle.plain.specs.declared.refusal.Code.TheVariants.{R18}
-use Rattle.plain.specs.declared.variable.Variable.{Variable}
 use Rattle.expand.specs.Reasons.{reason_of}
 use Rattle.expand.specs.declared.fault.Unexpanded.{Unexpanded}
 use Rattle.expand.specs.declared.fault.Unexpanded.TheVariants.{TooLong, Required}
 use Rattle.expand.specs.declared.reason.Reason.{Reason}
 use Rattle.instructions.specs.Reason.{is_long, required_in, reason_by, reason, Evaluates}
-use Rattle.instructions.specs.declared.instruction.Assignment.{Assignment}
 use Rattle.instructions.specs.declared.instruction.InstructionKind.{InstructionKind}
-use Rattle.instructions.specs.declared.instruction.InstructionKind.TheVariants.{Env}
-use Rattle.scopes.specs.Evaluate.{Values, env_variables, env_fault}
-use Rattle.imageconfig.specs.Environment.{row_of}
+use Rattle.scopes.specs.Evaluate.{Values}
 use Rattle.imageconfig.specs.PrivateLines.{IsChanged}
-use Rattle.imageconfig.specs.Rows.{put_rows}
 use Rattle.imageconfig.specs.Steps.{due, fault}
 use Rattle.imageconfig.specs.declared.config.Config.{Config}
 
@@ -33,24 +28,8 @@ after_code : (code : Code) (due : Bool) (fault : Option Unexpanded) → due ≡ 
 after_code code due fault e = rw e (by_texts fault)
 
 -- a line that nothing is against
-pub no_text : (fault : Option Unexpanded) → fault ≡ None → reason_by (if is_long fault then Some R18 else None) (required_in fault) ≡ None
-no_text fault e = by_texts fault ∙ ap (option_map reason_of) e
-
 pub no_reason : (code : Code) (due : Bool) (fault : Option Unexpanded) → due ≡ false → fault ≡ None → reason_by (if due then Some code else if is_long fault then Some R18 else None) (required_in fault) ≡ None
 no_reason code due fault e f = after_code code due fault e ∙ ap (option_map reason_of) f
-
--- an ENV: what it sets is put among the rows, or what is against its words is reported
-
-pub env_changed : (old new : Config) (before : Values) (assignments : List Assignment) (variables : List Variable) → variables ≡ env_variables before assignments → env_fault before assignments ≡ None
-    → new ≡ record old { env = put_rows old.env (map row_of variables) } → IsChanged old before (Env assignments) new (Ok tt)
-env_changed old new before assignments variables h none e = (
-  e ∙ ap (λ (vs : List Variable). record old { env = put_rows old.env (map row_of vs) }) h,
-  no_text (env_fault before assignments) none,
-)
-
-pub env_refused : (old : Config) (before : Values) (assignments : List Assignment) (why : Unexpanded) → env_fault before assignments ≡ Some why
-    → IsChanged old before (Env assignments) old (Err (Because (reason_of why)))
-env_refused old before assignments why h = (refl, by_texts (env_fault before assignments) ∙ ap (option_map reason_of) h)
 
 -- what is reported of a line is reported of the change that it makes
 

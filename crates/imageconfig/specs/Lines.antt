@@ -1,6 +1,6 @@
 -- What the lines of a stage say of its configuration, each word with its value under the scope before the line, what is against their texts,
 -- and the codes that are due for them. Of a text that has no value nothing else is reported (own).
-use Rattle.std.specs.Prelude.{ℕ, ◌==◌, ◌||◌, Bool, false, not, List, map, length, Option, Some, None, is_some}
+use Rattle.std.specs.Prelude.{ℕ, ◌||◌, Bool, false, not, List, map, Option, is_some}
 use Rattle.std.specs.List.{list_any, filter_map}
 use Rattle.plain.specs.declared.refusal.Code.{Code}
 use Rattle.plain.specs.declared.refusal.Code.TheVariants.{R06, R10, R16, R18}
