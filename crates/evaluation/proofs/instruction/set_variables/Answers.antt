@@ -1,12 +1,10 @@
 use Rattle.std.proofs.Common.{List, ap, ◌∙◌}
 use Rattle.std.specs.List.{list_all}
 use Rattle.plain.specs.declared.variable.Variable.{Variable}
-use Rattle.instructions.specs.declared.instruction.InstructionKind.TheVariants.{Env}
 use Rattle.scopes.specs.Evaluate.{env_variables, env_fault}
 use Rattle.scopes.specs.Scope.{value_in, names_of, is_environment_name}
-use Rattle.imageconfig.specs.Steps.{due, fault}
-use Rattle.evaluation.specs.PrivateInstruction.{both_set, variables_set}
-use Rattle.evaluation.proofs.LineFacts.{line_reported, long_said, long_none}
+use Rattle.evaluation.specs.PrivateInstruction.{both_set}
+use Rattle.evaluation.proofs.LineFacts.{long_none}
 use Rattle.evaluation.proofs.instruction.set_variables.Goals as goal
 
 pub set_both-requires : goal.set_both-requires
@@ -17,10 +15,3 @@ returns-in-Ok-set_both c =
     let scope = c.args.state.scope in
     long_none (both_set c.args.state) c.in-Ok.variables (env_variables (value_in scope) c.args.assignments.now) c.set_both.new.state (env_fault (value_in scope) c.args.assignments.now) c.in-Ok.ensures.says
     (c.in-Ok-set_both.ensures ∙ ap (both_set c.args.state) c.as_slice.ensures)
-
-pub returns-in-Err : goal.returns-in-Err
-returns-in-Err c =
-    let scope = c.args.state.scope in
-    let kind = Env c.args.assignments.now in
-    line_reported (variables_set c.args.state c.args.assignments.now) (due (value_in scope) c.args.state.config kind) (fault (value_in scope) kind) c.args.line c.text_fault.result _ c.with_line.ensures
-    (long_said (env_variables (value_in scope) c.args.assignments.now) (env_fault (value_in scope) c.args.assignments.now) c.in-Err.fault _ c.text_fault.ensures c.in-Err.ensures.says)
