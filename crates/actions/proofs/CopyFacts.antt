@@ -1,5 +1,5 @@
 -- What is reported of a COPY, by what is found of its texts.
-use Rattle.std.specs.Prelude.{◌≡◌, ◌||◌, ◌&&◌, ℕ, Bool, true, false, not, List, [], map, Option, Some, None, option_map, length, nat_lt, refl, if◌then◌else◌}
+use Rattle.std.specs.Prelude.{◌≡◌, ◌||◌, ℕ, Bool, true, false, not, List, map, Option, Some, None, option_map, length, refl, if◌then◌else◌}
 use Rattle.std.specs.List.{list_any, filter_map}
 use Rattle.std.proofs.Common.{sym, ap, ap₂, ◌∙◌}
 use Rattle.std.proofs.lemmas.Option.{same_Some, none-some}
@@ -9,7 +9,6 @@ use Rattle.expand.specs.Value.{Parts, value}
 use Rattle.expand.specs.Expanding.{unexpanded, valued, is_valued, is_empty, worse, worst}
 use Rattle.expand.specs.declared.fault.Unexpanded.{Unexpanded}
 use Rattle.expand.specs.declared.fault.Unexpanded.TheVariants.{TooLong}
-use Rattle.expand.specs.declared.reason.Reason.{Reason}
 use Rattle.expand.proofs.WorseLaws.{worse-none, worse-assoc, worse_none-left, worse_none-right, valued-is}
 use Rattle.globs.specs.Glob.{is_malformed}
 use Rattle.instructions.specs.Least.{least}
@@ -19,12 +18,11 @@ use Rattle.llb.specs.declared.op.CopyFiles.{CopyFiles}
 use Rattle.llb.specs.declared.op.FileSource.{FileSource}
 use Rattle.options.specs.declared.copy.CopyFlags.{CopyFlags}
 use Rattle.paths.specs.Reading.{read_from}
-use Rattle.scopes.specs.Evaluate.{Values}
 use Rattle.scopes.specs.Scope.{value_in}
 use Rattle.scopes.specs.declared.declaration.Declaration.{Declaration}
 use Rattle.actions.specs.Texts.{is_within}
-use Rattle.actions.specs.Copy.{goes_into, file_sources, pattern_fault, document_fault, copy_fault, has_far_name, is_pattern_and, lacks_slash, leads_far, copy_due, copied}
-use Rattle.actions.specs.PrivateTexts.{near, heredoc_fault, is_pattern_that, first_code, text_code, destination_of, far_fault}
+use Rattle.actions.specs.Copy.{goes_into, file_sources, pattern_fault, document_fault, copy_fault, has_far_name, leads_far, copy_due, copied}
+use Rattle.actions.specs.PrivateTexts.{near, heredoc_fault, first_code, text_code, destination_of, far_fault}
 use Rattle.actions.proofs.LimitFacts.{neither, long_worse, or_long, reported, reason_is}
 use Rattle.actions.proofs.SourceFacts.{patterns_tested, heredocs_long, heredocs_same, all_near}
 

@@ -7,7 +7,6 @@ use Rattle.std.proofs.lemmas.Option.{none-some}
 use Rattle.paths.specs.Name.{is_component}
 use Rattle.llb.specs.declared.op.FileSource.{FileSource}
 use Rattle.llb.specs.declared.op.FileSource.TheVariants.{Pattern, Data}
-use Rattle.expand.specs.Value.{Parts, value}
 use Rattle.expand.specs.Expanding.{unexpanded, valued_by, valued, is_valued, worse, worst}
 use Rattle.expand.specs.declared.fault.Unexpanded.{Unexpanded}
 use Rattle.expand.specs.declared.fault.Unexpanded.TheVariants.{TooLong}
@@ -17,10 +16,10 @@ use Rattle.instructions.specs.declared.instruction.Body.{Body}
 use Rattle.instructions.specs.declared.instruction.Source.{Source}
 use Rattle.instructions.specs.declared.instruction.Source.TheVariants.{Files, Document}
 use Rattle.scopes.specs.Evaluate.{Values}
-use Rattle.actions.specs.Copy.{body_text, file_source, file_sources, pattern_fault, body_fault, document_fault, is_pattern_and, has_far_name}
+use Rattle.actions.specs.Copy.{body_text, file_sources, pattern_fault, body_fault, document_fault, is_pattern_and, has_far_name}
 use Rattle.actions.specs.PrivateTexts.{body_valued, named, name_fault, heredoc_fault, file_of, near, is_pattern_that, IsNearer}
 use Rattle.actions.specs.declared.sources.NearSources.{NearSources}
-use Rattle.actions.proofs.LimitFacts.{neither, long_worse}
+use Rattle.actions.proofs.LimitFacts.{long_worse}
 
 -- the loop along the sources
 

@@ -1,5 +1,5 @@
 use Rattle.std.proofs.Common.{◌≡◌, Some, None, sym, ap, ap₂, ◌∙◌}
-use Rattle.actions.proofs.CopyFacts.{found_code, found_fault, copy_reason, code_is, fault_is, AreGiven, all_given, files_are}
+use Rattle.actions.proofs.CopyFacts.{found_fault, copy_reason, code_is, fault_is, all_given, files_are}
 use Rattle.actions.proofs.LimitFacts.{reported}
 use Rattle.actions.proofs.copy.copied_files.Goals as goal
 
