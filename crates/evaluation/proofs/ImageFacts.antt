@@ -13,7 +13,6 @@ use Rattle.std.proofs.lemmas.Slice.Eq.{bytes_eq-Decides}
 use Rattle.std.proofs.lemmas.List.Elements.{All-nil, All-cons}
 use Rattle.std.proofs.lemmas.List.Folds.{list_any-append}
 use Rattle.plain.specs.Limits.{most_images}
-use Rattle.plain.specs.declared.refusal.Code.TheVariants.{R18}
 use Rattle.trees.specs.TreeMap.{TreeMap}
 use Rattle.llb.specs.declared.op.Source.TheVariants.{Scratch, Context, Image}
 use Rattle.plans.specs.Images.{ImagesValue}

@@ -9,7 +9,6 @@ use Rattle.expand.specs.Reasons.{reason_of}
 use Rattle.expand.specs.declared.fault.Unexpanded.{Unexpanded}
 use Rattle.expand.specs.declared.fault.Unexpanded.TheVariants.{TooLong, Required}
 use Rattle.expand.specs.declared.reason.Reason.{Reason}
-use Rattle.expand.specs.declared.reason.Reason.TheVariants.{Coded}
 use Rattle.expand.specs.declared.reason.Rejection.{Rejection}
 use Rattle.instructions.specs.Least.{least, Meets}
 use Rattle.instructions.specs.Reason.{reason, reason_by, required_in, is_long, Evaluates}

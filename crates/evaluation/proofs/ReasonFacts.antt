@@ -1,12 +1,11 @@
 -- Why the line of an instruction is refused that names images too: by what is due for what it says, and by the number of images.
 use Rattle.std.specs.Prelude.{◌≡◌, ◌||◌, ℕ, Bool, true, false, List, Option, Some, None, Result, Ok, length, nat_lt, refl, if◌then◌else◌}
-use Rattle.std.proofs.Common.{sym, ◌∙◌, ap, subst}
+use Rattle.std.proofs.Common.{sym, ◌∙◌, ap}
 use Rattle.plain.specs.Limits.{most_images}
 use Rattle.plain.specs.declared.refusal.Code.{Code}
 use Rattle.plain.specs.declared.refusal.Code.TheVariants.{R01, R02, R03, R04, R05, R06, R07, R08, R09, R10, R11, R12, R13, R14, R15, R16, R17, R18, R19, R20}
 use Rattle.expand.specs.declared.fault.Unexpanded.{Unexpanded}
 use Rattle.expand.specs.declared.reason.Reason.{Reason}
-use Rattle.expand.specs.declared.reason.Reason.TheVariants.{Coded, Required}
 use Rattle.expand.specs.declared.reason.Rejection.{Rejection}
 use Rattle.instructions.specs.Least.{least}
 use Rattle.instructions.specs.Reason.{reason, reason_by, required_in}
@@ -16,7 +15,7 @@ use Rattle.scopes.specs.Evaluate.{Values}
 use Rattle.stages.specs.declared.stage.ResolvedInstruction.{ResolvedInstruction}
 use Rattle.evaluation.specs.Images.{ImageNames, with_origins, many_codes}
 use Rattle.evaluation.specs.Instruction.{due, fault}
-use Rattle.evaluation.specs.PrivateRefusals.{reason_with, with_many}
+use Rattle.evaluation.specs.PrivateRefusals.{with_many}
 use Rattle.evaluation.specs.Stages.{line_codes, with_instruction, next_instruction}
 use Rattle.evaluation.specs.declared.stage.Progress.{Progress}
 use Rattle.evaluation.specs.declared.state.State.{State}
