@@ -20,9 +20,9 @@ class Folder:
         self.dice = random.Random(f"folder {seed} {number}")
         self.paths = {}
         self.names = self.choose_names()
-        for _ in range(self.dice.choice([0, 2, 5, 10, 20])):
+        for _ in range(self.dice.choice([0, 3, 8, 16, 30])):
             self.add()
-        self.ignore = "\n".join(self.line(count) for count in range(self.dice.choice([1, 2, 3, 6, 12]))) + self.dice.choice(["", "\n", "\r\n"])
+        self.ignore = "\n".join(self.line(count) for count in range(self.dice.choice([1, 2, 4, 8, 16]))) + self.dice.choice(["", "\n", "\r\n"])
         if self.dice.random() < 0.03:
             self.ignore = ""
         self.paths["/.dockerignore"], self.paths["/Dockerfile"] = self.ignore, DOCKERFILE
