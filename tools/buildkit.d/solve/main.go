@@ -25,6 +25,7 @@ import (
 	gateway "github.com/moby/buildkit/frontend/gateway/client"
 	"github.com/moby/buildkit/solver/pb"
 	"github.com/moby/buildkit/util/apicaps"
+	"github.com/moby/buildkit/util/entitlements"
 	digest "github.com/opencontainers/go-digest"
 )
 
@@ -208,6 +209,8 @@ func main() {
 		config, err := os.ReadFile(os.Args[5])
 		die(err)
 		opt.Exports = []client.ExportEntry{{Type: "moby", Attrs: map[string]string{"name": name}}}
+		// only a definition that was written with `--network host` asks for it
+		opt.AllowedEntitlements = []entitlements.Entitlement{entitlements.EntitlementNetworkHost}
 		solve(sock, folder, def, opt, config)
 		return
 	}
