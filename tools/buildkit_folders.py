@@ -113,9 +113,9 @@ class Chosen(Folder):
     def __init__(self, seed, number):
         super().__init__(seed, number)
         own = [path for path in self.paths if path not in ("/.dockerignore", "/Dockerfile")]
-        # what BuildKit can't be told of is for --folders
-        told = [path for path in own if path.isascii() and path.isprintable()]
-        self.ignore = "".join(exact(path) + "\n" for path in self.dice.sample(told, self.dice.randrange(len(told) + 1)))
+        # others have no pattern
+        printable = [path for path in own if path.isascii() and path.isprintable()]
+        self.ignore = "".join(exact(path) + "\n" for path in self.dice.sample(printable, self.dice.randrange(len(printable) + 1)))
         self.paths["/.dockerignore"] = self.ignore
 
 
