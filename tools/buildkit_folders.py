@@ -5,8 +5,8 @@ import random
 
 DOCKERFILE = "FROM scratch\nCOPY . /\n"
 PLAIN = ["a", "b", "c", "d", "f", "ab", "a.md", "b.md", "README.md", "x.txt"]
-ODD = [" a", "a ", " ", "a b", ".a", ".hid", "..a", "...", "*", "**", "a*", "a**b", "?", "q?", "[", "]", "[x]", "[a-c]", "[ ]", "!", "!n", "!!", "\\", "d\\e", "\\*", "a\\", "#", "#h", "^", "^k",
-       "[^a]", "-", "a-b", "(x)", "a|b", "|", "{a}", "a{2}", "+", "a+", "$", "$v", "a.b", "~", "'", '"', 'a"b', "`", "&", "<", ",", "=", ":", "%41", "n" * 255]
+ODD = [" a", "a ", " ", "a b", ".a", ".hid", "..a", "...", "*", "**", "a*", "a**b", "?", "q?", "[", "]", "[x]", "[a-c]", "[ ]", "!", "!n", "!!",
+       "\\", "d\\e", "\\*", "a\\", "#", "#h", "^", "^k", "[^a]", "-", "a-b", "(x)", "a|b", "|", "{a}", "a{2}", "+", "a+", "$", "$v", "a.b", "~", "'", '"', 'a"b', "`", "&", "<", ",", "=", ":", "%41", "n" * 255]
 # characters that no header carries
 FOREIGN = ["é", "日本", "\u212a", "\U0001f600", "\x7f", "a\tb", "\xa0", "\ufeffa"]
 SIGNS = list(" !\"#$%&'()*+,-.0:;<=>?@AZ[\\]^_`az{|}~")
@@ -114,7 +114,7 @@ class Chosen(Folder):
         super().__init__(seed, number)
         own = [path for path in self.paths if path not in ("/.dockerignore", "/Dockerfile")]
         # others have no pattern
-        printable = [path for path in own if path.isascii() and path.isprintable()]
+        printable = [path for path in own if is_printable(path)]
         self.ignore = "".join(exact(path) + "\n" for path in self.dice.sample(printable, self.dice.randrange(len(printable) + 1)))
         self.paths["/.dockerignore"] = self.ignore
 
@@ -131,6 +131,11 @@ def gaps(paths, kept):
         return path not in kept and (above == "" or above in kept)
 
     return sorted(path for path in paths if is_gap(path))
+
+
+def is_printable(path):
+    """Whether a header carries a path."""
+    return all(" " <= c <= "~" for c in path)
 
 
 def is_at_or_below(path, place):
