@@ -1,6 +1,7 @@
 // Command solve is BuildKit's own code beside a definition that `dfsolve llb` wrote.
 //
 //	solve same FILE..                           reads each definition by BuildKit's package pb and writes it again: a line of JSON for each
+//	solve match < QUESTIONS                     which paths of a context a definition leaves out, by BuildKit's matchers: a line of JSON for each question
 //	solve tree SOCK CONTEXT TAR [FIXTURE] < DEFINITION
 //	    solves it in the BuildKit of the dockerd at SOCK, where CONTEXT is the local source `context`, and writes the tree as the file TAR.
 //	    With FIXTURE, a folder with the program `fixture`, each command is handed to that program, which is mounted at /.dfsolve
@@ -24,6 +25,7 @@ import (
 	gateway "github.com/moby/buildkit/frontend/gateway/client"
 	"github.com/moby/buildkit/solver/pb"
 	"github.com/moby/buildkit/util/apicaps"
+	"github.com/moby/buildkit/util/entitlements"
 	digest "github.com/opencontainers/go-digest"
 )
 
@@ -43,6 +45,7 @@ type report struct {
 	Merges     int      // operations that this BuildKit's package has no message for
 	Named      bool     // each input and each entry of the metadata names an operation of the definition
 	Unknown    []string // capabilities that this BuildKit doesn't know
+	Excludes   int      // patterns of what the context leaves out
 }
 
 func look(file string) report {
@@ -52,7 +55,7 @@ func look(file string) report {
 	die(def.Unmarshal(dt))
 	again, err := def.Marshal()
 	die(err)
-	r := report{File: file, Operations: len(def.Def), Bytes: len(dt), Same: bytes.Equal(dt, again), Named: true, Unknown: []string{}}
+	r := report{File: file, Operations: len(def.Def), Bytes: len(dt), Same: bytes.Equal(dt, again), Named: true, Unknown: []string{}, Excludes: len(excludes(dt))}
 	known := pb.Caps.CapSet(pb.Caps.All())
 	seen := map[digest.Digest]bool{}
 	for _, b := range def.Def {
@@ -191,8 +194,12 @@ func main() {
 		}
 		return
 	}
+	if len(os.Args) == 2 && os.Args[1] == "match" {
+		match(os.Stdin, os.Stdout)
+		return
+	}
 	if len(os.Args) < 5 {
-		die(fmt.Errorf("solve same FILE.. | tree SOCK CONTEXT TAR [FIXTURE] | image SOCK CONTEXT NAME CONFIG"))
+		die(fmt.Errorf("solve same FILE.. | match | tree SOCK CONTEXT TAR [FIXTURE] | image SOCK CONTEXT NAME CONFIG"))
 	}
 	def, err := llb.ReadFrom(os.Stdin)
 	die(err)
@@ -202,6 +209,8 @@ func main() {
 		config, err := os.ReadFile(os.Args[5])
 		die(err)
 		opt.Exports = []client.ExportEntry{{Type: "moby", Attrs: map[string]string{"name": name}}}
+		// only a definition that was written with `--network host` asks for it
+		opt.AllowedEntitlements = []entitlements.Entitlement{entitlements.EntitlementNetworkHost}
 		solve(sock, folder, def, opt, config)
 		return
 	}
