@@ -13,6 +13,7 @@ use std::thread::Threads;
 /// Tells all faults of a bundle in a form.
 ///
 /// `Built` if there is none, and then nothing is written, `Failed` if there is one, and never `Refused`: what a build refuses is such a fault.
+#[derive(Drop)]
 pub(crate) struct FaultTeller {
     pub(crate) form: Form,
 }

@@ -38,6 +38,7 @@ pub(crate) struct Beside {
 /// given, patterns leave out just what the ignore file does. `Built` if it was written, also if a build would fail, `Refused` if the refusal was,
 /// and never `Failed`. `Clash` only if two different operations have one digest, and `Unspeakable` only if the graph has the folder and BuildKit
 /// can't be told a pattern.
+#[derive(Drop)]
 pub(crate) struct DefinitionTeller<'a> {
     pub(crate) options: &'a LlbOptions,
 }

@@ -15,6 +15,7 @@ use std::thread::Threads;
 /// Tells of each of these paths whether it is kept in a bundle's context, and which line of the ignore file decided. Or it tells the bundle's refusal.
 ///
 /// `Built` if the lines were written, `Refused` if the refusal was, and never `Failed`.
+#[derive(Drop)]
 pub(crate) struct PathTeller<'a> {
     pub(crate) paths: &'a [Text],
 }
