@@ -30,10 +30,10 @@ impl Teller for FaultTeller {
 
     ghost moves_stops = { λ teller. never_moves };
 
-    fn tell(
+    fn tell<H: Threads + Sync>(
         &self,
         alloc: Global,
-        rt: &(impl Threads + Sync),
+        rt: &H,
         bundle: &[u8],
     ) -> Result<Told, BuildFault> {
         Ok(tell_faults(alloc, rt, bundle, self.form)?)

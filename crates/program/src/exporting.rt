@@ -55,10 +55,10 @@ impl<'a> Teller for DefinitionTeller<'a> {
 
     ghost moves_stops = { λ teller. llb_moves_stops teller.options.now };
 
-    fn tell(
+    fn tell<H: Threads + Sync>(
         &self,
         alloc: Global,
-        rt: &(impl Threads + Sync),
+        rt: &H,
         bundle: &[u8],
     ) -> Result<Told, BuildFault> {
         tell_llb(alloc, rt, bundle, self.options)

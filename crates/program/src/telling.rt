@@ -14,6 +14,7 @@ use std::thread::Threads;
 
 /// What knows one thing to tell of a bundle, such as its faults.
 pub(crate) trait Teller {
+    ghost use Rattle.std.specs.Thread.{IsSync};
     ghost use Rattle.build.specs.Ends.{Answering};
     ghost use Rattle.program.specs.Telling.{Stops};
     ghost use Rattle.program.specs.PrivateTelling.{IsToldBy, Moves, MovesStops};
@@ -24,13 +25,15 @@ pub(crate) trait Teller {
     // Of which bundles nothing is due, and with which fault that ends.
     ghost stops: { Self → Stops };
 
-    /// What is due of a bundle's bytes. `Memory` says only that a growth was refused, and `Device` is never answered.
-    fn tell(
+    /// What is due of a bundle's bytes. `Memory` says only that a growth was refused, and `Device` is never answered. Threads may share the handle,
+    /// which the bound alone doesn't say in a trait.
+    fn tell<H: Threads + Sync>(
         &self,
         alloc: Global,
-        rt: &(impl Threads + Sync),
+        rt: &H,
         bundle: &[u8],
     ) -> Result<Told, BuildFault>
+        requires { IsSync H.row }
         ensures { IsToldBy (tells self.now) (stops self.now) bundle.now result };
 
     // It depends on what a bundle holds, so on no byte past the limit of bundles.

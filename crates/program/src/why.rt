@@ -32,10 +32,10 @@ impl<'a> Teller for PathTeller<'a> {
 
     ghost moves_stops = { λ teller. never_moves };
 
-    fn tell(
+    fn tell<H: Threads + Sync>(
         &self,
         alloc: Global,
-        _rt: &(impl Threads + Sync),
+        _rt: &H,
         bundle: &[u8],
     ) -> Result<Told, BuildFault> {
         Ok(tell_paths(alloc, bundle, self.paths)?)
