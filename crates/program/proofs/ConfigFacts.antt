@@ -15,13 +15,6 @@ use Rattle.build.specs.Meaning.{Asks}
 use Rattle.build.specs.Telling.{IsAsked}
 use Rattle.program.specs.declared.told.Told.{Told}
 use Rattle.program.specs.Config.{TellsConfig}
-use Rattle.program.proofs.AskFacts.{asks, held}
-
--- the same is told by bytes that hold the same
-pub moved : (bytes bundle : List ℕ) (status : Status) (text : List ℕ) → held bytes ≡ held bundle → TellsConfig bytes status text → TellsConfig bundle status text
-moved bytes bundle Built text same told = (told.0, asks bytes bundle (Ok told.0) same told.1, told.2)
-moved bytes bundle Failed text same told = told
-moved bytes bundle Refused text same told = (told.0, asks bytes bundle (Err told.0) same told.1, told.2)
 
 -- the configuration of what a bundle asks for
 pub config_told : {E : Type 0} (bytes : List ℕ) (made : Evaluated) (result : Result Told E) → Asks bytes (Ok made) → IfOk result (λ told. told.status ≡ Built)

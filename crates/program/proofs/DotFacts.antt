@@ -14,15 +14,6 @@ use Rattle.build.specs.Telling.{IsAsked}
 use Rattle.build.specs.Titled.{HasTitlesOf}
 use Rattle.program.specs.declared.told.Told.{Told}
 use Rattle.program.specs.Dot.{IsPictureOf, TellsDot}
-use Rattle.program.proofs.AskFacts.{asks, held}
-use Rattle.program.proofs.LlbFacts.{titles_moved}
-
--- the same is told by bytes that hold the same
-pub moved : (bytes bundle : List ℕ) (status : Status) (text : List ℕ) → held bytes ≡ held bundle → TellsDot bytes status text → TellsDot bundle status text
-moved bytes bundle Built text same told =
-    (told.0, asks bytes bundle (Ok told.0) same told.1, (told.2.0, titles_moved bytes bundle told.2.0 same told.2.1, told.2.2))
-moved bytes bundle Failed text same told = told
-moved bytes bundle Refused text same told = (told.0, asks bytes bundle (Err told.0) same told.1, told.2)
 
 -- the graph of what a bundle asks for
 pub picture_told : {E : Type 0} (bytes : List ℕ) (made : Evaluated) (titles : List (Option (List ℕ))) (result : Result Told E) → Asks bytes (Ok made)

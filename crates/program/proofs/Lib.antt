@@ -1,5 +1,3 @@
-mod AskFacts
-mod CheckFacts
 mod ConfigFacts
 mod DotFacts
 mod FirstFacts

@@ -26,14 +26,10 @@ use Rattle.build.specs.declared.status.BuildFault.TheVariants.{Memory, Device, C
 use Rattle.build.specs.Meaning.{Asks}
 use Rattle.build.specs.Telling.{IsAsked}
 use Rattle.build.specs.Titled.{HasTitlesOf, HasLeftOut}
-use Rattle.build.specs.Ends.{Devices}
 use Rattle.program.specs.declared.exporting.Beside.{Beside}
 use Rattle.program.specs.declared.told.Told.{Told}
 use Rattle.program.specs.Llb.{fault_of, HasObstacle, IsBeside, IsDrawnPlan, LlbEnds, LlbStops, TellsLlb}
 use Rattle.program.specs.PrivateLlb.{IsFileTold, IsLlbTold, IsPlanTold}
-use Rattle.program.specs.Telling.{HasStopped}
-use Rattle.program.proofs.AskFacts.{asks, held}
-use Rattle.program.proofs.TellFacts.{IsReadOf}
 
 -- ---- the plan
 
@@ -99,47 +95,3 @@ pub refusal_told : (options : LlbOptions) (bytes : List ℕ) (fault : Fault Reje
     → IsAsked bytes (Err fault) → told.status ≡ Refused → told.text ≡ line_of (refused_text refusal) → IsLlbTold options bytes (Ok told)
 refusal_told options bytes fault refusal told because asked status text =
     subst (λ s. TellsLlb options bytes s told.text) (sym status) (refusal, subst (λ f. IsAsked bytes (Err f)) because asked, text)
-
--- the same titles are those of bytes that hold the same
-pub titles_moved : (bytes bundle : List ℕ) (titles : List (Option (List ℕ))) → held bytes ≡ held bundle → HasTitlesOf bytes titles → HasTitlesOf bundle titles
-titles_moved bytes bundle titles same has = (has.0, (has.1.0, (sym same ∙ has.1.1.0, has.1.1.1)), has.2)
-
--- and so is what is left out
-left_moved : (bytes bundle : List ℕ) (left : List (List (List ℕ))) → held bytes ≡ held bundle → HasLeftOut bytes left → HasLeftOut bundle left
-left_moved bytes bundle left same has =
-    let reads = has.1.reads in
-    (has.0, record { reads = (reads.0, (sym same ∙ reads.1.0, reads.1.1)); leaves = λ parts e. has.1.leaves parts (same ∙ e) })
-
-beside_moved : (bytes bundle : List ℕ) (beside : Beside) → held bytes ≡ held bundle → IsBeside bytes beside → IsBeside bundle beside
-beside_moved bytes bundle beside same has = record { titles = titles_moved bytes bundle beside.titles same has.titles; left = left_moved bytes bundle beside.left same has.left }
-
--- the same is told by bytes that hold the same
-pub moved : (options : LlbOptions) (bytes bundle : List ℕ) (status : Status) (text : List ℕ) → held bytes ≡ held bundle
-    → TellsLlb options bytes status text → TellsLlb options bundle status text
-moved options bytes bundle Built text same told =
-    (told.0, asks bytes bundle (Ok told.0) same told.1, (told.2.0, beside_moved bytes bundle told.2.0 same told.2.1, told.2.2))
-moved options bytes bundle Failed text same told = told
-moved options bytes bundle Refused text same told = (told.0, asks bytes bundle (Err told.0) same told.1, told.2)
-
--- nothing can be told of bytes that hold the same
-stops_moved : (options : LlbOptions) (bytes bundle : List ℕ) (fault : BuildFault) → held bytes ≡ held bundle → LlbStops options fault bytes → LlbStops options fault bundle
-stops_moved options bytes bundle fault same stops =
-    (stops.0, asks bytes bundle (Ok stops.0) same stops.1, (stops.2.0, beside_moved bytes bundle stops.2.0 same stops.2.1, stops.2.2))
-
-has_stopped : (options : LlbOptions) (old new : Devices) (bytes : List ℕ) (fault : BuildFault) → IsReadOf old.left bytes → LlbStops options fault bytes
-    → new.written ≡ old.written → new.failed_reads ≡ old.failed_reads → new.failed_writes ≡ old.failed_writes → HasStopped (LlbStops options fault) old new
-has_stopped options old new bytes fault read stops written reads writes = record {
-  bundle = read.bundle;
-  is = read.is;
-  stops = stops_moved options bytes read.bundle fault read.same stops;
-  unwritten = (written, writes);
-  failed_reads = reads;
-}
-
--- nothing was told, and nothing was written
-pub faulted : (options : LlbOptions) (old new : Devices) (bytes : List ℕ) (fault : BuildFault) → IsReadOf old.left bytes → IsLlbTold options bytes (Err fault)
-    → new.written ≡ old.written → new.failed_reads ≡ old.failed_reads → new.failed_writes ≡ old.failed_writes → LlbEnds options old new (Err fault)
-faulted options old new bytes Memory read told written reads writes = ((written, writes), reads)
-faulted options old new bytes Device read told written reads writes = absurd told
-faulted options old new bytes Clash read told written reads writes = has_stopped options old new bytes Clash read told written reads writes
-faulted options old new bytes Unspeakable read told written reads writes = has_stopped options old new bytes Unspeakable read told written reads writes

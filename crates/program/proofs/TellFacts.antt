@@ -12,10 +12,12 @@ use Rattle.counted.specs.Edges.{AppendsBeginning, LosesBeginning, ReadsFirst, Co
 use Rattle.imageconfig.specs.Reading.{config_in}
 use Rattle.bundle.specs.Parts.{parts_within}
 use Rattle.build.specs.declared.status.Status.{Status}
+use Rattle.build.specs.declared.status.BuildFault.{BuildFault}
+use Rattle.build.specs.declared.status.BuildFault.TheVariants as end
 use Rattle.build.specs.Faults.{of_edge}
 use Rattle.build.specs.Ends.{Answering, Devices, IsAllLeft}
-use Rattle.program.specs.Telling.{HasTold, Stops, TellingEnds}
-use Rattle.program.proofs.AskFacts.{held}
+use Rattle.program.specs.Telling.{HasStopped, HasTold, Stops, TellingEnds}
+use Rattle.program.specs.PrivateTelling.{held, IsToldBy, Moves, MovesStops}
 
 -- what was read holds what the whole bundle holds
 pub record IsReadOf (left : Option (List ℕ)) (bytes : List ℕ) : Type 0 where
@@ -52,10 +54,6 @@ loses_at_most limit (Some all) new bytes reads =
     let short : length (take limit all) ≤ limit = omega (arith, length-take limit all) in
     (take limit all, short, subst (λ rest. Consumes (Some all) rest (take limit all)) (sym reads.1) (sym (take-append-drop limit all)))
 
--- what is told of bytes that hold the same is told of them
-abbrev pub Moves : Answering → Type 0
-Moves Tells = (bytes bundle : List ℕ) (status : Status) (text : List ℕ) → held bytes ≡ held bundle → Tells bytes status text → Tells bundle status text
-
 -- all that is told was written
 pub has_told : (Tells : Answering) → Moves Tells → (old new : Devices) (bytes line text : List ℕ) (status : Status)
     → IsReadOf old.left bytes → Tells bytes status text → line ≡ text → Appends old.written new.written line
@@ -86,6 +84,26 @@ has_begun Tells Stopped moves old new bytes line text status (edge.Because faile
   failed_reads = reads;
   failed_writes = writes;
 })
+
+has_stopped : (Tells : Answering) (IsStopped : Stops) → MovesStops IsStopped → (old new : Devices) (bytes : List ℕ) (fault : BuildFault) → IsReadOf old.left bytes
+    → IsStopped fault bytes → new.written ≡ old.written → new.failed_reads ≡ old.failed_reads → new.failed_writes ≡ old.failed_writes
+    → HasStopped (IsStopped fault) old new
+has_stopped Tells IsStopped moves old new bytes fault read stops written reads writes = record {
+  bundle = read.bundle;
+  is = read.is;
+  stops = moves fault bytes read.bundle read.same stops;
+  unwritten = (written, writes);
+  failed_reads = reads;
+}
+
+-- nothing was told, and nothing was written
+pub faulted : (Tells : Answering) (IsStopped : Stops) → MovesStops IsStopped → (old new : Devices) (bytes : List ℕ) (fault : BuildFault) → IsReadOf old.left bytes
+    → IsToldBy Tells IsStopped bytes (Err fault) → new.written ≡ old.written → new.failed_reads ≡ old.failed_reads → new.failed_writes ≡ old.failed_writes
+    → TellingEnds Tells IsStopped old new (Err fault)
+faulted Tells IsStopped moves old new bytes end.Memory read told written reads writes = ((written, writes), reads)
+faulted Tells IsStopped moves old new bytes end.Device read told written reads writes = absurd told
+faulted Tells IsStopped moves old new bytes end.Clash read told written reads writes = has_stopped Tells IsStopped moves old new bytes end.Clash read told written reads writes
+faulted Tells IsStopped moves old new bytes end.Unspeakable read told written reads writes = has_stopped Tells IsStopped moves old new bytes end.Unspeakable read told written reads writes
 
 pub err_and : {T E : Type 0} (r : Result T E) (e : E) → IsErrAnd r (λ f. f ≡ e) → r ≡ Err e
 err_and (Ok x) e h = absurd h

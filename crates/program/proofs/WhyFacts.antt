@@ -13,15 +13,6 @@ use Rattle.build.specs.declared.status.Status.{Status}
 use Rattle.build.specs.declared.status.Status.TheVariants.{Built, Failed, Refused}
 use Rattle.program.specs.declared.told.Told.{Told}
 use Rattle.program.specs.Why.{TellsWhy}
-use Rattle.program.proofs.AskFacts.{held, refused}
-
--- the same is told by bytes that hold the same
-pub moved : (paths : List (List ℕ)) (bytes bundle : List ℕ) (status : Status) (text : List ℕ) → held bytes ≡ held bundle
-    → TellsWhy paths bytes status text → TellsWhy paths bundle status text
-moved paths bytes bundle Built text same told =
-    (told.0, record { parts = told.1.parts; is = sym same ∙ told.1.is; has = told.1.has }, told.2)
-moved paths bytes bundle Failed text same told = told
-moved paths bytes bundle Refused text same told = (told.0, refused bytes bundle told.0 same told.1, told.2)
 
 -- the refusal of a bundle is told as a line
 pub refusal_told : {E : Type 0} (paths : List (List ℕ)) (bytes : List ℕ) (fault : Fault Refusal) (refusal : Refusal) (result : Result Told E)

@@ -4,7 +4,9 @@ pub mod Dot
 pub mod Llb
 pub mod PrivateFiles
 pub mod PrivateLlb
+pub mod PrivateMoved
 pub mod PrivateRuns
+pub mod PrivateTelling
 pub mod Runs
 pub mod Saying
 pub mod Telling

@@ -13,6 +13,7 @@ use Rattle.exported.specs.Exporting.{exported, IsExported}
 use Rattle.program.specs.declared.exporting.Beside.{Beside}
 use Rattle.program.specs.declared.told.Told.{Told}
 use Rattle.program.specs.Llb.{chosen, IsDefinitionOf, HasObstacle, TellsLlb, LlbStops}
+use Rattle.program.specs.PrivateTelling.{IsToldBy}
 
 -- what is written of a file's stages, whose lines have these titles
 abbrev pub IsFileTold : LlbOptions → Evaluated → Beside → Result Told BuildFault → Type 0
@@ -28,8 +29,4 @@ IsPlanTold options plan beside result = IsExported (exported (chosen options bes
 
 -- what is written of a bundle's bytes
 abbrev pub IsLlbTold : LlbOptions → List ℕ → Result Told BuildFault → Type 0
-IsLlbTold options bytes (Ok told) = TellsLlb options bytes told.status told.text
-IsLlbTold options bytes (Err Memory) = Unit {0}
-IsLlbTold options bytes (Err Device) = ⊥
-IsLlbTold options bytes (Err Clash) = LlbStops options Clash bytes
-IsLlbTold options bytes (Err Unspeakable) = LlbStops options Unspeakable bytes
+IsLlbTold options bytes result = IsToldBy (TellsLlb options) (LlbStops options) bytes result

@@ -3,7 +3,7 @@
 ghost use Rattle.std.specs.Prelude.{◌≡◌, ◌<◌, ◌≤◌, ◌+◌, ◌++◌, ℕ, List, IfOk};
 ghost use Rattle.counted.specs.Edges.{LosesBeginning, line_of};
 ghost use Rattle.plain.specs.Limits.{most_bundle_bytes, most_workers};
-ghost use Rattle.build.specs.Ends.{Ends, devices};
+ghost use Rattle.build.specs.Ends.{Ends, GraphEnds, devices};
 ghost use Rattle.build.specs.Faults.{exit_status};
 ghost use Rattle.build.specs.Messages.{fault_text};
 ghost use Rattle.build.specs.declared.status.BuildFault.TheVariants.{Device};
@@ -13,15 +13,17 @@ ghost use Rattle.program.specs.Dot.{DrawingEnds};
 ghost use Rattle.program.specs.Llb.{LlbEnds};
 ghost use Rattle.program.specs.Runs.{CallsBy, CallsFile, IsOpenFault, IsTold, SaysEnd, SaysFileEnd, SaysNamed, streams};
 ghost use Rattle.program.specs.Saying.{stream};
+ghost use Rattle.program.specs.Telling.{TellingEnds};
 ghost use Rattle.program.specs.Why.{WhyEnds};
 
 use crate::bundle_file::{open_bundle, why_of};
-use crate::checking::run_check;
-use crate::config::run_config;
-use crate::exporting::run_llb;
-use crate::picturing::run_dot;
+use crate::checking::FaultTeller;
+use crate::config::ConfigTeller;
+use crate::exporting::DefinitionTeller;
+use crate::picturing::PictureTeller;
 use crate::saying::{NO_MEMORY_LINE, say};
-use crate::why::run_why;
+use crate::telling::{Teller, tell_bundle};
+use crate::why::PathTeller;
 use build::{BuildFault, Status, run_build, run_graph, status_code};
 use checks::Form;
 use command::{BuildOptions, CheckOptions, GraphOptions, LlbOptions, WhyOptions};
@@ -95,18 +97,27 @@ pub(crate) fn draw_bundle<F: Files, R: CountedRead, W: CountedWrite, S: CountedW
         result }
     ensures taken { LosesBeginning (most_bundle_bytes + 1) (R.remaining input.old) (R.remaining input.new) }
 {
-    match &options.file {
-        Some(name) => draw_file(alloc, rt, files, name.as_str(), options.dot, output, errors),
-        None => {
-            let ended = run_drawing(alloc, rt, options.dot, input, output);
-            finish(errors, ended)
-        }
+    let file = &options.file;
+    if options.dot {
+        tell_by(
+            alloc,
+            rt,
+            files,
+            file,
+            &PictureTeller,
+            input,
+            output,
+            errors,
+        )
+    } else {
+        graph_bundle(alloc, rt, files, file, input, output, errors)
     }
 }
 
 /// Prints why paths of a bundle's context are kept or left out, and gives the status to end with.
 pub(crate) fn explain_paths<F: Files, R: CountedRead, W: CountedWrite, S: CountedWrite>(
     alloc: Global,
+    rt: &(impl Threads + Sync),
     files: &F,
     options: &WhyOptions,
     input: &mut R,
@@ -122,14 +133,19 @@ pub(crate) fn explain_paths<F: Files, R: CountedRead, W: CountedWrite, S: Counte
         result }
     ensures taken { LosesBeginning (most_bundle_bytes + 1) (R.remaining input.old) (R.remaining input.new) }
 {
-    let paths = options.paths.as_slice();
-    match &options.file {
-        Some(name) => explain_file(alloc, files, name.as_str(), paths, output, errors),
-        None => {
-            let ended = run_why(alloc, paths, input, output);
-            finish(errors, ended)
-        }
-    }
+    let teller = PathTeller {
+        paths: options.paths.as_slice(),
+    };
+    tell_by(
+        alloc,
+        rt,
+        files,
+        &options.file,
+        &teller,
+        input,
+        output,
+        errors,
+    )
 }
 
 /// Writes the graph of a bundle for BuildKit, and gives the status to end with.
@@ -151,13 +167,17 @@ pub(crate) fn export_bundle<F: Files, R: CountedRead, W: CountedWrite, S: Counte
         result }
     ensures taken { LosesBeginning (most_bundle_bytes + 1) (R.remaining input.old) (R.remaining input.new) }
 {
-    match &options.file {
-        Some(name) => llb_file(alloc, rt, files, name.as_str(), options, output, errors),
-        None => {
-            let ended = run_llb(alloc, rt, options, input, output);
-            finish(errors, ended)
-        }
-    }
+    let teller = DefinitionTeller { options };
+    tell_by(
+        alloc,
+        rt,
+        files,
+        &options.file,
+        &teller,
+        input,
+        output,
+        errors,
+    )
 }
 
 /// Prints the configuration of a bundle's target, and gives the status to end with.
@@ -179,13 +199,7 @@ pub(crate) fn tell_config<F: Files, R: CountedRead, W: CountedWrite, S: CountedW
         result }
     ensures taken { LosesBeginning (most_bundle_bytes + 1) (R.remaining input.old) (R.remaining input.new) }
 {
-    match file {
-        Some(name) => config_file(alloc, rt, files, name.as_str(), output, errors),
-        None => {
-            let ended = run_config(alloc, rt, input, output);
-            finish(errors, ended)
-        }
-    }
+    tell_by(alloc, rt, files, file, &ConfigTeller, input, output, errors)
 }
 
 /// Prints all faults of a bundle, and gives the status to end with.
@@ -207,14 +221,19 @@ pub(crate) fn check_bundle<F: Files, R: CountedRead, W: CountedWrite, S: Counted
         result }
     ensures taken { LosesBeginning (most_bundle_bytes + 1) (R.remaining input.old) (R.remaining input.new) }
 {
-    let form = form_by(options.json);
-    match &options.file {
-        Some(name) => check_file(alloc, rt, files, name.as_str(), form, output, errors),
-        None => {
-            let ended = run_check(alloc, rt, form, input, output);
-            finish(errors, ended)
-        }
-    }
+    let teller = FaultTeller {
+        form: form_by(options.json),
+    };
+    tell_by(
+        alloc,
+        rt,
+        files,
+        &options.file,
+        &teller,
+        input,
+        output,
+        errors,
+    )
 }
 
 /// The form of faults by the flag `--json`.
@@ -254,48 +273,52 @@ fn build_file<F: Files, W: CountedWrite, S: CountedWrite, E: Executor>(
     }
 }
 
-/// Reads a bundle, and writes its graph: in the DOT language, or by content addresses.
-fn run_drawing<R: CountedRead, W: CountedWrite>(
+/// Draws the graph of a bundle by content addresses.
+fn graph_bundle<F: Files, R: CountedRead, W: CountedWrite, S: CountedWrite>(
     alloc: Global,
     rt: &(impl Threads + Sync),
-    dot: bool,
+    files: &F,
+    file: &Option<Text>,
     input: &mut R,
     output: &mut W,
-) -> Result<Status, BuildFault>
+    errors: &mut S,
+) -> u8
     requires reads { R.failures input.old < u64.MAX }
     requires writes { W.failures output.old < u64.MAX }
-    ensures ends { DrawingEnds dot
-        (devices (R.remaining input.old) (R.failures input.old) (W.contents output.old) (W.failures output.old))
-        (devices (R.remaining input.new) (R.failures input.new) (W.contents output.new) (W.failures output.new))
+    requires says { S.failures errors.old < u64.MAX }
+    ensures calls { CallsBy file.now GraphEnds
+        (streams (devices (R.remaining input.old) (R.failures input.old) (W.contents output.old) (W.failures output.old)) (stream (S.contents errors.old) (S.failures errors.old)))
+        (streams (devices (R.remaining input.new) (R.failures input.new) (W.contents output.new) (W.failures output.new)) (stream (S.contents errors.new) (S.failures errors.new)))
         result }
     ensures taken { LosesBeginning (most_bundle_bytes + 1) (R.remaining input.old) (R.remaining input.new) }
 {
-    if dot {
-        run_dot(alloc, rt, input, output)
-    } else {
-        run_graph(alloc, rt, input, output)
+    match file {
+        Some(name) => graph_file(alloc, rt, files, name.as_str(), output, errors),
+        None => {
+            let ended = run_graph(alloc, rt, input, output);
+            finish(errors, ended)
+        }
     }
 }
 
 /// Draws the graph of the bundle of a file.
-fn draw_file<F: Files, W: CountedWrite, S: CountedWrite>(
+fn graph_file<F: Files, W: CountedWrite, S: CountedWrite>(
     alloc: Global,
-    rt: &(impl Threads + Wait + Sync),
+    rt: &(impl Threads + Sync),
     files: &F,
     name: &str,
-    dot: bool,
     output: &mut W,
     errors: &mut S,
 ) -> u8
     requires writes { W.failures output.old < u64.MAX }
     requires says { S.failures errors.old < u64.MAX }
-    ensures { CallsFile name.now (DrawingEnds dot)
+    ensures { CallsFile name.now GraphEnds
         (stream (W.contents output.old) (W.failures output.old)) (stream (W.contents output.new) (W.failures output.new))
         (stream (S.contents errors.old) (S.failures errors.old)) (stream (S.contents errors.new) (S.failures errors.new)) result }
 {
     match open_bundle(files, name) {
         Ok(mut file) => {
-            let ended = run_drawing(alloc, rt, dot, &mut file, output);
+            let ended = run_graph(alloc, rt, &mut file, output);
             finish_file(alloc, errors, ended, name, file.why)
         }
         Err(error) => {
@@ -305,107 +328,54 @@ fn draw_file<F: Files, W: CountedWrite, S: CountedWrite>(
     }
 }
 
-/// Prints the same of the bundle of a file.
-fn explain_file<F: Files, W: CountedWrite, S: CountedWrite>(
+/// Prints what a teller tells of a bundle.
+fn tell_by<T: Teller, F: Files, R: CountedRead, W: CountedWrite, S: CountedWrite>(
     alloc: Global,
+    rt: &(impl Threads + Sync),
     files: &F,
-    name: &str,
-    paths: &[Text],
+    file: &Option<Text>,
+    teller: &T,
+    input: &mut R,
     output: &mut W,
     errors: &mut S,
 ) -> u8
+    requires reads { R.failures input.old < u64.MAX }
     requires writes { W.failures output.old < u64.MAX }
     requires says { S.failures errors.old < u64.MAX }
-    ensures { CallsFile name.now (WhyEnds paths.now)
-        (stream (W.contents output.old) (W.failures output.old)) (stream (W.contents output.new) (W.failures output.new))
-        (stream (S.contents errors.old) (S.failures errors.old)) (stream (S.contents errors.new) (S.failures errors.new)) result }
+    ensures calls { CallsBy file.now (TellingEnds (T.tells teller.now) (T.stops teller.now))
+        (streams (devices (R.remaining input.old) (R.failures input.old) (W.contents output.old) (W.failures output.old)) (stream (S.contents errors.old) (S.failures errors.old)))
+        (streams (devices (R.remaining input.new) (R.failures input.new) (W.contents output.new) (W.failures output.new)) (stream (S.contents errors.new) (S.failures errors.new)))
+        result }
+    ensures taken { LosesBeginning (most_bundle_bytes + 1) (R.remaining input.old) (R.remaining input.new) }
 {
-    match open_bundle(files, name) {
-        Ok(mut file) => {
-            let ended = run_why(alloc, paths, &mut file, output);
-            finish_file(alloc, errors, ended, name, file.why)
-        }
-        Err(error) => {
-            let ended = Err(open_fault(&error));
-            finish_file(alloc, errors, ended, name, why_of(error.kind()))
+    match file {
+        Some(name) => tell_file(alloc, rt, files, name.as_str(), teller, output, errors),
+        None => {
+            let ended = tell_bundle(alloc, rt, teller, input, output);
+            finish(errors, ended)
         }
     }
 }
 
-/// Writes the graph of the bundle of a file for BuildKit.
-fn llb_file<F: Files, W: CountedWrite, S: CountedWrite>(
+/// Prints what a teller tells of the bundle of a file.
+fn tell_file<T: Teller, F: Files, W: CountedWrite, S: CountedWrite>(
     alloc: Global,
-    rt: &(impl Threads + Wait + Sync),
+    rt: &(impl Threads + Sync),
     files: &F,
     name: &str,
-    options: &LlbOptions,
+    teller: &T,
     output: &mut W,
     errors: &mut S,
 ) -> u8
     requires writes { W.failures output.old < u64.MAX }
     requires says { S.failures errors.old < u64.MAX }
-    ensures { CallsFile name.now (LlbEnds options.now)
+    ensures { CallsFile name.now (TellingEnds (T.tells teller.now) (T.stops teller.now))
         (stream (W.contents output.old) (W.failures output.old)) (stream (W.contents output.new) (W.failures output.new))
         (stream (S.contents errors.old) (S.failures errors.old)) (stream (S.contents errors.new) (S.failures errors.new)) result }
 {
     match open_bundle(files, name) {
         Ok(mut file) => {
-            let ended = run_llb(alloc, rt, options, &mut file, output);
-            finish_file(alloc, errors, ended, name, file.why)
-        }
-        Err(error) => {
-            let ended = Err(open_fault(&error));
-            finish_file(alloc, errors, ended, name, why_of(error.kind()))
-        }
-    }
-}
-
-/// Prints the configuration of the target of the bundle of a file.
-fn config_file<F: Files, W: CountedWrite, S: CountedWrite>(
-    alloc: Global,
-    rt: &(impl Threads + Wait + Sync),
-    files: &F,
-    name: &str,
-    output: &mut W,
-    errors: &mut S,
-) -> u8
-    requires writes { W.failures output.old < u64.MAX }
-    requires says { S.failures errors.old < u64.MAX }
-    ensures { CallsFile name.now ConfigEnds
-        (stream (W.contents output.old) (W.failures output.old)) (stream (W.contents output.new) (W.failures output.new))
-        (stream (S.contents errors.old) (S.failures errors.old)) (stream (S.contents errors.new) (S.failures errors.new)) result }
-{
-    match open_bundle(files, name) {
-        Ok(mut file) => {
-            let ended = run_config(alloc, rt, &mut file, output);
-            finish_file(alloc, errors, ended, name, file.why)
-        }
-        Err(error) => {
-            let ended = Err(open_fault(&error));
-            finish_file(alloc, errors, ended, name, why_of(error.kind()))
-        }
-    }
-}
-
-/// Prints all faults of the bundle of a file.
-fn check_file<F: Files, W: CountedWrite, S: CountedWrite>(
-    alloc: Global,
-    rt: &(impl Threads + Wait + Sync),
-    files: &F,
-    name: &str,
-    form: Form,
-    output: &mut W,
-    errors: &mut S,
-) -> u8
-    requires writes { W.failures output.old < u64.MAX }
-    requires says { S.failures errors.old < u64.MAX }
-    ensures { CallsFile name.now (CheckEnds form)
-        (stream (W.contents output.old) (W.failures output.old)) (stream (W.contents output.new) (W.failures output.new))
-        (stream (S.contents errors.old) (S.failures errors.old)) (stream (S.contents errors.new) (S.failures errors.new)) result }
-{
-    match open_bundle(files, name) {
-        Ok(mut file) => {
-            let ended = run_check(alloc, rt, form, &mut file, output);
+            let ended = tell_bundle(alloc, rt, teller, &mut file, output);
             finish_file(alloc, errors, ended, name, file.why)
         }
         Err(error) => {

@@ -1,69 +1,42 @@
-// All faults of a bundle, from the bytes of the bundle to the bytes that are written.
-ghost use Rattle.std.specs.Prelude.{◌≡◌, ◌<◌, ◌+◌, IfOk};
-ghost use Rattle.counted.specs.Edges.{LosesBeginning};
-ghost use Rattle.plain.specs.Limits.{most_bundle_bytes};
-ghost use Rattle.build.specs.Ends.{devices};
-ghost use Rattle.program.specs.Check.{CheckEnds, TellsFaults};
+// All faults of a bundle.
+ghost use Rattle.std.specs.Prelude.{IfOk};
+ghost use Rattle.program.specs.Check.{TellsFaults};
 
+use crate::telling::Teller;
 use crate::told::Told;
 use build::{BuildFault, Status};
 use checks::{Checked, Form, check};
-use counted::{CountedRead, CountedWrite, read_all, write_all};
-use plain::limits::MOST_BUNDLE_BYTES;
 use plain::{Bytes, Memory};
 use std::alloc::Global;
 use std::thread::Threads;
 
-/// Reads a bundle, and writes all its faults in this form.
+/// Tells all faults of a bundle in a form.
 ///
 /// `Built` if there is none, and then nothing is written, `Failed` if there is one, and never `Refused`: what a build refuses is such a fault.
-/// Nothing was written after `Memory`. After `Device` a read failed, and nothing was written, or a write failed, and a beginning was. It never
-/// ends with `Clash`.
-#[tactic(auto, unfolding(plain::specs::Limits::most_bundle_bytes))]
-pub(crate) fn run_check<R: CountedRead, W: CountedWrite>(
-    alloc: Global,
-    rt: &(impl Threads + Sync),
-    form: Form,
-    input: &mut R,
-    output: &mut W,
-) -> Result<Status, BuildFault>
-    requires reads { R.failures input.old < u64.MAX }
-    requires writes { W.failures output.old < u64.MAX }
-    ensures ends { CheckEnds form
-        (devices (R.remaining input.old) (R.failures input.old) (W.contents output.old) (W.failures output.old))
-        (devices (R.remaining input.new) (R.failures input.new) (W.contents output.new) (W.failures output.new))
-        result }
-    ensures taken { LosesBeginning (most_bundle_bytes + 1) (R.remaining input.old) (R.remaining input.new) }
-{
-    check_within(alloc, rt, MOST_BUNDLE_BYTES, form, input, output)
+#[derive(Drop)]
+pub(crate) struct FaultTeller {
+    pub(crate) form: Form,
 }
 
-/// The same, the limit of bundles being a value and no number that is written out.
-fn check_within<R: CountedRead, W: CountedWrite>(
-    alloc: Global,
-    rt: &(impl Threads + Sync),
-    most: usize,
-    form: Form,
-    input: &mut R,
-    output: &mut W,
-) -> Result<Status, BuildFault>
-    requires limit { most ≡ most_bundle_bytes }
-    requires room { most < usize.MAX }
-    requires reads { R.failures input.old < u64.MAX }
-    requires writes { W.failures output.old < u64.MAX }
-    ensures ends { CheckEnds form
-        (devices (R.remaining input.old) (R.failures input.old) (W.contents output.old) (W.failures output.old))
-        (devices (R.remaining input.new) (R.failures input.new) (W.contents output.new) (W.failures output.new))
-        result }
-    ensures taken { LosesBeginning (most + 1) (R.remaining input.old) (R.remaining input.new) }
-{
-    let bytes = read_all(alloc, input, most + 1)?;
-    match tell_faults(alloc, rt, bytes.as_slice(), form) {
-        Ok(told) => {
-            write_all(output, told.text.as_slice())?;
-            Ok(told.status)
-        }
-        Err(_) => Err(BuildFault::Memory),
+impl Teller for FaultTeller {
+    ghost use Rattle.program.specs.Telling.{never};
+    ghost use Rattle.program.specs.PrivateMoved.{check_moves, never_moves};
+
+    ghost tells = { λ teller. TellsFaults teller.form };
+
+    ghost stops = { λ teller. never };
+
+    ghost moves = { λ teller. check_moves teller.form };
+
+    ghost moves_stops = { λ teller. never_moves };
+
+    fn tell<H: Threads + Sync>(
+        &self,
+        alloc: Global,
+        rt: &H,
+        bundle: &[u8],
+    ) -> Result<Told, BuildFault> {
+        Ok(tell_faults(alloc, rt, bundle, self.form)?)
     }
 }
 

@@ -1,26 +1,22 @@
-// A bundle's graph as BuildKit reads it, from the bytes of the bundle to the bytes that are written.
-ghost use Rattle.std.specs.Prelude.{◌≡◌, ◌<◌, ◌+◌, IfOk};
-ghost use Rattle.counted.specs.Edges.{LosesBeginning};
-ghost use Rattle.plain.specs.Limits.{most_bundle_bytes};
+// A bundle's graph as BuildKit reads it.
+ghost use Rattle.std.specs.Prelude.{◌≡◌, IfOk};
 ghost use Rattle.drawing.specs.Drawn.{IsSimplified};
 ghost use Rattle.exported.specs.Excluding.{exclude_list as patterns_of};
 ghost use Rattle.rewrite.specs.Pruned.{KeepsMeaning};
-ghost use Rattle.build.specs.Ends.{devices};
 ghost use Rattle.build.specs.Lowerable.{IsLowerable};
-ghost use Rattle.program.specs.Llb.{IsDrawnPlan, LlbEnds, chosen, fault_of, network_of, platform_of};
+ghost use Rattle.program.specs.Llb.{IsDrawnPlan, chosen, fault_of, network_of, platform_of};
 ghost use Rattle.program.specs.PrivateLlb.{IsFileTold, IsLlbTold, IsPlanTold};
 
+use crate::telling::Teller;
 use crate::told::{Told, tell_refusal};
 use build::{Asked, BuildFault, Status, Titled, ask_titled};
 use command::{LlbOptions, NetworkName, PlatformName};
-use counted::{CountedRead, CountedWrite, read_all, write_all};
 use evaluation::Evaluated;
 use exported::{ExportFault, Obstacle, Options, exclude_list, export};
 use imageconfig::Config;
 use llbmessages::{Network, Platform};
 use lowering::lower_program;
 use paths::Path;
-use plain::limits::MOST_BUNDLE_BYTES;
 use plain::{Bytes, Exact, Fault, Items, Memory, Text};
 use plans::Plan;
 use rewrite::{flatten_links, prune};
@@ -36,58 +32,36 @@ pub(crate) struct Beside {
     pub(crate) left: Items<Path>,
 }
 
-/// Reads a bundle, and writes its graph as a definition of BuildKit's LLB, or its refusal.
+/// Tells a bundle's graph as a definition of BuildKit's LLB, or the bundle's refusal.
 ///
 /// The graph is the one that `graph` prints, and progress calls each of its steps by the title of its instruction. Of the folder that BuildKit is
-/// given, patterns leave out just what the ignore file does. `Built` where it was written, also where a build would fail, `Refused` where the
-/// refusal was, and never `Failed`. `Clash` only where two different operations have one digest, and `Unspeakable` only where the graph has the
-/// folder and BuildKit can't be told a pattern; nothing was written then. Nothing was written after `Memory` either. After `Device` a read failed, and nothing was written, or a
-/// write failed, and a beginning was.
-#[tactic(auto, unfolding(plain::specs::Limits::most_bundle_bytes))]
-pub(crate) fn run_llb<R: CountedRead, W: CountedWrite>(
-    alloc: Global,
-    rt: &(impl Threads + Sync),
-    options: &LlbOptions,
-    input: &mut R,
-    output: &mut W,
-) -> Result<Status, BuildFault>
-    requires reads { R.failures input.old < u64.MAX }
-    requires writes { W.failures output.old < u64.MAX }
-    ensures ends { LlbEnds options.now
-        (devices (R.remaining input.old) (R.failures input.old) (W.contents output.old) (W.failures output.old))
-        (devices (R.remaining input.new) (R.failures input.new) (W.contents output.new) (W.failures output.new))
-        result }
-    ensures taken { LosesBeginning (most_bundle_bytes + 1) (R.remaining input.old) (R.remaining input.new) }
-{
-    llb_within(alloc, rt, MOST_BUNDLE_BYTES, options, input, output)
+/// given, patterns leave out just what the ignore file does. `Built` if it was written, also if a build would fail, `Refused` if the refusal was,
+/// and never `Failed`. `Clash` only if two different operations have one digest, and `Unspeakable` only if the graph has the folder and BuildKit
+/// can't be told a pattern.
+#[derive(Drop)]
+pub(crate) struct DefinitionTeller<'a> {
+    pub(crate) options: &'a LlbOptions,
 }
 
-/// The same, the limit of bundles being a value and no number that is written out.
-fn llb_within<R: CountedRead, W: CountedWrite>(
-    alloc: Global,
-    rt: &(impl Threads + Sync),
-    most: usize,
-    options: &LlbOptions,
-    input: &mut R,
-    output: &mut W,
-) -> Result<Status, BuildFault>
-    requires limit { most ≡ most_bundle_bytes }
-    requires room { most < usize.MAX }
-    requires reads { R.failures input.old < u64.MAX }
-    requires writes { W.failures output.old < u64.MAX }
-    ensures ends { LlbEnds options.now
-        (devices (R.remaining input.old) (R.failures input.old) (W.contents output.old) (W.failures output.old))
-        (devices (R.remaining input.new) (R.failures input.new) (W.contents output.new) (W.failures output.new))
-        result }
-    ensures taken { LosesBeginning (most + 1) (R.remaining input.old) (R.remaining input.new) }
-{
-    let bytes = read_all(alloc, input, most + 1)?;
-    match tell_llb(alloc, rt, bytes.as_slice(), options) {
-        Ok(told) => {
-            write_all(output, told.text.as_slice())?;
-            Ok(told.status)
-        }
-        Err(fault) => Err(fault),
+impl<'a> Teller for DefinitionTeller<'a> {
+    ghost use Rattle.program.specs.Llb.{LlbStops, TellsLlb};
+    ghost use Rattle.program.specs.PrivateMoved.{llb_moves, llb_moves_stops};
+
+    ghost tells = { λ teller. TellsLlb teller.options.now };
+
+    ghost stops = { λ teller. LlbStops teller.options.now };
+
+    ghost moves = { λ teller. llb_moves teller.options.now };
+
+    ghost moves_stops = { λ teller. llb_moves_stops teller.options.now };
+
+    fn tell<H: Threads + Sync>(
+        &self,
+        alloc: Global,
+        rt: &H,
+        bundle: &[u8],
+    ) -> Result<Told, BuildFault> {
+        tell_llb(alloc, rt, bundle, self.options)
     }
 }
 

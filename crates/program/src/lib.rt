@@ -20,6 +20,7 @@ pub mod laws;
 mod picturing;
 mod running;
 mod saying;
+mod telling;
 mod told;
 mod why;
 

@@ -102,7 +102,7 @@ pub fn run_program<
             status
         }
         Ok(Task::Why(options)) => {
-            let status = explain_paths(alloc, files, &options, input, output, errors);
+            let status = explain_paths(alloc, rt, files, &options, input, output, errors);
             drop(options);
             status
         }

@@ -1,73 +1,49 @@
-// Why paths of a bundle's context are kept or left out, from the bytes of the bundle to the bytes that are written.
-ghost use Rattle.std.specs.Prelude.{◌≡◌, ◌<◌, ◌+◌, IfOk};
-ghost use Rattle.counted.specs.Edges.{LosesBeginning};
-ghost use Rattle.plain.specs.Limits.{most_bundle_bytes};
-ghost use Rattle.build.specs.Ends.{devices};
-ghost use Rattle.program.specs.Why.{TellsWhy, WhyEnds};
+// Why paths of a bundle's context are kept or left out.
+ghost use Rattle.std.specs.Prelude.{IfOk};
+ghost use Rattle.program.specs.Why.{TellsWhy};
 
+use crate::telling::Teller;
 use crate::told::{Told, tell_refusal};
 use build::{BuildFault, Status};
-use counted::{CountedRead, CountedWrite, read_all, write_all};
 use expand::Rejection;
 use imageconfig::Config;
-use plain::limits::MOST_BUNDLE_BYTES;
 use plain::{Fault, Memory, Text};
 use reasons::reasons;
 use std::alloc::Global;
+use std::thread::Threads;
 
-/// Reads a bundle, and writes a line for each of these paths: whether it is kept in the context, and which line of the ignore file decided. Or it
-/// writes the bundle's refusal.
+/// Tells of each of these paths whether it is kept in a bundle's context, and which line of the ignore file decided. Or it tells the bundle's refusal.
 ///
-/// `Built` if the lines were written, `Refused` if the refusal was, and never `Failed`. Nothing was written after `Memory`. After
-/// `Device` a read failed, and nothing was written, or a write failed, and a beginning was. It never ends with `Clash`.
-#[tactic(auto, unfolding(plain::specs::Limits::most_bundle_bytes))]
-pub(crate) fn run_why<R: CountedRead, W: CountedWrite>(
-    alloc: Global,
-    paths: &[Text],
-    input: &mut R,
-    output: &mut W,
-) -> Result<Status, BuildFault>
-    requires reads { R.failures input.old < u64.MAX }
-    requires writes { W.failures output.old < u64.MAX }
-    ensures ends { WhyEnds paths.now
-        (devices (R.remaining input.old) (R.failures input.old) (W.contents output.old) (W.failures output.old))
-        (devices (R.remaining input.new) (R.failures input.new) (W.contents output.new) (W.failures output.new))
-        result }
-    ensures taken { LosesBeginning (most_bundle_bytes + 1) (R.remaining input.old) (R.remaining input.new) }
-{
-    why_within(alloc, MOST_BUNDLE_BYTES, paths, input, output)
+/// `Built` if the lines were written, `Refused` if the refusal was, and never `Failed`.
+#[derive(Drop)]
+pub(crate) struct PathTeller<'a> {
+    pub(crate) paths: &'a [Text],
 }
 
-/// The same, the limit of bundles being a value and no number that is written out.
-fn why_within<R: CountedRead, W: CountedWrite>(
-    alloc: Global,
-    most: usize,
-    paths: &[Text],
-    input: &mut R,
-    output: &mut W,
-) -> Result<Status, BuildFault>
-    requires limit { most ≡ most_bundle_bytes }
-    requires room { most < usize.MAX }
-    requires reads { R.failures input.old < u64.MAX }
-    requires writes { W.failures output.old < u64.MAX }
-    ensures ends { WhyEnds paths.now
-        (devices (R.remaining input.old) (R.failures input.old) (W.contents output.old) (W.failures output.old))
-        (devices (R.remaining input.new) (R.failures input.new) (W.contents output.new) (W.failures output.new))
-        result }
-    ensures taken { LosesBeginning (most + 1) (R.remaining input.old) (R.remaining input.new) }
-{
-    let bytes = read_all(alloc, input, most + 1)?;
-    match tell(alloc, bytes.as_slice(), paths) {
-        Ok(told) => {
-            write_all(output, told.text.as_slice())?;
-            Ok(told.status)
-        }
-        Err(_) => Err(BuildFault::Memory),
+impl<'a> Teller for PathTeller<'a> {
+    ghost use Rattle.program.specs.Telling.{never};
+    ghost use Rattle.program.specs.PrivateMoved.{why_moves, never_moves};
+
+    ghost tells = { λ teller. TellsWhy teller.paths.now };
+
+    ghost stops = { λ teller. never };
+
+    ghost moves = { λ teller. why_moves teller.paths.now };
+
+    ghost moves_stops = { λ teller. never_moves };
+
+    fn tell<H: Threads + Sync>(
+        &self,
+        alloc: Global,
+        _rt: &H,
+        bundle: &[u8],
+    ) -> Result<Told, BuildFault> {
+        Ok(tell_paths(alloc, bundle, self.paths)?)
     }
 }
 
 /// What a bundle's bytes tell of these paths, or their refusal.
-fn tell(alloc: Global, bundle: &[u8], paths: &[Text]) -> Result<Told, Memory>
+fn tell_paths(alloc: Global, bundle: &[u8], paths: &[Text]) -> Result<Told, Memory>
     ensures { IfOk result (λ told. TellsWhy paths.now bundle.now told.status told.text) }
 {
     match reasons::<Config>(alloc, bundle, paths) {

@@ -1,5 +1,5 @@
 use Rattle.std.proofs.Common.{refl, Err, inl}
-use Rattle.program.proofs.bundles.explain_file.Goals as goal
+use Rattle.program.proofs.bundles.graph_file.Goals as goal
 
 -- the file wasn't opened
 pub returns-in-Err : goal.returns-in-Err

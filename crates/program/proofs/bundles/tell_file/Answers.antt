@@ -2,10 +2,10 @@ use Rattle.std.proofs.Common.{◌≡◌, ℕ, List, Option, Result, refl, Err, i
 use Rattle.build.specs.Ends.{Devices, devices}
 use Rattle.build.specs.declared.status.Status.{Status}
 use Rattle.build.specs.declared.status.BuildFault.{BuildFault}
-use Rattle.program.specs.Llb.{LlbEnds}
 use Rattle.program.specs.Runs.{HasOpened}
 use Rattle.program.specs.Saying.{Stream}
-use Rattle.program.proofs.bundles.llb_file.Goals as goal
+use Rattle.program.specs.Telling.{TellingEnds}
+use Rattle.program.proofs.bundles.tell_file.Goals as goal
 
 -- a file was opened, none of whose reads had failed
 opened : (EndsSo : Devices → Devices → Result Status BuildFault → Type 0) (left left_then : Option (List ℕ)) (failed failed_then : ℕ) (output new_output : Stream)
@@ -21,8 +21,8 @@ opened EndsSo left left_then failed failed_then output new_output ended none end
 
 pub returns-in-Ok : goal.returns-in-Ok
 returns-in-Ok g c = record {
-  ended = c.run_llb-ended.result;
-  ends = inr (opened (LlbEnds c.args.options.now) _ _ _ _ _ _ c.run_llb-ended.result c.in-Ok.ensures c.run_llb-ended.ensures.ends);
+  ended = c.tell_bundle-ended.result;
+  ends = inr (opened (TellingEnds (g.T.Teller.tells c.args.teller.now) (g.T.Teller.stops c.args.teller.now)) _ _ _ _ _ _ c.tell_bundle-ended.result c.in-Ok.ensures c.tell_bundle-ended.ensures.ends);
   says = c.finish_file.ensures.says;
   is = c.finish_file.ensures.is;
 }

@@ -2,7 +2,7 @@ use Rattle.std.proofs.Common.{◌≡◌, IfOk, subst}
 use Rattle.counted.specs.Edges.{line_of}
 use Rattle.bundle.specs.Answer.{refused_text}
 use Rattle.program.proofs.WhyFacts.{refusal_told}
-use Rattle.program.proofs.why.tell.Goals as goal
+use Rattle.program.proofs.why.tell_paths.Goals as goal
 
 pub returns-in-Err-Because : goal.returns-in-Err-Because
 returns-in-Err-Because c =

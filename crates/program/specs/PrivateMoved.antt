@@ -1,0 +1,104 @@
+-- What is told of a bundle is told of every one that holds the same: the laws of the tellers. They stand among the definitions since the tellers cite
+-- them as laws of their trait.
+use Rattle.std.proofs.Common.{◌≡◌, inl, inr, ℕ, List, Option, Result, Ok, Err, sym, ap, ◌∙◌}
+use Rattle.plain.specs.declared.refusal.Refusal.{Refusal}
+use Rattle.plain.specs.declared.fault.Fault.TheVariants.{Because}
+use Rattle.expand.specs.declared.reason.Rejection.{Rejection}
+use Rattle.command.specs.declared.task.LlbOptions.{LlbOptions}
+use Rattle.imageconfig.specs.Reading.{config_in}
+use Rattle.evaluation.specs.declared.evaluated.Evaluated.{Evaluated}
+use Rattle.bundle.specs.Reading.{ReadsBundle}
+use Rattle.checks.specs.Checks.{AreFaultsOf}
+use Rattle.checks.specs.Checked.{IsCheckOf, faulty_text_in}
+use Rattle.checks.specs.Shown.{readable_lines, shown_faults}
+use Rattle.checks.specs.declared.checked.Checked.{Checked}
+use Rattle.checks.specs.declared.form.Form.{Form}
+use Rattle.build.specs.declared.status.Status.{Status}
+use Rattle.build.specs.declared.status.Status.TheVariants.{Built, Failed, Refused}
+use Rattle.build.specs.declared.status.BuildFault.{BuildFault}
+use Rattle.build.specs.Meaning.{Asks}
+use Rattle.build.specs.Titled.{HasTitlesOf, HasLeftOut}
+use Rattle.program.specs.declared.exporting.Beside.{Beside}
+use Rattle.program.specs.Check.{TellsFaults}
+use Rattle.program.specs.Config.{TellsConfig}
+use Rattle.program.specs.Dot.{TellsDot}
+use Rattle.program.specs.Llb.{IsBeside, LlbStops, TellsLlb}
+use Rattle.program.specs.PrivateTelling.{held, Moves, MovesStops}
+use Rattle.program.specs.Telling.{never}
+use Rattle.program.specs.Why.{TellsWhy}
+
+-- bytes that hold the same are refused alike
+refused : (bytes others : List ℕ) (refusal : Refusal) → held bytes ≡ held others → ReadsBundle config_in bytes (Err (Because refusal)) → ReadsBundle config_in others (Err (Because refusal))
+refused bytes others refusal same (inl none) = inl (sym same ∙ none.0, none.1)
+refused bytes others refusal same (inr some) = inr (some.0, (sym same ∙ some.1.0, some.1.1))
+
+-- and ask for the same
+asks : (bytes others : List ℕ) (asked : Result Evaluated Rejection) → held bytes ≡ held others → Asks bytes asked → Asks others asked
+asks bytes others asked same (inl told) = inl (told.0, refused bytes others told.0 same told.1, told.2)
+asks bytes others asked same (inr read) = inr (read.0, (read.1.0, (sym same ∙ read.1.1.0, read.1.1.1)), read.2)
+
+-- they have the same faults
+faults_moved : (bytes others : List ℕ) (faults : List Rejection) → held bytes ≡ held others → AreFaultsOf bytes faults → AreFaultsOf others faults
+faults_moved bytes others faults same (inl told) = inl (told.0, refused bytes others told.0 same told.1, told.2)
+faults_moved bytes others faults same (inr read) = inr (read.0, (read.1.0, (sym same ∙ read.1.1.0, read.1.1.1)), read.2)
+
+checked_moved : (bytes others : List ℕ) (form : Form) (checked : Checked) → held bytes ≡ held others → IsCheckOf bytes form checked → IsCheckOf others form checked
+checked_moved bytes others form checked same is = record {
+  faults = is.faults;
+  are = faults_moved bytes others is.faults same is.are;
+  text = is.text ∙ ap (λ parts. shown_faults form (readable_lines (faulty_text_in parts)) is.faults) same;
+  is_sound = is.is_sound;
+}
+
+pub check_moves : (form : Form) → Moves (TellsFaults form)
+check_moves form bytes bundle Built text same told = (told.0, checked_moved bytes bundle form told.0 same told.1, told.2, told.3)
+check_moves form bytes bundle Failed text same told = (told.0, checked_moved bytes bundle form told.0 same told.1, told.2, told.3)
+check_moves form bytes bundle Refused text same told = told
+
+-- the same configuration
+pub config_moves : Moves TellsConfig
+config_moves bytes bundle Built text same told = (told.0, asks bytes bundle (Ok told.0) same told.1, told.2)
+config_moves bytes bundle Failed text same told = told
+config_moves bytes bundle Refused text same told = (told.0, asks bytes bundle (Err told.0) same told.1, told.2)
+
+-- the same titles
+titles_moved : (bytes bundle : List ℕ) (titles : List (Option (List ℕ))) → held bytes ≡ held bundle → HasTitlesOf bytes titles → HasTitlesOf bundle titles
+titles_moved bytes bundle titles same has = (has.0, (has.1.0, (sym same ∙ has.1.1.0, has.1.1.1)), has.2)
+
+-- the same graph
+pub dot_moves : Moves TellsDot
+dot_moves bytes bundle Built text same told =
+    (told.0, asks bytes bundle (Ok told.0) same told.1, (told.2.0, titles_moved bytes bundle told.2.0 same told.2.1, told.2.2))
+dot_moves bytes bundle Failed text same told = told
+dot_moves bytes bundle Refused text same told = (told.0, asks bytes bundle (Err told.0) same told.1, told.2)
+
+-- the same is left out
+left_moved : (bytes bundle : List ℕ) (left : List (List (List ℕ))) → held bytes ≡ held bundle → HasLeftOut bytes left → HasLeftOut bundle left
+left_moved bytes bundle left same has =
+    let reads = has.1.reads in
+    (has.0, record { reads = (reads.0, (sym same ∙ reads.1.0, reads.1.1)); leaves = λ parts e. has.1.leaves parts (same ∙ e) })
+
+beside_moved : (bytes bundle : List ℕ) (beside : Beside) → held bytes ≡ held bundle → IsBeside bytes beside → IsBeside bundle beside
+beside_moved bytes bundle beside same has = record { titles = titles_moved bytes bundle beside.titles same has.titles; left = left_moved bytes bundle beside.left same has.left }
+
+-- the same definition, or none
+pub llb_moves : (options : LlbOptions) → Moves (TellsLlb options)
+llb_moves options bytes bundle Built text same told =
+    (told.0, asks bytes bundle (Ok told.0) same told.1, (told.2.0, beside_moved bytes bundle told.2.0 same told.2.1, told.2.2))
+llb_moves options bytes bundle Failed text same told = told
+llb_moves options bytes bundle Refused text same told = (told.0, asks bytes bundle (Err told.0) same told.1, told.2)
+
+pub llb_moves_stops : (options : LlbOptions) → MovesStops (LlbStops options)
+llb_moves_stops options fault bytes bundle same stops =
+    (stops.0, asks bytes bundle (Ok stops.0) same stops.1, (stops.2.0, beside_moved bytes bundle stops.2.0 same stops.2.1, stops.2.2))
+
+-- the same of paths
+pub why_moves : (paths : List (List ℕ)) → Moves (TellsWhy paths)
+why_moves paths bytes bundle Built text same told =
+    (told.0, record { parts = told.1.parts; is = sym same ∙ told.1.is; has = told.1.has }, told.2)
+why_moves paths bytes bundle Failed text same told = told
+why_moves paths bytes bundle Refused text same told = (told.0, refused bytes bundle told.0 same told.1, told.2)
+
+-- and one of which nothing is due is of no bundle
+pub never_moves : MovesStops never
+never_moves fault bytes bundle same stops = stops

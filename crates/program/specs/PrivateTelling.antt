@@ -1,0 +1,32 @@
+-- What a teller answers, and that it answers of what a bundle holds (own).
+use Rattle.std.specs.Prelude.{◌≡◌, ℕ, List, Option, Result, Ok, Err}
+use Rattle.imageconfig.specs.Reading.{config_in}
+use Rattle.imageconfig.specs.declared.config.Config.{Config}
+use Rattle.bundle.specs.Parts.{parts_of}
+use Rattle.bundle.specs.declared.parts.Parts.{Parts}
+use Rattle.build.specs.declared.status.Status.{Status}
+use Rattle.build.specs.declared.status.BuildFault.{BuildFault}
+use Rattle.build.specs.declared.status.BuildFault.TheVariants.{Memory, Device, Clash, Unspeakable}
+use Rattle.build.specs.Ends.{Answering}
+use Rattle.program.specs.declared.told.Told.{Told}
+use Rattle.program.specs.Telling.{Stops}
+
+-- what bytes hold
+abbrev pub held : List ℕ → Option (Parts Config)
+held bytes = parts_of config_in bytes
+
+-- what is told of bytes is told of all that hold the same
+abbrev pub Moves : Answering → Type 0
+Moves Tells = (bytes bundle : List ℕ) (status : Status) (text : List ℕ) → held bytes ≡ held bundle → Tells bytes status text → Tells bundle status text
+
+-- and so is that nothing is due of them
+abbrev pub MovesStops : Stops → Type 0
+MovesStops IsStopped = (fault : BuildFault) (bytes bundle : List ℕ) → held bytes ≡ held bundle → IsStopped fault bytes → IsStopped fault bundle
+
+-- what is answered to a bundle's bytes: what is due of them, or that nothing is; want of memory says nothing
+abbrev pub IsToldBy : Answering → Stops → List ℕ → Result Told BuildFault → Type 0
+IsToldBy Tells IsStopped bytes (Ok told) = Tells bytes told.status told.text
+IsToldBy Tells IsStopped bytes (Err Memory) = Unit {0}
+IsToldBy Tells IsStopped bytes (Err Device) = ⊥
+IsToldBy Tells IsStopped bytes (Err Clash) = IsStopped Clash bytes
+IsToldBy Tells IsStopped bytes (Err Unspeakable) = IsStopped Unspeakable bytes
