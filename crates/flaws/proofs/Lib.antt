@@ -1,1 +1,4 @@
-
+mod BundleFacts
+mod EntryFacts
+mod LookFacts
+pub mod RowFacts

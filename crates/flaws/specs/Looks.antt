@@ -93,9 +93,9 @@ among_members looks no_members = None
 among_members looks (member key d members) = or_else (below (Key key) (looks d)) (among_members looks members)
 
 -- the first value of an object of any keys that is wrong; what is no object is wrong itself
-abbrev pub rows_in : Looks → Option Members → Option Way
-rows_in looks None = Some []
-rows_in looks (Some members) = among_members looks members
+abbrev pub members_in : Looks → Option Members → Option Way
+members_in looks None = Some []
+members_in looks (Some members) = among_members looks members
 
 abbrev pub rows : Looks → Looks
-rows looks d = rows_in looks (as_object d)
+rows looks d = members_in looks (as_object d)

@@ -1,7 +1,7 @@
 -- How it is written where a bundle is wrong (own): a place in the JSON as jq takes it, as in `.images["node:20"].tree[3].mode`; and else in a few words.
-use Rattle.std.specs.Prelude.{◌++◌, ◌&&◌, ◌||◌, ◌==◌, not, ℕ, Bool, false, List, [], ◌∷◌, codes, decimal, is_ascii_digit, if◌then◌else◌}
-use Rattle.std.specs.Char.{is_ascii_alphanumeric}
-use Rattle.std.specs.List.{flat_map, list_all}
+use Rattle.std.specs.Prelude.{◌++◌, ℕ, List, [], ◌∷◌, codes, decimal, if◌then◌else◌}
+use Rattle.std.specs.List.{flat_map}
+use Rattle.ascii.specs.Names.{is_name}
 use Rattle.serde_json.specs.Data.{string}
 use Rattle.serde_json.specs.Written.{compact_text}
 use Rattle.flaws.specs.Looks.{Way}
@@ -10,24 +10,15 @@ use Rattle.flaws.specs.declared.flaw.Step.TheVariants.{Key, Item}
 use Rattle.flaws.specs.declared.flaw.Flaw.{Flaw}
 use Rattle.flaws.specs.declared.flaw.Flaw.TheVariants.{TooLong, NoText, NoJson, At}
 
--- a letter, a digit or `_`
-abbrev pub is_word_byte : ℕ → Bool
-is_word_byte byte = is_ascii_alphanumeric byte || (byte == 95)
-
--- a word that doesn't begin with a digit
-abbrev pub is_word : List ℕ → Bool
-is_word [] = false
-is_word (byte ∷ rest) = not (is_ascii_digit byte) && (is_word_byte byte && list_all is_word_byte rest)
-
--- one step of a way: a key that is a word stands after a point, and any other as JSON in brackets
+-- one step of a way: a key that is a name stands after a point, and any other as JSON in brackets
 abbrev pub step_text : Step → List ℕ
-step_text (Key key) = if is_word key then codes "." ++ key else codes "[" ++ (compact_text (string key) ++ codes "]")
+step_text (Key key) = if is_name key then codes "." ++ key else codes "[" ++ (compact_text (string key) ++ codes "]")
 step_text (Item place) = codes "[" ++ (decimal place ++ codes "]")
 
 -- what stands before a way that begins with this step: a way begins with a point
 abbrev pub way_head : Way → List ℕ
 way_head [] = codes "."
-way_head (Key key ∷ way) = if is_word key then [] else codes "."
+way_head (Key key ∷ way) = if is_name key then [] else codes "."
 way_head (Item place ∷ way) = codes "."
 
 -- a way, and the whole value as a point

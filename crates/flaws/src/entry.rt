@@ -17,19 +17,29 @@ use paths::Path;
 use plain::{Fault, Items, Memory};
 use std::alloc::Global;
 
-/// Whether a text is four octal digits, as a mode is.
-fn is_mode(text: &str) -> bool
-    ensures { result ≡ is_some (mode_of text.now) }
-{
-    let digits = text.as_bytes();
-    digits.len() == 4 && digits.iter().all(|digit| is_octal(*digit))
-}
-
 /// Whether a character is a digit from 0 to 7.
 fn is_octal(digit: u8) -> bool
     ensures { result ≡ is_octal digit }
 {
     b'0' <= digit && digit <= b'7'
+}
+
+/// Whether all characters are digits from 0 to 7.
+fn are_octal(digits: &[u8]) -> bool
+    ensures { result ≡ list_all is_octal digits.now }
+{
+    digits.iter().all(|digit| is_octal(*digit))
+}
+
+/// Whether a text is four octal digits, as a mode is.
+fn is_mode(text: &str) -> bool
+    ensures { result ≡ is_some (mode_of text.now) }
+{
+    let digits = text.as_bytes();
+    if digits.len() != 4 || !are_octal(digits) {
+        return false;
+    }
+    true
 }
 
 /// A mode.
@@ -43,9 +53,13 @@ impl Look for ModeText {
 
     #[tactic(auto, unfolding(entries::specs::Reading::mode_in))]
     fn look(alloc: Global, value: &Value<'_>) -> Result<Option<Items<Step>>, Memory> {
-        match text_of(value) {
-            Some(text) if is_mode(text) => Ok(None),
-            _ => Ok(Some(Items::new(alloc))),
+        let Some(text) = text_of(value) else {
+            return Ok(Some(Items::new(alloc)));
+        };
+        if is_mode(text) {
+            Ok(None)
+        } else {
+            Ok(Some(Items::new(alloc)))
         }
     }
 }

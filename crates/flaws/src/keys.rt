@@ -1,8 +1,7 @@
 // The keys of an object.
 
-ghost use Rattle.std.specs.Prelude.{◌≡◌, ◌∷◌, IfOk, map, not, Some, None, bytes_eq};
-ghost use Rattle.std.specs.List.{find, list_any};
-ghost use Rattle.std.specs.Option.{option_map};
+ghost use Rattle.std.specs.Prelude.{◌≡◌, IfOk, map, bytes_eq};
+ghost use Rattle.std.specs.List.{list_any};
 ghost use Rattle.bundle.specs.Parts.{is_image_name};
 ghost use Rattle.borrowed.specs.Seen.{data_of};
 ghost use Rattle.flaws.specs.Looks.{first_key, keys, no_other};
@@ -46,6 +45,7 @@ fn first_other<L>(
 }
 
 /// Where an object is wrong that may have these keys alone: the first other one, if it has one.
+#[tactic(auto, using(crate::proofs::RowFacts::strict_keys, crate::proofs::RowFacts::keys_found, crate::proofs::RowFacts::no_keys_found))]
 pub(crate) fn no_other(
     alloc: Global,
     value: &Value<'_>,
@@ -87,6 +87,7 @@ fn first_bad_name<L>(
 }
 
 /// Where an object is wrong whose keys are the names of images: the first that is none.
+#[tactic(auto, using(crate::proofs::RowFacts::keys_found, crate::proofs::RowFacts::no_keys_found))]
 pub(crate) fn image_names(
     alloc: Global,
     value: &Value<'_>,

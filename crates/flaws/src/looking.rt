@@ -1,10 +1,9 @@
 // How a value of any kind is looked at, and the ways that are found.
 
-ghost use Rattle.std.specs.Prelude.{◌≡◌, ◌∷◌, IfOk, map, option_map};
-ghost use Rattle.serde_json.specs.Find.{get, as_object};
+ghost use Rattle.std.specs.Prelude.{◌≡◌, [], ◌∷◌, IfOk};
 ghost use Rattle.borrowed.specs.Seen.{data_of};
 ghost use Rattle.borrowed.specs.Lent.{items_data};
-ghost use Rattle.flaws.specs.Looks.{below, read_as, optional, required, keys_of, among_items, items, rows};
+ghost use Rattle.flaws.specs.Looks.{below, read_as, optional, required, among_items, items, rows};
 ghost use Rattle.flaws.specs.PrivateRows.{first_found};
 
 use crate::flaw::Step;
@@ -178,6 +177,7 @@ fn first_found<L>(rows: Items<(Text, Looked<L>)>) -> Result<Option<Items<Step>>,
 }
 
 /// Where an object of any keys is wrong.
+#[tactic(auto, using(crate::proofs::RowFacts::rows_found, crate::proofs::RowFacts::no_rows))]
 pub(crate) fn rows<L: Look>(alloc: Global, value: &Value<'_>) -> Result<Option<Items<Step>>, Memory>
     ensures { IfOk result (λ found. found ≡ rows L.looks (data_of value.now)) }
 {

@@ -1,35 +1,14 @@
-ghost use Rattle.std.specs.Prelude.{◌≡◌, ◌++◌, IfOk, OnOk};
+ghost use Rattle.std.specs.Prelude.{◌≡◌, IfOk};
 ghost use Rattle.std.specs.String.{string_bytes};
-ghost use Rattle.std.specs.List.{list_all, flat_map};
 ghost use Rattle.serde_json.specs.Data.{string};
 ghost use Rattle.serde_json.specs.Written.{compact_text};
-ghost use Rattle.flaws.specs.Places.{is_word_byte, is_word, step_text, way_head, way_text, place_text};
+ghost use Rattle.flaws.specs.Places.{step_text, way_head, way_text, place_text};
 
 use crate::flaw::{Flaw, Step};
+use ascii::is_name;
 use plain::{Memory, Text};
 use serde_json::Value;
 use std::alloc::Global;
-
-/// Whether a byte is a letter, a digit or `_`.
-fn is_word_byte(byte: u8) -> bool
-    ensures { result ≡ is_word_byte byte }
-{
-    byte.is_ascii_alphanumeric() || byte == b'_'
-}
-
-/// Whether a text is a word that doesn't begin with a digit.
-fn is_word(text: &str) -> bool
-    ensures { result ≡ is_word text.now }
-{
-    match text.as_bytes() {
-        [] => false,
-        [first, rest @ ..] => {
-            !first.is_ascii_digit()
-                && is_word_byte(*first)
-                && rest.iter().all(|byte| is_word_byte(*byte))
-        }
-    }
-}
 
 /// A text as JSON.
 fn quoted(alloc: Global, text: &str) -> Result<String, Memory>
@@ -48,7 +27,7 @@ fn step_text(alloc: Global, step: &Step) -> Result<String, Memory>
     match step {
         Step::Key(key) => {
             let key = key.as_str();
-            if is_word(key) {
+            if is_name(key.as_bytes()) {
                 return Ok(format!(in alloc; ".{key}")?);
             }
             let key = quoted(alloc, key)?;
@@ -64,7 +43,7 @@ fn way_head(way: &[Step]) -> &'static str
 {
     match way {
         [] => ".",
-        [Step::Key(key), ..] => if is_word(key.as_str()) { "" } else { "." },
+        [Step::Key(key), ..] => if is_name(key.as_str().as_bytes()) { "" } else { "." },
         [Step::Item(_), ..] => ".",
     }
 }
