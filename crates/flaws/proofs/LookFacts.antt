@@ -5,7 +5,7 @@ use Rattle.serde_json.specs.Data.{Data, Items, no_items, item, Members, no_membe
 use Rattle.serde_json.specs.Find.{get, as_array, as_object}
 use Rattle.strict.specs.Strict.{has_only, strict, at_most_one, with_first, all_in, list_in, members_in, rows_in}
 use Rattle.bundle.specs.Parts.{or_none}
-use Rattle.flaws.specs.Looks.{Way, Looks, whole, read_as, below, or_else, optional_in, optional, required_in, required, keys_of, first_key, keys_in, keys, no_other, among_items, items_in, items, among_members, members_in as found_in, rows}
+use Rattle.flaws.specs.Looks.{Way, Looks, whole, read_as, below, or_else, optional_in, optional, required_in, required, keys_of, first_key, keys_in, keys, is_among, no_other, among_items, items_in, items, among_members, members_in as found_in, rows}
 use Rattle.flaws.specs.declared.flaw.Step.{Step}
 use Rattle.flaws.specs.declared.flaw.Step.TheVariants.{Key, Item}
 
@@ -98,6 +98,7 @@ module _ (is_key : List ℕ → Bool) where
   fine-keys_in (Some members) = fine-keys_of members ∙ sym (some-if (has_only is_key members) members)
 
 pub fine-no_other : (known : List (List ℕ)) → Suits (no_other known) (strict known)
+unfolding is_among
 fine-no_other known d = fine-keys_in (λ key. list_any (λ it. bytes_eq it key) known) (as_object d)
 
 -- ---- lists and objects of any keys

@@ -70,9 +70,13 @@ keys_in is_key (Some members) = first_key is_key (keys_of members)
 abbrev pub keys : (List ℕ → Bool) → Looks
 keys is_key d = keys_in is_key (as_object d)
 
+-- one of these keys
+unfoldable pub is_among : List (List ℕ) → List ℕ → Bool
+is_among known key = list_any (λ it. bytes_eq it key) known
+
 -- the first key that is none of these
 abbrev pub no_other : List (List ℕ) → Looks
-no_other known = keys (λ key. list_any (λ it. bytes_eq it key) known)
+no_other known = keys (is_among known)
 
 -- the first of some values that is wrong, counted on from a number
 abbrev pub among_items : Looks → ℕ → Items → Option Way

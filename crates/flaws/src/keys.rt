@@ -1,10 +1,9 @@
 // The keys of an object.
 
-ghost use Rattle.std.specs.Prelude.{◌≡◌, IfOk, map, bytes_eq};
-ghost use Rattle.std.specs.List.{list_any};
+ghost use Rattle.std.specs.Prelude.{◌≡◌, IfOk, map};
 ghost use Rattle.bundle.specs.Parts.{is_image_name};
 ghost use Rattle.borrowed.specs.Seen.{data_of};
-ghost use Rattle.flaws.specs.Looks.{first_key, keys, no_other};
+ghost use Rattle.flaws.specs.Looks.{first_key, keys, is_among, no_other};
 
 use crate::flaw::Step;
 use crate::looking::{Look, Looked, to_key};
@@ -27,17 +26,25 @@ impl Look for Any {
     }
 }
 
+/// Whether a key is one of these.
+#[tactic(auto, unfolding(crate::specs::Looks::is_among))]
+fn is_known(known: &[&str], key: &str) -> bool
+    ensures { result ≡ is_among (map (λ k. k.now) known.now) key.now }
+{
+    is_among(known, key)
+}
+
 /// The way to the first key that is none of these.
 fn first_other<L>(
     alloc: Global,
     rows: &[(Text, Looked<L>)],
     known: &[&str],
 ) -> Result<Option<Items<Step>>, Memory>
-    ensures { IfOk result (λ found. found ≡ first_key (λ key. list_any (λ it. bytes_eq it key) (map (λ k. k.now) known.now)) (map (λ row. row.0) rows.now)) }
+    ensures { IfOk result (λ found. found ≡ first_key (is_among (map (λ k. k.now) known.now)) (map (λ row. row.0) rows.now)) }
 {
     for row in rows {
         let key = row.0.as_str();
-        if !is_among(known, key) {
+        if !is_known(known, key) {
             return Ok(Some(to_key(alloc, key)?));
         }
     }
@@ -45,7 +52,7 @@ fn first_other<L>(
 }
 
 /// Where an object is wrong that may have these keys alone: the first other one, if it has one.
-#[tactic(auto, using(crate::proofs::RowFacts::strict_keys, crate::proofs::RowFacts::keys_found, crate::proofs::RowFacts::no_keys_found))]
+#[tactic(auto, using(crate::proofs::RowFacts::strict_keys))]
 pub(crate) fn no_other(
     alloc: Global,
     value: &Value<'_>,
@@ -87,7 +94,6 @@ fn first_bad_name<L>(
 }
 
 /// Where an object is wrong whose keys are the names of images: the first that is none.
-#[tactic(auto, using(crate::proofs::RowFacts::keys_found, crate::proofs::RowFacts::no_keys_found))]
 pub(crate) fn image_names(
     alloc: Global,
     value: &Value<'_>,

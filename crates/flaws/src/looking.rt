@@ -177,7 +177,7 @@ fn first_found<L>(rows: Items<(Text, Looked<L>)>) -> Result<Option<Items<Step>>,
 }
 
 /// Where an object of any keys is wrong.
-#[tactic(auto, using(crate::proofs::RowFacts::rows_found, crate::proofs::RowFacts::no_rows))]
+#[tactic(auto, using(crate::proofs::RowFacts::rows_found))]
 pub(crate) fn rows<L: Look>(alloc: Global, value: &Value<'_>) -> Result<Option<Items<Step>>, Memory>
     ensures { IfOk result (λ found. found ≡ rows L.looks (data_of value.now)) }
 {
