@@ -1,7 +1,10 @@
 use Rattle.std.proofs.Common.{◌≡◌, None, Some, IfOk, map, ap, sym, ◌∙◌, subst}
 use Rattle.bundle.specs.Parts.{is_image_name}
+use Rattle.strict.specs.Gives.{TellsFault}
+use Rattle.strict.specs.Strict.{rows_in}
 use Rattle.borrowed.specs.Seen.{data_of}
 use Rattle.flaws.specs.Looks.{first_key, keys}
+use Rattle.flaws.specs.PrivateRows.{looked}
 use Rattle.flaws.proofs.RowFacts.{keys_found, no_keys_found}
 use Rattle.flaws.proofs.keys.image_names.Goals as goal
 
@@ -13,4 +16,5 @@ returns-in-Ok c =
 
 pub returns-in-Err-Because : goal.returns-in-Err-Because
 returns-in-Err-Because c =
-    ap Some c.new.ensures ∙ sym (no_keys_found _ (λ d. None) is_image_name (data_of c.args.value.now) c.in-Err-Because.ensures)
+    let none = subst (λ fault. TellsFault fault (rows_in (λ d. Some (looked None)) (data_of c.args.value.now))) c.in-Err-Because.field-0-is c.in-Err-Because.ensures in
+    ap Some c.new.ensures ∙ sym (no_keys_found _ (λ d. None) is_image_name (data_of c.args.value.now) none)
