@@ -2,4 +2,4 @@ mod BundleFacts
 mod EntryFacts
 mod LookFacts
 pub mod RowFacts
-mod WholeFacts
+pub mod WholeFacts

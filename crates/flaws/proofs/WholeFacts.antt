@@ -1,17 +1,22 @@
 -- Where bytes are wrong, by what reading them told.
-use Rattle.std.proofs.Common.{◌≡◌, ℕ, ◌≤◌, Bool, true, false, cond, List, length, Option, Some, refl}
+use Rattle.std.proofs.Common.{◌≡◌, ℕ, ◌<◌, ◌≤◌, Bool, true, false, cond, List, length, Option, Some, refl}
 use Rattle.std.specs.Prelude.{IsUtf8}
 use Rattle.std.specs.Str.{is_utf8}
 use Rattle.std.specs.Str.Lossy.{utf8_valid_len}
-use Rattle.std.proofs.lemmas.Bool.{le-leb}
+use Rattle.std.proofs.lemmas.Bool.{le-leb, lt-leb}
 use Rattle.std.proofs.lemmas.Str.{is_utf8-from_IsUtf8, IsUtf8-from_is_utf8}
 use Rattle.serde_json.specs.Data.{Data}
 use Rattle.serde_json.specs.Read.{read}
 use Rattle.flaws.specs.Flaws.{json_flaw, flaw_within}
 use Rattle.flaws.specs.declared.flaw.Flaw.{Flaw}
-use Rattle.flaws.specs.declared.flaw.Flaw.TheVariants.{NoText}
+use Rattle.flaws.specs.declared.flaw.Flaw.TheVariants.{TooLong, NoText}
 
 module _ {C : Type 0} (config : Data → Option C) where
+  -- more bytes than the limit are too long
+  pub flaw-long : (most : ℕ) (bytes : List ℕ) → most < length bytes → flaw_within most config bytes ≡ Some TooLong
+  unfolding flaw_within
+  flaw-long most bytes long = rw (lt-leb (length bytes) most long) refl
+
   -- a text is wrong where the JSON in it is
   pub flaw-text : (most : ℕ) (bytes : List ℕ) → length bytes ≤ most → IsUtf8 bytes → flaw_within most config bytes ≡ json_flaw config (read bytes)
   unfolding flaw_within

@@ -94,10 +94,7 @@ fn first_bad_name<L>(
 }
 
 /// Where an object is wrong whose keys are the names of images: the first that is none.
-pub(crate) fn image_names(
-    alloc: Global,
-    value: &Value<'_>,
-) -> Result<Option<Items<Step>>, Memory>
+pub(crate) fn image_names(alloc: Global, value: &Value<'_>) -> Result<Option<Items<Step>>, Memory>
     ensures { IfOk result (λ found. found ≡ keys is_image_name (data_of value.now)) }
 {
     match read_rows::<Looked<Any>>(alloc, value) {

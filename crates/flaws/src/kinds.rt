@@ -171,7 +171,14 @@ pub(crate) fn bundle<C: FromJson>(
     if let Some(way) = no_other(
         alloc,
         value,
-        &["args", "caches", "context", "dockerfile", "images", "target"],
+        &[
+            "args",
+            "caches",
+            "context",
+            "dockerfile",
+            "images",
+            "target",
+        ],
     )? {
         return Ok(Some(way));
     }

@@ -115,10 +115,7 @@ pub(crate) fn read_as<T: FromLent>(
 }
 
 /// Where the first of some values is wrong that is.
-fn among_items<L: Look>(
-    alloc: Global,
-    values: &[Value<'_>],
-) -> Result<Option<Items<Step>>, Memory>
+fn among_items<L: Look>(alloc: Global, values: &[Value<'_>]) -> Result<Option<Items<Step>>, Memory>
     ensures { IfOk result (λ found. found ≡ among_items L.looks 0 (items_data values.now)) }
 {
     for (place, value) in values.iter().enumerate() {

@@ -43,7 +43,11 @@ fn way_head(way: &[Step]) -> &'static str
 {
     match way {
         [] => ".",
-        [Step::Key(key), ..] => if is_name(key.as_str().as_bytes()) { "" } else { "." },
+        [Step::Key(key), ..] => if is_name(key.as_str().as_bytes()) {
+            ""
+        } else {
+            "."
+        },
         [Step::Item(_), ..] => ".",
     }
 }
