@@ -54,7 +54,7 @@ pub(crate) fn shown_check(
     text: &[u8],
     form: Form,
 ) -> Result<Text, Memory>
-    ensures { IfOk result (λ shown. shown ≡ shown_check form (option_copied flaw) (readable_lines text.now) faults.now) }
+    ensures { IfOk result (λ shown. shown ≡ shown_check form (option_copied flaw.entry) (readable_lines text.now) faults.now) }
 {
     match flaw {
         Some(flaw) => Ok(Text::from_string(shown_flaw(alloc, flaw, form)?)),
