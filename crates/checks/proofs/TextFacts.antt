@@ -14,9 +14,11 @@ use Rattle.bundle.specs.Parts.{parts_of}
 use Rattle.bundle.specs.Reading.{ignore_bytes, ReadsBundle}
 use Rattle.bundle.specs.declared.parts.Parts.{Parts}
 use Rattle.bundle.specs.declared.whole.Bundle.{Bundle}
+use Rattle.flaws.specs.Flaws.{flaw_in}
+use Rattle.flaws.specs.declared.flaw.Flaw.{Flaw}
 use Rattle.checks.specs.Checks.{AreFaultsOf}
 use Rattle.checks.specs.Checked.{faulty_part, faulty_text_in, faulty_text, IsCheckOf}
-use Rattle.checks.specs.Shown.{readable_lines, shown_faults}
+use Rattle.checks.specs.Shown.{readable_lines, shown_check}
 use Rattle.checks.specs.declared.checked.Checked.{Checked}
 use Rattle.checks.specs.declared.checking.Findings.{Findings}
 use Rattle.checks.specs.declared.form.Form.{Form}
@@ -48,13 +50,18 @@ pub found_text : (result : Result Findings Memory) (one other : List ℕ) → on
 found_text (Ok found) one other same is = is ∙ same
 found_text (Err memory) one other same is = tt
 
+-- a bundle is wrong nowhere
+pub found_flaw : (result : Result Findings Memory) (flaw : Option Flaw) → flaw ≡ None → IfOk result (λ found. found.flaw ≡ None) → IfOk result (λ found. found.flaw ≡ flaw)
+found_flaw (Ok found) flaw none is = is ∙ sym none
+found_flaw (Err memory) flaw none is = tt
+
 -- what is found and shown is what a check gives
 pub checked : (bytes : List ℕ) (form : Form) (found : Findings) (made : Checked) → AreFaultsOf bytes found.faults → found.text ≡ faulty_text bytes
-    → made.text ≡ shown_faults form (readable_lines found.text) found.faults → made.is_sound ≡ (length found.faults == 0) → IsCheckOf bytes form made
-checked bytes form found made are text shown sound = record {
+    → found.flaw ≡ flaw_in config_in bytes → made.text ≡ shown_check form found.flaw (readable_lines found.text) found.faults → made.is_sound ≡ (length found.faults == 0) → IsCheckOf bytes form made
+checked bytes form found made are text flaw shown sound = record {
   faults = found.faults;
   are = are;
-  text = shown ∙ ap (λ t. shown_faults form (readable_lines t) found.faults) text;
+  text = shown ∙ (λ i. shown_check form (flaw i) (readable_lines (text i)) found.faults);
   is_sound = sound;
 }
 
@@ -68,7 +75,7 @@ HaveOneList = (bytes : List ℕ) (faults others : List Rejection) → AreFaultsO
 pub some_check : HaveFaults → (bytes : List ℕ) (form : Form) → (made : Checked) × IsCheckOf bytes form made
 some_check some bytes form =
     let found = some bytes in (
-      record { text = shown_faults form (readable_lines (faulty_text bytes)) found.0; is_sound = length found.0 == 0 },
+      record { text = shown_check form (flaw_in config_in bytes) (readable_lines (faulty_text bytes)) found.0; is_sound = length found.0 == 0 },
       record { faults = found.0; are = found.1; text = refl; is_sound = refl },
     )
 
@@ -85,5 +92,5 @@ pub one_check : HaveOneList → (bytes : List ℕ) (form : Form) (one other : Ch
 one_check unique bytes form one other these those =
     let same = unique bytes these.faults those.faults these.are those.are in
     same_checked one other
-    (these.text ∙ ap (shown_faults form (readable_lines (faulty_text bytes))) same ∙ sym those.text)
+    (these.text ∙ ap (shown_check form (flaw_in config_in bytes) (readable_lines (faulty_text bytes))) same ∙ sym those.text)
     (one_sound unique bytes form form one other these those)

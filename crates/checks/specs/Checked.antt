@@ -8,8 +8,9 @@ use Rattle.imageconfig.specs.declared.config.Config.{Config}
 use Rattle.bundle.specs.Parts.{parts_of}
 use Rattle.bundle.specs.Reading.{ignore_bytes}
 use Rattle.bundle.specs.declared.parts.Parts.{Parts}
+use Rattle.flaws.specs.Flaws.{flaw_in}
 use Rattle.checks.specs.Checks.{AreFaultsOf}
-use Rattle.checks.specs.Shown.{readable_lines, shown_faults}
+use Rattle.checks.specs.Shown.{readable_lines, shown_check}
 use Rattle.checks.specs.declared.checked.Checked.{Checked}
 use Rattle.checks.specs.declared.form.Form.{Form}
 
@@ -27,9 +28,9 @@ faulty_text_in (Some parts) = faulty_part parts (ignore_of (ignore_bytes parts.f
 abbrev pub faulty_text : List ℕ → List ℕ
 faulty_text bytes = faulty_text_in (parts_of config_in bytes)
 
--- what checking bytes gives: all their faults in a form, with the lines that they are about, and whether there is none
+-- what checking bytes gives: all their faults in a form, with the lines or the place that they are about, and whether there is none
 pub record IsCheckOf (bytes : List ℕ) (form : Form) (checked : Checked) : Type 0 where
   pub faults : List Rejection
   pub are : AreFaultsOf bytes faults
-  pub text : checked.text ≡ shown_faults form (readable_lines (faulty_text bytes)) faults
+  pub text : checked.text ≡ shown_check form (flaw_in config_in bytes) (readable_lines (faulty_text bytes)) faults
   pub is_sound : checked.is_sound ≡ (length faults == 0)

@@ -1,5 +1,5 @@
 -- What a person or a program reads of faults, with the lines that they are about (own).
-use Rattle.std.specs.Prelude.{◌++◌, ◌-◌, ◌/◌, ◌%◌, ◌==◌, ◌&&◌, not, ℕ, Bool, false, List, [], ◌∷◌, chars, codes, encode_utf8, slice_get, unwrap_or, if◌then◌else◌}
+use Rattle.std.specs.Prelude.{◌++◌, ◌-◌, ◌/◌, ◌%◌, ◌==◌, ◌&&◌, not, ℕ, Bool, false, Option, Some, None, List, [], ◌∷◌, chars, codes, encode_utf8, slice_get, unwrap_or, if◌then◌else◌}
 use Rattle.std.specs.Char.{is_control}
 use Rattle.std.specs.Fmt.{digit_glyph}
 use Rattle.std.specs.List.{flat_map}
@@ -9,8 +9,10 @@ use Rattle.expand.specs.declared.reason.Reason.{Reason}
 use Rattle.expand.specs.declared.reason.Reason.TheVariants.{Coded, Required}
 use Rattle.expand.specs.declared.reason.Rejection.{Rejection}
 use Rattle.lines.specs.Text.{text_lines}
-use Rattle.sentences.specs.Json.{json_line}
-use Rattle.sentences.specs.Showing.{shown}
+use Rattle.sentences.specs.Json.{json_line, place_line}
+use Rattle.sentences.specs.Showing.{shown, shown_place}
+use Rattle.flaws.specs.Places.{place_text}
+use Rattle.flaws.specs.declared.flaw.Flaw.{Flaw}
 use Rattle.checks.specs.declared.form.Form.{Form}
 use Rattle.checks.specs.declared.form.Form.TheVariants.{Plain, Json}
 
@@ -66,3 +68,13 @@ shown_fault form lines refusal = shown_with form refusal (line_at lines refusal.
 -- what is shown of faults, one after another
 abbrev pub shown_faults : Form → List (List ℕ) → List Rejection → List ℕ
 shown_faults form lines faults = flat_map (shown_fault form lines) faults
+
+-- what is shown of bytes that are no bundle, being wrong in this place, which is written as `flaws` writes it
+abbrev pub shown_flaw : Form → List ℕ → List ℕ
+shown_flaw Plain place = shown_place (codes "bundle") R20 (visible place)
+shown_flaw Json place = place_line (codes "bundle") R20 place
+
+-- what is shown of a bundle's faults: bytes that are no bundle are shown with where they are wrong
+abbrev pub shown_check : Form → Option Flaw → List (List ℕ) → List Rejection → List ℕ
+shown_check form None lines faults = shown_faults form lines faults
+shown_check form (Some flaw) lines faults = shown_flaw form (place_text flaw)

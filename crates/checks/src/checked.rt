@@ -3,7 +3,7 @@ ghost use Rattle.checks.specs.Checked.{IsCheckOf};
 
 use crate::Form;
 use crate::checking::{Findings, check_bundle};
-use crate::showing::shown_faults;
+use crate::showing::shown_check;
 use plain::{Memory, Text};
 use std::alloc::Global;
 use std::thread::Threads;
@@ -19,7 +19,7 @@ pub struct Checked {
 }
 
 /// Checks the bytes of a bundle: all faults that `check_bundle` finds, as `shown_faults` shows them in this form with the text that they are in.
-/// The file of a fault of the ignore file is called `.dockerignore`.
+/// The file of a fault of the ignore file is called `.dockerignore`. Bytes that are no bundle are shown with where they are wrong.
 pub fn check(
     alloc: Global,
     rt: &(impl Threads + Sync),
@@ -28,8 +28,14 @@ pub fn check(
 ) -> Result<Checked, Memory>
     ensures { IfOk result (λ checked. IsCheckOf bytes.now form checked) }
 {
-    let Findings { faults, text } = check_bundle(alloc, rt, bytes)?;
-    let text = shown_faults(alloc, faults.as_slice(), text.as_slice(), form)?;
+    let Findings { faults, text, flaw } = check_bundle(alloc, rt, bytes)?;
+    let text = shown_check(
+        alloc,
+        flaw.as_ref(),
+        faults.as_slice(),
+        text.as_slice(),
+        form,
+    )?;
     Ok(Checked {
         text,
         is_sound: faults.is_empty(),

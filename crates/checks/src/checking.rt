@@ -1,4 +1,4 @@
-ghost use Rattle.std.specs.Prelude.{◌≡◌, [], ◌∷◌, map, Err, IfOk, unwrap_or};
+ghost use Rattle.std.specs.Prelude.{◌≡◌, [], ◌∷◌, map, None, Err, IfOk, unwrap_or};
 ghost use Rattle.std.specs.FinMap.{get as arg_value};
 ghost use Rattle.expand.specs.Reasons.{rejection_of};
 ghost use Rattle.stages.specs.Faults.{stage_refusals};
@@ -7,6 +7,7 @@ ghost use Rattle.plain.specs.declared.fault.Fault.TheVariants.{Because};
 ghost use Rattle.imageconfig.specs.Reading.{config_in};
 ghost use Rattle.bundle.specs.IgnoreFile.{ignore_bytes_of};
 ghost use Rattle.bundle.specs.Reading.{ReadsBundle};
+ghost use Rattle.flaws.specs.Flaws.{flaw_in};
 ghost use Rattle.checks.specs.Checks.{AreTableFaults, AreStageFaults, AreFileFaults, AreFaultsOf};
 ghost use Rattle.checks.specs.Checked.{faulty_text};
 
@@ -14,6 +15,7 @@ use bundle::{Bundle, read_bundle, read_ignore_bytes};
 use dockerfile::Dockerfile;
 use evaluation::evaluate;
 use expand::Rejection;
+use flaws::{Flaw, find};
 use imageconfig::Config;
 use plain::{Bytes, Fault, Items, Memory, Refusal};
 use stages::StageTable;
@@ -28,6 +30,8 @@ pub struct Findings {
     /// The bytes of the file whose lines they count: those of the ignore file if a line of it is bad, and else of the Dockerfile. There are
     /// none if there is no bundle.
     pub text: Bytes,
+    /// Where the bytes are wrong if they are no bundle.
+    pub flaw: Option<Flaw>,
 }
 
 /// All faults of the bytes of a bundle, of the first phase that has one, in the order of their lines (own).
@@ -42,7 +46,9 @@ pub fn check_bundle(
 ) -> Result<Findings, Memory>
     ensures faults { IfOk result (λ found. AreFaultsOf bytes.now found.faults) }
     ensures text { IfOk result (λ found. found.text ≡ faulty_text bytes.now) }
+    ensures flaw { IfOk result (λ found. found.flaw ≡ flaw_in config_in bytes.now) }
 {
+    flaws::laws::a_bundle_has_no_flaw::<Config>();
     match read_bundle(alloc, rt, bytes) {
         Ok(bundle) => check_whole(alloc, bundle),
         Err(Fault::Because(refusal)) => refused(alloc, bytes, refusal),
@@ -55,10 +61,12 @@ fn refused(alloc: Global, bytes: &[u8], refusal: Refusal) -> Result<Findings, Me
     requires { ReadsBundle config_in bytes.now (Err (Because refusal)) }
     ensures faults { IfOk result (λ found. found.faults ≡ rejection_of refusal ∷ []) }
     ensures text { IfOk result (λ found. found.text ≡ faulty_text bytes.now) }
+    ensures flaw { IfOk result (λ found. found.flaw ≡ flaw_in config_in bytes.now) }
 {
     let text = ignore_file_or_none(alloc, bytes)?;
+    let flaw = find::<Config>(alloc, bytes)?;
     let faults = alone(alloc, Rejection::of(refusal))?;
-    Ok(Findings { faults, text })
+    Ok(Findings { faults, text, flaw })
 }
 
 /// The bytes of a bundle's ignore file; there are none if there is no bundle.
@@ -76,11 +84,16 @@ fn ignore_file_or_none(alloc: Global, bytes: &[u8]) -> Result<Bytes, Memory>
 fn check_whole(alloc: Global, bundle: Bundle<Config>) -> Result<Findings, Memory>
     ensures faults { IfOk result (λ found. AreFileFaults bundle.images (arg_value bundle.args) bundle.target bundle.dockerfile found.faults) }
     ensures text { IfOk result (λ found. found.text ≡ bundle.dockerfile) }
+    ensures flaw { IfOk result (λ found. found.flaw ≡ None) }
 {
     match Bytes::from_slice(alloc, bundle.dockerfile.as_slice()) {
         Ok(text) => {
             let faults = check_file(alloc, bundle)?;
-            Ok(Findings { faults, text })
+            Ok(Findings {
+                faults,
+                text,
+                flaw: None,
+            })
         }
         Err(memory) => {
             drop(bundle);

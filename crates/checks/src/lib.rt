@@ -5,7 +5,8 @@
 // the lines after one that is refused have no values to be judged by. It runs nothing, so it doesn't tell whether a build would fail.
 //
 // `shown_faults` shows faults, each with the line that it is about, to a person or as lines of JSON. It is given the faults and their text. One
-// fault is shown in one walk through the text. Where there are several, the lines are listed first, so each is found at once. `check` does both.
+// fault is shown in one walk through the text. Where there are several, the lines are listed first, so each is found at once. `check` does both,
+// and shows bytes that are no bundle with where they are wrong, which `flaws` finds.
 //
 // The central definitions are `AreFaultsOf` in specs/Checks.antt, `shown_faults` in specs/Shown.antt, and `IsCheckOf` in specs/Checked.antt.
 //

@@ -1,14 +1,17 @@
 ghost use Rattle.std.specs.Prelude.{◌≡◌, ◌-◌, map, IfOk};
+ghost use Rattle.std.specs.Option.{option_copied};
 ghost use Rattle.std.specs.String.{string_bytes};
 ghost use Rattle.lines.specs.Text.{without_byte_order_mark, text_lines};
 ghost use Rattle.sentences.specs.Showing.{shown};
-ghost use Rattle.checks.specs.Shown.{place_of, readable_lines, line_at, visible, visible_reason, shown_with, shown_faults};
+ghost use Rattle.checks.specs.Shown.{place_of, readable_lines, line_at, visible, visible_reason, shown_with, shown_faults, shown_flaw, shown_check};
+ghost use Rattle.flaws.specs.Places.{place_text};
 
 use crate::Form;
 use crate::visible::visible;
 use expand::{Reason, Rejection};
+use flaws::{Flaw, place_text};
 use plain::{Code, Memory, Text};
-use sentences::{json_line, shown};
+use sentences::{json_line, place_line, shown, shown_place};
 use std::alloc::{AllocError, Global};
 
 /// What is shown of faults, in their order and in this form, whose lines are counted in this text: a Dockerfile's, or that of its ignore file. It
@@ -29,7 +32,37 @@ pub fn shown_faults(
     Ok(Text::from_string(shown))
 }
 
-/// The same of a text that is UTF-8. The lines are listed only if there are several faults: one is found without memory for each line.
+/// What is shown of bytes that are no bundle, with where they are wrong. To a person a control character of a key is shown by its number.
+fn shown_flaw(alloc: Global, flaw: &Flaw, form: Form) -> Result<String, Memory>
+    ensures { IfOk result (λ text. string_bytes text ≡ shown_flaw form (place_text flaw.now)) }
+{
+    let place = place_text(alloc, flaw)?;
+    match form {
+        Form::Plain => {
+            let place = visible(alloc, place.as_str())?;
+            shown_place(alloc, "bundle", Code::R20, place.as_str())
+        }
+        Form::Json => place_line(alloc, "bundle", Code::R20, place.as_str()),
+    }
+}
+
+/// What is shown of a bundle's faults: those of bytes that are no bundle with where they are wrong, and others as `shown_faults` shows them.
+pub(crate) fn shown_check(
+    alloc: Global,
+    flaw: Option<&Flaw>,
+    faults: &[Rejection],
+    text: &[u8],
+    form: Form,
+) -> Result<Text, Memory>
+    ensures { IfOk result (λ shown. shown ≡ shown_check form (option_copied flaw.entry) (readable_lines text.now) faults.now) }
+{
+    match flaw {
+        Some(flaw) => Ok(Text::from_string(shown_flaw(alloc, flaw, form)?)),
+        None => shown_faults(alloc, faults, text, form),
+    }
+}
+
+/// What `shown_faults` shows of a text that is UTF-8. The lines are listed only if there are several faults: one is found without memory for each line.
 fn shown_in(alloc: Global, faults: &[Rejection], text: &str, form: Form) -> Result<String, Memory>
     ensures { IfOk result (λ shown. string_bytes shown ≡ shown_faults form (text_lines text.now) faults.now) }
 {

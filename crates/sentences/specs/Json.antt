@@ -3,6 +3,7 @@ use Rattle.std.specs.Prelude.{◌++◌, ◌==◌, ℕ, List, [], codes, if◌the
 use Rattle.serde_json.specs.Data.{Data, number as numeral, unsigned, string, object, no_members, member}
 use Rattle.serde_json.specs.Written.{compact_text}
 use Rattle.plain.specs.Codes.{code_text}
+use Rattle.plain.specs.declared.refusal.Code.{Code}
 use Rattle.expand.specs.declared.reason.Reason.{Reason}
 use Rattle.expand.specs.declared.reason.Reason.TheVariants.{Coded, Required}
 use Rattle.expand.specs.declared.reason.Rejection.{Rejection}
@@ -46,3 +47,18 @@ data_of file refusal text =
 -- its line of JSON, with the LF that ends it, of the file's line of the refusal's number
 abbrev pub json_line : List ℕ → Rejection → List ℕ → List ℕ
 json_line file refusal line = compact_text (data_of file refusal (line_about refusal.line line)) ++ codes "\n"
+
+-- a refusal that is about no line but about a place in the file, by its parts
+unfoldable pub place_data : List ℕ → List ℕ → List ℕ → List ℕ → List ℕ → Data
+place_data code file message place helps = object (member (codes "code") (string code)
+    (member (codes "file") (string file)
+    (member (codes "line") (numeral (unsigned 0))
+    (member (codes "message") (string message)
+    (member (codes "place") (string place)
+    (member (codes "remedy") (string helps)
+    (member (codes "text") (string []) no_members)))))))
+
+-- its line of JSON, with the LF that ends it: that of the file of this name, and one key more
+abbrev pub place_line : List ℕ → Code → List ℕ → List ℕ
+place_line file code place =
+    compact_text (place_data (code_text code) file (sentence code (subject_of [])) place (remedy code (subject_of []))) ++ codes "\n"

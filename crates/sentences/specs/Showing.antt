@@ -28,6 +28,11 @@ shown_line file code number line =
 abbrev pub shown_whole : List ℕ → Code → List ℕ
 shown_whole file code = headed file code (sentence code (subject_of [])) (codes "     | " ++ (remedy code (subject_of []) ++ codes "\n"))
 
+-- a refusal of the file of this name that is about no line but about a place in the file: what is wrong ends with the place
+abbrev pub shown_place : List ℕ → Code → List ℕ → List ℕ
+shown_place file code place =
+    headed file code (sentence code (subject_of []) ++ (codes ": " ++ place)) (codes "     | " ++ (remedy code (subject_of []) ++ codes "\n"))
+
 -- a line of the file of this name in which a variable is required: the line's number is shown, and what is wrong ends with the text that it is
 -- refused with
 abbrev pub shown_required : List ℕ → List ℕ → List ℕ → List ℕ → List ℕ

@@ -1,12 +1,15 @@
-ghost use Rattle.std.specs.Prelude.{◌≡◌, IfOk};
+ghost use Rattle.std.specs.Prelude.{◌≡◌, [], IfOk};
 ghost use Rattle.std.specs.String.{string_bytes};
 ghost use Rattle.serde_json.specs.View.{view};
-ghost use Rattle.sentences.specs.Json.{code_of, data_of, json_line, line_about, message_of, refusal_data, remedy_of};
+ghost use Rattle.plain.specs.Codes.{code_text};
+ghost use Rattle.sentences.specs.Json.{code_of, data_of, json_line, line_about, message_of, place_data, place_line, refusal_data, remedy_of};
+ghost use Rattle.sentences.specs.Subject.{subject_of};
+ghost use Rattle.sentences.specs.Table.{remedy, sentence};
 
 use crate::table::{required_remedy, required_sentence};
 use crate::{Subject, remedy, sentence};
 use expand::{Reason, Rejection};
-use plain::Memory;
+use plain::{Code, Memory};
 use serde_json::{Value, json};
 use std::alloc::{AllocError, Global};
 
@@ -93,6 +96,50 @@ pub fn json_line(
 {
     let text = line_about(refusal.line, line);
     let value = value_of(alloc, file, refusal, text)?;
+    let written = value.to_string(alloc);
+    drop(value);
+    let mut written = written?;
+    written.push_str("\n")?;
+    Ok(written)
+}
+
+/// A refusal that is about a place in a file, as JSON, by its parts.
+#[tactic(auto, unfolding(crate::specs::Json::place_data))]
+fn place_value(
+    alloc: Global,
+    code: String,
+    file: &str,
+    message: &str,
+    place: &str,
+    helps: &str,
+) -> Result<Value, AllocError>
+    ensures { IfOk result (λ v. view v ≡ place_data (string_bytes code) file.now message.now place.now helps.now) }
+{
+    json!(in alloc; {"code": code, "file": file, "line": 0u64, "message": message, "place": place, "remedy": helps, "text": ""})
+}
+
+/// The same, with what is said of its code.
+fn value_at(alloc: Global, file: &str, code: Code, place: &str) -> Result<Value, AllocError>
+    ensures { IfOk result (λ v. view v ≡ place_data (code_text code) file.now (sentence code (subject_of [])) place.now (remedy code (subject_of []))) }
+{
+    let subject = Subject::of_line("");
+    let named = code.to_string(alloc)?;
+    place_value(
+        alloc,
+        named,
+        file,
+        sentence(code, subject),
+        place,
+        remedy(code, subject),
+    )
+}
+
+/// What a program reads of a refusal of the file of this name that is about no line but about a place in the file: the line of `json_line`, with the
+/// key `place` too.
+pub fn place_line(alloc: Global, file: &str, code: Code, place: &str) -> Result<String, Memory>
+    ensures { IfOk result (λ text. string_bytes text ≡ place_line file.now code place.now) }
+{
+    let value = value_at(alloc, file, code, place)?;
     let written = value.to_string(alloc);
     drop(value);
     let mut written = written?;

@@ -20,7 +20,7 @@ mod showing;
 mod subject;
 mod table;
 
-pub use json::json_line;
-pub use showing::shown;
+pub use json::{json_line, place_line};
+pub use showing::{shown, shown_place};
 pub use subject::Subject;
 pub use table::{remedy, sentence};

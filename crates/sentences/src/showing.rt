@@ -1,6 +1,6 @@
 ghost use Rattle.std.specs.Prelude.{◌≡◌, IfOk};
 ghost use Rattle.std.specs.String.{string_bytes};
-ghost use Rattle.sentences.specs.Showing.{cited, headed, shown_line, shown_whole, shown_required, shown_coded, shown};
+ghost use Rattle.sentences.specs.Showing.{cited, headed, shown_line, shown_whole, shown_place, shown_required, shown_coded, shown};
 
 use crate::table::{required_remedy, required_sentence};
 use crate::{Subject, remedy, sentence};
@@ -52,6 +52,17 @@ fn shown_whole(alloc: Global, file: &str, code: Code) -> Result<String, Memory>
     let subject = Subject::of_line("");
     let rest = format!(in alloc; "     | {}\n", remedy(code, subject))?;
     headed(alloc, file, code, sentence(code, subject), rest.as_str())
+}
+
+/// What is shown of a refusal of the file of this name that is about no line but about a place in the file: two lines, the file, the code
+/// and what is wrong, which ends with the place, and what helps.
+pub fn shown_place(alloc: Global, file: &str, code: Code, place: &str) -> Result<String, Memory>
+    ensures { IfOk result (λ text. string_bytes text ≡ shown_place file.now code place.now) }
+{
+    let subject = Subject::of_line("");
+    let wrong = format!(in alloc; "{}: {place}", sentence(code, subject))?;
+    let rest = format!(in alloc; "     | {}\n", remedy(code, subject))?;
+    headed(alloc, file, code, wrong.as_str(), rest.as_str())
 }
 
 /// What is shown of a line in which a variable is required, with the line's number written out.

@@ -1,0 +1,5 @@
+mod BundleFacts
+mod EntryFacts
+mod LookFacts
+pub mod RowFacts
+pub mod WholeFacts

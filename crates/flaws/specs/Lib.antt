@@ -1,0 +1,4 @@
+pub mod Flaws
+pub mod Looks
+pub mod Places
+pub mod PrivateRows
