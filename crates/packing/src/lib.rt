@@ -11,16 +11,19 @@
 // ```
 #![tactic(auto)]
 
+mod asked;
+mod even;
 mod fault;
 mod folder;
+mod images;
+mod imaging;
 pub mod laws;
 mod leaving;
 mod members;
-mod options;
 mod packing;
 mod refusing;
 mod walking;
 
 pub use fault::PackFault;
-pub use options::PackOptions;
+pub use asked::PackOptions;
 pub use packing::{Status, run_pack, run_pack_to_file, run_pack_with};

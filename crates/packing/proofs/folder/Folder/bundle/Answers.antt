@@ -2,7 +2,7 @@ use Rattle.std.proofs.Common.{◌≡◌, ◌∙◌, sym, ap, Some, option_map}
 use Rattle.std.specs.FinMap.{entries}
 use Rattle.serde_json.specs.View.{view}
 use Rattle.packing.specs.Packed.{dockerfile_among, packed_data}
-use Rattle.packing.specs.Options.{given_of}
+use Rattle.packing.specs.Asked.{given_of}
 use Rattle.packing.proofs.PlainFacts.{text_of_value}
 use Rattle.packing.proofs.folder.Folder.bundle.Goals as goal
 
