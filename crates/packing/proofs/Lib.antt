@@ -1,3 +1,5 @@
 pub mod EndFacts
+pub mod EvenFacts
+pub mod ImageFacts
 pub mod LeavingFacts
 pub mod PlainFacts

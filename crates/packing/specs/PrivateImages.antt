@@ -1,10 +1,10 @@
 -- What the functions that read an image answer (own).
-use Rattle.std.specs.Prelude.{◌≡◌, ℕ, Bool, not, ◌&&◌, List, nat_le, Option, Some, None, Result, Ok, Err, bytes_eq, map, if◌then◌else◌}
+use Rattle.std.specs.Prelude.{◌≡◌, ℕ, ◌-◌, ◌==◌, Bool, true, not, ◌&&◌, List, Option, Some, None, Result, Ok, Err, bytes_eq, map, if◌then◌else◌}
 use Rattle.std.specs.List.{list_any}
 use Rattle.plain.specs.declared.fault.Fault.{Fault}
-use Rattle.serde_json.specs.Data.{Data, Items, Members, items_depth, members_depth}
+use Rattle.serde_json.specs.Data.{Data, null, boolean, number, string, array, object, Items, no_items, item, Members, no_members, member}
+use Rattle.serde_json.specs.Find.{is_float}
 use Rattle.serde_json.specs.View.{view}
-use Rattle.serde_json.specs.Written.{items_have_float, members_have_float}
 use Rattle.serde_json.specs.declared.value.Value.{Value}
 use Rattle.strict.specs.Gives.{TellsFault}
 use Rattle.strict.specs.declared.fault.NotRead.{NotRead}
@@ -15,19 +15,31 @@ abbrev pub GivesJson : Result Value (Fault NotRead) → Option Data → Type 0
 GivesJson (Ok v) reading = reading ≡ Some (view v)
 GivesJson (Err e) reading = TellsFault e reading
 
--- the values of a list, and those of an object, are written and read as they are
-abbrev pub items_even : ℕ → Items → Bool
-items_even most ds = not (items_have_float ds) && nat_le (items_depth ds) most
+-- JSON has no float, and nests at most so deep, part by part
+abbrev mutual
+  pub even : ℕ → Data → Bool
+  even most null = true
+  even most (boolean b) = true
+  even most (number n) = not (is_float n)
+  even most (string s) = true
+  even most (array ds) = not (most == 0) && items_even (most - 1) ds
+  even most (object ms) = not (most == 0) && members_even (most - 1) ms
 
-abbrev pub members_even : ℕ → Members → Bool
-members_even most ms = not (members_have_float ms) && nat_le (members_depth ms) most
+  pub items_even : ℕ → Items → Bool
+  items_even most no_items = true
+  items_even most (item d ds) = even most d && items_even most ds
 
+  pub members_even : ℕ → Members → Bool
+  members_even most no_members = true
+  members_even most (member k d ms) = even most d && members_even most ms
+
+-- an image's JSON, if it is written and read again as it is
 abbrev pub if_even : Data → Option Data
 if_even d = if is_even most_depth d then Some d else None
 
 -- one of these images, of which each has its file beside it, has this name
 abbrev pub is_among : List ℕ → List (List ℕ × List ℕ) → Bool
-is_among name images = list_any (λ image. bytes_eq image.0 name) images
+is_among name images = list_any (λ image. bytes_eq name image.0) images
 
 -- the images that were read, each with its JSON
 abbrev pub image_rows : List (List ℕ × Value) → List ImageRow

@@ -1,15 +1,14 @@
 // Whether JSON that is written is read again as it is.
 ghost use Rattle.std.specs.Prelude.{◌≡◌};
 ghost use Rattle.serde_json.specs.View.{view, items_view, members_view};
-ghost use Rattle.packing.specs.Images.{is_even};
-ghost use Rattle.packing.specs.PrivateImages.{items_even, members_even};
+ghost use Rattle.packing.specs.PrivateImages.{even, items_even, members_even};
 
 use serde_json::{Map, Value};
 
 /// Whether a value has no number that isn't whole, and nests at most so deep.
 #[cycle(even)]
 pub(crate) fn is_even(value: &Value, most: usize) -> bool
-    ensures { result ≡ is_even most (view value.now) }
+    ensures { result ≡ even most (view value.now) }
 {
     match value {
         Value::Null | Value::Bool(_) | Value::String(_) => true,

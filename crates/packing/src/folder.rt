@@ -84,8 +84,9 @@ impl Folder {
         images: Items<(Text, Value)>,
         options: PackOptions<'_>,
     ) -> Result<Option<Text>, Memory>
+        requires images { are_images (image_rows images) ≡ true }
         ensures is { IfOk result (λ text. text ≡ packed_of self file (given_with (asked_of options.entry) (image_rows images))) }
-        ensures reads { are_images (image_rows images) ≡ true → IfOk result (λ found. IfSome found (λ text. read text ≡ bundle_of self file (given_with (asked_of options.entry) (image_rows images)))) }
+        ensures reads { IfOk result (λ found. IfSome found (λ text. read text ≡ bundle_of self file (given_with (asked_of options.entry) (image_rows images)))) }
     {
         let made = self.members_beside(alloc, &file, options);
         drop(self);

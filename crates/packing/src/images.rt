@@ -8,7 +8,7 @@ ghost use Rattle.strict.specs.Gives.{Gives};
 ghost use Rattle.borrowed.specs.Seen.{data_of};
 ghost use Rattle.entries.specs.Listing.{listing_in};
 ghost use Rattle.bundle.specs.Parts.{is_image_name};
-ghost use Rattle.packing.specs.Images.{are_names, given_in, if_image, image_data, image_of};
+ghost use Rattle.packing.specs.Images.{given_in, if_image, image_data, image_of};
 ghost use Rattle.packing.specs.PrivateImages.{GivesJson, if_even, is_among};
 
 use crate::even::is_even;
@@ -119,6 +119,7 @@ fn image_of_parts(alloc: Global, config: Value, tree: Value) -> Result<Value, Re
 }
 
 /// An image that is read, if it can be written in a bundle and read again.
+#[tactic(auto, using(crate::proofs::EvenFacts::even_is))]
 fn even_image(alloc: Global, config: Value, tree: Value) -> Result<Value, ReadFault>
     ensures { GivesJson result (if_even (image_data (view config) (view tree))) }
 {
@@ -152,7 +153,7 @@ pub(crate) fn is_among(name: &Text, images: &[(Text, Text)]) -> bool
     ensures { result ≡ is_among name.now images.now }
 {
     for image in images {
-        if image.0.as_str() == name.as_str() {
+        if name.as_str() == image.0.as_str() {
             return true;
         }
     }

@@ -152,7 +152,9 @@ fn write_into<R: Files + AllocGlobal>(
     options: PackOptions<'_>,
     name: &str,
     why: &mut Text,
-) -> Result<Status, PackFault> {
+) -> Result<Status, PackFault>
+    requires found { IsFound (asked_of options.entry) found }
+{
     match File::create(rt, name) {
         Ok(file) => {
             let mut output = Counted::new(file);
@@ -172,7 +174,9 @@ fn write_file<R: Files + AllocGlobal>(
     options: PackOptions<'_>,
     name: &str,
     why: &mut Text,
-) -> Result<Status, PackFault> {
+) -> Result<Status, PackFault>
+    requires found { IsFound (asked_of options.entry) found }
+{
     let mut part = String::from_str(alloc, name)?;
     part.push_str(".part")?;
     let mut opening = OpenOptions::new();
