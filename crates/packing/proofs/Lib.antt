@@ -3,3 +3,4 @@ pub mod EvenFacts
 pub mod ImageFacts
 pub mod LeavingFacts
 pub mod PlainFacts
+pub mod ReadFacts

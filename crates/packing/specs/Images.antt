@@ -1,14 +1,20 @@
 -- The images that go into a folder's bundle, each read from a file (own). What a bundle takes as an image is said by `bundle`.
-use Rattle.std.specs.Prelude.{ℕ, ◌==◌, Bool, not, ◌&&◌, List, [], ◌∷◌, map, nat_le, Option, Some, None, is_some, if◌then◌else◌, codes}
+use Rattle.std.specs.Prelude.{◌≡◌, ℕ, ◌==◌, Bool, not, ◌&&◌, List, [], ◌∷◌, map, nat_le, Option, Some, None, is_some, if◌then◌else◌, codes}
+use Rattle.std.specs.FinMap.{find, get as image_at_name}
 use Rattle.std.specs.List.{list_all}
 use Rattle.std.specs.Option.{option_and_then, option_map}
 use Rattle.serde_json.specs.Data.{Data, array, depth, member, no_items, no_members, object}
 use Rattle.serde_json.specs.Find.{get}
 use Rattle.serde_json.specs.Read.{read}
 use Rattle.serde_json.specs.Written.{has_float}
+use Rattle.paths.specs.Order.{name_cmp}
 use Rattle.strict.specs.Strict.{strict}
+use Rattle.entries.specs.Whole.{tree_of}
 use Rattle.scopes.specs.Scope.{names_differ}
 use Rattle.imageconfig.specs.Reading.{config_in}
+use Rattle.imageconfig.specs.declared.config.Config.{Config}
+use Rattle.plans.specs.Images.{ImagesValue}
+use Rattle.plans.specs.declared.images.Image.{Image}
 use Rattle.bundle.specs.Parts.{image_in, is_image_name}
 
 -- an image's name, and the JSON of the image
@@ -62,3 +68,11 @@ names_of images = map (λ image. image.0) images
 
 abbrev pub are_images : List ImageRow → Bool
 are_images images = are_names (names_of images) && list_all (λ image. is_image image.1) images
+
+-- the image that JSON is, as a bundle has it
+abbrev pub image_value : Data → Option (Image Config)
+image_value d = option_map (λ listed. record { config = listed.config; tree = tree_of listed.tree }) (image_in config_in d)
+
+-- images are read as these: under each name is that which the JSON of this name is, and under no other name is any
+pub record AreRead (images : List ImageRow) (found : ImagesValue Config) : Type 0 where
+  pub each : (name : List ℕ) → image_at_name found name ≡ option_and_then image_value (find name_cmp name images)
