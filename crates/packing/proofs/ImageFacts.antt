@@ -1,6 +1,6 @@
 -- What JSON is an image, and which names images may have.
-use Rattle.std.proofs.Common.{◌≡◌, ◌≤◌, ◌++◌, ◌∙◌, ℕ, Bool, true, false, not, cond, List, [], ◌∷◌, map, Option, Some, None, refl, sym, ap, bytes_eq, is_some, is_some, subst}
-use Rattle.std.specs.Prelude.{◌&&◌}
+use Rattle.std.proofs.Common.{◌≡◌, ◌≤◌, ◌++◌, ◌∙◌, ℕ, Bool, true, false, not, cond, List, [], ◌∷◌, map, Option, Some, None, Result, refl, sym, ap, subst, bytes_eq, is_some}
+use Rattle.std.specs.Prelude.{◌&&◌, ◌||◌}
 use Rattle.std.specs.List.{list_all, list_any}
 use Rattle.std.specs.Option.{option_and_then, option_map}
 use Rattle.std.proofs.lemmas.Bool.{and_from, and_parts, not_from_false}
@@ -8,7 +8,11 @@ use Rattle.serde_json.specs.Data.{Data, array, depth, no_items}
 use Rattle.serde_json.specs.View.{view}
 use Rattle.serde_json.specs.Written.{has_float}
 use Rattle.serde_json.specs.declared.value.Value.{Value}
+use Rattle.plain.specs.declared.fault.Fault.{Fault}
+use Rattle.plain.specs.declared.fault.Fault.TheVariants.{Because, Memory}
+use Rattle.strict.specs.Gives.{TellsFault}
 use Rattle.strict.specs.Strict.{list_in}
+use Rattle.strict.specs.declared.fault.NotRead.{NotRead}
 use Rattle.trees.specs.Row.{Row}
 use Rattle.entries.specs.Listing.{is_listing, listing_in}
 use Rattle.imageconfig.specs.Reading.{config_in}
@@ -16,7 +20,7 @@ use Rattle.imageconfig.specs.declared.config.Config.{Config}
 use Rattle.scopes.specs.Scope.{names_differ}
 use Rattle.bundle.specs.Parts.{image_in, image_with, is_image_name}
 use Rattle.packing.specs.Images.{ImageRow, are_names, if_image, image_data, is_even, is_image, most_depth, names_of}
-use Rattle.packing.specs.PrivateImages.{given_names, if_even, image_rows, is_among}
+use Rattle.packing.specs.PrivateImages.{GivesJson, given_names, if_even, image_rows, is_among}
 use Rattle.packing.proofs.EvenFacts.{even_parts}
 
 -- what the JSON of an image has
@@ -62,6 +66,22 @@ pub no_tree : (config tree : Data) → listing_in tree ≡ None → if_image (im
 unfolding is_image
 no_tree config tree e = rw (unread_tree config tree e) refl
 
+-- a fault of either reader is one of both
+pub tells_config : (e : Fault NotRead) (config tree : Data) → TellsFault e (config_in config) → TellsFault e (if_image (image_data config tree))
+tells_config (Because fault) config tree none = no_config config tree none
+tells_config Memory config tree none = tt
+
+pub tells_tree : (e : Fault NotRead) (config tree : Data) → TellsFault e (listing_in tree) → TellsFault e (if_image (image_data config tree))
+tells_tree (Because fault) config tree none = no_tree config tree none
+tells_tree Memory config tree none = tt
+
+some_read : {A : Type 0} (o : Option A) (x : A) → o ≡ Some x → is_some o ≡ true
+some_read o x e = ap is_some e
+
+pub gives_read : (result : Result Value (Fault NotRead)) (config tree : Data) (c : Config) → config_in config ≡ Some c → is_some (listing_in tree) ≡ true
+    → GivesJson result (if_even (image_data config tree)) → GivesJson result (if_image (image_data config tree))
+gives_read result config tree c e f gives = subst (GivesJson result) (sym (read_image config tree (some_read (config_in config) c e) f)) gives
+
 -- the empty list is that of the empty tree
 pub empty_is_read : is_some (listing_in (array no_items)) ≡ true
 unfolding listing_in list_in is_listing
@@ -71,7 +91,7 @@ empty_is_read = refl
 
 among_same : (name : List ℕ) (images : List (List ℕ × List ℕ)) → is_among name images ≡ list_any (bytes_eq name) (given_names images)
 among_same name [] = refl
-among_same name (image ∷ images) = ap (λ later. cond (bytes_eq name image.0) true later) (among_same name images)
+among_same name (image ∷ images) = ap (λ later. bytes_eq name image.0 || later) (among_same name images)
 
 -- a name before others
 pub names_step : (image : List ℕ × List ℕ) (images : List (List ℕ × List ℕ)) → is_image_name image.0 ≡ true → is_among image.0 images ≡ false

@@ -1,6 +1,6 @@
 -- What a build reads at the key `images` of a bundle that is packed.
 use Rattle.std.proofs.Common.{◌≡◌, ◌∙◌, ℕ, Bool, true, false, not, cond, List, [], ◌∷◌, map, Option, Some, None, Ordering, Less, Equal, Greater, refl, sym, ap, subst, codes, bytes_eq, is_some, true≢false}
-use Rattle.std.specs.Prelude.{◌&&◌}
+use Rattle.std.specs.Prelude.{◌&&◌, ◌||◌}
 use Rattle.std.specs.FinMap.{empty, find, from_entries, get as map_get, get-empty, get-from_entries}
 use Rattle.std.specs.List.{list_all, list_any}
 use Rattle.std.specs.Option.{option_and_then, option_map, option_or}
@@ -95,7 +95,7 @@ none_under : (name : List ℕ) (images : List ImageRow) → list_any (bytes_eq n
 none_under name [] e = refl
 none_under name (image ∷ images) e = by (bytes_eq name image.0) refl e
   where
-    by : (b : Bool) → bytes_eq name image.0 ≡ b → cond b true (list_any (bytes_eq name) (names_of images)) ≡ false
+    by : (b : Bool) → bytes_eq name image.0 ≡ b → (b || list_any (bytes_eq name) (names_of images)) ≡ false
         → cond (is_eq (slice_cmp nat_cmp name image.0)) (Some image.1) (find name_cmp name images) ≡ None
     by true is bad = absurd (true≢false bad)
     by false is more = rw (is_eq-slice_cmp name image.0 ∙ is) (none_under name images more)

@@ -40,7 +40,7 @@ fn check_names(alloc: Global, images: &[(Text, Text)], why: &mut Text) -> Result
     ensures names { IfOk result (λ _. are_names (given_names images.now) ≡ true) }
 {
     let mut left = images;
-    while let [(name, file), more @ ..] = left {
+    'names: while let [(name, file), more @ ..] = left {
         if !is_image_name(name) {
             return Err(refuse(alloc, why, place_of(file), NO_IMAGE_NAME));
         }
