@@ -98,7 +98,7 @@ fn write_found<W: CountedWrite>(
     why: &mut Text,
 ) -> Result<Status, PackFault>
     requires writes { W.failures output.old < u64.MAX }
-    requires found { IsFound (asked_of options.entry) found }
+    requires found { IsFound (asked_of options) found }
     ensures { Packs found.files.folder found.files.file (given_with (asked_of options.entry) (image_rows found.images)) (W.contents output.old) (W.failures output.old) (W.contents output.new) (W.failures output.new) result }
 {
     let Found { files, images } = found;
@@ -153,7 +153,7 @@ fn write_into<R: Files + AllocGlobal>(
     name: &str,
     why: &mut Text,
 ) -> Result<Status, PackFault>
-    requires found { IsFound (asked_of options.entry) found }
+    requires found { IsFound (asked_of options) found }
 {
     match File::create(rt, name) {
         Ok(file) => {
@@ -175,7 +175,7 @@ fn write_file<R: Files + AllocGlobal>(
     name: &str,
     why: &mut Text,
 ) -> Result<Status, PackFault>
-    requires found { IsFound (asked_of options.entry) found }
+    requires found { IsFound (asked_of options) found }
 {
     let mut part = String::from_str(alloc, name)?;
     part.push_str(".part")?;
