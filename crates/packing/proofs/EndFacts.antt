@@ -1,5 +1,5 @@
 -- How packing ends.
-use Rattle.std.proofs.Common.{◌≡◌, ℕ, List, [], ◌∷◌, ◌++◌, true, is_some, Option, Some, None, Result, Ok, Err, refl, sym, subst, inl, inr}
+use Rattle.std.proofs.Common.{◌≡◌, ℕ, List, [], ◌∷◌, ◌++◌, true, is_some, Option, Some, None, Result, Ok, Err, IsErrAnd, refl, sym, ap, subst, inl, inr}
 use Rattle.std.specs.Io.KnownBytes.{Appends}
 use Rattle.plain.specs.declared.fault.Fault.{Fault}
 use Rattle.plain.specs.declared.fault.Fault.TheVariants.{Because, Memory as Want}
@@ -58,6 +58,11 @@ pub written_in_part : (tree : TreeMap) (file : Option (List ℕ)) (given : Given
 written_in_part tree file given text line old failed new failed_then (Because device) is ends written fails count =
     (record { text = text; is = sym is; written = subst (AppendsBeginning old new) ends written }, count)
 written_in_part tree file given text line old failed new failed_then Want is ends written fails count = absurd fails
+
+-- a result that is this fault
+pub failed_as : (result : Result Status PackFault) (fault : PackFault) → IsErrAnd result (λ found. found ≡ fault) → result ≡ Err fault
+failed_as (Ok status) fault e = absurd e
+failed_as (Err found) fault e = ap Err e
 
 -- the Dockerfile that was found at first wasn't there
 pub gone : (tree : TreeMap) (file : Option (List ℕ)) (given : Given) (written : Option (List ℕ)) (failed : ℕ) (fault : PackFault)

@@ -1,13 +1,15 @@
 -- What JSON is an image, and which names images may have.
-use Rattle.std.proofs.Common.{◌≡◌, ◌≤◌, ◌++◌, ◌∙◌, ℕ, Bool, true, false, not, cond, List, [], ◌∷◌, map, Option, Some, None, Result, refl, sym, ap, subst, bytes_eq, is_some}
-use Rattle.std.specs.Prelude.{◌&&◌, ◌||◌}
+use Rattle.std.proofs.Common.{◌≡◌, ◌≤◌, ◌++◌, ◌∙◌, ℕ, Bool, true, false, not, cond, List, [], ◌∷◌, map, Option, Some, None, Result, Vec, Global, refl, sym, ap, subst, arith, bytes_eq, is_some, unwrap_or, length, take, drop, take_all, ◌-◌}
+use Rattle.std.specs.Prelude.{◌&&◌, ◌||◌, slice_index_or}
 use Rattle.std.specs.List.{list_all, list_any}
 use Rattle.std.specs.Option.{option_and_then, option_map}
 use Rattle.std.proofs.lemmas.Bool.{and_from, and_parts, not_from_false}
 use Rattle.serde_json.specs.Data.{Data, array, depth, no_items}
-use Rattle.serde_json.specs.View.{view}
+use Rattle.serde_json.specs.Read.{read}
+use Rattle.serde_json.specs.View.{items_view, view}
 use Rattle.serde_json.specs.Written.{has_float}
-use Rattle.serde_json.specs.declared.value.Value.{Value}
+use Rattle.serde_json.specs.declared.value.Value.{Array, Value}
+use Rattle.serde_json.proofs.Views.{view-Array}
 use Rattle.plain.specs.declared.fault.Fault.{Fault}
 use Rattle.plain.specs.declared.fault.Fault.TheVariants.{Because, Memory}
 use Rattle.strict.specs.Gives.{TellsFault}
@@ -19,7 +21,7 @@ use Rattle.imageconfig.specs.Reading.{config_in}
 use Rattle.imageconfig.specs.declared.config.Config.{Config}
 use Rattle.scopes.specs.Scope.{names_differ}
 use Rattle.bundle.specs.Parts.{image_in, image_with, is_image_name}
-use Rattle.packing.specs.Images.{ImageRow, are_names, if_image, image_data, is_even, is_image, most_depth, names_of}
+use Rattle.packing.specs.Images.{are_names, given_in, if_image, image_data, image_of, is_even, is_image, most_depth, names_of}
 use Rattle.packing.specs.PrivateImages.{GivesJson, given_names, if_even, image_rows, is_among}
 use Rattle.packing.proofs.EvenFacts.{even_parts}
 
@@ -87,6 +89,24 @@ pub empty_is_read : is_some (listing_in (array no_items)) ≡ true
 unfolding listing_in list_in is_listing
 empty_is_read = refl
 
+pub empty_list_is_read : (v : Vec Value Global) → v.items ≡ [] → is_some (listing_in (view (Array v))) ≡ true
+empty_list_is_read v e =
+    let at : view (Array v) ≡ array no_items = view-Array v ∙ ap (λ vs. array (items_view vs)) e in
+    subst (λ d. is_some (listing_in d) ≡ true) (sym at) empty_is_read
+
+-- what a text gives is an image
+pub image_is : (text : List ℕ) (d : Data) → image_of text ≡ Some d → is_image d ≡ true
+unfolding image_of
+image_is text d e = go (option_and_then given_in (read text)) e
+  where
+    by : (given : Data) (b : Bool) → is_image given ≡ b → cond b (Some given) None ≡ Some d → is_image d ≡ true
+    by given true is e = subst (λ x. is_image x ≡ true) (ap (λ (o : Option Data). unwrap_or o given) e) is
+    by given false is e = cc
+
+    go : (o : Option Data) → option_and_then if_image o ≡ Some d → is_image d ≡ true
+    go None e = cc
+    go (Some given) e = by given (is_image given) refl e
+
 -- ---- names
 
 among_same : (name : List ℕ) (images : List (List ℕ × List ℕ)) → is_among name images ≡ list_any (bytes_eq name) (given_names images)
@@ -102,6 +122,16 @@ names_step image images named new more =
     and_from (list_all is_image_name (given_names (image ∷ images))) (names_differ (given_names (image ∷ images)))
     (and_from (is_image_name image.0) (list_all is_image_name (given_names images)) named parts.0)
     (and_from (not (list_any (bytes_eq image.0) (given_names images))) (names_differ (given_names images)) (not_from_false _ other) parts.1)
+
+pub names_left : (images left : List (List ℕ × List ℕ)) (image : List ℕ × List ℕ) → (are_names (given_names left) ≡ true → are_names (given_names images) ≡ true)
+    → 1 ≤ length left → image ≡ slice_index_or left 0 image → is_image_name image.0 ≡ true → is_among image.0 (take (length left - 1) (drop 1 left)) ≡ false
+    → are_names (given_names (take (length left - 1) (drop 1 left))) ≡ true → are_names (given_names images) ≡ true
+names_left images [] image so_far long is named new more = absurd (omega arith)
+names_left images (one ∷ rest) image so_far long is named new more =
+    let same : take (length {A = List ℕ × List ℕ} (one ∷ rest) - 1) rest ≡ rest = take_all (length {A = List ℕ × List ℕ} (one ∷ rest) - 1) rest (omega arith) in
+    let name : image.0 ≡ one.0 = ap (λ (i : List ℕ × List ℕ). i.0) is in
+    let other : is_among one.0 rest ≡ false = subst (λ r. is_among one.0 r ≡ false) same (subst (λ n. is_among n (take (length {A = List ℕ × List ℕ} (one ∷ rest) - 1) rest) ≡ false) name new) in
+    so_far (names_step one rest (subst (λ n. is_image_name n ≡ true) name named) other (subst (λ r. are_names (given_names r) ≡ true) same more))
 
 -- ---- images that are read one after another
 

@@ -25,8 +25,8 @@ use Rattle.trees.specs.Row.{Row}
 use Rattle.entries.specs.Written.{entry_data}
 use Rattle.entries.proofs.WrittenFacts.{tree-plain}
 use Rattle.packing.specs.Images.{ImageRow, are_images, are_names, is_image, most_depth, names_of}
-use Rattle.packing.specs.Packed.{Asked, Given, IsPlainEntry, IsPlain, bundle_of, bytes_in, dockerfile_among, dockerfile_of, dockerfile_path, files_members, given_with, packed_data, packed_of, put_args, put_images, put_target, put_texts, put_values}
-use Rattle.packing.specs.PrivatePacked.{IsTextOf, beside, beside_among, beside_of}
+use Rattle.packing.specs.Packed.{Asked, Given, IsPlainEntry, IsPlain, bundle_of, bytes_in, dockerfile_among, dockerfile_of, dockerfile_path, files_members, given_with, members_beside, packed_data, packed_of, put_args, put_images, put_target, put_texts, put_values}
+use Rattle.packing.specs.PrivatePacked.{IsTextOf, beside as beside_images, beside_among, beside_of}
 use Rattle.packing.proofs.ImageFacts.{image_even}
 
 -- each that may stand here is plain
@@ -180,19 +180,27 @@ images-depth (image ∷ images) ms h i =
     let within = values-depth (image ∷ images) no_members h (omega arith) in
     put-depth (codes "images") (object (put_values (image ∷ images) no_members)) ms (most_depth + 1) (omega arith) i
 
+deeper : (ms : Members) → members_depth ms ≤ most_depth + 1 → depth (object ms) ≤ max_depth
+deeper ms h = omega arith
+
+beside-depth : (rows : List Row) (dockerfile : List ℕ) (target : Option (List ℕ)) (args : List (List ℕ × List ℕ))
+    → members_depth (members_beside rows dockerfile target args) ≤ most_depth + 1
+beside-depth rows dockerfile target args =
+    target-depth target (put_args args (files_members rows dockerfile)) (most_depth + 1)
+    (args-depth args (files_members rows dockerfile) (most_depth + 1) (omega arith) (files-depth rows dockerfile (most_depth + 1) (omega arith)))
+
 packed_is_shallow : (rows : List Row) (dockerfile : List ℕ) (given : Given) → list_all (λ image. is_image image.1) given.images ≡ true
     → depth (packed_data rows dockerfile given) ≤ max_depth
 unfolding packed_data
 packed_is_shallow rows dockerfile given h =
-    let beside = target-depth given.target _ (most_depth + 1) (args-depth given.args _ (most_depth + 1) (omega arith) (files-depth rows dockerfile (most_depth + 1) (omega arith))) in
-    let within = images-depth given.images _ h beside in
-    omega arith
+    deeper (put_images given.images (members_beside rows dockerfile given.target given.args))
+    (images-depth given.images (members_beside rows dockerfile given.target given.args) h (beside-depth rows dockerfile given.target given.args))
 
 -- ---- the text of a bundle
 
 -- the members of a folder with a Dockerfile
 pub members_of_file : (tree : TreeMap) (path : List (List ℕ)) (found : Option Entry) (asked : Asked) (content : List ℕ) (members : Members) → path ≡ dockerfile_path
-    → found ≡ get tree path → bytes_in found ≡ Some content → members ≡ beside (entries tree) content asked
+    → found ≡ get tree path → bytes_in found ≡ Some content → members ≡ beside_images (entries tree) content asked
     → Some members ≡ beside_of tree (dockerfile_of tree) asked
 members_of_file tree path found asked content members at is file made =
     let bytes : dockerfile_of tree ≡ Some content = ap bytes_in (ap (get tree) (sym at) ∙ sym is) ∙ file in
@@ -206,7 +214,7 @@ members_of_none tree path found asked at is none =
     rw bytes refl
 
 packed_at : (rows : List Row) (dockerfile : List ℕ) (asked : Asked) (images : List ImageRow)
-    → object (put_images images (beside rows dockerfile asked)) ≡ packed_data rows dockerfile (given_with asked images)
+    → object (put_images images (beside_images rows dockerfile asked)) ≡ packed_data rows dockerfile (given_with asked images)
 unfolding packed_data
 packed_at rows dockerfile asked images = refl
 
@@ -224,7 +232,7 @@ text_of_members tree file asked images members text are is made = go (dockerfile
         × (read text ≡ option_map (λ dockerfile. packed_data (entries tree) dockerfile (given_with asked images)) found)
     go None e = cc
     go (Some dockerfile) e =
-        let same : members ≡ beside (entries tree) dockerfile asked = ap (λ (o : Option Members). unwrap_or o members) e in
+        let same : members ≡ beside_images (entries tree) dockerfile asked = ap (λ (o : Option Members). unwrap_or o members) e in
         let whole : object (put_images images members) ≡ packed_data (entries tree) dockerfile (given_with asked images) = ap (λ ms. object (put_images images ms)) same ∙ packed_at (entries tree) dockerfile asked images in
         let written : IsTextOf (packed_data (entries tree) dockerfile (given_with asked images)) text = subst (λ d. IsTextOf d text) whole made in
         (ap Some (written.compact (packed_is_plain (entries tree) dockerfile (given_with asked images) every)), written.reads (packed_is_shallow (entries tree) dockerfile (given_with asked images) every))

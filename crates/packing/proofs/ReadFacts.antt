@@ -62,26 +62,27 @@ some_at : {A : Type 0} (o : Option A) → is_some o ≡ true → (x : A) × (o �
 some_at None e = absurd (true≢false (sym e))
 some_at (Some x) e = (x, refl)
 
+with_row : (k : List ℕ) (d : Data) (ms : Members) → is_image_name k ≡ true → (listed : ListedImage Config) → image_in config_in d ≡ Some listed
+    → (rows : List (List ℕ × ListedImage Config)) → AreRows ms rows → AreRows (member k d ms) ((k, listed) ∷ rows)
+with_row k d ms name listed is rows later =
+    record {
+      read = rw (is, later.read) refl;
+      named = and_from (is_image_name k) (list_all (λ row. is_image_name row.0) rows) name later.named;
+      each = λ other. by other (later.each other) (slice_cmp nat_cmp other k);
+    }
+  where
+    by : (other : List ℕ) → find name_cmp other (map image_row rows) ≡ option_and_then image_value (get_member other ms)
+        → (o : Ordering) → cond (is_eq o) (Some (image_row (k, listed)).1) (find name_cmp other (map image_row rows)) ≡ option_and_then image_value (match_ordering o (get_member other ms) (Some d) (get_member other ms))
+    by other others Less = others
+    by other others Equal = rw is refl
+    by other others Greater = others
+
 rows_read : (ms : Members) → AllFine ms → (rows : List (List ℕ × ListedImage Config)) × AreRows ms rows
 rows_read no_members fine = ([], record { read = refl; named = refl; each = λ name. refl })
 rows_read (member k d ms) fine =
     let later = rows_read ms fine.1.1 in
     let one = some_at (image_in config_in d) fine.1.0 in
-    (
-      (k, one.0) ∷ later.0,
-      record {
-        read = rw (one.1, later.1.read) refl;
-        named = and_from (is_image_name k) (list_all (λ row. is_image_name row.0) later.0) fine.0 later.1.named;
-        each = λ name. by name one.0 one.1 later.0 (later.1.each name) (slice_cmp nat_cmp name k);
-      },
-    )
-  where
-    by : (name : List ℕ) (listed : ListedImage Config) → image_in config_in d ≡ Some listed → (rows : List (List ℕ × ListedImage Config))
-        → find name_cmp name (map image_row rows) ≡ option_and_then image_value (get_member name ms)
-        → (o : Ordering) → cond (is_eq o) (Some (image_row (k, listed)).1) (find name_cmp name (map image_row rows)) ≡ option_and_then image_value (match_ordering o (get_member name ms) (Some d) (get_member name ms))
-    by name listed is rows others Less = others
-    by name listed is rows others Equal = rw is refl
-    by name listed is rows others Greater = others
+    ((k, one.0) ∷ later.0, with_row k d ms fine.0 one.0 one.1 later.0 later.1)
 
 -- ---- what stands under a name
 
@@ -93,12 +94,13 @@ other_name name other e same = true≢false (sym ((bytes_eq-Decides name other).
 
 none_under : (name : List ℕ) (images : List ImageRow) → list_any (bytes_eq name) (names_of images) ≡ false → find name_cmp name images ≡ None
 none_under name [] e = refl
-none_under name (image ∷ images) e = by (bytes_eq name image.0) refl e
+none_under name (image ∷ images) e = by (bytes_eq name image.0) refl e (λ rest. none_under name images rest)
   where
     by : (b : Bool) → bytes_eq name image.0 ≡ b → (b || list_any (bytes_eq name) (names_of images)) ≡ false
+        → (list_any (bytes_eq name) (names_of images) ≡ false → find name_cmp name images ≡ None)
         → cond (is_eq (slice_cmp nat_cmp name image.0)) (Some image.1) (find name_cmp name images) ≡ None
-    by true is bad = absurd (true≢false bad)
-    by false is more = rw (is_eq-slice_cmp name image.0 ∙ is) (none_under name images more)
+    by true is bad later = absurd (true≢false bad)
+    by false is more later = rw (is_eq-slice_cmp name image.0 ∙ is) (later more)
 
 under : (name : List ℕ) (images : List ImageRow) (ms : Members) → names_differ (names_of images) ≡ true
     → get_member name (put_values images ms) ≡ option_or (find name_cmp name images) (get_member name ms)
@@ -141,13 +143,16 @@ values_read images are =
       ),
     )
 
+apart : (a b : List ℕ) → bytes_eq a b ≡ false → a ≡ b → ⊥
+apart a b other same = true≢false (sym ((bytes_eq-Decides a b).1 same) ∙ other)
+
 without_target : (target : Option (List ℕ)) (ms : Members) → get_member (codes "images") (put_target target ms) ≡ get_member (codes "images") ms
 without_target None ms = refl
-without_target (Some target) ms = get_member-put_other (codes "images") (codes "target") (string target) ms (λ e. cc)
+without_target (Some target) ms = get_member-put_other (codes "images") (codes "target") (string target) ms (apart (codes "images") (codes "target") refl)
 
 without_args : (args : List (List ℕ × List ℕ)) (ms : Members) → get_member (codes "images") (put_args args ms) ≡ get_member (codes "images") ms
 without_args [] ms = refl
-without_args (arg ∷ args) ms = get_member-put_other (codes "images") (codes "args") _ ms (λ e. cc)
+without_args (arg ∷ args) ms = get_member-put_other (codes "images") (codes "args") _ ms (apart (codes "images") (codes "args") refl)
 
 without_images : (rows : List Row) (dockerfile : List ℕ) (target : Option (List ℕ)) (args : List (List ℕ × List ℕ))
     → get_member (codes "images") (members_beside rows dockerfile target args) ≡ None

@@ -79,8 +79,21 @@ fn image_with_tree(
 ) -> Result<Value, ReadFault>
     ensures { GivesJson result (if_image (image_data (data_of config.now) (data_of tree.now))) }
 {
-    let listing = Listing::from_lent(alloc, tree)?;
-    drop(listing);
+    let listing: Result<Listing, ReadFault> = Listing::from_lent(alloc, tree);
+    match listing {
+        Ok(listing) => {
+            drop(listing);
+            image_of_lent(alloc, config, tree)
+        }
+        Err(fault) => Err(fault),
+    }
+}
+
+/// The image of a configuration and a tree that is read, both lent.
+fn image_of_lent(alloc: Global, config: &Lent<'_>, tree: &Lent<'_>) -> Result<Value, ReadFault>
+    requires { is_some (listing_in (data_of tree.now)) ≡ true }
+    ensures { GivesJson result (if_image (image_data (data_of config.now) (data_of tree.now))) }
+{
     let config = owned(alloc, config)?;
     match owned(alloc, tree) {
         Ok(tree) => image_of_parts(alloc, config, tree),

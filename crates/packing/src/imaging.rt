@@ -40,12 +40,12 @@ fn check_names(alloc: Global, images: &[(Text, Text)], why: &mut Text) -> Result
     ensures names { IfOk result (λ _. are_names (given_names images.now) ≡ true) }
 {
     let mut left = images;
-    'names: while let [(name, file), more @ ..] = left {
-        if !is_image_name(name) {
-            return Err(refuse(alloc, why, place_of(file), NO_IMAGE_NAME));
+    'names: while let [image, more @ ..] = left {
+        if !is_image_name(&image.0) {
+            return Err(refuse(alloc, why, place_of(&image.1), NO_IMAGE_NAME));
         }
-        if is_among(name, more) {
-            return Err(refuse(alloc, why, place_of(file), NAMED_TWICE));
+        if is_among(&image.0, more) {
+            return Err(refuse(alloc, why, place_of(&image.1), NAMED_TWICE));
         }
         left = more;
     }

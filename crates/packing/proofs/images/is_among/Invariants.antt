@@ -4,4 +4,4 @@ use Rattle.packing.proofs.images.is_among.Given as goal
 
 -- the images that are left decide
 abbrev pub invariant-loop-image : goal.invariant-loop-image
-invariant-loop-image l = is_among l.name.now l.images ≡ is_among l.name.now (drop l.image-index l.images)
+invariant-loop-image l = is_among l.name l.images ≡ is_among l.name (drop l.image-index l.images)

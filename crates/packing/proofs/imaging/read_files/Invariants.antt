@@ -6,6 +6,6 @@ use Rattle.packing.proofs.imaging.read_files.Given as goal
 
 -- the images so far are images, and have the first of the names
 abbrev pub invariant-loop-name : goal.invariant-loop-name
-invariant-loop-name l =
+invariant-loop-name g l =
     (names_of (image_rows l.found) ++ given_names (drop l.name-index l.images) ≡ given_names l.images)
     × (list_all (λ image. is_image image.1) (image_rows l.found) ≡ true)
