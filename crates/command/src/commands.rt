@@ -178,12 +178,7 @@ fn pack_to<'a>(alloc: Global) -> Result<Command<'a>, AllocError>
     ensures local { IfOk result (λ command. (out-Command command).has_globals ≡ false) }
 {
     let command = pack_with(alloc)?;
-    command.arg(text_option(
-        alloc,
-        OUTPUT,
-        "FILE",
-        "Write the bundle to this file",
-    ))
+    command.arg(text_option(alloc, OUTPUT, "FILE", "Write the bundle to this file"))
 }
 
 /// `pack DIR [--file F] [--target T] [--build-arg N=V].. [--image NAME=FILE]..`.

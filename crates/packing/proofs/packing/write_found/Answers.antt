@@ -1,4 +1,4 @@
-use Rattle.std.proofs.Common.{◌≡◌, ◌∙◌, ◌++◌, ◌∷◌, [], Some, sym, subst, rules}
+use Rattle.std.proofs.Common.{◌≡◌, ◌++◌, ◌∷◌, [], Some, sym, subst, rules}
 use Rattle.packing.specs.Asked.{asked_of}
 use Rattle.packing.specs.Ends.{Packs, of_edge}
 use Rattle.packing.specs.Packed.{given_with, packed_of}
@@ -16,7 +16,7 @@ returns-in_err-write_all g c =
     let file = c.args.found.files.file in
     let given = given_with (asked_of c.args.options) (image_rows c.args.found.images) in
     let is : Some text ≡ packed_of tree file given = rw c.in-Some.is at c.in_ok-text.ensures.is in
-    let ends : line ≡ text ++ 10 ∷ [] = first_of (search rules, c.as_bytes.ensures.value ∙ c.as_str.ensures ∙ c.in_ok-line.ensures) in
+    let ends : line ≡ text ++ 10 ∷ [] = first_of (search rules, cc (c.as_bytes.ensures.value, c.as_str.ensures, c.in_ok-line.ensures), search (rules, c.as_bytes.ensures.value, c.as_str.ensures, c.in_ok-line.ensures)) in
     let ended = written_in_part tree file given text line (g.W.CountedWrite.contents c.args.output.now) (g.W.CountedWrite.failures c.args.output.now) (g.W.CountedWrite.contents c.write_all.new.output) (g.W.CountedWrite.failures c.write_all.new.output) fault is ends failed.beginning failed.device failed.count in
     subst
     (Packs tree file given (g.W.CountedWrite.contents c.args.output.now) (g.W.CountedWrite.failures c.args.output.now) (g.W.CountedWrite.contents c.write_all.new.output) (g.W.CountedWrite.failures c.write_all.new.output))
