@@ -130,8 +130,7 @@ unfolding images_in rows_in
 values_read images are =
     let parts = and_parts (are_names (names_of images)) (list_all (λ image. is_image image.1) images) are in
     let names = and_parts (list_all is_image_name (names_of images)) (names_differ (names_of images)) parts.0 in
-    let rows = rows_read (put_values images no_members) (fine_values images no_members names.0 parts.1 tt) in
-    (
+    let rows = rows_read (put_values images no_members) (fine_values images no_members names.0 parts.1 tt) in (
       images_of rows.0,
       (
         rw (rows.1.read, rows.1.named) refl,

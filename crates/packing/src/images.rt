@@ -72,11 +72,7 @@ fn image_given(alloc: Global, value: &Lent<'_>) -> Result<Value, ReadFault>
 }
 
 /// The image of a configuration and a tree.
-fn image_with_tree(
-    alloc: Global,
-    config: &Lent<'_>,
-    tree: &Lent<'_>,
-) -> Result<Value, ReadFault>
+fn image_with_tree(alloc: Global, config: &Lent<'_>, tree: &Lent<'_>) -> Result<Value, ReadFault>
     ensures { GivesJson result (if_image (image_data (data_of config.now) (data_of tree.now))) }
 {
     let listing: Result<Listing, ReadFault> = Listing::from_lent(alloc, tree);

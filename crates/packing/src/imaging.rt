@@ -9,7 +9,8 @@ ghost use Rattle.packing.specs.PrivateImages.{image_rows, given_names};
 use crate::PackFault;
 use crate::images::{is_among, is_image_name, is_json, read_image};
 use crate::refusing::{
-    NAMED_TWICE, NO_FILE_OF_IMAGE, NO_IMAGE, NO_IMAGE_NAME, NO_JSON, TOO_LARGE, refuse, refuse_error,
+    NAMED_TWICE, NO_FILE_OF_IMAGE, NO_IMAGE, NO_IMAGE_NAME, NO_JSON, TOO_LARGE, refuse,
+    refuse_error,
 };
 use crate::walking::bytes_of;
 use plain::limits::MOST_BUNDLE_BYTES;
@@ -143,7 +144,11 @@ fn image_of_bytes(
             Ok(image) => Ok(image),
             Err(Fault::Memory) => Err(PackFault::Memory),
             Err(Fault::Because(_)) => {
-                let what = if is_json(alloc, text) { NO_IMAGE } else { NO_JSON };
+                let what = if is_json(alloc, text) {
+                    NO_IMAGE
+                } else {
+                    NO_JSON
+                };
                 Err(refuse(alloc, why, place, what))
             }
         },

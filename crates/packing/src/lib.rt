@@ -24,6 +24,6 @@ mod packing;
 mod refusing;
 mod walking;
 
-pub use fault::PackFault;
 pub use asked::PackOptions;
+pub use fault::PackFault;
 pub use packing::{Status, run_pack, run_pack_to_file, run_pack_with};

@@ -47,10 +47,7 @@ pub(crate) fn put_images(
 }
 
 /// Images as the members of an object.
-fn values_of(
-    alloc: Global,
-    images: Items<(Text, Value)>,
-) -> Result<Map<String, Value>, Memory>
+fn values_of(alloc: Global, images: Items<(Text, Value)>) -> Result<Map<String, Value>, Memory>
     ensures { IfOk result (λ members. members_view members.entries ≡ put_values (image_rows images) no_members) }
 {
     let mut members = Map::new(alloc);
