@@ -19,7 +19,7 @@ use Rattle.clap.specs.declared.error.kind.ErrorKind.TheVariants.{ValueValidation
 use Rattle.clap.proofs.ValueTestLemmas.{accepts-Accepts}
 use Rattle.plain.specs.Limits.{most_workers}
 use Rattle.command.specs.CommandLine.{least_workers, whole_command}
-use Rattle.command.specs.Tasks.{IsTaskOf, IsWorkers, argument_faults, arguments_of, bundle_file, check_of, faults_of, graph_of, has_bare_argument, has_wrong_choice, pack_of, pack_with, why_of}
+use Rattle.command.specs.Tasks.{IsTaskOf, IsWorkers, argument_faults, arguments_of, bundle_file, check_of, faults_of, graph_of, has_bare_argument, has_wrong_choice, images_of, pack_by, pack_of, pack_with, why_of}
 use Rattle.command.specs.Llb.{llb_of}
 use Rattle.command.specs.declared.task.LlbOptions.{LlbOptions}
 use Rattle.command.specs.declared.task.PackOptions.{PackOptions}
@@ -83,14 +83,14 @@ task_args : (found : Option (Text × List Row)) (task : Task) → IsTaskOf found
 task_args None task asked = absurd asked
 task_args (Some found) (Build n) asked = rw asked.0 refl
 task_args (Some found) (Graph options) asked = rw asked.0 refl
-task_args (Some found) (Pack words) asked = rw asked.0 (go (first_of (codes "DIR") found.1) (arguments_of found.1) asked.1)
+task_args (Some found) (Pack words) asked = rw asked.0 (go (first_of (codes "DIR") found.1) (arguments_of found.1) (images_of found.1) asked.1)
   where
-    go : (folder : Option Text) (args : Option (List (Text × Text)))
-        → option_and_then (λ f. option_map (pack_with found.1 f) args) folder ≡ Some words
-        → cond (not (is_some args) || false) (ValueValidation ∷ []) [] ≡ []
-    go None args is = cc
-    go (Some folder) None is = cc
-    go (Some folder) (Some args) is = refl
+    go : (folder : Option Text) (args images : Option (List (Text × Text))) → pack_by found.1 folder args images ≡ Some words
+        → cond ((not (is_some args) || not (is_some images)) || false) (ValueValidation ∷ []) [] ≡ []
+    go None args images is = cc
+    go (Some folder) None images is = cc
+    go (Some folder) (Some args) None is = cc
+    go (Some folder) (Some args) (Some images) is = refl
 task_args (Some found) (Why options) asked = rw asked.0 refl
 task_args (Some found) (Llb options) asked = rw (asked.0, asked.1) refl
 task_args (Some found) (Config file) asked = rw asked.0 refl
@@ -124,14 +124,16 @@ abbrev leads : Bool → Bool → Bool → Bool → Bool → Bool → Bool → Bo
 leads x y p w l c k z =
     cond x (Some leaf) (cond y (Some graph_leaf) (cond p (Some pack_leaf) (cond w (Some why_leaf) (cond l (Some llb_leaf) (cond c (Some config_leaf) (cond k (Some check_leaf) (cond z (Some help_leaf) None)))))))
 
--- `pack` has a folder, and each build argument a `=`
+-- `pack` has a folder, and each build argument and each image a `=`
 pack_at : (rows : List Row) (folder : Text) → first_of (codes "DIR") rows ≡ Some folder → argument_faults (Some (codes "pack", rows)) ≡ []
     → (words : PackOptions) × (pack_of rows ≡ Some words)
-pack_at rows folder given e = go (arguments_of rows) refl
+pack_at rows folder given e = go (arguments_of rows) (images_of rows) refl refl
   where
-    go : (found : Option (List (Text × Text))) → arguments_of rows ≡ found → (words : PackOptions) × (pack_of rows ≡ Some words)
-    go None is = absurd (some_kind _ _ (rw is at e))
-    go (Some args) is = (pack_with rows folder args, rw (given, is) refl)
+    go : (args images : Option (List (Text × Text))) → arguments_of rows ≡ args → images_of rows ≡ images
+        → (words : PackOptions) × (pack_of rows ≡ Some words)
+    go None images is also = absurd (some_kind _ _ (rw is at e))
+    go (Some args) None is also = absurd (some_kind _ _ (rw (is, also) at e))
+    go (Some args) (Some images) is also = (pack_with rows folder args images, rw (given, (is, also)) refl)
 
 -- `llb` has all that it is asked for
 llb_at : (rows : List Row) → argument_faults (Some (codes "llb", rows)) ≡ [] → (options : LlbOptions) × (llb_of rows ≡ Some options)

@@ -7,4 +7,5 @@ pub mod LeafWalk
 pub mod Matched
 pub mod PackWalk
 pub mod Rows
+pub mod Subcommands
 pub mod TopWalk

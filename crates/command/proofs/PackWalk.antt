@@ -28,14 +28,17 @@ target = slice_index_or leaf.rules 2 (new_rule [])
 abbrev argument : Rule
 argument = slice_index_or leaf.rules 3 (new_rule [])
 
+abbrev image : Rule
+image = slice_index_or leaf.rules 4 (new_rule [])
+
 abbrev output : Rule
-output = slice_index_or leaf.rules 4 (new_rule [])
+output = slice_index_or leaf.rules 5 (new_rule [])
 
 abbrev ignoring : Rule
-ignoring = slice_index_or leaf.rules 5 (new_rule [])
+ignoring = slice_index_or leaf.rules 6 (new_rule [])
 
 abbrev arguments : Arguments
-arguments = (true, folder) ∷ (true, file) ∷ (true, target) ∷ (true, argument) ∷ (true, output) ∷ (false, ignoring) ∷ []
+arguments = (true, folder) ∷ (true, file) ∷ (true, target) ∷ (true, argument) ∷ (true, image) ∷ (true, output) ∷ (false, ignoring) ∷ []
 
 use_folder : Keeps Filled folder
 use_folder again [] rows e filled = absurd (some_kind _ _ (or_else-left (range_kinds 1 1 0) (set_fault again folder [] rows) e))
@@ -63,6 +66,11 @@ use_argument again values rows e filled =
     Filled-with_values (codes "build-arg") (reading_by argument) CommandLine (values_or_missing argument values) rows
     (not_folder (codes "build-arg") _ refl) filled
 
+use_image : Keeps Filled image
+use_image again values rows e filled =
+    Filled-with_values (codes "image") (reading_by image) CommandLine (values_or_missing image values) rows
+    (not_folder (codes "image") _ refl) filled
+
 use_output : Keeps Filled output
 use_output again values rows e filled =
     Filled-with_values (codes "output") (reading_by output) CommandLine (values_or_missing output values) (without (codes "output") rows)
@@ -81,6 +89,6 @@ pub folder_ok : (words : List Text) → level_fault leaf [] nothing_held words f
     → (text : Text) × (first_of (codes "DIR") (finished leaf.rules (walk leaf.rules [] nothing_held words).held) ≡ Some text)
 folder_ok words e =
     let end = (walk leaf.rules [] nothing_held words).held in
-    let held = leaf_holds leaf arguments Filled (use_folder, (use_file, (use_target, (use_argument, (use_output, (use_ignoring, tt)))))) words tt e in
+    let held = leaf_holds leaf arguments Filled (use_folder, (use_file, (use_target, (use_argument, (use_image, (use_output, (use_ignoring, tt))))))) words tt e in
     given_folder (finished leaf.rules end) (Filled-defaults leaf.rules (settled leaf.rules end).rows held.0)
     (was_given (is_given (codes "DIR") (finished leaf.rules end)) held.1)

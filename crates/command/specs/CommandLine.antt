@@ -59,9 +59,17 @@ pack_from = with_rule (with_rule (with_rule (new_app (codes "pack")) folder_argu
 abbrev pub ignore_flag : Rule
 ignore_flag = record (new_rule (codes "apply-ignore")) { long = Some (codes "apply-ignore"); action = Some SetTrue }
 
--- `pack DIR [--file F] [--target T] [--build-arg N=V].. [--output FILE]` (own)
+-- `--image NAME=FILE`, any number of times (own)
+abbrev pub image_option : Rule
+image_option = record (text_option (codes "image")) { action = Some Append }
+
+-- `pack DIR [--file F] [--target T] [--build-arg N=V].. [--image NAME=FILE]..` (own)
+abbrev pub pack_with : App
+pack_with = with_rule (with_rule pack_from argument_option) image_option
+
+-- the same with `--output FILE` (own)
 abbrev pub pack_to : App
-pack_to = with_rule (with_rule pack_from argument_option) (text_option (codes "output"))
+pack_to = with_rule pack_with (text_option (codes "output"))
 
 -- the same with `--apply-ignore` (own)
 abbrev pub pack_command : App

@@ -41,17 +41,24 @@ pub record IsBuild (rows : List Row) (options : BuildOptions) : Type 0 where
 abbrev pub has_equals : Text → Bool
 has_equals text = not (position_or_len (λ c. c == 61) text == length text)
 
--- the name and the value of a build argument `N=V`: what stands before its first `=`, and what stands after it (own)
-abbrev pub argument_of : Text → Text × Text
-argument_of text = (before_first (λ c. c == 61) text, after_first (λ c. c == 61) text)
+-- the two halves of a text `N=V`: what stands before its first `=`, and what stands after it (own)
+abbrev pub halves_of : Text → Text × Text
+halves_of text = (before_first (λ c. c == 61) text, after_first (λ c. c == 61) text)
 
--- the texts of all `--build-arg`, in the order of the words (own)
-abbrev pub argument_texts : List Row → List Text
-argument_texts rows = unwrap_or (all_of (codes "build-arg") rows) []
+-- the texts of an option that may be given again, in the order of the words (own)
+abbrev pub all_texts : Text → List Row → List Text
+all_texts id rows = unwrap_or (all_of id rows) []
 
--- the build arguments, if each has a `=` (own)
+-- the halves of these, if each has a `=` (own)
+abbrev pub pairs_of : Text → List Row → Option (List (Text × Text))
+pairs_of id rows = if list_all has_equals (all_texts id rows) then Some (map halves_of (all_texts id rows)) else None
+
+-- the build arguments, each a name and a value, and the images, each a name and a file (own)
 abbrev pub arguments_of : List Row → Option (List (Text × Text))
-arguments_of rows = if list_all has_equals (argument_texts rows) then Some (map argument_of (argument_texts rows)) else None
+arguments_of rows = pairs_of (codes "build-arg") rows
+
+abbrev pub images_of : List Row → Option (List (Text × Text))
+images_of rows = pairs_of (codes "image") rows
 
 -- a flag is given: its first value is `true`, which is how clap keeps one (own)
 abbrev pub is_set : Text → List Row → Bool
@@ -61,24 +68,28 @@ is_set flag rows = option_map_or (λ text. bytes_eq text (codes "true")) (first_
 abbrev pub graph_of : List Row → GraphOptions
 graph_of rows = record { file = bundle_file rows; dot = is_set (codes "dot") rows }
 
--- what `pack` is asked for by its matches, with this folder and these build arguments (own)
-abbrev pub pack_with : List Row → Text → List (Text × Text) → PackOptions
-pack_with rows folder args = record {
+-- what `pack` is asked for by its matches, with this folder, these build arguments and these images (own)
+abbrev pub pack_with : List Row → Text → List (Text × Text) → List (Text × Text) → PackOptions
+pack_with rows folder args images = record {
   folder = folder;
   file = first_of (codes "file") rows;
   target = first_of (codes "target") rows;
   args = args;
+  images = images;
   output = first_of (codes "output") rows;
   apply_ignore = is_set (codes "apply-ignore") rows;
 }
 
--- the same, where there is a folder and each build argument has a `=` (own)
+-- the same, where there is a folder, and each build argument and each image has a `=` (own)
+abbrev pub pack_by : List Row → Option Text → Option (List (Text × Text)) → Option (List (Text × Text)) → Option PackOptions
+pack_by rows folder args images = option_and_then (λ folder. option_and_then (λ args. option_map (pack_with rows folder args) images) args) folder
+
 abbrev pub pack_of : List Row → Option PackOptions
-pack_of rows = option_and_then (λ folder. option_map (pack_with rows folder) (arguments_of rows)) (first_of (codes "DIR") rows)
+pack_of rows = pack_by rows (first_of (codes "DIR") rows) (arguments_of rows) (images_of rows)
 
 -- the paths of `why`, in the order of the words (own)
 abbrev pub paths_of : List Row → List Text
-paths_of rows = unwrap_or (all_of (codes "PATH") rows) []
+paths_of rows = all_texts (codes "PATH") rows
 
 -- what `why` is asked for by its matches: its paths, and the bundle's file, if one is named (own)
 abbrev pub why_of : List Row → WhyOptions
@@ -99,9 +110,9 @@ IsTaskOf (Some found) (Llb options) = (found.0 ≡ codes "llb") × (llb_of found
 IsTaskOf (Some found) (Config file) = (found.0 ≡ codes "config") × (file ≡ bundle_file found.1)
 IsTaskOf (Some found) (Check options) = (found.0 ≡ codes "check") × (options ≡ check_of found.1)
 
--- `pack` with a build argument without a `=` (own)
+-- `pack` with a build argument or an image without a `=` (own)
 abbrev pub has_bare_argument : Text × List Row → Bool
-has_bare_argument found = bytes_eq found.0 (codes "pack") && not (is_some (arguments_of found.1))
+has_bare_argument found = bytes_eq found.0 (codes "pack") && (not (is_some (arguments_of found.1)) || not (is_some (images_of found.1)))
 
 -- `llb` without a text of `--unique`, or with a value that is no platform or no network (own)
 abbrev pub has_wrong_choice : Text × List Row → Bool

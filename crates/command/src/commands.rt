@@ -1,7 +1,7 @@
-ghost use Rattle.std.specs.Prelude.{◌≡◌, IfOk, false};
+ghost use Rattle.std.specs.Prelude.{◌≡◌, IfOk, IsOkAnd, false};
 ghost use Rattle.clap.specs.Words.{app_of, rule_of, with_subcommand};
 ghost use Rattle.clap.specs.declared.builder.command.Command.TheViews.{out-Command};
-ghost use Rattle.command.specs.CommandLine.{argument_option, asking_command, bare_command, build_command, bundle_argument, bundle_command, check_command, config_command, dot_flag, folder_argument, graph_command, ignore_flag, json_flag, llb_command, llb_options, pack_command, pack_from, pack_to, paths_argument, text_option, whole_command, why_command, workers_option};
+ghost use Rattle.command.specs.CommandLine.{argument_option, asking_command, bare_command, build_command, bundle_argument, bundle_command, check_command, config_command, dot_flag, folder_argument, graph_command, ignore_flag, image_option, json_flag, llb_command, llb_options, pack_command, pack_from, pack_to, pack_with, paths_argument, text_option, whole_command, why_command, workers_option};
 
 use clap::{Arg, ArgAction, Command, value_parser};
 use plain::limits::MOST_WORKERS;
@@ -25,6 +25,8 @@ pub const FILE: &str = "file";
 pub const TARGET: &str = "target";
 
 pub const BUILD_ARGUMENT: &str = "build-arg";
+
+pub const IMAGE: &str = "image";
 
 pub const OUTPUT: &str = "output";
 
@@ -85,9 +87,9 @@ pub fn whole_command<'a>(alloc: Global) -> Result<Command<'a>, AllocError>
     ensures { IfOk result (λ command. app_of command ≡ whole_command) }
 {
     let command = asking_command(alloc)?;
-    let command = with_llb(alloc, command)?;
-    let command = with_config(alloc, command)?;
-    with_check(alloc, command)
+    let command = with_command(command, llb_command(alloc))?;
+    let command = with_command(command, config_command(alloc))?;
+    with_command(command, check_command(alloc))
 }
 
 /// `dfsolve COMMAND` with the commands that have to do with no engine but the program's own.
@@ -95,16 +97,16 @@ fn asking_command<'a>(alloc: Global) -> Result<Command<'a>, AllocError>
     ensures { IfOk result (λ command. app_of command ≡ asking_command) }
 {
     let command = bundle_command(alloc)?;
-    let command = with_pack(alloc, command)?;
-    with_why(alloc, command)
+    let command = with_command(command, pack_command(alloc))?;
+    with_command(command, why_command(alloc))
 }
 
 /// `dfsolve COMMAND` with the commands that read a bundle.
 fn bundle_command<'a>(alloc: Global) -> Result<Command<'a>, AllocError>
     ensures { IfOk result (λ command. app_of command ≡ bundle_command) }
 {
-    let command = with_build(alloc, bare_command(alloc))?;
-    with_graph(alloc, command)
+    let command = with_command(bare_command(alloc), build_command(alloc))?;
+    with_command(command, graph_command(alloc))
 }
 
 /// `dfsolve COMMAND` with no command yet.
@@ -117,91 +119,18 @@ fn bare_command<'a>(alloc: Global) -> Command<'a>
         .subcommand_required(true)
 }
 
-/// The command with the subcommand `build`. Like those below it lets the command go by a call, so that no proof goes by its parts.
-fn with_build<'a>(alloc: Global, command: Command<'a>) -> Result<Command<'a>, AllocError>
-    ensures { IfOk result (λ whole. app_of whole ≡ with_subcommand (app_of command.entry) build_command.top) }
+/// The command with a subcommand, where that was made.
+fn with_command<'a>(
+    command: Command<'a>,
+    made: Result<Command<'a>, AllocError>,
+) -> Result<Command<'a>, AllocError>
+    requires local { IfOk made (λ made. (out-Command made).has_globals ≡ false) }
+    ensures { IfOk result (λ whole. IsOkAnd made.entry (λ made. app_of whole ≡ with_subcommand (app_of command.entry) (app_of made).top)) }
 {
-    match build_command(alloc) {
-        Ok(build) => command.subcommand(build),
+    match made {
+        Ok(made) => command.subcommand(made),
         Err(memory) => {
-            drop(command);
-            Err(memory)
-        }
-    }
-}
-
-/// The same with `graph`.
-fn with_graph<'a>(alloc: Global, command: Command<'a>) -> Result<Command<'a>, AllocError>
-    ensures { IfOk result (λ whole. app_of whole ≡ with_subcommand (app_of command.entry) graph_command.top) }
-{
-    match graph_command(alloc) {
-        Ok(graph) => command.subcommand(graph),
-        Err(memory) => {
-            drop(command);
-            Err(memory)
-        }
-    }
-}
-
-/// The same with `pack`.
-fn with_pack<'a>(alloc: Global, command: Command<'a>) -> Result<Command<'a>, AllocError>
-    ensures { IfOk result (λ whole. app_of whole ≡ with_subcommand (app_of command.entry) pack_command.top) }
-{
-    match pack_command(alloc) {
-        Ok(pack) => command.subcommand(pack),
-        Err(memory) => {
-            drop(command);
-            Err(memory)
-        }
-    }
-}
-
-/// The same with `why`.
-fn with_why<'a>(alloc: Global, command: Command<'a>) -> Result<Command<'a>, AllocError>
-    ensures { IfOk result (λ whole. app_of whole ≡ with_subcommand (app_of command.entry) why_command.top) }
-{
-    match why_command(alloc) {
-        Ok(why) => command.subcommand(why),
-        Err(memory) => {
-            drop(command);
-            Err(memory)
-        }
-    }
-}
-
-/// The same with `llb`.
-fn with_llb<'a>(alloc: Global, command: Command<'a>) -> Result<Command<'a>, AllocError>
-    ensures { IfOk result (λ whole. app_of whole ≡ with_subcommand (app_of command.entry) llb_command.top) }
-{
-    match llb_command(alloc) {
-        Ok(llb) => command.subcommand(llb),
-        Err(memory) => {
-            drop(command);
-            Err(memory)
-        }
-    }
-}
-
-/// The same with `config`.
-fn with_config<'a>(alloc: Global, command: Command<'a>) -> Result<Command<'a>, AllocError>
-    ensures { IfOk result (λ whole. app_of whole ≡ with_subcommand (app_of command.entry) config_command.top) }
-{
-    match config_command(alloc) {
-        Ok(config) => command.subcommand(config),
-        Err(memory) => {
-            drop(command);
-            Err(memory)
-        }
-    }
-}
-
-/// The same with `check`.
-fn with_check<'a>(alloc: Global, command: Command<'a>) -> Result<Command<'a>, AllocError>
-    ensures { IfOk result (λ whole. app_of whole ≡ with_subcommand (app_of command.entry) check_command.top) }
-{
-    match check_command(alloc) {
-        Ok(check) => command.subcommand(check),
-        Err(memory) => {
+            // It goes by a call, so that no proof goes by its parts.
             drop(command);
             Err(memory)
         }
@@ -234,7 +163,7 @@ fn graph_command<'a>(alloc: Global) -> Result<Command<'a>, AllocError>
         .arg(bundle_argument(alloc))
 }
 
-/// `pack DIR [--file F] [--target T] [--build-arg N=V].. [--output FILE] [--apply-ignore]`.
+/// `pack DIR [--file F] [--target T] [--build-arg N=V].. [--image NAME=FILE].. [--output FILE] [--apply-ignore]`.
 fn pack_command<'a>(alloc: Global) -> Result<Command<'a>, AllocError>
     ensures app { IfOk result (λ command. app_of command ≡ pack_command) }
     ensures local { IfOk result (λ command. (out-Command command).has_globals ≡ false) }
@@ -243,18 +172,24 @@ fn pack_command<'a>(alloc: Global) -> Result<Command<'a>, AllocError>
     command.arg(ignore_flag(alloc))
 }
 
-/// `pack DIR [--file F] [--target T] [--build-arg N=V].. [--output FILE]`.
+/// `pack DIR [--file F] [--target T] [--build-arg N=V].. [--image NAME=FILE].. [--output FILE]`.
 fn pack_to<'a>(alloc: Global) -> Result<Command<'a>, AllocError>
     ensures app { IfOk result (λ command. app_of command ≡ pack_to) }
     ensures local { IfOk result (λ command. (out-Command command).has_globals ≡ false) }
 {
+    let command = pack_with(alloc)?;
+    command.arg(text_option(alloc, OUTPUT, "FILE", "Write the bundle to this file"))
+}
+
+/// `pack DIR [--file F] [--target T] [--build-arg N=V].. [--image NAME=FILE]..`.
+fn pack_with<'a>(alloc: Global) -> Result<Command<'a>, AllocError>
+    ensures app { IfOk result (λ command. app_of command ≡ pack_with) }
+    ensures local { IfOk result (λ command. (out-Command command).has_globals ≡ false) }
+{
     let command = pack_from(alloc)?;
-    command.arg(argument_option(alloc))?.arg(text_option(
-        alloc,
-        OUTPUT,
-        "FILE",
-        "Write the bundle to this file",
-    ))
+    command
+        .arg(argument_option(alloc))?
+        .arg(image_option(alloc))
 }
 
 /// `pack DIR [--file F] [--target T]`.
@@ -402,6 +337,20 @@ fn argument_option<'a>(alloc: Global) -> Arg<'a>
         BUILD_ARGUMENT,
         "NAME=VALUE",
         "A build argument; may be given again",
+    )
+    .action(ArgAction::Append)
+}
+
+/// `--image NAME=FILE`, any number of times.
+fn image_option<'a>(alloc: Global) -> Arg<'a>
+    ensures rule { rule_of result ≡ image_option }
+    ensures local { result.global ≡ false }
+{
+    text_option(
+        alloc,
+        IMAGE,
+        "NAME=FILE",
+        "An image and the file that holds it; may be given again",
     )
     .action(ArgAction::Append)
 }

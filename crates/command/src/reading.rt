@@ -4,13 +4,13 @@ ghost use Rattle.clap.specs.Walk.{all_of};
 ghost use Rattle.clap.specs.Words.{FailsBy, first_of, found_of, rows_of, subcommand_of, subcommand_rows_of};
 ghost use Rattle.clap.specs.declared.error.kind.ErrorKind.TheVariants.{ValueValidation};
 ghost use Rattle.command.specs.CommandLine.{whole_command};
-ghost use Rattle.command.specs.Tasks.{IsBuild, IsTaskOf, IsWorkers, argument_of, arguments_of, bundle_file, check_of, faults_of, graph_of, has_equals, is_set, pack_of, paths_of, why_of};
+ghost use Rattle.command.specs.Tasks.{IsBuild, IsTaskOf, IsWorkers, bundle_file, check_of, faults_of, graph_of, halves_of, has_equals, is_set, pack_of, pairs_of, paths_of, why_of};
 ghost use Rattle.command.specs.declared.task.BuildOptions.{BuildOptions};
 ghost use Rattle.command.specs.declared.task.Task.{Task};
 
 use crate::commands::{
-    APPLY_IGNORE, BUILD_ARGUMENT, BUNDLE, BUNDLE_FILE, DOT, FILE, FOLDER, JSON, LEAST_WORKERS,
-    OUTPUT, PATH, TARGET, whole_command,
+    APPLY_IGNORE, BUILD_ARGUMENT, BUNDLE, BUNDLE_FILE, DOT, FILE, FOLDER, IMAGE, JSON,
+    LEAST_WORKERS, OUTPUT, PATH, TARGET, whole_command,
 };
 use crate::llb::{llb_of, wrong_choice};
 use crate::{BuildOptions, CheckOptions, GraphOptions, PackOptions, Task, WhyOptions};
@@ -25,7 +25,8 @@ use std::alloc::{AllocError, Global};
 ///
 /// `graph` is a command with a word FILE that may be left out, and with `--dot` once at most. `build` is one with that word and `--workers N` or `--workers=N` once at most; N is
 /// decimal digits, of which a `+` may stand in front, and its value is 1 to 64; the default is 4. `pack` is one with a word DIR, with
-/// `--file F`, `--target T`, `--output FILE` and `--apply-ignore` once at most, and with `--build-arg N=V` any number of times, each of which has a `=`.
+/// `--file F`, `--target T`, `--output FILE` and `--apply-ignore` once at most, and with `--build-arg N=V` and `--image NAME=FILE` any number of times, each
+/// of which has a `=`.
 /// `why` is one with a word PATH once or more, and with `--bundle FILE` once at most.
 /// `llb` is one with a word FILE that may be left out, with `--unique TEXT` just once, and with `--platform P` and `--network N` once at most; P is
 /// `OS/ARCH` or `OS/ARCH/VARIANT`, and `linux/amd64` by default; N is `default`, `none` or `host`, and the first of these by default.
@@ -34,8 +35,8 @@ use std::alloc::{AllocError, Global};
 /// before it for the program's name and version.
 ///
 /// An error is clap's, and its kind tells what it is: help or the version that was asked for, which are no faults; a fault of the words;
-/// or want of memory. The text that it prints is clap's, except of a build argument without a `=` and of the options of `llb`, of which it
-/// says what is wrong.
+/// or want of memory. The text that it prints is clap's, except of a build argument or an image without a `=` and of the options of `llb`, of which
+/// it says what is wrong.
 pub fn read_command<'a>(alloc: Global, words: &'a [&'a str]) -> Result<Task, Error>
     ensures task { IfOk result
         (IsTaskOf (subcommand_of whole_command (map (λ word. word.now) words.entry.now))) }
@@ -69,26 +70,34 @@ fn wrong_argument(alloc: Global, matches: &ArgMatches) -> Result<String, AllocEr
             return wrong_choice(alloc, found);
         }
     }
-    no_equals(alloc, bare_argument(matches))
+    no_equals(alloc, matches)
 }
 
-/// What is said of a build argument without a `=`.
-fn no_equals(alloc: Global, argument: &str) -> Result<String, AllocError> {
-    format!(in alloc; "a value of --build-arg is NAME=VALUE, and '{argument}' has no '='")
+/// What is said of a build argument or an image without a `=`.
+fn no_equals(alloc: Global, matches: &ArgMatches) -> Result<String, AllocError> {
+    match bare_text(matches, BUILD_ARGUMENT) {
+        Some(text) => {
+            format!(in alloc; "a value of --build-arg is NAME=VALUE, and '{text}' has no '='")
+        }
+        None => {
+            let text = bare_text(matches, IMAGE).unwrap_or("");
+            format!(in alloc; "a value of --image is NAME=FILE, and '{text}' has no '='")
+        }
+    }
 }
 
-/// The first build argument without a `=`.
-fn bare_argument<'m, 'a>(matches: &'m ArgMatches<'a>) -> &'a str {
+/// The first text of an option of `pack` that has no `=`.
+fn bare_text<'m, 'a>(matches: &'m ArgMatches<'a>, id: &str) -> Option<&'a str> {
     if let Some((_, found)) = matches.subcommand() {
-        if let Some(texts) = texts_of(found, BUILD_ARGUMENT) {
+        if let Some(texts) = texts_of(found, id) {
             for text in texts {
                 if text.split_once('=').is_none() {
-                    return text;
+                    return Some(*text);
                 }
             }
         }
     }
-    ""
+    None
 }
 
 /// The task that a parse found.
@@ -159,14 +168,17 @@ fn graph_of(alloc: Global, matches: &ArgMatches) -> Result<GraphOptions, AllocEr
     })
 }
 
-/// What the matches of `pack` ask for; `None` where they hold no folder, or a build argument without a `=`.
+/// What the matches of `pack` ask for; `None` where they hold no folder, or a build argument or an image without a `=`.
 fn pack_of(alloc: Global, matches: &ArgMatches) -> Result<Option<PackOptions>, AllocError>
     ensures { IfOk result (λ options. options ≡ pack_of (rows_of (found_of matches.now))) }
 {
     let Some(folder) = text_of(alloc, matches, FOLDER)? else {
         return Ok(None);
     };
-    let Some(args) = arguments_of(alloc, matches)? else {
+    let Some(args) = pairs_of(alloc, matches, BUILD_ARGUMENT)? else {
+        return Ok(None);
+    };
+    let Some(images) = pairs_of(alloc, matches, IMAGE)? else {
         return Ok(None);
     };
     Ok(Some(PackOptions {
@@ -174,6 +186,7 @@ fn pack_of(alloc: Global, matches: &ArgMatches) -> Result<Option<PackOptions>, A
         file: text_of(alloc, matches, FILE)?,
         target: text_of(alloc, matches, TARGET)?,
         args,
+        images,
         output: text_of(alloc, matches, OUTPUT)?,
         apply_ignore: is_set(matches, APPLY_IGNORE),
     }))
@@ -251,20 +264,21 @@ fn copy_texts(alloc: Global, texts: &[&str]) -> Result<Items<Text>, AllocError>
     Ok(Items::from_vec(copies))
 }
 
-/// The build arguments that the matches of `pack` hold; `None` where one of them has no `=`.
-fn arguments_of(
+/// The texts `N=V` that the matches hold for an id, each cut in its halves; `None` where one of them has no `=`.
+fn pairs_of(
     alloc: Global,
     matches: &ArgMatches,
+    id: &str,
 ) -> Result<Option<Items<(Text, Text)>>, AllocError>
-    ensures { IfOk result (λ args. args ≡ arguments_of (rows_of (found_of matches.now))) }
+    ensures { IfOk result (λ pairs. pairs ≡ pairs_of id.now (rows_of (found_of matches.now))) }
 {
-    let Some(texts) = texts_of(matches, BUILD_ARGUMENT) else {
+    let Some(texts) = texts_of(matches, id) else {
         return Ok(Some(Items::new(alloc)));
     };
     if !have_equals(texts) {
         return Ok(None);
     }
-    Ok(Some(cut_arguments(alloc, texts)?))
+    Ok(Some(cut_texts(alloc, texts)?))
 }
 
 /// Whether each text has a `=`.
@@ -279,25 +293,25 @@ fn have_equals(texts: &[&str]) -> bool
     true
 }
 
-/// Build arguments, each cut at its first `=`.
-fn cut_arguments(alloc: Global, texts: &[&str]) -> Result<Items<(Text, Text)>, AllocError>
-    ensures { IfOk result (λ args. args ≡ map (λ text. argument_of text.now) texts.now) }
+/// Texts, each cut at its first `=`.
+fn cut_texts(alloc: Global, texts: &[&str]) -> Result<Items<(Text, Text)>, AllocError>
+    ensures { IfOk result (λ pairs. pairs ≡ map (λ text. halves_of text.now) texts.now) }
 {
-    let mut args = Vec::new(alloc);
+    let mut pairs = Vec::new(alloc);
     for text in texts {
-        args.push(cut_argument(alloc, text)?)?;
+        pairs.push(cut_text(alloc, text)?)?;
     }
-    Ok(Items::from_vec(args))
+    Ok(Items::from_vec(pairs))
 }
 
-/// A build argument, cut at its first `=`.
-fn cut_argument(alloc: Global, text: &str) -> Result<(Text, Text), AllocError>
-    ensures { IfOk result (λ arg. arg ≡ argument_of text.now) }
+/// A text, cut at its first `=`.
+fn cut_text(alloc: Global, text: &str) -> Result<(Text, Text), AllocError>
+    ensures { IfOk result (λ pair. pair ≡ halves_of text.now) }
 {
-    let (name, value) = text.split_once('=').unwrap_or((text, ""));
-    let name = String::from_str(alloc, name)?;
-    let value = String::from_str(alloc, value)?;
-    Ok((Text::from_string(name), Text::from_string(value)))
+    let (first, second) = text.split_once('=').unwrap_or((text, ""));
+    let first = String::from_str(alloc, first)?;
+    let second = String::from_str(alloc, second)?;
+    Ok((Text::from_string(first), Text::from_string(second)))
 }
 
 /// The number of workers that the matches of `build` hold.

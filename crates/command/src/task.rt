@@ -65,6 +65,8 @@ pub struct PackOptions {
     pub target: Option<Text>,
     /// The build arguments, each a name and a value, in the order of the words.
     pub args: Items<(Text, Text)>,
+    /// The images, each a name and the file that holds it, in the order of the words.
+    pub images: Items<(Text, Text)>,
     /// Where the bundle is written to in place of standard output, if a file is named.
     pub output: Option<Text>,
     /// Whether what the ignore file leaves out isn't packed.
@@ -79,6 +81,7 @@ impl Drop for PackOptions {
             file: _,
             target: _,
             args: _,
+            images: _,
             output: _,
             apply_ignore: _,
         } = self;

@@ -1,5 +1,6 @@
 -- What is put into a plain tree leaves it plain.
-use Rattle.std.specs.Prelude.{◌≡◌, ℕ, Bool, true, false, List, [], ◌∷◌, ◌++◌, Option, Some, None, Result, Ok, Err, cond, unwrap_or, refl, codes}
+use Rattle.std.specs.Prelude.{◌≡◌, ◌≤◌, ◌+◌, ℕ, Bool, true, false, List, [], ◌∷◌, ◌++◌, map, Option, Some, None, Result, Ok, Err, cond, unwrap_or, refl, codes}
+use Rattle.std.specs.List.{list_all}
 use Rattle.std.specs.Ordering.{match_ordering, nat_cmp}
 use Rattle.std.specs.Cmp.Lexicographic.{slice_cmp}
 use Rattle.std.proofs.Common.{ap, sym, ◌∙◌, ◌||◌, subst, arith, Ordering, Less, Equal, Greater}
@@ -8,18 +9,25 @@ use Rattle.std.specs.FinMap.{get, entries}
 use Rattle.plain.specs.declared.fault.Fault.{Fault}
 use Rattle.plain.specs.declared.fault.Fault.TheVariants.{Because, Memory}
 use Rattle.paths.specs.Path.{IsClean}
-use Rattle.serde_json.specs.Data.{Data, Members, string, object, no_members, member, put}
+use Rattle.std.proofs.lemmas.Bool.{and_parts}
+use Rattle.serde_json.specs.Data.{Data, Members, string, object, no_members, member, put, depth, items_depth, members_depth}
+use Rattle.serde_json.specs.Read.{max_depth, read}
+use Rattle.serde_json.specs.View.{items_of}
 use Rattle.serde_json.specs.Written.{compact_text, has_float, members_have_float}
 use Rattle.trees.specs.Cause.{ChangesTree}
 use Rattle.trees.specs.declared.cause.Cause.{Cause}
 use Rattle.trees.specs.TreeMap.{TreeMap, directory_meta, empty_tree}
 use Rattle.trees.specs.Put.{put_into}
 use Rattle.trees.specs.declared.entry.Entry.{Entry}
-use Rattle.trees.specs.declared.entry.Entry.TheVariants.{Directory}
+use Rattle.trees.specs.declared.entry.Entry.TheVariants.{Directory, File}
 use Rattle.trees.proofs.TreeLaws.{get-put, get-empty_tree}
 use Rattle.trees.specs.Row.{Row}
+use Rattle.entries.specs.Written.{entry_data}
 use Rattle.entries.proofs.WrittenFacts.{tree-plain}
-use Rattle.packing.specs.Packed.{Given, IsPlainEntry, IsPlain, bytes_in, dockerfile_among, dockerfile_of, dockerfile_path, files_members, packed_data, packed_of, put_args, put_target, put_texts}
+use Rattle.packing.specs.Images.{ImageRow, are_images, are_names, is_image, most_depth, names_of}
+use Rattle.packing.specs.Packed.{Asked, Given, IsPlainEntry, IsPlain, bundle_of, bytes_in, dockerfile_among, dockerfile_of, dockerfile_path, files_members, given_with, members_beside, packed_data, packed_of, put_args, put_images, put_target, put_texts, put_values}
+use Rattle.packing.specs.PrivatePacked.{IsTextOf, beside as beside_images, beside_among, beside_of}
+use Rattle.packing.proofs.ImageFacts.{image_even}
 
 -- each that may stand here is plain
 abbrev AllPlain : Option Entry → Type 0
@@ -97,44 +105,142 @@ target-plain (Some target) ms h = put-plain (codes "target") (string target) ms 
 files-plain : (rows : List Row) (dockerfile : List ℕ) → members_have_float (files_members rows dockerfile) ≡ false
 files-plain rows dockerfile = rw (tree-plain rows) refl
 
-packed_is_plain : (rows : List Row) (dockerfile : List ℕ) (given : Given) → has_float (packed_data rows dockerfile given) ≡ false
-unfolding packed_data
-packed_is_plain rows dockerfile given =
-    target-plain given.target _ (args-plain given.args _ (files-plain rows dockerfile))
+values-plain : (images : List ImageRow) (ms : Members) → list_all (λ image. is_image image.1) images ≡ true → members_have_float ms ≡ false
+    → members_have_float (put_values images ms) ≡ false
+values-plain [] ms h i = i
+values-plain (image ∷ images) ms h i =
+    let parts = and_parts (is_image image.1) (list_all (λ other. is_image other.1) images) h in
+    values-plain images (put image.0 image.1 ms) parts.1 (put-plain image.0 image.1 ms (image_even image.1 parts.0).0 i)
 
--- the JSON of a folder with a Dockerfile
-pub value_of_file : (tree : TreeMap) (path : List (List ℕ)) (found : Option Entry) (given : Given) (content : List ℕ) (json : Data) → path ≡ dockerfile_path
-    → found ≡ get tree path → bytes_in found ≡ Some content → json ≡ packed_data (entries tree) content given
-    → Some json ≡ option_map (λ dockerfile. packed_data (entries tree) dockerfile given) (dockerfile_of tree)
-value_of_file tree path found given content json at is file made =
+images-plain : (images : List ImageRow) (ms : Members) → list_all (λ image. is_image image.1) images ≡ true → members_have_float ms ≡ false
+    → members_have_float (put_images images ms) ≡ false
+images-plain [] ms h i = i
+images-plain (image ∷ images) ms h i =
+    put-plain (codes "images") (object (put_values (image ∷ images) no_members)) ms (values-plain (image ∷ images) no_members h refl) i
+
+packed_is_plain : (rows : List Row) (dockerfile : List ℕ) (given : Given) → list_all (λ image. is_image image.1) given.images ≡ true
+    → has_float (packed_data rows dockerfile given) ≡ false
+unfolding packed_data
+packed_is_plain rows dockerfile given h =
+    images-plain given.images _ h (target-plain given.target _ (args-plain given.args _ (files-plain rows dockerfile)))
+
+-- ---- none nests too deep
+
+put-depth : (k : List ℕ) (d : Data) (ms : Members) (n : ℕ) → depth d ≤ n → members_depth ms ≤ n → members_depth (put k d ms) ≤ n
+put-depth k d no_members n h i = omega arith
+put-depth k d (member l e ms) n h i =
+    let later = put-depth k d ms n h (omega arith) in
+    by (slice_cmp nat_cmp k l) (omega arith) (omega arith) (omega arith)
+  where
+    by : (o : Ordering) → members_depth (member k d (member l e ms)) ≤ n → members_depth (member l d ms) ≤ n → members_depth (member l e (put k d ms)) ≤ n
+        → members_depth (match_ordering o (member k d (member l e ms)) (member l d ms) (member l e (put k d ms))) ≤ n
+    by Less p q r = p
+    by Equal p q r = q
+    by Greater p q r = r
+
+texts-depth : (rows : List (List ℕ × List ℕ)) (ms : Members) (n : ℕ) → members_depth ms ≤ n → members_depth (put_texts rows ms) ≤ n
+texts-depth [] ms n h = h
+texts-depth (row ∷ rows) ms n h = texts-depth rows (put row.0 (string row.1) ms) n (put-depth row.0 (string row.1) ms n (omega arith) h)
+
+args-depth : (args : List (List ℕ × List ℕ)) (ms : Members) (n : ℕ) → 1 ≤ n → members_depth ms ≤ n → members_depth (put_args args ms) ≤ n
+args-depth [] ms n l h = h
+args-depth (arg ∷ args) ms n l h =
+    let within = texts-depth (arg ∷ args) no_members 0 (omega arith) in
+    put-depth (codes "args") (object (put_texts (arg ∷ args) no_members)) ms n (omega arith) h
+
+target-depth : (target : Option (List ℕ)) (ms : Members) (n : ℕ) → members_depth ms ≤ n → members_depth (put_target target ms) ≤ n
+target-depth None ms n h = h
+target-depth (Some target) ms n h = put-depth (codes "target") (string target) ms n (omega arith) h
+
+entry-depth : (path : List (List ℕ)) (entry : Entry) → depth (entry_data path entry) ≤ 1
+entry-depth path (Directory meta) = omega arith
+entry-depth path (File meta content) = omega arith
+
+rows-depth : (rows : List Row) → items_depth (items_of (map (λ row. entry_data row.0 row.1) rows)) ≤ 1
+rows-depth [] = omega arith
+rows-depth (row ∷ rows) =
+    let one = entry-depth row.0 row.1 in
+    let others = rows-depth rows in
+    omega arith
+
+files-depth : (rows : List Row) (dockerfile : List ℕ) (n : ℕ) → 2 ≤ n → members_depth (files_members rows dockerfile) ≤ n
+files-depth rows dockerfile n l = let within = rows-depth rows in omega arith
+
+values-depth : (images : List ImageRow) (ms : Members) → list_all (λ image. is_image image.1) images ≡ true → members_depth ms ≤ most_depth
+    → members_depth (put_values images ms) ≤ most_depth
+values-depth [] ms h i = i
+values-depth (image ∷ images) ms h i =
+    let parts = and_parts (is_image image.1) (list_all (λ other. is_image other.1) images) h in
+    values-depth images (put image.0 image.1 ms) parts.1 (put-depth image.0 image.1 ms most_depth (image_even image.1 parts.0).1 i)
+
+images-depth : (images : List ImageRow) (ms : Members) → list_all (λ image. is_image image.1) images ≡ true → members_depth ms ≤ most_depth + 1
+    → members_depth (put_images images ms) ≤ most_depth + 1
+images-depth [] ms h i = i
+images-depth (image ∷ images) ms h i =
+    let within = values-depth (image ∷ images) no_members h (omega arith) in
+    put-depth (codes "images") (object (put_values (image ∷ images) no_members)) ms (most_depth + 1) (omega arith) i
+
+deeper : (ms : Members) → members_depth ms ≤ most_depth + 1 → depth (object ms) ≤ max_depth
+deeper ms h = omega arith
+
+beside-depth : (rows : List Row) (dockerfile : List ℕ) (target : Option (List ℕ)) (args : List (List ℕ × List ℕ))
+    → members_depth (members_beside rows dockerfile target args) ≤ most_depth + 1
+beside-depth rows dockerfile target args =
+    target-depth target (put_args args (files_members rows dockerfile)) (most_depth + 1)
+    (args-depth args (files_members rows dockerfile) (most_depth + 1) (omega arith) (files-depth rows dockerfile (most_depth + 1) (omega arith)))
+
+packed_is_shallow : (rows : List Row) (dockerfile : List ℕ) (given : Given) → list_all (λ image. is_image image.1) given.images ≡ true
+    → depth (packed_data rows dockerfile given) ≤ max_depth
+unfolding packed_data
+packed_is_shallow rows dockerfile given h =
+    deeper (put_images given.images (members_beside rows dockerfile given.target given.args))
+    (images-depth given.images (members_beside rows dockerfile given.target given.args) h (beside-depth rows dockerfile given.target given.args))
+
+-- ---- the text of a bundle
+
+-- the members of a folder with a Dockerfile
+pub members_of_file : (tree : TreeMap) (path : List (List ℕ)) (found : Option Entry) (asked : Asked) (content : List ℕ) (members : Members) → path ≡ dockerfile_path
+    → found ≡ get tree path → bytes_in found ≡ Some content → members ≡ beside_images (entries tree) content asked
+    → Some members ≡ beside_of tree (dockerfile_of tree) asked
+members_of_file tree path found asked content members at is file made =
     let bytes : dockerfile_of tree ≡ Some content = ap bytes_in (ap (get tree) (sym at) ∙ sym is) ∙ file in
     rw bytes (ap Some made)
 
 -- and of one without
-pub value_of_none : (tree : TreeMap) (path : List (List ℕ)) (found : Option Entry) (given : Given) → path ≡ dockerfile_path → found ≡ get tree path → bytes_in found ≡ None
-    → None ≡ option_map (λ dockerfile. packed_data (entries tree) dockerfile given) (dockerfile_of tree)
-value_of_none tree path found given at is none =
+pub members_of_none : (tree : TreeMap) (path : List (List ℕ)) (found : Option Entry) (asked : Asked) → path ≡ dockerfile_path → found ≡ get tree path → bytes_in found ≡ None
+    → None ≡ beside_of tree (dockerfile_of tree) asked
+members_of_none tree path found asked at is none =
     let bytes : dockerfile_of tree ≡ None = ap bytes_in (ap (get tree) (sym at) ∙ sym is) ∙ none in
     rw bytes refl
 
--- the text of that JSON is the folder's bundle
-pub text_of_value : (tree : TreeMap) (file : Option (List ℕ)) (given : Given) (json : Data) (text : List ℕ)
-    → Some json ≡ option_map (λ dockerfile. packed_data (entries tree) dockerfile given) (dockerfile_among tree file)
-    → (has_float json ≡ false → text ≡ compact_text json) → Some text ≡ packed_of tree file given
-text_of_value tree file given json text is written = go (dockerfile_among tree file) is
+packed_at : (rows : List Row) (dockerfile : List ℕ) (asked : Asked) (images : List ImageRow)
+    → object (put_images images (beside_images rows dockerfile asked)) ≡ packed_data rows dockerfile (given_with asked images)
+unfolding packed_data
+packed_at rows dockerfile asked images = refl
+
+-- the text that is made is the folder's bundle
+pub text_of_members : (tree : TreeMap) (file : Option (List ℕ)) (asked : Asked) (images : List ImageRow) (members : Members) (text : List ℕ)
+    → are_images images ≡ true → Some members ≡ beside_among tree file asked → IsTextOf (object (put_images images members)) text
+    → (Some text ≡ packed_of tree file (given_with asked images)) × (read text ≡ bundle_of tree file (given_with asked images))
+text_of_members tree file asked images members text are is made = go (dockerfile_among tree file) is
   where
-    go : (found : Option (List ℕ)) → Some json ≡ option_map (λ dockerfile. packed_data (entries tree) dockerfile given) found
-        → Some text ≡ option_map (λ dockerfile. compact_text (packed_data (entries tree) dockerfile given)) found
+    every : list_all (λ image. is_image image.1) images ≡ true
+    every = (and_parts (are_names (names_of images)) (list_all (λ image. is_image image.1) images) are).1
+
+    go : (found : Option (List ℕ)) → Some members ≡ beside_of tree found asked
+        → (Some text ≡ option_map compact_text (option_map (λ dockerfile. packed_data (entries tree) dockerfile (given_with asked images)) found))
+        × (read text ≡ option_map (λ dockerfile. packed_data (entries tree) dockerfile (given_with asked images)) found)
     go None e = cc
     go (Some dockerfile) e =
-        let same : json ≡ packed_data (entries tree) dockerfile given = ap (λ (o : Option Data). unwrap_or o json) e in
-        ap Some (written (ap has_float same ∙ packed_is_plain (entries tree) dockerfile given) ∙ ap compact_text same)
+        let same : members ≡ beside_images (entries tree) dockerfile asked = ap (λ (o : Option Members). unwrap_or o members) e in
+        let whole : object (put_images images members) ≡ packed_data (entries tree) dockerfile (given_with asked images) = ap (λ ms. object (put_images images ms)) same ∙ packed_at (entries tree) dockerfile asked images in
+        let written : IsTextOf (packed_data (entries tree) dockerfile (given_with asked images)) text = subst (λ d. IsTextOf d text) whole made in
+        (ap Some (written.compact (packed_is_plain (entries tree) dockerfile (given_with asked images) every)), written.reads (packed_is_shallow (entries tree) dockerfile (given_with asked images) every))
 
-pub text_of_none : (tree : TreeMap) (file : Option (List ℕ)) (given : Given)
-    → None ≡ option_map (λ dockerfile. packed_data (entries tree) dockerfile given) (dockerfile_among tree file) → None ≡ packed_of tree file given
-text_of_none tree file given is = go (dockerfile_among tree file) is
+pub text_of_none : (tree : TreeMap) (file : Option (List ℕ)) (asked : Asked) (given : Given) → None ≡ beside_among tree file asked → None ≡ packed_of tree file given
+text_of_none tree file asked given is = go (dockerfile_among tree file) is
   where
-    go : (found : Option (List ℕ)) → None ≡ option_map (λ dockerfile. packed_data (entries tree) dockerfile given) found
-        → None ≡ option_map (λ dockerfile. compact_text (packed_data (entries tree) dockerfile given)) found
+    go : (found : Option (List ℕ)) → None ≡ beside_of tree found asked
+        → None ≡ option_map compact_text (option_map (λ dockerfile. packed_data (entries tree) dockerfile given) found)
     go None e = refl
     go (Some dockerfile) e = cc

@@ -1,5 +1,9 @@
+pub mod Asked
 pub mod Ends
+pub mod Images
 pub mod Leaving
 pub mod Packed
-pub mod Options
+pub mod PrivateFound
+pub mod PrivateImages
 pub mod PrivateLeaving
+pub mod PrivatePacked

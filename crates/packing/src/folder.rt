@@ -1,18 +1,23 @@
-ghost use Rattle.std.specs.Prelude.{◌≡◌, [], ◌∷◌, codes, map, option_map, IfOk};
+ghost use Rattle.std.specs.Prelude.{◌≡◌, true, option_map, IfOk, IfSome};
 ghost use Rattle.std.specs.FinMap.{entries};
 ghost use Rattle.trees.specs.TreeMap.{empty_tree, file_meta, directory_meta};
 ghost use Rattle.trees.specs.Put.{put_into};
 ghost use Rattle.trees.specs.Cause.{ChangesTree};
 ghost use Rattle.trees.specs.declared.entry.Entry.TheVariants.{Directory, File};
-ghost use Rattle.serde_json.specs.View.{view};
-ghost use Rattle.packing.specs.Packed.{dockerfile_path, dockerfile_among, dockerfile_of, packed_of, packed_data};
-ghost use Rattle.packing.specs.Options.{given_of};
+ghost use Rattle.serde_json.specs.Data.{object};
+ghost use Rattle.serde_json.specs.Read.{read};
+ghost use Rattle.serde_json.specs.View.{members_view};
+ghost use Rattle.packing.specs.Images.{are_images};
+ghost use Rattle.packing.specs.Packed.{bundle_of, dockerfile_path, dockerfile_of, given_with, packed_of, put_images};
+ghost use Rattle.packing.specs.PrivateImages.{image_rows};
+ghost use Rattle.packing.specs.PrivatePacked.{IsTextOf, beside, beside_among, beside_of};
+ghost use Rattle.packing.specs.Asked.{asked_of};
 
 use crate::PackOptions;
-use crate::members::bundle_value;
+use crate::members::{members_beside, put_images};
 use paths::Path;
-use plain::{Bytes, Memory, Text};
-use serde_json::Value;
+use plain::{Bytes, Items, Memory, Text};
+use serde_json::{Map, Value};
 use std::alloc::Global;
 use std::marker::Model;
 use trees::{Content, Entry, Meta, Tree, TreeFault};
@@ -76,43 +81,56 @@ impl Folder {
         self,
         alloc: Global,
         file: Option<Bytes>,
+        images: Items<(Text, Value)>,
         options: PackOptions<'_>,
     ) -> Result<Option<Text>, Memory>
-        ensures { IfOk result (λ text. text ≡ packed_of self file (given_of options.entry)) }
+        requires images { are_images (image_rows images) ≡ true }
+        ensures is { IfOk result (λ text. text ≡ packed_of self file (given_with (asked_of options.entry) (image_rows images))) }
+        ensures reads { IfOk result (λ found. IfSome found (λ text. read text ≡ bundle_of self file (given_with (asked_of options.entry) (image_rows images)))) }
     {
-        let made = self.to_value(alloc, &file, options);
+        let made = self.members_beside(alloc, &file, options);
         drop(self);
         drop(file);
         match made? {
-            Some(value) => Ok(Some(Text::from_string(value.to_string(alloc)?))),
-            None => Ok(None),
+            Some(members) => Ok(Some(text_with(alloc, members, images)?)),
+            None => {
+                drop(images);
+                Ok(None)
+            }
         }
     }
 
-    /// The bundle of the folder as JSON; `None` where it has no Dockerfile.
-    fn to_value(
+    /// The members of the bundle of the folder beside its images; `None` where it has no Dockerfile.
+    fn members_beside(
         &self,
         alloc: Global,
         file: &Option<Bytes>,
         options: PackOptions<'_>,
-    ) -> Result<Option<Value>, Memory>
-        ensures { IfOk result (λ value. option_map view value ≡ option_map (λ dockerfile. packed_data (entries self.now) dockerfile (given_of options.entry)) (dockerfile_among self.now file.now)) }
+    ) -> Result<Option<Map<String, Value>>, Memory>
+        ensures { IfOk result (λ found. option_map (λ members. members_view members.entries) found ≡ beside_among self.now file.now (asked_of options.entry)) }
     {
         match file {
-            Some(bytes) => Ok(Some(tree_value(alloc, &self.tree, bytes.as_slice(), options)?)),
-            None => self.own_value(alloc, options),
+            Some(bytes) => {
+                let members = tree_members(alloc, &self.tree, bytes.as_slice(), options)?;
+                Ok(Some(members))
+            }
+            None => self.own_members(alloc, options),
         }
     }
 
     /// The same with the folder's own Dockerfile.
-    fn own_value(&self, alloc: Global, options: PackOptions<'_>) -> Result<Option<Value>, Memory>
-        ensures { IfOk result (λ value. option_map view value ≡ option_map (λ dockerfile. packed_data (entries self.now) dockerfile (given_of options.entry)) (dockerfile_of self.now)) }
+    fn own_members(
+        &self,
+        alloc: Global,
+        options: PackOptions<'_>,
+    ) -> Result<Option<Map<String, Value>>, Memory>
+        ensures { IfOk result (λ found. option_map (λ members. members_view members.entries) found ≡ beside_of self.now (dockerfile_of self.now) (asked_of options.entry)) }
     {
         let path = dockerfile_path(alloc)?;
         match self.tree.get(&path) {
             Some(Entry::File(_, content)) => {
-                let value = tree_value(alloc, &self.tree, content.as_slice(), options)?;
-                Ok(Some(value))
+                let members = tree_members(alloc, &self.tree, content.as_slice(), options)?;
+                Ok(Some(members))
             }
             Some(Entry::Directory(_)) => Ok(None),
             None => Ok(None),
@@ -128,16 +146,31 @@ fn dockerfile_path(alloc: Global) -> Result<Path, Memory>
     Path::root(alloc).child(alloc, &name)
 }
 
-/// The bundle of a tree with this Dockerfile, as JSON.
-fn tree_value(
+/// The members of the bundle of a tree with this Dockerfile, beside its images.
+fn tree_members(
     alloc: Global,
     tree: &Tree,
     dockerfile: &[u8],
     options: PackOptions<'_>,
-) -> Result<Value, Memory>
-    ensures { IfOk result (λ value. view value ≡ packed_data (entries tree.now) dockerfile.now (given_of options.entry)) }
+) -> Result<Map<String, Value>, Memory>
+    ensures { IfOk result (λ members. members_view members.entries ≡ beside (entries tree.now) dockerfile.now (asked_of options.entry)) }
 {
     let rows = tree.entries(alloc)?;
-    let value = bundle_value(alloc, rows.as_slice(), dockerfile, options)?;
-    Ok(value)
+    let members = members_beside(alloc, rows.as_slice(), dockerfile, options)?;
+    Ok(members)
+}
+
+/// The text of a bundle of these members and these images.
+fn text_with(
+    alloc: Global,
+    members: Map<String, Value>,
+    images: Items<(Text, Value)>,
+) -> Result<Text, Memory>
+    ensures { IfOk result (IsTextOf (object (put_images (image_rows images) (members_view members.entries)))) }
+{
+    let mut members = members;
+    put_images(alloc, &mut members, images)?;
+    let value = Value::Object(members);
+    let text = value.to_string(alloc)?;
+    Ok(Text::from_string(text))
 }

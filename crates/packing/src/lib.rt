@@ -1,26 +1,30 @@
-// A folder of the machine as a bundle: its Dockerfile and all that lies in it.
+// A folder of the machine as a bundle: its Dockerfile and all that lies in it, and images from files.
 //
 // It is the one crate that reads folders. What the machine gives is in no contract: the walk is thin, and all that it finds goes into a
-// `Folder`, of which contracts say what bundle it is. Nothing is built here.
+// `Folder`, of which contracts say what bundle it is. An image is taken as its file has it, once it is known that a bundle takes it. Nothing is
+// built here.
 //
-// Its central definitions are `packed_of` (specs/Packed.antt), the text of the bundle of a folder's tree, and `Packs` (specs/Ends.antt), how
-// packing what was found ends.
+// Its central definitions are `packed_of` (specs/Packed.antt), the text of the bundle of a folder's tree, `Packs` (specs/Ends.antt), how
+// packing what was found ends, and `image_of` (specs/Images.antt), the image that the text of a file gives.
 //
 // ```
 // let status = run_pack(&rt, alloc, "examples/folder", &mut output)?;   // Built, and the bundle with an LF is written
 // ```
 #![tactic(auto)]
 
+mod asked;
+mod even;
 mod fault;
 mod folder;
+mod images;
+mod imaging;
 pub mod laws;
 mod leaving;
 mod members;
-mod options;
 mod packing;
 mod refusing;
 mod walking;
 
+pub use asked::PackOptions;
 pub use fault::PackFault;
-pub use options::PackOptions;
 pub use packing::{Status, run_pack, run_pack_to_file, run_pack_with};

@@ -3,32 +3,58 @@ ghost use Rattle.std.specs.Prelude.{◌≡◌, [], ◌∷◌, codes, map, IfOk, 
 ghost use Rattle.hex.specs.Hex.{encode_lower};
 ghost use Rattle.serde_json.specs.Data.{string, object, no_members, member};
 ghost use Rattle.serde_json.specs.View.{view, members_view};
-ghost use Rattle.packing.specs.Packed.{files_members, packed_data, put_args, put_target, put_texts};
-ghost use Rattle.packing.specs.Options.{given_of};
+ghost use Rattle.packing.specs.Packed.{files_members, members_beside, put_args, put_images, put_target, put_texts, put_values};
+ghost use Rattle.packing.specs.Asked.{asked_of};
+ghost use Rattle.packing.specs.PrivateImages.{image_rows};
 
 use crate::PackOptions;
 use entries::tree_to_json;
 use paths::Path;
-use plain::{Memory, Text};
+use plain::{Items, Memory, Text};
 use serde_json::{Map, Value, json};
 use std::alloc::Global;
 use strict::put;
 use trees::Entry;
 
-/// The bundle of these entries with this Dockerfile and what is given, as JSON.
-#[tactic(auto, unfolding(crate::specs::Packed::packed_data))]
-pub(crate) fn bundle_value(
+/// The members of the bundle of these entries, with this Dockerfile, the target and the build arguments.
+pub(crate) fn members_beside(
     alloc: Global,
     rows: &[(Path, &Entry)],
     dockerfile: &[u8],
     options: PackOptions<'_>,
-) -> Result<Value, Memory>
-    ensures { IfOk result (λ value. view value ≡ packed_data (map (λ row. (row.0, row.1.now)) rows.now) dockerfile.now (given_of options.entry)) }
+) -> Result<Map<String, Value>, Memory>
+    ensures { IfOk result (λ members. members_view members.entries ≡ members_beside (map (λ row. (row.0, row.1.now)) rows.now) dockerfile.now (asked_of options.entry).target (asked_of options.entry).args) }
 {
     let mut members = files_members(alloc, rows, dockerfile)?;
     put_args(alloc, &mut members, options.args)?;
     put_target(alloc, &mut members, options.target)?;
-    Ok(Value::Object(members))
+    Ok(members)
+}
+
+/// Adds images, if there are any: each stands under its name.
+pub(crate) fn put_images(
+    alloc: Global,
+    members: &mut Map<String, Value>,
+    images: Items<(Text, Value)>,
+) -> Result<(), Memory>
+    ensures { OnOk result (members_view members.new.entries ≡ put_images (image_rows images) (members_view members.old.entries)) }
+{
+    if images.is_empty() {
+        return Ok(());
+    }
+    let values = values_of(alloc, images)?;
+    put(alloc, members, "images", Value::Object(values))
+}
+
+/// Images as the members of an object.
+fn values_of(alloc: Global, images: Items<(Text, Value)>) -> Result<Map<String, Value>, Memory>
+    ensures { IfOk result (λ members. members_view members.entries ≡ put_values (image_rows images) no_members) }
+{
+    let mut members = Map::new(alloc);
+    for (name, value) in images.into_vec() {
+        put(alloc, &mut members, name.as_str(), value)?;
+    }
+    Ok(members)
 }
 
 /// The members that each bundle has: its context and its Dockerfile.

@@ -1,14 +1,15 @@
-ghost use Rattle.std.specs.Prelude.{◌≡◌, ◌<◌, [], ◌∷◌, ◌++◌, false, Some, is_some, IfOk};
+ghost use Rattle.std.specs.Prelude.{◌≡◌, ◌<◌, [], ◌∷◌, ◌++◌, IfOk};
 ghost use Rattle.packing.specs.Ends.{Packs, PacksFolder};
-ghost use Rattle.packing.specs.Packed.{nothing_given};
-ghost use Rattle.packing.specs.Options.{given_of};
+ghost use Rattle.packing.specs.Packed.{given_with, nothing_asked};
+ghost use Rattle.packing.specs.Asked.{asked_of};
+ghost use Rattle.packing.specs.PrivateFound.{IsFound};
+ghost use Rattle.packing.specs.PrivateImages.{image_rows};
 
-use crate::folder::Folder;
 use crate::refusing::{GONE, UNWRITTEN, note_output, refuse, refuse_output};
-use crate::walking::{Found, find_bundle};
+use crate::walking::{Found, FoundFiles, find_bundle};
 use crate::{PackFault, PackOptions};
 use counted::{Counted, CountedWrite, write_all};
-use plain::{Bytes, Items, Memory, Text};
+use plain::{Items, Memory, Text};
 use std::alloc::Global;
 use std::fs;
 use std::fs::{File, OpenOptions};
@@ -39,11 +40,13 @@ pub fn run_pack<R: Files + AllocGlobal + Clone + Drop, W: CountedWrite>(
     output: &mut W,
 ) -> Result<Status, PackFault>
     requires writes { W.failures output.old < u64.MAX }
-    ensures { PacksFolder false nothing_given (W.contents output.old) (W.failures output.old) (W.contents output.new) (W.failures output.new) result }
+    ensures { PacksFolder nothing_asked (W.contents output.old) (W.failures output.old) (W.contents output.new) (W.failures output.new) result }
 {
     let args = Items::new(alloc);
+    let images = Items::new(alloc);
     let options = PackOptions {
         file: None,
+        images: images.as_slice(),
         target: None,
         args: args.as_slice(),
         apply_ignore: false,
@@ -62,6 +65,11 @@ pub fn run_pack<R: Files + AllocGlobal + Clone + Drop, W: CountedWrite>(
 /// left out, where a line may be an exception, for whether it is a folder. The ignore file itself is packed, and so is the folder's `Dockerfile` where
 /// that is the bundle's. A build sees the same context (`laws`). An ignore file with a bad line ends packing.
 ///
+/// Images stand in the bundle, each of a file that is read first of all, and may be given by a link. A file has an image as a bundle has it, an object
+/// with `config` and `tree`, which may have the key `result` of a build's answer; or, without the key `tree`, an image's configuration, and then the
+/// tree is empty (`image_of` in specs/Images.antt). What ends packing: a name that is empty or `scratch`, or is given twice; a file that isn't there,
+/// has more bytes than a bundle may have, isn't JSON or isn't an image, or has a number that isn't whole or nests too deep for a bundle.
+///
 /// After `Ended` it is noted in `why` what can't be packed: its place on the machine, what it is, and the remedy.
 pub fn run_pack_with<R: Files + AllocGlobal + Clone + Drop, W: CountedWrite>(
     rt: &R,
@@ -72,13 +80,10 @@ pub fn run_pack_with<R: Files + AllocGlobal + Clone + Drop, W: CountedWrite>(
     why: &mut Text,
 ) -> Result<Status, PackFault>
     requires writes { W.failures output.old < u64.MAX }
-    ensures { PacksFolder (is_some options.entry.file) (given_of options.entry) (W.contents output.old) (W.failures output.old) (W.contents output.new) (W.failures output.new) result }
+    ensures { PacksFolder (asked_of options.entry) (W.contents output.old) (W.failures output.old) (W.contents output.new) (W.failures output.new) result }
 {
     match find_bundle(rt, alloc, folder, options, why) {
-        Ok(Some(found)) => {
-            let Found { folder, file } = found;
-            write_found(alloc, folder, file, options, output, why)
-        }
+        Ok(Some(found)) => write_found(alloc, found, options, output, why),
         Ok(None) => Ok(Status::Refused),
         Err(fault) => Err(fault),
     }
@@ -87,17 +92,19 @@ pub fn run_pack_with<R: Files + AllocGlobal + Clone + Drop, W: CountedWrite>(
 /// Writes the bundle of what was found.
 fn write_found<W: CountedWrite>(
     alloc: Global,
-    folder: Folder,
-    file: Option<Bytes>,
+    found: Found,
     options: PackOptions<'_>,
     output: &mut W,
     why: &mut Text,
 ) -> Result<Status, PackFault>
     requires writes { W.failures output.old < u64.MAX }
-    ensures { Packs (Some folder) file (given_of options.entry) (W.contents output.old) (W.failures output.old) (W.contents output.new) (W.failures output.new) result }
+    requires found { IsFound (asked_of options) found }
+    ensures { Packs found.files.folder found.files.file (given_with (asked_of options.entry) (image_rows found.images)) (W.contents output.old) (W.failures output.old) (W.contents output.new) (W.failures output.new) result }
 {
+    let Found { files, images } = found;
+    let FoundFiles { folder, file } = files;
     // The Dockerfile may be gone since it was asked for.
-    let Some(text) = folder.bundle(alloc, file, options)? else {
+    let Some(text) = folder.bundle(alloc, file, images, options)? else {
         return Err(refuse(alloc, why, "the Dockerfile", GONE));
     };
     let line = line_of(alloc, text)?;
@@ -145,12 +152,13 @@ fn write_into<R: Files + AllocGlobal>(
     options: PackOptions<'_>,
     name: &str,
     why: &mut Text,
-) -> Result<Status, PackFault> {
+) -> Result<Status, PackFault>
+    requires found { IsFound (asked_of options) found }
+{
     match File::create(rt, name) {
         Ok(file) => {
             let mut output = Counted::new(file);
-            let Found { folder, file } = found;
-            let ended = write_found(alloc, folder, file, options, &mut output, why);
+            let ended = write_found(alloc, found, options, &mut output, why);
             note_device(alloc, why, name, &ended);
             ended
         }
@@ -166,7 +174,9 @@ fn write_file<R: Files + AllocGlobal>(
     options: PackOptions<'_>,
     name: &str,
     why: &mut Text,
-) -> Result<Status, PackFault> {
+) -> Result<Status, PackFault>
+    requires found { IsFound (asked_of options) found }
+{
     let mut part = String::from_str(alloc, name)?;
     part.push_str(".part")?;
     let mut opening = OpenOptions::new();
@@ -174,8 +184,7 @@ fn write_file<R: Files + AllocGlobal>(
     match opening.open(rt, part.as_str()) {
         Ok(file) => {
             let mut output = Counted::new(file);
-            let Found { folder, file } = found;
-            let ended = write_found(alloc, folder, file, options, &mut output, why);
+            let ended = write_found(alloc, found, options, &mut output, why);
             drop(output);
             note_device(alloc, why, part.as_str(), &ended);
             put_in_place(rt, alloc, part.as_str(), name, ended, why)

@@ -34,6 +34,23 @@ pub(crate) const GONE: &str = " is gone since it was asked for: pack again";
 
 pub(crate) const TOO_MANY: &str = " has too many folders: leave some out";
 
+pub(crate) const NO_IMAGE_NAME: &str =
+    " is given for an image without a name, or for scratch: write another name before its =";
+
+pub(crate) const NAMED_TWICE: &str =
+    " is given for an image that is given again: give each image one file";
+
+pub(crate) const NO_FILE_OF_IMAGE: &str = " is no file: name the file of an image";
+
+pub(crate) const TOO_LARGE: &str =
+    " has more than 67,108,864 bytes, which no bundle may have: leave some of its files out";
+
+pub(crate) const NO_JSON: &str =
+    " is no JSON: put the JSON of an image or of its configuration in it";
+
+pub(crate) const NO_IMAGE: &str =
+    " is no image: it needs architecture, os and rootfs, or config and tree";
+
 const UNREADABLE: &str = " cannot be read: make it readable, or leave it out";
 
 pub(crate) const UNWRITTEN: &str = " cannot be written: see whether there is room for it";

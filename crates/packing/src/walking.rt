@@ -3,8 +3,11 @@
 ghost use Rattle.std.specs.Prelude.{◌≡◌, true, None, is_some, IfErr, IfOk, IfSome};
 ghost use Rattle.packing.specs.Packed.{IsPlain};
 ghost use Rattle.packing.specs.Ends.{IsBefore};
+ghost use Rattle.packing.specs.Asked.{asked_of};
+ghost use Rattle.packing.specs.PrivateFound.{IsFound};
 
 use crate::folder::{DOCKERFILE, Folder};
+use crate::imaging::read_images;
 use crate::leaving::{IGNORE_FILE, Leaving};
 use crate::refusing::{
     CHANGED, IN_THE_WAY, LINK, NO_FILE, NO_FOLDER, NO_PLAIN_FILE, TOO_DEEP, TOO_MANY, refuse,
@@ -12,7 +15,8 @@ use crate::refusing::{
 };
 use crate::{PackFault, PackOptions};
 use paths::Path;
-use plain::{Bytes, Fault, Text};
+use plain::{Bytes, Fault, Items, Text};
+use serde_json::Value;
 use std::alloc::Global;
 use std::fs;
 use std::fs::DirEntry;
@@ -28,15 +32,23 @@ fn place_of(alloc: Global, folder: &str, path: &Path) -> Result<String, PackFaul
     Ok(place)
 }
 
-/// What was found of a bundle: its folder, and the bytes of its Dockerfile where that is named.
+/// What was found of a bundle's files: its folder, and the bytes of its Dockerfile where that is named.
 #[derive(Drop)]
-pub(crate) struct Found {
+pub(crate) struct FoundFiles {
     pub(crate) folder: Folder,
     pub(crate) file: Option<Bytes>,
 }
 
-/// All files and directories of a folder that are packed, with the Dockerfile that is named; `None` where there is no such file, or no file
-/// `Dockerfile` in the folder, if none is named. That is asked first. After `Ended` it is noted in `why` what can't be packed.
+/// What was found of a bundle: its files, and its images, each a name and its JSON.
+#[derive(Drop)]
+pub(crate) struct Found {
+    pub(crate) files: FoundFiles,
+    pub(crate) images: Items<(Text, Value)>,
+}
+
+/// The images that are asked for, and all files and directories of a folder that are packed, with the Dockerfile that is named; `None` where there is
+/// no such file, or no file `Dockerfile` in the folder, if none is named. Images are read first, and then that is asked. After `Ended` it is noted
+/// in `why` what can't be packed.
 pub(crate) fn find_bundle<R: Files + AllocGlobal + Clone + Drop>(
     rt: &R,
     alloc: Global,
@@ -44,6 +56,31 @@ pub(crate) fn find_bundle<R: Files + AllocGlobal + Clone + Drop>(
     options: PackOptions<'_>,
     why: &mut Text,
 ) -> Result<Option<Found>, PackFault>
+    ensures before { IfErr result IsBefore }
+    ensures found { IfOk result (λ found. IfSome found (IsFound (asked_of options.entry))) }
+{
+    let images = read_images(rt, alloc, options.images, why)?;
+    match find_files(rt, alloc, folder, options, why) {
+        Ok(Some(files)) => Ok(Some(Found { files, images })),
+        Ok(None) => {
+            drop(images);
+            Ok(None)
+        }
+        Err(fault) => {
+            drop(images);
+            Err(fault)
+        }
+    }
+}
+
+/// All files and directories of a folder that are packed, with the Dockerfile that is named.
+fn find_files<R: Files + AllocGlobal + Clone + Drop>(
+    rt: &R,
+    alloc: Global,
+    folder: &str,
+    options: PackOptions<'_>,
+    why: &mut Text,
+) -> Result<Option<FoundFiles>, PackFault>
     ensures before { IfErr result IsBefore }
     ensures plain { IfOk result (λ found. IfSome found (λ one. IsPlain one.folder)) }
     ensures file { IfOk result (λ found. IfSome found (λ one. is_some one.file ≡ is_some options.entry.file)) }
@@ -61,7 +98,7 @@ fn find_folder<R: Files + AllocGlobal + Clone + Drop>(
     folder: &str,
     apply_ignore: bool,
     why: &mut Text,
-) -> Result<Option<Found>, PackFault>
+) -> Result<Option<FoundFiles>, PackFault>
     ensures before { IfErr result IsBefore }
     ensures plain { IfOk result (λ found. IfSome found (λ one. IsPlain one.folder)) }
     ensures file { IfOk result (λ found. IfSome found (λ one. one.file ≡ None)) }
@@ -77,7 +114,7 @@ fn find_folder<R: Files + AllocGlobal + Clone + Drop>(
     let found = read_folder(rt, alloc, folder, &leaving, why);
     drop(leaving);
     match found {
-        Ok(folder) => Ok(Some(Found { folder, file: None })),
+        Ok(folder) => Ok(Some(FoundFiles { folder, file: None })),
         Err(fault) => Err(fault),
     }
 }
@@ -91,7 +128,7 @@ fn find_with_file<R: Files + AllocGlobal + Clone + Drop>(
     file: &str,
     apply_ignore: bool,
     why: &mut Text,
-) -> Result<Option<Found>, PackFault>
+) -> Result<Option<FoundFiles>, PackFault>
     ensures before { IfErr result IsBefore }
     ensures plain { IfOk result (λ found. IfSome found (λ one. IsPlain one.folder)) }
     ensures file { IfOk result (λ found. IfSome found (λ one. is_some one.file ≡ true)) }
@@ -100,7 +137,7 @@ fn find_with_file<R: Files + AllocGlobal + Clone + Drop>(
         return Ok(None);
     };
     match read_ignoring(rt, alloc, folder, file, apply_ignore, why) {
-        Ok(folder) => Ok(Some(Found {
+        Ok(folder) => Ok(Some(FoundFiles {
             folder,
             file: Some(dockerfile),
         })),
@@ -294,7 +331,7 @@ fn has_name<R: Files>(rt: &R, name: &str) -> bool {
 }
 
 /// The bytes that the machine has in a file.
-fn bytes_of<R: Files + AllocGlobal>(
+pub(crate) fn bytes_of<R: Files + AllocGlobal>(
     rt: &R,
     alloc: Global,
     name: &str,

@@ -20,7 +20,7 @@ use Rattle.build.specs.Ends.{Devices, Ends, devices}
 use Rattle.build.specs.Faults.{exit_status}
 use Rattle.build.specs.Messages.{fault_text}
 use Rattle.packing.specs.Ends.{PacksFolder, fault_text as pack_fault_text}
-use Rattle.packing.specs.Packed.{Given}
+use Rattle.packing.specs.Packed.{Asked}
 use Rattle.packing.specs.declared.fault.PackFault.{PackFault}
 use Rattle.packing.specs.declared.fault.PackFault.TheVariants.{Device as PackDevice, Ended}
 use Rattle.packing.specs.declared.packing.Status.{Status as PackStatus}
@@ -105,7 +105,9 @@ pub record IsUnread (old new : Streams) : Type 0 where
 
 -- nothing is given beside the folder
 abbrev pub is_bare : PackOptions → Bool
-is_bare options = not (is_some options.file) && (not (is_some options.target) && ((length options.args == 0) && (not (is_some options.output) && not options.apply_ignore)))
+is_bare options =
+    not (is_some options.file)
+    && (not (is_some options.target) && ((length options.args == 0) && ((length options.images == 0) && (not (is_some options.output) && not options.apply_ignore))))
 
 -- that a folder wasn't packed is said, and why, or as much of that as there was memory for
 pub record SaysWhy (fault : PackFault) (old new : Stream) : Type 0 where
@@ -130,14 +132,19 @@ pack_status (Ok Packed) = 0
 pack_status (Ok Unpacked) = 2
 pack_status (Err fault) = 3
 
--- what stands in a bundle beside a folder's files and its Dockerfile, by the words of `pack`
-abbrev pub given_by : PackOptions → Given
-given_by options = record { target = options.target; args = options.args }
+-- what is asked for beside a folder, by the words of `pack`
+abbrev pub asked_by : PackOptions → Asked
+asked_by options = record {
+  has_file = is_some options.file;
+  images = map (λ image. image.0) options.images;
+  target = options.target;
+  args = options.args;
+}
 
 -- where a bundle goes to: where answers are written, or to a file of the machine, of which nothing is known; then nothing is written there
 abbrev pub PacksInto : Option (List ℕ) → PackOptions → Stream → Stream → Result PackStatus PackFault → Type 0
 PacksInto None options output new_output ended =
-    PacksFolder (is_some options.file) (given_by options) output.written output.failed new_output.written new_output.failed ended
+    PacksFolder (asked_by options) output.written output.failed new_output.written new_output.failed ended
 PacksInto (Some file) options output new_output ended = new_output ≡ output
 
 -- a folder was packed, of which nothing is known, and the program ends with its status

@@ -142,6 +142,7 @@ fn pack<F: Files + AllocGlobal + Clone + Drop, W: CountedWrite, S: CountedWrite>
     let folder = options.folder.as_str();
     let given = packing::PackOptions {
         file: text_in(&options.file),
+        images: options.images.as_slice(),
         target: text_in(&options.target),
         args: options.args.as_slice(),
         apply_ignore: options.apply_ignore,
@@ -165,6 +166,7 @@ fn is_bare(options: &PackOptions) -> bool
     !options.file.is_some()
         && !options.target.is_some()
         && options.args.is_empty()
+        && options.images.is_empty()
         && !options.output.is_some()
         && !options.apply_ignore
 }

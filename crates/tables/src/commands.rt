@@ -84,7 +84,8 @@ fn graph_text(alloc: Global, options: &GraphOptions) -> Result<String, Memory> {
     Ok(told)
 }
 
-/// What `pack` is asked for: its folder, and after it each option that is given, a build argument as its name and its value.
+/// What `pack` is asked for: its folder, and after it each option that is given, a build argument as its name and its value, and an image as its
+/// name and its file.
 fn pack_text(alloc: Global, options: &PackOptions) -> Result<String, Memory> {
     let mut told = format!(in alloc; "pack of [{}]", options.folder.as_str())?;
     add_text(alloc, &mut told, "file", &options.file)?;
@@ -92,6 +93,10 @@ fn pack_text(alloc: Global, options: &PackOptions) -> Result<String, Memory> {
     for (name, value) in options.args.as_slice() {
         let (name, value) = (name.as_str(), value.as_str());
         told.push_str(format!(in alloc; " arg [{name}] [{value}]")?.as_str())?;
+    }
+    for (name, file) in options.images.as_slice() {
+        let (name, file) = (name.as_str(), file.as_str());
+        told.push_str(format!(in alloc; " image [{name}] [{file}]")?.as_str())?;
     }
     add_text(alloc, &mut told, "output", &options.output)?;
     if options.apply_ignore {

@@ -1,13 +1,19 @@
-use Rattle.std.proofs.Common.{◌≡◌, ◌∙◌, sym, ap, Some, option_map}
-use Rattle.std.specs.FinMap.{entries}
-use Rattle.serde_json.specs.View.{view}
-use Rattle.packing.specs.Packed.{dockerfile_among, packed_data}
-use Rattle.packing.specs.Options.{given_of}
-use Rattle.packing.proofs.PlainFacts.{text_of_value}
+use Rattle.std.proofs.Common.{◌≡◌, Some}
+use Rattle.serde_json.specs.View.{members_view}
+use Rattle.packing.specs.Asked.{asked_of}
+use Rattle.packing.specs.PrivateImages.{image_rows}
+use Rattle.packing.specs.PrivatePacked.{beside_among}
+use Rattle.packing.proofs.PlainFacts.{text_of_members}
 use Rattle.packing.proofs.folder.Folder.bundle.Goals as goal
 
-pub returns-in_ok-to_string-in-Some : goal.returns-in_ok-to_string-in-Some
-returns-in_ok-to_string-in-Some c =
-    let given = given_of c.args.options in
-    let is : Some (view c.in-Some.value) ≡ option_map (λ dockerfile. packed_data (entries c.args.self) dockerfile given) (dockerfile_among c.args.self c.args.file) = sym (ap (option_map view) c.in-Some.is) ∙ c.in_ok-value.ensures in
-    text_of_value c.args.self c.args.file given (view c.in-Some.value) c.from_string.result is (λ plain. c.from_string.ensures ∙ c.in_ok-to_string-in-Some.ensures.text plain)
+pub returns-in_ok-text_with-in-Some-clause-is : goal.returns-in_ok-text_with-in-Some-clause-is
+returns-in_ok-text_with-in-Some-clause-is c =
+    let is : Some (members_view c.in-Some.members.entries) ≡ beside_among c.args.self c.args.file (asked_of c.args.options) = rw c.in-Some.is at c.in_ok-members.ensures in
+    (text_of_members c.args.self c.args.file (asked_of c.args.options) (image_rows c.args.images) (members_view c.in-Some.members.entries) c.in_ok-text_with-in-Some.field-0
+    c.requires.images is c.in_ok-text_with-in-Some.ensures).0
+
+pub returns-in_ok-text_with-in-Some-clause-reads : goal.returns-in_ok-text_with-in-Some-clause-reads
+returns-in_ok-text_with-in-Some-clause-reads c =
+    let is : Some (members_view c.in-Some.members.entries) ≡ beside_among c.args.self c.args.file (asked_of c.args.options) = rw c.in-Some.is at c.in_ok-members.ensures in
+    (text_of_members c.args.self c.args.file (asked_of c.args.options) (image_rows c.args.images) (members_view c.in-Some.members.entries) c.in_ok-text_with-in-Some.field-0
+    c.requires.images is c.in_ok-text_with-in-Some.ensures).1

@@ -5,6 +5,8 @@ use plain::Text;
 pub struct PackOptions<'a> {
     /// The Dockerfile, where it isn't the folder's file `Dockerfile`.
     pub file: Option<&'a str>,
+    /// The images, each a name and the file that holds it.
+    pub images: &'a [(Text, Text)],
     /// The bundle's target.
     pub target: Option<&'a str>,
     /// The build arguments, each a name and a value. Of a name twice the last counts.

@@ -1,0 +1,5 @@
+use Rattle.packing.proofs.ImageFacts.{empty_list_is_read}
+use Rattle.packing.proofs.images.image_without_tree.Goals as goal
+
+pub image_of_parts-requires : goal.image_of_parts-requires
+image_of_parts-requires c = empty_list_is_read c.new.result c.new.ensures.items

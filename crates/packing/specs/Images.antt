@@ -1,0 +1,78 @@
+-- The images that go into a folder's bundle, each read from a file (own). What a bundle takes as an image is said by `bundle`.
+use Rattle.std.specs.Prelude.{◌≡◌, ℕ, ◌==◌, Bool, not, ◌&&◌, List, [], ◌∷◌, map, nat_le, Option, Some, None, is_some, if◌then◌else◌, codes}
+use Rattle.std.specs.FinMap.{find, get as image_at_name}
+use Rattle.std.specs.List.{list_all}
+use Rattle.std.specs.Option.{option_and_then, option_map}
+use Rattle.serde_json.specs.Data.{Data, array, depth, member, no_items, no_members, object}
+use Rattle.serde_json.specs.Find.{get}
+use Rattle.serde_json.specs.Read.{read}
+use Rattle.serde_json.specs.Written.{has_float}
+use Rattle.paths.specs.Order.{name_cmp}
+use Rattle.strict.specs.Strict.{strict}
+use Rattle.entries.specs.Whole.{tree_of}
+use Rattle.scopes.specs.Scope.{names_differ}
+use Rattle.imageconfig.specs.Reading.{config_in}
+use Rattle.imageconfig.specs.declared.config.Config.{Config}
+use Rattle.plans.specs.Images.{ImagesValue}
+use Rattle.plans.specs.declared.images.Image.{Image}
+use Rattle.bundle.specs.Parts.{image_in, is_image_name}
+
+-- an image's name, and the JSON of the image
+abbrev pub ImageRow : Type 0
+ImageRow = List ℕ × Data
+
+-- an image as a bundle has it, of the JSON of its configuration and of its tree
+abbrev pub image_data : Data → Data → Data
+image_data config tree = object (member (codes "config") config (member (codes "tree") tree no_members))
+
+-- the same, by what stands at these keys
+abbrev pub image_at : Option Data → Option Data → Option Data
+image_at config tree = option_and_then (λ config. option_map (λ tree. image_data config tree) tree) config
+
+-- The JSON of the image that a file's JSON gives. With the key `tree` it has the configuration and the tree, as a bundle's image has, and may have
+-- the key `result`, as the answer of a build has. Without that key it is a configuration, and the tree is empty.
+abbrev pub given_at : Data → Option Data → Option Data
+given_at d None = Some (image_data d (array no_items))
+given_at d (Some tree) =
+    if is_some (strict (codes "config" ∷ codes "result" ∷ codes "tree" ∷ []) d) then image_at (get (codes "config") d) (Some tree) else None
+
+unfoldable pub given_in : Data → Option Data
+given_in d = given_at d (get (codes "tree") d)
+
+-- how deep an image's JSON may nest: it stands two deep in a bundle, of which 127 are read
+abbrev pub most_depth : ℕ
+most_depth = 125
+
+-- JSON that is written and read again as it is: it has no number that isn't whole, and nests at most so deep
+abbrev pub is_even : ℕ → Data → Bool
+is_even most d = not (has_float d) && nat_le (depth d) most
+
+-- JSON is an image that a bundle takes
+unfoldable pub is_image : Data → Bool
+is_image d = is_some (image_in config_in d) && is_even most_depth d
+
+-- the JSON of the image that the text of a file gives, if it gives one
+abbrev pub if_image : Data → Option Data
+if_image d = if is_image d then Some d else None
+
+unfoldable pub image_of : List ℕ → Option Data
+image_of text = option_and_then if_image (option_and_then given_in (read text))
+
+-- names that images of one bundle may have: each is the name of an image, and no two are the same
+abbrev pub are_names : List (List ℕ) → Bool
+are_names names = list_all is_image_name names && names_differ names
+
+-- the images of one bundle, in the order in which they are given
+abbrev pub names_of : List ImageRow → List (List ℕ)
+names_of images = map (λ image. image.0) images
+
+abbrev pub are_images : List ImageRow → Bool
+are_images images = are_names (names_of images) && list_all (λ image. is_image image.1) images
+
+-- the image that JSON is, as a bundle has it
+abbrev pub image_value : Data → Option (Image Config)
+image_value d = option_map (λ listed. record { config = listed.config; tree = tree_of listed.tree }) (image_in config_in d)
+
+-- images are read as these: under each name is that which the JSON of this name is, and under no other name is any
+pub record AreRead (images : List ImageRow) (found : ImagesValue Config) : Type 0 where
+  pub each : (name : List ℕ) → image_at_name found name ≡ option_and_then image_value (find name_cmp name images)

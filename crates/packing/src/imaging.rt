@@ -1,0 +1,157 @@
+// The images of a bundle, each of a file of the machine. No contract says what the machine gives.
+ghost use Rattle.std.specs.Prelude.{◌≡◌, true, IfErr, IfOk};
+ghost use Rattle.std.specs.List.{list_all};
+ghost use Rattle.serde_json.specs.View.{view};
+ghost use Rattle.packing.specs.Ends.{IsBefore};
+ghost use Rattle.packing.specs.Images.{are_images, are_names, is_image, names_of};
+ghost use Rattle.packing.specs.PrivateImages.{image_rows, given_names};
+
+use crate::PackFault;
+use crate::images::{is_among, is_image_name, is_json, read_image};
+use crate::refusing::{
+    NAMED_TWICE, NO_FILE_OF_IMAGE, NO_IMAGE, NO_IMAGE_NAME, NO_JSON, TOO_LARGE, refuse,
+    refuse_error,
+};
+use crate::walking::bytes_of;
+use plain::limits::MOST_BUNDLE_BYTES;
+use plain::{Bytes, Fault, Items, Text};
+use serde_json::Value;
+use std::alloc::Global;
+use std::fs;
+use std::rt::Files;
+
+/// The JSON of these images, each a name and its file, in their order. After `Ended` it is noted in `why` what is wrong with which file.
+pub(crate) fn read_images<R: Files + AllocGlobal>(
+    rt: &R,
+    alloc: Global,
+    images: &[(Text, Text)],
+    why: &mut Text,
+) -> Result<Items<(Text, Value)>, PackFault>
+    ensures before { IfErr result IsBefore }
+    ensures names { IfOk result (λ found. names_of (image_rows found) ≡ given_names images.now) }
+    ensures images { IfOk result (λ found. are_images (image_rows found) ≡ true) }
+{
+    check_names(alloc, images, why)?;
+    read_files(rt, alloc, images, why)
+}
+
+/// Looks whether each name is that of an image, and none is there twice.
+fn check_names(alloc: Global, images: &[(Text, Text)], why: &mut Text) -> Result<(), PackFault>
+    ensures before { IfErr result IsBefore }
+    ensures names { IfOk result (λ _. are_names (given_names images.now) ≡ true) }
+{
+    let mut left = images;
+    'names: while let [image, more @ ..] = left {
+        if !is_image_name(&image.0) {
+            return Err(refuse(alloc, why, place_of(&image.1), NO_IMAGE_NAME));
+        }
+        if is_among(&image.0, more) {
+            return Err(refuse(alloc, why, place_of(&image.1), NAMED_TWICE));
+        }
+        left = more;
+    }
+    Ok(())
+}
+
+/// The JSON of the image that each file holds.
+fn read_files<R: Files + AllocGlobal>(
+    rt: &R,
+    alloc: Global,
+    images: &[(Text, Text)],
+    why: &mut Text,
+) -> Result<Items<(Text, Value)>, PackFault>
+    ensures before { IfErr result IsBefore }
+    ensures names { IfOk result (λ found. names_of (image_rows found) ≡ given_names images.now) }
+    ensures images { IfOk result (λ found. list_all (λ image. is_image image.1) (image_rows found) ≡ true) }
+{
+    let mut found = Items::new(alloc);
+    for (name, file) in images {
+        let row = read_row(rt, alloc, name, file, why)?;
+        found.push(row)?;
+    }
+    Ok(found)
+}
+
+/// An image's name, with the JSON of the image that a file holds.
+fn read_row<R: Files + AllocGlobal>(
+    rt: &R,
+    alloc: Global,
+    name: &Text,
+    file: &Text,
+    why: &mut Text,
+) -> Result<(Text, Value), PackFault>
+    ensures before { IfErr result IsBefore }
+    ensures name { IfOk result (λ row. row.0 ≡ name.now) }
+    ensures image { IfOk result (λ row. is_image (view row.1) ≡ true) }
+{
+    let name = Text::from_str(alloc, name.as_str())?;
+    match read_file(rt, alloc, file, why) {
+        Ok(image) => Ok((name, image)),
+        Err(fault) => {
+            drop(name);
+            Err(fault)
+        }
+    }
+}
+
+/// The JSON of the image that a file holds, which may be given by a link.
+fn read_file<R: Files + AllocGlobal>(
+    rt: &R,
+    alloc: Global,
+    file: &Text,
+    why: &mut Text,
+) -> Result<Value, PackFault>
+    ensures before { IfErr result IsBefore }
+    ensures image { IfOk result (λ image. is_image (view image) ≡ true) }
+{
+    let place = place_of(file);
+    match fs::metadata(rt, file.as_str()) {
+        Ok(found) if !found.is_file() => Err(refuse(alloc, why, place, NO_FILE_OF_IMAGE)),
+        Ok(found) if found.len() > MOST_BUNDLE_BYTES as u64 => {
+            Err(refuse(alloc, why, place, TOO_LARGE))
+        }
+        Ok(_) => {
+            let bytes = bytes_of(rt, alloc, file.as_str(), why)?;
+            let image = image_of_bytes(alloc, place, &bytes, why);
+            drop(bytes);
+            image
+        }
+        Err(error) => Err(refuse_error(alloc, why, place, &error)),
+    }
+}
+
+/// What a file is called where it is refused.
+fn place_of(file: &Text) -> &str {
+    if file.len() == 0 {
+        "the empty text"
+    } else {
+        file.as_str()
+    }
+}
+
+/// The JSON of the image that a file of these bytes holds.
+fn image_of_bytes(
+    alloc: Global,
+    place: &str,
+    bytes: &Bytes,
+    why: &mut Text,
+) -> Result<Value, PackFault>
+    ensures before { IfErr result IsBefore }
+    ensures image { IfOk result (λ image. is_image (view image) ≡ true) }
+{
+    match str::from_utf8(bytes.as_slice()) {
+        Ok(text) => match read_image(alloc, text) {
+            Ok(image) => Ok(image),
+            Err(Fault::Memory) => Err(PackFault::Memory),
+            Err(Fault::Because(_)) => {
+                let what = if is_json(alloc, text) {
+                    NO_IMAGE
+                } else {
+                    NO_JSON
+                };
+                Err(refuse(alloc, why, place, what))
+            }
+        },
+        Err(_) => Err(refuse(alloc, why, place, NO_JSON)),
+    }
+}
