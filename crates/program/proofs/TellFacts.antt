@@ -11,41 +11,48 @@ use Rattle.counted.specs.declared.fault.Device.{Device}
 use Rattle.counted.specs.Edges.{AppendsBeginning, LosesBeginning, ReadsFirst, CountsFault, IsDevice}
 use Rattle.imageconfig.specs.Reading.{config_in}
 use Rattle.bundle.specs.Parts.{parts_within}
+use Rattle.flaws.specs.Flaws.{flaw_in}
+use Rattle.flaws.specs.declared.flaw.Flaw.TheVariants.{TooLong}
+use Rattle.flaws.proofs.WholeFacts.{flaw-long}
 use Rattle.build.specs.declared.status.Status.{Status}
 use Rattle.build.specs.declared.status.BuildFault.{BuildFault}
 use Rattle.build.specs.declared.status.BuildFault.TheVariants as end
 use Rattle.build.specs.Faults.{of_edge}
 use Rattle.build.specs.Ends.{Answering, Devices, IsAllLeft}
 use Rattle.program.specs.Telling.{HasStopped, HasTold, Stops, TellingEnds}
-use Rattle.program.specs.PrivateTelling.{held, IsToldBy, Moves, MovesStops}
+use Rattle.program.specs.PrivateTelling.{held, HoldsSame, IsToldBy, Moves, MovesStops}
 
 -- what was read holds what the whole bundle holds
 pub record IsReadOf (left : Option (List ℕ)) (bytes : List ℕ) : Type 0 where
   pub bundle : List ℕ
   pub is : IsAllLeft left bundle
-  pub same : held bytes ≡ held bundle
+  pub same : HoldsSame bytes bundle
 
 long : (most : ℕ) (bytes : List ℕ) → most < length bytes → parts_within most config_in bytes ≡ None
 unfolding parts_within
 long most bytes more = rw (lt-leb (length bytes) most more)
 
-cut_by : (most limit : ℕ) (all : List ℕ) (b : Bool) → limit ≡ most + 1 → nat_le (length all) most ≡ b
-    → parts_within most config_in (take limit all) ≡ parts_within most config_in all
-cut_by most limit all true is short = ap (parts_within most config_in) (take_all limit all (omega (arith, leb-true (length all) most short)))
-cut_by most limit all false is more =
-    let past : limit ≤ length all = omega (arith, leb-false (length all) most more) in
-    let n : length (take limit all) ≡ limit = length-take-le limit all past in
-    long most (take limit all) (omega arith) ∙ sym (long most all (omega arith))
+-- what is the same of all bytes past a limit is the same of bytes that are cut past it
+cut_by : {A : Type 0} (f : List ℕ → A) (none : A) (most limit : ℕ) → ((bytes : List ℕ) → most < length bytes → f bytes ≡ none)
+    → (all : List ℕ) (b : Bool) → limit ≡ most + 1 → nat_le (length all) most ≡ b → f (take limit all) ≡ f all
+cut_by f none most limit past all true is short = ap f (take_all limit all (omega (arith, leb-true (length all) most short)))
+cut_by f none most limit past all false is more =
+    let within : limit ≤ length all = omega (arith, leb-false (length all) most more) in
+    let n : length (take limit all) ≡ limit = length-take-le limit all within in
+    past (take limit all) (omega arith) ∙ sym (past all (omega arith))
 
 -- a bundle past the limit isn't read, however little past it was read
-cut : (limit : ℕ) (all : List ℕ) → limit ≡ most_bundle_bytes + 1 → held (take limit all) ≡ held all
-cut limit all is = cut_by most_bundle_bytes limit all (nat_le (length all) most_bundle_bytes) is refl
+cut : (limit : ℕ) (all : List ℕ) → limit ≡ most_bundle_bytes + 1 → HoldsSame (take limit all) all
+cut limit all is = record {
+  parts = cut_by held None most_bundle_bytes limit (long most_bundle_bytes) all (nat_le (length all) most_bundle_bytes) is refl;
+  flaw = cut_by (flaw_in config_in) (Some TooLong) most_bundle_bytes limit (flaw-long config_in most_bundle_bytes) all (nat_le (length all) most_bundle_bytes) is refl;
+}
 
 pub read_of : (limit : ℕ) (left rest : Option (List ℕ)) (bytes items : List ℕ) → limit ≡ most_bundle_bytes + 1 → bytes ≡ items
     → ReadsFirst limit left rest items → IsReadOf left bytes
-read_of limit None rest bytes items is same reads = record { bundle = bytes; is = tt; same = refl }
+read_of limit None rest bytes items is same reads = record { bundle = bytes; is = tt; same = record { parts = refl; flaw = refl } }
 read_of limit (Some all) rest bytes items is same reads =
-    record { bundle = all; is = refl; same = ap held (same ∙ reads.0) ∙ cut limit all is }
+    record { bundle = all; is = refl; same = subst (λ given. HoldsSame given all) (sym (same ∙ reads.0)) (cut limit all is) }
 
 -- no more was read than was asked for
 pub loses_at_most : (limit : ℕ) (old new : Option (List ℕ)) (bytes : List ℕ) → ReadsFirst limit old new bytes → LosesBeginning limit old new

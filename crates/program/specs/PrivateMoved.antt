@@ -8,14 +8,14 @@ use Rattle.command.specs.declared.task.LlbOptions.{LlbOptions}
 use Rattle.imageconfig.specs.Reading.{config_in}
 use Rattle.evaluation.specs.declared.evaluated.Evaluated.{Evaluated}
 use Rattle.bundle.specs.Reading.{ReadsBundle}
+use Rattle.flaws.specs.Flaws.{flaw_in}
+use Rattle.flaws.specs.declared.flaw.Flaw.{Flaw}
 use Rattle.checks.specs.Checks.{AreFaultsOf}
 use Rattle.checks.specs.Checked.{IsCheckOf, faulty_text_in}
-use Rattle.checks.specs.Shown.{readable_lines, shown_faults}
+use Rattle.checks.specs.Shown.{readable_lines, shown_check}
 use Rattle.checks.specs.declared.checked.Checked.{Checked}
 use Rattle.checks.specs.declared.form.Form.{Form}
-use Rattle.build.specs.declared.status.Status.{Status}
 use Rattle.build.specs.declared.status.Status.TheVariants.{Built, Failed, Refused}
-use Rattle.build.specs.declared.status.BuildFault.{BuildFault}
 use Rattle.build.specs.Meaning.{Asks}
 use Rattle.build.specs.Titled.{HasTitlesOf, HasLeftOut}
 use Rattle.program.specs.declared.exporting.Beside.{Beside}
@@ -23,7 +23,7 @@ use Rattle.program.specs.Check.{TellsFaults}
 use Rattle.program.specs.Config.{TellsConfig}
 use Rattle.program.specs.Dot.{TellsDot}
 use Rattle.program.specs.Llb.{IsBeside, LlbStops, TellsLlb}
-use Rattle.program.specs.PrivateTelling.{held, Moves, MovesStops}
+use Rattle.program.specs.PrivateTelling.{held, HoldsSame, Moves, MovesStops}
 use Rattle.program.specs.Telling.{never}
 use Rattle.program.specs.Why.{TellsWhy}
 
@@ -42,11 +42,12 @@ faults_moved : (bytes others : List ℕ) (faults : List Rejection) → held byte
 faults_moved bytes others faults same (inl told) = inl (told.0, refused bytes others told.0 same told.1, told.2)
 faults_moved bytes others faults same (inr read) = inr (read.0, (read.1.0, (sym same ∙ read.1.1.0, read.1.1.1)), read.2)
 
-checked_moved : (bytes others : List ℕ) (form : Form) (checked : Checked) → held bytes ≡ held others → IsCheckOf bytes form checked → IsCheckOf others form checked
+checked_moved : (bytes others : List ℕ) (form : Form) (checked : Checked) → HoldsSame bytes others → IsCheckOf bytes form checked → IsCheckOf others form checked
 checked_moved bytes others form checked same is = record {
   faults = is.faults;
-  are = faults_moved bytes others is.faults same is.are;
-  text = is.text ∙ ap (λ parts. shown_faults form (readable_lines (faulty_text_in parts)) is.faults) same;
+  are = faults_moved bytes others is.faults same.parts is.are;
+  text = is.text ∙ (ap (λ (flaw : Option Flaw). shown_check form flaw (readable_lines (faulty_text_in (held bytes))) is.faults) same.flaw
+    ∙ ap (λ parts. shown_check form (flaw_in config_in others) (readable_lines (faulty_text_in parts)) is.faults) same.parts);
   is_sound = is.is_sound;
 }
 
@@ -57,9 +58,9 @@ check_moves form bytes bundle Refused text same told = told
 
 -- the same configuration
 pub config_moves : Moves TellsConfig
-config_moves bytes bundle Built text same told = (told.0, asks bytes bundle (Ok told.0) same told.1, told.2)
+config_moves bytes bundle Built text same told = (told.0, asks bytes bundle (Ok told.0) same.parts told.1, told.2)
 config_moves bytes bundle Failed text same told = told
-config_moves bytes bundle Refused text same told = (told.0, asks bytes bundle (Err told.0) same told.1, told.2)
+config_moves bytes bundle Refused text same told = (told.0, asks bytes bundle (Err told.0) same.parts told.1, told.2)
 
 -- the same titles
 titles_moved : (bytes bundle : List ℕ) (titles : List (Option (List ℕ))) → held bytes ≡ held bundle → HasTitlesOf bytes titles → HasTitlesOf bundle titles
@@ -68,9 +69,9 @@ titles_moved bytes bundle titles same has = (has.0, (has.1.0, (sym same ∙ has.
 -- the same graph
 pub dot_moves : Moves TellsDot
 dot_moves bytes bundle Built text same told =
-    (told.0, asks bytes bundle (Ok told.0) same told.1, (told.2.0, titles_moved bytes bundle told.2.0 same told.2.1, told.2.2))
+    (told.0, asks bytes bundle (Ok told.0) same.parts told.1, (told.2.0, titles_moved bytes bundle told.2.0 same.parts told.2.1, told.2.2))
 dot_moves bytes bundle Failed text same told = told
-dot_moves bytes bundle Refused text same told = (told.0, asks bytes bundle (Err told.0) same told.1, told.2)
+dot_moves bytes bundle Refused text same told = (told.0, asks bytes bundle (Err told.0) same.parts told.1, told.2)
 
 -- the same is left out
 left_moved : (bytes bundle : List ℕ) (left : List (List (List ℕ))) → held bytes ≡ held bundle → HasLeftOut bytes left → HasLeftOut bundle left
@@ -84,20 +85,20 @@ beside_moved bytes bundle beside same has = record { titles = titles_moved bytes
 -- the same definition, or none
 pub llb_moves : (options : LlbOptions) → Moves (TellsLlb options)
 llb_moves options bytes bundle Built text same told =
-    (told.0, asks bytes bundle (Ok told.0) same told.1, (told.2.0, beside_moved bytes bundle told.2.0 same told.2.1, told.2.2))
+    (told.0, asks bytes bundle (Ok told.0) same.parts told.1, (told.2.0, beside_moved bytes bundle told.2.0 same.parts told.2.1, told.2.2))
 llb_moves options bytes bundle Failed text same told = told
-llb_moves options bytes bundle Refused text same told = (told.0, asks bytes bundle (Err told.0) same told.1, told.2)
+llb_moves options bytes bundle Refused text same told = (told.0, asks bytes bundle (Err told.0) same.parts told.1, told.2)
 
 pub llb_moves_stops : (options : LlbOptions) → MovesStops (LlbStops options)
 llb_moves_stops options fault bytes bundle same stops =
-    (stops.0, asks bytes bundle (Ok stops.0) same stops.1, (stops.2.0, beside_moved bytes bundle stops.2.0 same stops.2.1, stops.2.2))
+    (stops.0, asks bytes bundle (Ok stops.0) same.parts stops.1, (stops.2.0, beside_moved bytes bundle stops.2.0 same.parts stops.2.1, stops.2.2))
 
 -- the same of paths
 pub why_moves : (paths : List (List ℕ)) → Moves (TellsWhy paths)
 why_moves paths bytes bundle Built text same told =
-    (told.0, record { parts = told.1.parts; is = sym same ∙ told.1.is; has = told.1.has }, told.2)
+    (told.0, record { parts = told.1.parts; is = sym same.parts ∙ told.1.is; has = told.1.has }, told.2)
 why_moves paths bytes bundle Failed text same told = told
-why_moves paths bytes bundle Refused text same told = (told.0, refused bytes bundle told.0 same told.1, told.2)
+why_moves paths bytes bundle Refused text same told = (told.0, refused bytes bundle told.0 same.parts told.1, told.2)
 
 -- and one of which nothing is due is of no bundle
 pub never_moves : MovesStops never

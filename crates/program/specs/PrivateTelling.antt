@@ -4,6 +4,7 @@ use Rattle.imageconfig.specs.Reading.{config_in}
 use Rattle.imageconfig.specs.declared.config.Config.{Config}
 use Rattle.bundle.specs.Parts.{parts_of}
 use Rattle.bundle.specs.declared.parts.Parts.{Parts}
+use Rattle.flaws.specs.Flaws.{flaw_in}
 use Rattle.build.specs.declared.status.Status.{Status}
 use Rattle.build.specs.declared.status.BuildFault.{BuildFault}
 use Rattle.build.specs.declared.status.BuildFault.TheVariants.{Memory, Device, Clash, Unspeakable}
@@ -11,17 +12,22 @@ use Rattle.build.specs.Ends.{Answering}
 use Rattle.program.specs.declared.told.Told.{Told}
 use Rattle.program.specs.Telling.{Stops}
 
--- what bytes hold
+-- what bytes hold, if they are a bundle
 abbrev pub held : List ℕ → Option (Parts Config)
 held bytes = parts_of config_in bytes
 
+-- bytes hold the same as others: the same bundle, or they are wrong at the same place
+pub record HoldsSame (bytes others : List ℕ) : Type 0 where
+  pub parts : held bytes ≡ held others
+  pub flaw : flaw_in config_in bytes ≡ flaw_in config_in others
+
 -- what is told of bytes is told of all that hold the same
 abbrev pub Moves : Answering → Type 0
-Moves Tells = (bytes bundle : List ℕ) (status : Status) (text : List ℕ) → held bytes ≡ held bundle → Tells bytes status text → Tells bundle status text
+Moves Tells = (bytes bundle : List ℕ) (status : Status) (text : List ℕ) → HoldsSame bytes bundle → Tells bytes status text → Tells bundle status text
 
 -- and so is that nothing is due of them
 abbrev pub MovesStops : Stops → Type 0
-MovesStops IsStopped = (fault : BuildFault) (bytes bundle : List ℕ) → held bytes ≡ held bundle → IsStopped fault bytes → IsStopped fault bundle
+MovesStops IsStopped = (fault : BuildFault) (bytes bundle : List ℕ) → HoldsSame bytes bundle → IsStopped fault bytes → IsStopped fault bundle
 
 -- what is answered to a bundle's bytes: what is due of them, or that nothing is; want of memory says nothing
 abbrev pub IsToldBy : Answering → Stops → List ℕ → Result Told BuildFault → Type 0
