@@ -13,9 +13,7 @@ use Rattle.checks.specs.Checked.{IsCheckOf, faulty_text_in}
 use Rattle.checks.specs.Shown.{readable_lines, shown_faults}
 use Rattle.checks.specs.declared.checked.Checked.{Checked}
 use Rattle.checks.specs.declared.form.Form.{Form}
-use Rattle.build.specs.declared.status.Status.{Status}
 use Rattle.build.specs.declared.status.Status.TheVariants.{Built, Failed, Refused}
-use Rattle.build.specs.declared.status.BuildFault.{BuildFault}
 use Rattle.build.specs.Meaning.{Asks}
 use Rattle.build.specs.Titled.{HasTitlesOf, HasLeftOut}
 use Rattle.program.specs.declared.exporting.Beside.{Beside}
