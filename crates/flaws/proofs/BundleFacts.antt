@@ -10,11 +10,10 @@ use Rattle.serde_json.specs.Find.{get, as_str, as_object}
 use Rattle.serde_json.specs.Read.{read}
 use Rattle.strict.specs.Strict.{has_only, strict, at_most_one, with_first, members_in, rows_in}
 use Rattle.entries.specs.Listing.{listing_in}
-use Rattle.bundle.specs.Parts.{or_none, dockerfile_in, files_with, files_in, image_with, image_in, is_image_name, images_of, images_in, args_in, cache_row, caches_in, named_with, named_in, parts_with, parts_in, parts_within, parts_of}
+use Rattle.bundle.specs.Parts.{or_none, dockerfile_in, files_with, files_in, image_with, image_in, is_image_name, images_of, images_in, args_in, cache_row, caches_in, named_with, named_in, parts_with, parts_in, parts_within}
 use Rattle.bundle.specs.declared.parts.Parts.{Parts}
-use Rattle.bundle.specs.declared.parts.ListedImage.{ListedImage}
-use Rattle.flaws.specs.Looks.{Way, Looks, whole, read_as, or_else, optional, required, keys_in, keys, no_other, among_members, members_in as found_in, rows}
-use Rattle.flaws.specs.Flaws.{listing_flaw, dockerfile_flaw, image_flaw, images_flaw, files_flaw, named_flaw, bundle_flaw, json_flaw, flaw_within, flaw_in}
+use Rattle.flaws.specs.Looks.{Looks, read_as, optional, required, keys_in, keys, no_other, members_in as found_in, rows}
+use Rattle.flaws.specs.Flaws.{listing_flaw, dockerfile_flaw, image_flaw, images_flaw, files_flaw, named_flaw, bundle_flaw, json_flaw, flaw_within}
 use Rattle.flaws.specs.declared.flaw.Flaw.{Flaw}
 use Rattle.flaws.specs.declared.flaw.Flaw.TheVariants.{TooLong, NoText, At}
 use Rattle.flaws.proofs.LookFacts.{fine, Suits, both, and_false, and_true, fine-or_else, fine-last, fine-map, fine-read_as, fine-optional, fine-or_none, fine-required, fine-keys_of, fine-no_other, fine-among_members, fine-rows, some-map}

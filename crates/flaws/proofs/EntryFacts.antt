@@ -1,8 +1,8 @@
 -- Nothing is found wrong in an entry, in a list of entries or in a Dockerfile exactly if it is read.
-use Rattle.std.proofs.Common.{◌≡◌, ℕ, List, [], ◌∷◌, Bool, true, false, ◌&&◌, cond, Option, Some, None, option_map, option_and_then, is_some, unwrap_or, codes, refl, ap, sym, ◌∙◌}
+use Rattle.std.proofs.Common.{◌≡◌, ℕ, List, [], ◌∷◌, Bool, true, false, ◌&&◌, cond, Option, Some, None, option_map, option_and_then, is_some, unwrap_or, codes, refl, sym, ◌∙◌}
 use Rattle.serde_json.specs.Data.{Data}
 use Rattle.serde_json.specs.Find.{get, as_bool}
-use Rattle.strict.specs.Strict.{strict, at_most_one, list_in, path_in, short_number_in}
+use Rattle.strict.specs.Strict.{strict, at_most_one, path_in, short_number_in}
 use Rattle.trees.specs.Row.{Row}
 use Rattle.trees.specs.TreeMap.{directory_meta, file_meta}
 use Rattle.trees.specs.declared.meta.Meta.{Meta}
@@ -10,10 +10,10 @@ use Rattle.trees.specs.declared.entry.Entry.TheVariants.{Directory, File}
 use Rattle.entries.specs.Reading.{mode_in, meta_with, meta_in, content_in, directory_in, file_in, row_in, rows_of}
 use Rattle.entries.specs.Listing.{is_listing, listing_in}
 use Rattle.bundle.specs.Parts.{dockerfile_in}
-use Rattle.flaws.specs.Looks.{Way, Looks, whole, read_as, below, or_else, optional_in, optional, required_in, required, no_other, items}
+use Rattle.flaws.specs.Looks.{whole, read_as, optional, required_in, required, no_other, items}
 use Rattle.flaws.specs.Flaws.{is_mark, content_place, content_flaw, meta_flaw, directory_flaw, file_flaw, entry_flaw, listing_flaw, dockerfile_flaw}
 use Rattle.flaws.specs.declared.flaw.Step.TheVariants.{Key}
-use Rattle.flaws.proofs.LookFacts.{fine, Suits, both, and_false, and_true, fine-or_else, fine-last, fine-map, fine-if, fine-read_as, fine-optional, fine-required, fine-no_other, fine-items, some-if}
+use Rattle.flaws.proofs.LookFacts.{fine, Suits, both, fine-or_else, fine-last, fine-map, fine-if, fine-read_as, fine-optional, fine-required, fine-no_other, fine-items}
 
 -- ---- mode and owner
 

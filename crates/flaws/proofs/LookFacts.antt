@@ -1,12 +1,11 @@
 -- Nothing is found wrong in a value exactly if the value is read: kind by kind, from what is said of the parts.
-use Rattle.std.proofs.Common.{◌≡◌, ℕ, ◌+◌, List, [], ◌∷◌, Bool, true, false, not, ◌&&◌, cond, Option, Some, None, option_map, option_and_then, is_some, unwrap_or, bytes_eq, refl, ap, sym, ◌∙◌}
-use Rattle.std.specs.List.{find, list_any, list_all}
+use Rattle.std.proofs.Common.{◌≡◌, ℕ, ◌+◌, List, [], ◌∷◌, Bool, true, false, ◌&&◌, cond, Option, Some, None, option_map, option_and_then, is_some, bytes_eq, refl, ap, sym, ◌∙◌}
+use Rattle.std.specs.List.{list_any}
 use Rattle.serde_json.specs.Data.{Data, Items, no_items, item, Members, no_members, member}
-use Rattle.serde_json.specs.Find.{get, as_array, as_object}
+use Rattle.serde_json.specs.Find.{as_array, as_object}
 use Rattle.strict.specs.Strict.{has_only, strict, at_most_one, with_first, all_in, list_in, members_in, rows_in}
 use Rattle.bundle.specs.Parts.{or_none}
-use Rattle.flaws.specs.Looks.{Way, Looks, whole, read_as, below, or_else, optional_in, optional, required_in, required, keys_of, first_key, keys_in, keys, is_among, no_other, among_items, items_in, items, among_members, members_in as found_in, rows}
-use Rattle.flaws.specs.declared.flaw.Step.{Step}
+use Rattle.flaws.specs.Looks.{Way, Looks, read_as, below, or_else, optional_in, required_in, keys_of, first_key, keys_in, is_among, no_other, among_items, items_in, items, among_members, members_in as found_in, rows}
 use Rattle.flaws.specs.declared.flaw.Step.TheVariants.{Key, Item}
 
 -- nothing was found

@@ -1,10 +1,10 @@
 -- What is found of an object's members through rows, each of which holds what was found of its value.
-use Rattle.std.proofs.Common.{◌≡◌, ℕ, List, [], ◌∷◌, Bool, true, false, not, cond, Option, Some, None, option_and_then, is_some, unwrap_or, map, refl, ap, sym, ◌∙◌}
+use Rattle.std.proofs.Common.{◌≡◌, ℕ, List, [], ◌∷◌, Bool, true, Option, Some, None, option_and_then, is_some, unwrap_or, map, refl, ap, sym, ◌∙◌}
 use Rattle.std.proofs.lemmas.Bool.{false≢true}
 use Rattle.serde_json.specs.Data.{Data, Members, no_members, member}
 use Rattle.serde_json.specs.Find.{as_object}
 use Rattle.strict.specs.Strict.{strict, with_first, members_in, rows_in}
-use Rattle.flaws.specs.Looks.{Way, Looks, below, or_else, keys_of, first_key, keys_in, keys, no_other, among_members, members_in as found_in, rows}
+use Rattle.flaws.specs.Looks.{Looks, below, or_else, keys_of, first_key, keys_in, keys, no_other, among_members, members_in as found_in, rows}
 use Rattle.flaws.specs.PrivateRows.{looked, first_found}
 use Rattle.flaws.specs.declared.flaw.Step.TheVariants.{Key}
 use Rattle.flaws.specs.declared.looking.Looked.{Looked}

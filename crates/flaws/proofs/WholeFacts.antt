@@ -8,7 +8,6 @@ use Rattle.std.proofs.lemmas.Str.{is_utf8-from_IsUtf8, IsUtf8-from_is_utf8}
 use Rattle.serde_json.specs.Data.{Data}
 use Rattle.serde_json.specs.Read.{read}
 use Rattle.flaws.specs.Flaws.{json_flaw, flaw_within}
-use Rattle.flaws.specs.declared.flaw.Flaw.{Flaw}
 use Rattle.flaws.specs.declared.flaw.Flaw.TheVariants.{TooLong, NoText}
 
 module _ {C : Type 0} (config : Data → Option C) where

@@ -1,6 +1,6 @@
 -- Where bytes that are no bundle are wrong (own): in how many there are, in the text, in the JSON, or at a place in it. The kinds of values are
 -- those of docs/FORMATS.md. Of a key that stands twice in an object only the last value is looked at, since that is the one that counts.
-use Rattle.std.specs.Prelude.{◌&&◌, ◌==◌, ℕ, Bool, false, Option, Some, None, List, [], ◌∷◌, length, nat_le, codes, is_some, unwrap_or, if◌then◌else◌}
+use Rattle.std.specs.Prelude.{ℕ, Bool, false, Option, Some, None, List, [], ◌∷◌, length, nat_le, codes, is_some, unwrap_or, if◌then◌else◌}
 use Rattle.std.specs.Option.{option_map}
 use Rattle.std.specs.Str.{is_utf8}
 use Rattle.std.specs.Str.Lossy.{utf8_valid_len}

@@ -1,5 +1,5 @@
 -- What was found of an object's members, each with its key.
-use Rattle.std.specs.Prelude.{ℕ, List, [], ◌∷◌, Option, Some, None}
+use Rattle.std.specs.Prelude.{ℕ, List, [], ◌∷◌, Option, None}
 use Rattle.flaws.specs.Looks.{Way, below, or_else}
 use Rattle.flaws.specs.declared.flaw.Step.TheVariants.{Key}
 use Rattle.flaws.specs.declared.looking.Looked.{Looked}

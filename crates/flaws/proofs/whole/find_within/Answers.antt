@@ -1,4 +1,4 @@
-use Rattle.std.proofs.Common.{◌≡◌, Some, ap, sym, ◌∙◌, arith}
+use Rattle.std.proofs.Common.{Some, ap, sym, ◌∙◌, arith}
 use Rattle.flaws.specs.declared.flaw.Flaw.TheVariants.{NoText}
 use Rattle.flaws.proofs.WholeFacts.{flaw-text, flaw-none}
 use Rattle.flaws.proofs.whole.find_within.Goals as goal
