@@ -133,7 +133,7 @@ pack_at rows folder given e = go (arguments_of rows) (images_of rows) refl refl
         → (words : PackOptions) × (pack_of rows ≡ Some words)
     go None images is also = absurd (some_kind _ _ (rw is at e))
     go (Some args) None is also = absurd (some_kind _ _ (rw (is, also) at e))
-    go (Some args) (Some images) is also = (pack_with rows folder args images, rw (given, (is, also)) refl)
+    go (Some args) (Some images) is also = (pack_with rows folder args images, rw (given, is, also) refl)
 
 -- `llb` has all that it is asked for
 llb_at : (rows : List Row) → argument_faults (Some (codes "llb", rows)) ≡ [] → (options : LlbOptions) × (llb_of rows ≡ Some options)

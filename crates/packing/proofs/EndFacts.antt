@@ -1,5 +1,5 @@
 -- How packing ends.
-use Rattle.std.proofs.Common.{◌≡◌, ℕ, List, [], ◌∷◌, ◌++◌, true, is_some, Option, Some, None, Result, Ok, Err, IsErrAnd, refl, sym, ap, subst, inl, inr}
+use Rattle.std.proofs.Common.{◌≡◌, ℕ, List, [], ◌∷◌, ◌++◌, Option, Some, None, Result, Ok, Err, IsErrAnd, refl, sym, ap, subst, inl, inr}
 use Rattle.std.specs.Io.KnownBytes.{Appends}
 use Rattle.plain.specs.declared.fault.Fault.{Fault}
 use Rattle.plain.specs.declared.fault.Fault.TheVariants.{Because, Memory as Want}
@@ -7,8 +7,7 @@ use Rattle.counted.specs.Edges.{AppendsBeginning, CountsFault, IsDevice}
 use Rattle.counted.specs.declared.fault.Device.{Device as DeviceReason}
 use Rattle.serde_json.specs.Read.{read}
 use Rattle.trees.specs.TreeMap.{TreeMap}
-use Rattle.packing.specs.Images.{ImageRow, are_images, names_of}
-use Rattle.packing.specs.Packed.{Asked, Given, IsPlain, bundle_of, given_with, packed_of}
+use Rattle.packing.specs.Packed.{Asked, Given, bundle_of, given_with, packed_of}
 use Rattle.packing.specs.PrivateFound.{IsFound}
 use Rattle.packing.specs.PrivateImages.{image_rows}
 use Rattle.packing.specs.declared.fault.PackFault.{PackFault}

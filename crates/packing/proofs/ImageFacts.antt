@@ -1,6 +1,6 @@
 -- What JSON is an image, and which names images may have.
-use Rattle.std.proofs.Common.{◌≡◌, ◌≤◌, ◌++◌, ◌∙◌, ℕ, Bool, true, false, not, cond, List, [], ◌∷◌, map, Option, Some, None, Result, Vec, Global, refl, sym, ap, subst, arith, bytes_eq, is_some, unwrap_or, length, take, drop, take_all, ◌-◌}
-use Rattle.std.specs.Prelude.{◌&&◌, ◌||◌, slice_index_or}
+use Rattle.std.proofs.Common.{◌≡◌, ◌≤◌, ◌++◌, ◌∙◌, ℕ, Bool, true, false, not, cond, List, [], ◌∷◌, Option, Some, None, Result, Vec, Global, refl, sym, ap, subst, arith, bytes_eq, is_some, unwrap_or, length, take, drop, take_all, ◌-◌}
+use Rattle.std.specs.Prelude.{◌||◌, slice_index_or}
 use Rattle.std.specs.List.{list_all, list_any}
 use Rattle.std.specs.Option.{option_and_then, option_map}
 use Rattle.std.proofs.lemmas.Bool.{and_from, and_parts, not_from_false}

@@ -1,5 +1,5 @@
 -- The context of rows that suffice.
-use Rattle.std.proofs.Common.{◌≡◌, ℕ, true, List, [], refl, sym, subst, inl, inr}
+use Rattle.std.proofs.Common.{◌≡◌, ℕ, true, List, [], sym, subst, inl, inr}
 use Rattle.std.specs.Prelude.{◌⊎◌}
 use Rattle.paths.specs.Fronts.{is_front}
 use Rattle.trees.specs.declared.entry.Entry.{Entry}

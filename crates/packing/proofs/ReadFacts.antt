@@ -1,9 +1,9 @@
 -- What a build reads at the key `images` of a bundle that is packed.
 use Rattle.std.proofs.Common.{◌≡◌, ◌∙◌, ℕ, Bool, true, false, not, cond, List, [], ◌∷◌, map, Option, Some, None, Ordering, Less, Equal, Greater, refl, sym, ap, subst, codes, bytes_eq, is_some, true≢false}
-use Rattle.std.specs.Prelude.{◌&&◌, ◌||◌}
-use Rattle.std.specs.FinMap.{empty, find, from_entries, get as map_get, get-empty, get-from_entries}
+use Rattle.std.specs.Prelude.{◌||◌}
+use Rattle.std.specs.FinMap.{empty, find, get-empty, get-from_entries}
 use Rattle.std.specs.List.{list_all, list_any}
-use Rattle.std.specs.Option.{option_and_then, option_map, option_or}
+use Rattle.std.specs.Option.{option_and_then, option_or}
 use Rattle.std.specs.Ordering.{is_eq, match_ordering, nat_cmp}
 use Rattle.std.specs.Cmp.Lexicographic.{nat_list_cmp_total, slice_cmp}
 use Rattle.std.proofs.lemmas.Bool.{and_from, and_parts, not-true}
@@ -19,7 +19,6 @@ use Rattle.scopes.specs.Scope.{names_differ}
 use Rattle.imageconfig.specs.Reading.{config_in}
 use Rattle.imageconfig.specs.declared.config.Config.{Config}
 use Rattle.plans.specs.Images.{ImagesValue}
-use Rattle.plans.specs.declared.images.Image.{Image}
 use Rattle.bundle.specs.declared.parts.ListedImage.{ListedImage}
 use Rattle.bundle.specs.Parts.{image_in, image_row, images_in, images_of, is_image_name, or_none}
 use Rattle.packing.specs.Images.{AreRead, ImageRow, are_images, are_names, image_value, is_even, is_image, most_depth, names_of}

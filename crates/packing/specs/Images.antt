@@ -1,5 +1,5 @@
 -- The images that go into a folder's bundle, each read from a file (own). What a bundle takes as an image is said by `bundle`.
-use Rattle.std.specs.Prelude.{◌≡◌, ℕ, ◌==◌, Bool, not, ◌&&◌, List, [], ◌∷◌, map, nat_le, Option, Some, None, is_some, if◌then◌else◌, codes}
+use Rattle.std.specs.Prelude.{◌≡◌, ℕ, Bool, not, ◌&&◌, List, [], ◌∷◌, map, nat_le, Option, Some, None, is_some, if◌then◌else◌, codes}
 use Rattle.std.specs.FinMap.{find, get as image_at_name}
 use Rattle.std.specs.List.{list_all}
 use Rattle.std.specs.Option.{option_and_then, option_map}
