@@ -8,6 +8,7 @@ use build::{BuildFault, Status};
 use checks::{Checked, Form, check};
 use plain::{Bytes, Memory};
 use std::alloc::Global;
+use std::sync::Wait;
 use std::thread::Threads;
 
 /// Tells all faults of a bundle in a form.
@@ -30,10 +31,10 @@ impl Teller for FaultTeller {
 
     ghost moves_stops = { λ teller. never_moves };
 
-    fn tell(
+    fn tell<H: Threads + Wait + Sync>(
         &self,
         alloc: Global,
-        rt: &(impl Threads + Sync),
+        rt: &H,
         bundle: &[u8],
     ) -> Result<Told, BuildFault> {
         Ok(tell_faults(alloc, rt, bundle, self.form)?)

@@ -21,6 +21,7 @@ use plain::{Bytes, Exact, Fault, Items, Memory, Text};
 use plans::Plan;
 use rewrite::{flatten_links, prune};
 use std::alloc::Global;
+use std::sync::Wait;
 use std::thread::Threads;
 
 /// What a definition has of a bundle beside its graph.
@@ -55,10 +56,10 @@ impl<'a> Teller for DefinitionTeller<'a> {
 
     ghost moves_stops = { λ teller. llb_moves_stops teller.options.now };
 
-    fn tell(
+    fn tell<H: Threads + Wait + Sync>(
         &self,
         alloc: Global,
-        rt: &(impl Threads + Sync),
+        rt: &H,
         bundle: &[u8],
     ) -> Result<Told, BuildFault> {
         tell_llb(alloc, rt, bundle, self.options)

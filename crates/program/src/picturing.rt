@@ -15,6 +15,7 @@ use imageconfig::Config;
 use plain::{Bytes, Fault, Memory, Text};
 use plans::Plan;
 use std::alloc::Global;
+use std::sync::Wait;
 use std::thread::Threads;
 
 /// Tells a bundle's graph in the DOT language, or the bundle's refusal.
@@ -35,10 +36,10 @@ impl Teller for PictureTeller {
 
     ghost moves_stops = { λ teller. never_moves };
 
-    fn tell(
+    fn tell<H: Threads + Wait + Sync>(
         &self,
         alloc: Global,
-        rt: &(impl Threads + Sync),
+        rt: &H,
         bundle: &[u8],
     ) -> Result<Told, BuildFault> {
         Ok(tell_dot(alloc, rt, bundle)?)
