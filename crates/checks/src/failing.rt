@@ -15,12 +15,7 @@ use trees::Cause;
 /// What is shown to a person of an instruction of this Dockerfile that failed with this cause, by the number of the line on which it begins. The
 /// text need not be UTF-8, and control characters are shown by their numbers, as `shown_faults` shows them. The line of a number that the text hasn't is
 /// shown as an empty one.
-pub fn shown_failure(
-    alloc: Global,
-    text: &[u8],
-    number: u32,
-    cause: Cause,
-) -> Result<Text, Memory>
+pub fn shown_failure(alloc: Global, text: &[u8], number: u32, cause: Cause) -> Result<Text, Memory>
     ensures { IfOk result (λ shown. shown ≡ shown_failure (readable_lines text.now) number cause) }
 {
     let readable = String::from_utf8_lossy(alloc, text)?;

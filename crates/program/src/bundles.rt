@@ -101,7 +101,16 @@ pub(crate) fn draw_bundle<F: Files, R: CountedRead, W: CountedWrite, S: CountedW
 {
     let file = &options.file;
     if options.dot {
-        tell_by(alloc, rt, files, file, &PictureTeller, input, output, errors)
+        tell_by(
+            alloc,
+            rt,
+            files,
+            file,
+            &PictureTeller,
+            input,
+            output,
+            errors,
+        )
     } else {
         graph_bundle(alloc, rt, files, file, input, output, errors)
     }
@@ -129,7 +138,16 @@ pub(crate) fn explain_paths<F: Files, R: CountedRead, W: CountedWrite, S: Counte
     let teller = PathTeller {
         paths: options.paths.as_slice(),
     };
-    tell_by(alloc, rt, files, &options.file, &teller, input, output, errors)
+    tell_by(
+        alloc,
+        rt,
+        files,
+        &options.file,
+        &teller,
+        input,
+        output,
+        errors,
+    )
 }
 
 /// Writes the graph of a bundle for BuildKit, and gives the status to end with.
@@ -152,7 +170,16 @@ pub(crate) fn export_bundle<F: Files, R: CountedRead, W: CountedWrite, S: Counte
     ensures taken { LosesBeginning (most_bundle_bytes + 1) (R.remaining input.old) (R.remaining input.new) }
 {
     let teller = DefinitionTeller { options };
-    tell_by(alloc, rt, files, &options.file, &teller, input, output, errors)
+    tell_by(
+        alloc,
+        rt,
+        files,
+        &options.file,
+        &teller,
+        input,
+        output,
+        errors,
+    )
 }
 
 /// Prints the configuration of a bundle's target, and gives the status to end with.
@@ -199,7 +226,16 @@ pub(crate) fn check_bundle<F: Files, R: CountedRead, W: CountedWrite, S: Counted
     let teller = FaultTeller {
         form: form_by(options.json),
     };
-    tell_by(alloc, rt, files, &options.file, &teller, input, output, errors)
+    tell_by(
+        alloc,
+        rt,
+        files,
+        &options.file,
+        &teller,
+        input,
+        output,
+        errors,
+    )
 }
 
 /// Prints which instruction of a bundle fails, and gives the status to end with.
