@@ -1,5 +1,5 @@
 -- How a build of what a bundle asks for fails, if it does (own).
-use Rattle.std.specs.Prelude.{◌≡◌, ℕ, List, Option, Some, None, Ok}
+use Rattle.std.specs.Prelude.{ℕ, List, Option, Some, None, Ok}
 use Rattle.trees.specs.declared.cause.Cause.{Cause}
 use Rattle.plans.specs.Value.{Out}
 use Rattle.bundle.specs.Answer.{failed_text}

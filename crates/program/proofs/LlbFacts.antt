@@ -1,5 +1,5 @@
 -- What BuildKit is told of a bundle.
-use Rattle.std.proofs.Common.{◌≡◌, ℕ, List, Option, Result, Ok, Err, refl, sym, ap, ◌∙◌, subst}
+use Rattle.std.proofs.Common.{◌≡◌, ℕ, List, Result, Ok, Err, refl, sym, ap, ◌∙◌, subst}
 use Rattle.std.specs.Prelude.{IfOk}
 use Rattle.expand.specs.declared.reason.Rejection.{Rejection}
 use Rattle.plain.specs.declared.fault.Fault.{Fault}
@@ -19,16 +19,14 @@ use Rattle.drawing.specs.Drawn.{IsSimplified}
 use Rattle.exported.specs.declared.fault.Obstacle.{Obstacle}
 use Rattle.exported.specs.declared.fault.Obstacle.TheVariants as way
 use Rattle.bundle.specs.Answer.{refused_text}
-use Rattle.build.specs.declared.status.Status.{Status}
-use Rattle.build.specs.declared.status.Status.TheVariants.{Built, Failed, Refused}
+use Rattle.build.specs.declared.status.Status.TheVariants.{Refused}
 use Rattle.build.specs.declared.status.BuildFault.{BuildFault}
 use Rattle.build.specs.declared.status.BuildFault.TheVariants.{Memory, Device, Clash, Unspeakable}
 use Rattle.build.specs.Meaning.{Asks}
 use Rattle.build.specs.Telling.{IsAsked}
-use Rattle.build.specs.Titled.{HasTitlesOf, HasLeftOut}
 use Rattle.program.specs.declared.exporting.Beside.{Beside}
 use Rattle.program.specs.declared.told.Told.{Told}
-use Rattle.program.specs.Llb.{fault_of, HasObstacle, IsBeside, IsDrawnPlan, LlbEnds, LlbStops, TellsLlb}
+use Rattle.program.specs.Llb.{fault_of, HasObstacle, IsBeside, IsDrawnPlan, TellsLlb}
 use Rattle.program.specs.PrivateLlb.{IsFileTold, IsLlbTold, IsPlanTold}
 
 -- ---- the plan

@@ -1,5 +1,5 @@
 -- What is told of paths.
-use Rattle.std.proofs.Common.{◌≡◌, ℕ, List, Result, Ok, Err, sym, subst, ◌∙◌}
+use Rattle.std.proofs.Common.{◌≡◌, ℕ, List, Result, Ok, Err, sym, subst}
 use Rattle.std.specs.Prelude.{IfOk}
 use Rattle.plain.specs.declared.refusal.Refusal.{Refusal}
 use Rattle.expand.specs.Reasons.{rejection_of}
@@ -9,8 +9,7 @@ use Rattle.counted.specs.Edges.{line_of}
 use Rattle.imageconfig.specs.Reading.{config_in}
 use Rattle.bundle.specs.Answer.{refused_text}
 use Rattle.reasons.specs.Reasons.{TellsReasons}
-use Rattle.build.specs.declared.status.Status.{Status}
-use Rattle.build.specs.declared.status.Status.TheVariants.{Built, Failed, Refused}
+use Rattle.build.specs.declared.status.Status.TheVariants.{Refused}
 use Rattle.program.specs.declared.told.Told.{Told}
 use Rattle.program.specs.Why.{TellsWhy}
 

@@ -17,7 +17,6 @@ use Rattle.checks.specs.declared.form.Form.{Form}
 use Rattle.checks.specs.declared.form.Form.TheVariants.{Plain}
 use Rattle.build.specs.declared.status.Status.{Status}
 use Rattle.build.specs.declared.status.Status.TheVariants.{Built, Failed, Refused}
-use Rattle.build.specs.declared.status.BuildFault.{BuildFault}
 use Rattle.build.specs.Meaning.{Answers, Asks}
 use Rattle.build.specs.Titled.{HasTitlesOf, HasLeftOut}
 use Rattle.explains.specs.Explained.{Explains}
