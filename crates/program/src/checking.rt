@@ -8,6 +8,7 @@ use build::{BuildFault, Status};
 use checks::{Checked, Form, check};
 use plain::{Bytes, Memory};
 use std::alloc::Global;
+use std::sync::Wait;
 use std::thread::Threads;
 
 /// Tells all faults of a bundle in a form.
@@ -30,7 +31,7 @@ impl Teller for FaultTeller {
 
     ghost moves_stops = { λ teller. never_moves };
 
-    fn tell<H: Threads + Sync>(
+    fn tell<H: Threads + Wait + Sync>(
         &self,
         alloc: Global,
         rt: &H,

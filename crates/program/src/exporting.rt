@@ -21,6 +21,7 @@ use plain::{Bytes, Exact, Fault, Items, Memory, Text};
 use plans::Plan;
 use rewrite::{flatten_links, prune};
 use std::alloc::Global;
+use std::sync::Wait;
 use std::thread::Threads;
 
 /// What a definition has of a bundle beside its graph.
@@ -55,7 +56,7 @@ impl<'a> Teller for DefinitionTeller<'a> {
 
     ghost moves_stops = { λ teller. llb_moves_stops teller.options.now };
 
-    fn tell<H: Threads + Sync>(
+    fn tell<H: Threads + Wait + Sync>(
         &self,
         alloc: Global,
         rt: &H,
