@@ -30,7 +30,7 @@ use build::{BuildFault, Status, run_build, run_graph, status_code};
 use checks::Form;
 use command::{BuildOptions, CheckOptions, GraphOptions, LlbOptions, WhyOptions};
 use counted::{CountedRead, CountedWrite};
-use executor::{Executor, Fixture};
+use executor::Executor;
 use plain::Text;
 use solver::OpenGate;
 use std::alloc::{AllocError, Global};
@@ -110,7 +110,6 @@ pub(crate) fn draw_bundle<F: Files, R: CountedRead, W: CountedWrite, S: CountedW
             input,
             output,
             errors,
-            &Fixture,
         )
     } else {
         graph_bundle(alloc, rt, files, file, input, output, errors)
@@ -148,7 +147,6 @@ pub(crate) fn explain_paths<F: Files, R: CountedRead, W: CountedWrite, S: Counte
         input,
         output,
         errors,
-        &Fixture,
     )
 }
 
@@ -181,7 +179,6 @@ pub(crate) fn export_bundle<F: Files, R: CountedRead, W: CountedWrite, S: Counte
         input,
         output,
         errors,
-        &Fixture,
     )
 }
 
@@ -204,17 +201,7 @@ pub(crate) fn tell_config<F: Files, R: CountedRead, W: CountedWrite, S: CountedW
         result }
     ensures taken { LosesBeginning (most_bundle_bytes + 1) (R.remaining input.old) (R.remaining input.new) }
 {
-    tell_by(
-        alloc,
-        rt,
-        files,
-        file,
-        &ConfigTeller,
-        input,
-        output,
-        errors,
-        &Fixture,
-    )
+    tell_by(alloc, rt, files, file, &ConfigTeller, input, output, errors)
 }
 
 /// Prints all faults of a bundle, and gives the status to end with.
@@ -248,7 +235,6 @@ pub(crate) fn check_bundle<F: Files, R: CountedRead, W: CountedWrite, S: Counted
         input,
         output,
         errors,
-        &Fixture,
     )
 }
 
@@ -278,17 +264,8 @@ pub(crate) fn explain_build<
         result }
     ensures taken { LosesBeginning (most_bundle_bytes + 1) (R.remaining input.old) (R.remaining input.new) }
 {
-    tell_by(
-        alloc,
-        rt,
-        files,
-        file,
-        &ExplanationTeller,
-        input,
-        output,
-        errors,
-        executor,
-    )
+    let teller = ExplanationTeller { executor };
+    tell_by(alloc, rt, files, file, &teller, input, output, errors)
 }
 
 /// The form of faults by the flag `--json`.
@@ -383,15 +360,8 @@ fn graph_file<F: Files, W: CountedWrite, S: CountedWrite>(
     }
 }
 
-/// Prints what a teller tells of a bundle. A teller that runs no command is handed any executor, such as `Fixture`.
-fn tell_by<
-    T: Teller,
-    F: Files,
-    R: CountedRead,
-    W: CountedWrite,
-    S: CountedWrite,
-    E: Executor,
->(
+/// Prints what a teller tells of a bundle.
+fn tell_by<T: Teller, F: Files, R: CountedRead, W: CountedWrite, S: CountedWrite>(
     alloc: Global,
     rt: &(impl Threads + Wait + Sync),
     files: &F,
@@ -400,37 +370,27 @@ fn tell_by<
     input: &mut R,
     output: &mut W,
     errors: &mut S,
-    executor: &E,
 ) -> u8
     requires reads { R.failures input.old < u64.MAX }
     requires writes { W.failures output.old < u64.MAX }
     requires says { S.failures errors.old < u64.MAX }
-    ensures calls { CallsBy file.now (TellingEnds (T.tells teller.now (E.out executor.now)) (T.stops teller.now))
+    ensures calls { CallsBy file.now (TellingEnds (T.tells teller.now) (T.stops teller.now))
         (streams (devices (R.remaining input.old) (R.failures input.old) (W.contents output.old) (W.failures output.old)) (stream (S.contents errors.old) (S.failures errors.old)))
         (streams (devices (R.remaining input.new) (R.failures input.new) (W.contents output.new) (W.failures output.new)) (stream (S.contents errors.new) (S.failures errors.new)))
         result }
     ensures taken { LosesBeginning (most_bundle_bytes + 1) (R.remaining input.old) (R.remaining input.new) }
 {
     match file {
-        Some(name) => tell_file(
-            alloc,
-            rt,
-            files,
-            name.as_str(),
-            teller,
-            output,
-            errors,
-            executor,
-        ),
+        Some(name) => tell_file(alloc, rt, files, name.as_str(), teller, output, errors),
         None => {
-            let ended = tell_bundle(alloc, rt, teller, input, output, executor);
+            let ended = tell_bundle(alloc, rt, teller, input, output);
             finish(errors, ended)
         }
     }
 }
 
 /// Prints what a teller tells of the bundle of a file.
-fn tell_file<T: Teller, F: Files, W: CountedWrite, S: CountedWrite, E: Executor>(
+fn tell_file<T: Teller, F: Files, W: CountedWrite, S: CountedWrite>(
     alloc: Global,
     rt: &(impl Threads + Wait + Sync),
     files: &F,
@@ -438,17 +398,16 @@ fn tell_file<T: Teller, F: Files, W: CountedWrite, S: CountedWrite, E: Executor>
     teller: &T,
     output: &mut W,
     errors: &mut S,
-    executor: &E,
 ) -> u8
     requires writes { W.failures output.old < u64.MAX }
     requires says { S.failures errors.old < u64.MAX }
-    ensures { CallsFile name.now (TellingEnds (T.tells teller.now (E.out executor.now)) (T.stops teller.now))
+    ensures { CallsFile name.now (TellingEnds (T.tells teller.now) (T.stops teller.now))
         (stream (W.contents output.old) (W.failures output.old)) (stream (W.contents output.new) (W.failures output.new))
         (stream (S.contents errors.old) (S.failures errors.old)) (stream (S.contents errors.new) (S.failures errors.new)) result }
 {
     match open_bundle(files, name) {
         Ok(mut file) => {
-            let ended = tell_bundle(alloc, rt, teller, &mut file, output, executor);
+            let ended = tell_bundle(alloc, rt, teller, &mut file, output);
             finish_file(alloc, errors, ended, name, file.why)
         }
         Err(error) => {

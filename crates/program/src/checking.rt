@@ -6,7 +6,6 @@ use crate::telling::Teller;
 use crate::told::Told;
 use build::{BuildFault, Status};
 use checks::{Checked, Form, check};
-use executor::Executor;
 use plain::{Bytes, Memory};
 use std::alloc::Global;
 use std::sync::Wait;
@@ -24,20 +23,19 @@ impl Teller for FaultTeller {
     ghost use Rattle.program.specs.Telling.{never};
     ghost use Rattle.program.specs.PrivateMoved.{check_moves, never_moves};
 
-    ghost tells = { λ teller out. TellsFaults teller.form };
+    ghost tells = { λ teller. TellsFaults teller.form };
 
     ghost stops = { λ teller. never };
 
-    ghost moves = { λ teller out. check_moves teller.form };
+    ghost moves = { λ teller. check_moves teller.form };
 
     ghost moves_stops = { λ teller. never_moves };
 
-    fn tell<H: Threads + Wait + Sync, E: Executor>(
+    fn tell<H: Threads + Wait + Sync>(
         &self,
         alloc: Global,
         rt: &H,
         bundle: &[u8],
-        _executor: &E,
     ) -> Result<Told, BuildFault> {
         Ok(tell_faults(alloc, rt, bundle, self.form)?)
     }

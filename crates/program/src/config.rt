@@ -10,7 +10,6 @@ ghost use Rattle.program.specs.Config.{TellsConfig};
 use crate::telling::Teller;
 use crate::told::{Told, tell_refusal};
 use build::{BuildFault, Status, ask};
-use executor::Executor;
 use imageconfig::Config;
 use plain::{Bytes, Fault, Memory};
 use std::alloc::Global;
@@ -26,20 +25,19 @@ impl Teller for ConfigTeller {
     ghost use Rattle.program.specs.Telling.{never};
     ghost use Rattle.program.specs.PrivateMoved.{config_moves, never_moves};
 
-    ghost tells = { λ teller out. TellsConfig };
+    ghost tells = { λ teller. TellsConfig };
 
     ghost stops = { λ teller. never };
 
-    ghost moves = { λ teller out. config_moves };
+    ghost moves = { λ teller. config_moves };
 
     ghost moves_stops = { λ teller. never_moves };
 
-    fn tell<H: Threads + Wait + Sync, E: Executor>(
+    fn tell<H: Threads + Wait + Sync>(
         &self,
         alloc: Global,
         rt: &H,
         bundle: &[u8],
-        _executor: &E,
     ) -> Result<Told, BuildFault> {
         Ok(tell_config(alloc, rt, bundle)?)
     }

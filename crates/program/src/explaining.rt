@@ -18,28 +18,30 @@ const WORKERS: u32 = 4;
 /// Tells which instruction of a bundle fails and why, or all faults of a bundle that is refused.
 ///
 /// The status is that of the bundle's build.
-pub(crate) struct ExplanationTeller;
+#[derive(Drop)]
+pub(crate) struct ExplanationTeller<'a, E> {
+    pub(crate) executor: &'a E,
+}
 
-impl Teller for ExplanationTeller {
+impl<'a, E: Executor> Teller for ExplanationTeller<'a, E> {
     ghost use Rattle.program.specs.Telling.{never};
     ghost use Rattle.program.specs.PrivateMoved.{explain_moves, never_moves};
 
-    ghost tells = { λ teller out. Explains out };
+    ghost tells = { λ teller. Explains (E.out teller.executor.now) };
 
     ghost stops = { λ teller. never };
 
-    ghost moves = { λ teller out. explain_moves out };
+    ghost moves = { λ teller. explain_moves (E.out teller.executor.now) };
 
     ghost moves_stops = { λ teller. never_moves };
 
-    fn tell<H: Threads + Wait + Sync, E: Executor>(
+    fn tell<H: Threads + Wait + Sync>(
         &self,
         alloc: Global,
         rt: &H,
         bundle: &[u8],
-        executor: &E,
     ) -> Result<Told, BuildFault> {
-        Ok(tell_explained(alloc, rt, bundle, executor)?)
+        Ok(tell_explained(alloc, rt, bundle, self.executor)?)
     }
 }
 

@@ -12,7 +12,6 @@ use crate::told::{Told, tell_refusal};
 use build::{Asked, BuildFault, Status, Titled, ask_titled};
 use command::{LlbOptions, NetworkName, PlatformName};
 use evaluation::Evaluated;
-use executor::Executor;
 use exported::{ExportFault, Obstacle, Options, exclude_list, export};
 use imageconfig::Config;
 use llbmessages::{Network, Platform};
@@ -49,20 +48,19 @@ impl<'a> Teller for DefinitionTeller<'a> {
     ghost use Rattle.program.specs.Llb.{LlbStops, TellsLlb};
     ghost use Rattle.program.specs.PrivateMoved.{llb_moves, llb_moves_stops};
 
-    ghost tells = { λ teller out. TellsLlb teller.options.now };
+    ghost tells = { λ teller. TellsLlb teller.options.now };
 
     ghost stops = { λ teller. LlbStops teller.options.now };
 
-    ghost moves = { λ teller out. llb_moves teller.options.now };
+    ghost moves = { λ teller. llb_moves teller.options.now };
 
     ghost moves_stops = { λ teller. llb_moves_stops teller.options.now };
 
-    fn tell<H: Threads + Wait + Sync, E: Executor>(
+    fn tell<H: Threads + Wait + Sync>(
         &self,
         alloc: Global,
         rt: &H,
         bundle: &[u8],
-        _executor: &E,
     ) -> Result<Told, BuildFault> {
         tell_llb(alloc, rt, bundle, self.options)
     }

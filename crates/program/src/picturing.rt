@@ -11,7 +11,6 @@ use crate::told::{Told, tell_refusal};
 use build::{Asked, BuildFault, Status, Titled, ask_titled};
 use dot::write;
 use evaluation::Evaluated;
-use executor::Executor;
 use imageconfig::Config;
 use plain::{Bytes, Fault, Memory, Text};
 use plans::Plan;
@@ -29,20 +28,19 @@ impl Teller for PictureTeller {
     ghost use Rattle.program.specs.Telling.{never};
     ghost use Rattle.program.specs.PrivateMoved.{dot_moves, never_moves};
 
-    ghost tells = { λ teller out. TellsDot };
+    ghost tells = { λ teller. TellsDot };
 
     ghost stops = { λ teller. never };
 
-    ghost moves = { λ teller out. dot_moves };
+    ghost moves = { λ teller. dot_moves };
 
     ghost moves_stops = { λ teller. never_moves };
 
-    fn tell<H: Threads + Wait + Sync, E: Executor>(
+    fn tell<H: Threads + Wait + Sync>(
         &self,
         alloc: Global,
         rt: &H,
         bundle: &[u8],
-        _executor: &E,
     ) -> Result<Told, BuildFault> {
         Ok(tell_dot(alloc, rt, bundle)?)
     }

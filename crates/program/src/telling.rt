@@ -8,7 +8,6 @@ ghost use Rattle.program.specs.Telling.{TellingEnds};
 use crate::told::Told;
 use build::{BuildFault, Status};
 use counted::{CountedRead, CountedWrite, read_all, write_all};
-use executor::Executor;
 use plain::limits::MOST_BUNDLE_BYTES;
 use std::alloc::Global;
 use std::sync::Wait;
@@ -17,32 +16,29 @@ use std::thread::Threads;
 /// What knows one thing to tell of a bundle, such as its faults.
 pub(crate) trait Teller {
     ghost use Rattle.std.specs.Thread.{IsSync};
-    ghost use Rattle.plans.specs.Value.{Out};
     ghost use Rattle.build.specs.Ends.{Answering};
     ghost use Rattle.program.specs.Telling.{Stops};
     ghost use Rattle.program.specs.PrivateTelling.{IsToldBy, Moves, MovesStops};
 
-    // What is due of a bundle, by what runs its commands: a status, and the text that is written.
-    ghost tells: { Self → Out → Answering };
+    // What is due of a bundle: a status, and the text that is written.
+    ghost tells: { Self → Answering };
 
     // Of which bundles nothing is due, and with which fault that ends.
     ghost stops: { Self → Stops };
 
-    /// What is due of a bundle's bytes. `Memory` says only that a growth was refused, and `Device` is never answered. Threads may share the handle and
-    /// the executor, which the bounds alone don't say in a trait. That is why the executor is no part of a teller.
-    fn tell<H: Threads + Wait + Sync, E: Executor>(
+    /// What is due of a bundle's bytes. `Memory` says only that a growth was refused, and `Device` is never answered. Threads may share the handle,
+    /// which the bound alone doesn't say in a trait.
+    fn tell<H: Threads + Wait + Sync>(
         &self,
         alloc: Global,
         rt: &H,
         bundle: &[u8],
-        executor: &E,
     ) -> Result<Told, BuildFault>
-        requires handle { IsSync H.row }
-        requires executor { IsSync E.row }
-        ensures { IsToldBy (tells self.now (E.out executor.now)) (stops self.now) bundle.now result };
+        requires { IsSync H.row }
+        ensures { IsToldBy (tells self.now) (stops self.now) bundle.now result };
 
     // It depends on what a bundle holds, so on no byte past the limit of bundles.
-    ghost moves: { (teller : Self) (out : Out) → Moves (tells teller out) };
+    ghost moves: { (teller : Self) → Moves (tells teller) };
 
     ghost moves_stops: { (teller : Self) → MovesStops (stops teller) };
 }
@@ -52,55 +48,45 @@ pub(crate) trait Teller {
 /// The status is the teller's. Nothing was written after `Memory`. After `Device` a read failed, and nothing was written, or a write failed, and a
 /// beginning was. After `Clash` and `Unspeakable`, with which a teller says that nothing is due, nothing was written.
 #[tactic(auto, unfolding(plain::specs::Limits::most_bundle_bytes))]
-pub(crate) fn tell_bundle<T: Teller, R: CountedRead, W: CountedWrite, E: Executor>(
+pub(crate) fn tell_bundle<T: Teller, R: CountedRead, W: CountedWrite>(
     alloc: Global,
     rt: &(impl Threads + Wait + Sync),
     teller: &T,
     input: &mut R,
     output: &mut W,
-    executor: &E,
 ) -> Result<Status, BuildFault>
     requires reads { R.failures input.old < u64.MAX }
     requires writes { W.failures output.old < u64.MAX }
-    ensures ends { TellingEnds (T.tells teller.now (E.out executor.now)) (T.stops teller.now)
+    ensures ends { TellingEnds (T.tells teller.now) (T.stops teller.now)
         (devices (R.remaining input.old) (R.failures input.old) (W.contents output.old) (W.failures output.old))
         (devices (R.remaining input.new) (R.failures input.new) (W.contents output.new) (W.failures output.new))
         result }
     ensures taken { LosesBeginning (most_bundle_bytes + 1) (R.remaining input.old) (R.remaining input.new) }
 {
-    tell_within(
-        alloc,
-        rt,
-        MOST_BUNDLE_BYTES,
-        teller,
-        input,
-        output,
-        executor,
-    )
+    tell_within(alloc, rt, MOST_BUNDLE_BYTES, teller, input, output)
 }
 
 /// The same, the limit of bundles being a value and no number that is written out.
-fn tell_within<T: Teller, R: CountedRead, W: CountedWrite, E: Executor>(
+fn tell_within<T: Teller, R: CountedRead, W: CountedWrite>(
     alloc: Global,
     rt: &(impl Threads + Wait + Sync),
     most: usize,
     teller: &T,
     input: &mut R,
     output: &mut W,
-    executor: &E,
 ) -> Result<Status, BuildFault>
     requires limit { most ≡ most_bundle_bytes }
     requires room { most < usize.MAX }
     requires reads { R.failures input.old < u64.MAX }
     requires writes { W.failures output.old < u64.MAX }
-    ensures ends { TellingEnds (T.tells teller.now (E.out executor.now)) (T.stops teller.now)
+    ensures ends { TellingEnds (T.tells teller.now) (T.stops teller.now)
         (devices (R.remaining input.old) (R.failures input.old) (W.contents output.old) (W.failures output.old))
         (devices (R.remaining input.new) (R.failures input.new) (W.contents output.new) (W.failures output.new))
         result }
     ensures taken { LosesBeginning (most + 1) (R.remaining input.old) (R.remaining input.new) }
 {
     let bytes = read_all(alloc, input, most + 1)?;
-    match teller.tell(alloc, rt, bytes.as_slice(), executor) {
+    match teller.tell(alloc, rt, bytes.as_slice()) {
         Ok(told) => {
             write_all(output, told.text.as_slice())?;
             Ok(told.status)

@@ -5,7 +5,6 @@ ghost use Rattle.program.specs.Why.{TellsWhy};
 use crate::telling::Teller;
 use crate::told::{Told, tell_refusal};
 use build::{BuildFault, Status};
-use executor::Executor;
 use expand::Rejection;
 use imageconfig::Config;
 use plain::{Fault, Memory, Text};
@@ -26,20 +25,19 @@ impl<'a> Teller for PathTeller<'a> {
     ghost use Rattle.program.specs.Telling.{never};
     ghost use Rattle.program.specs.PrivateMoved.{why_moves, never_moves};
 
-    ghost tells = { λ teller out. TellsWhy teller.paths.now };
+    ghost tells = { λ teller. TellsWhy teller.paths.now };
 
     ghost stops = { λ teller. never };
 
-    ghost moves = { λ teller out. why_moves teller.paths.now };
+    ghost moves = { λ teller. why_moves teller.paths.now };
 
     ghost moves_stops = { λ teller. never_moves };
 
-    fn tell<H: Threads + Wait + Sync, E: Executor>(
+    fn tell<H: Threads + Wait + Sync>(
         &self,
         alloc: Global,
         _rt: &H,
         bundle: &[u8],
-        _executor: &E,
     ) -> Result<Told, BuildFault> {
         Ok(tell_paths(alloc, bundle, self.paths)?)
     }

@@ -22,7 +22,7 @@ opened EndsSo left left_then failed failed_then output new_output ended none end
 pub returns-in-Ok : goal.returns-in-Ok
 returns-in-Ok g c = record {
   ended = c.tell_bundle-ended.result;
-  ends = inr (opened (TellingEnds (g.T.Teller.tells c.args.teller.now (g.E.Executor.out c.args.executor.now)) (g.T.Teller.stops c.args.teller.now)) _ _ _ _ _ _ c.tell_bundle-ended.result c.in-Ok.ensures c.tell_bundle-ended.ensures.ends);
+  ends = inr (opened (TellingEnds (g.T.Teller.tells c.args.teller.now) (g.T.Teller.stops c.args.teller.now)) _ _ _ _ _ _ c.tell_bundle-ended.result c.in-Ok.ensures c.tell_bundle-ended.ensures.ends);
   says = c.finish_file.ensures.says;
   is = c.finish_file.ensures.is;
 }
