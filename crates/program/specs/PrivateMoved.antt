@@ -51,7 +51,7 @@ checked_moved bytes others form checked same is = record {
   faults = is.faults;
   are = faults_moved bytes others is.faults same.parts is.are;
   text = is.text ∙ (ap (λ (flaw : Option Flaw). shown_check form flaw (readable_lines (faulty_text_in (held bytes))) is.faults) same.flaw
-    ∙ ap (λ parts. shown_check form (flaw_in config_in others) (readable_lines (faulty_text_in parts)) is.faults) same.parts);
+      ∙ ap (λ parts. shown_check form (flaw_in config_in others) (readable_lines (faulty_text_in parts)) is.faults) same.parts);
   is_sound = is.is_sound;
 }
 

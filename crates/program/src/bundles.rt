@@ -20,7 +20,7 @@ ghost use Rattle.program.specs.Why.{WhyEnds};
 use crate::bundle_file::{open_bundle, why_of};
 use crate::checking::FaultTeller;
 use crate::config::ConfigTeller;
-use crate::explaining::ExplanationTeller;
+use crate::explaining::explain_bundle;
 use crate::exporting::DefinitionTeller;
 use crate::picturing::PictureTeller;
 use crate::saying::{NO_MEMORY_LINE, say};
@@ -119,7 +119,7 @@ pub(crate) fn draw_bundle<F: Files, R: CountedRead, W: CountedWrite, S: CountedW
 /// Prints why paths of a bundle's context are kept or left out, and gives the status to end with.
 pub(crate) fn explain_paths<F: Files, R: CountedRead, W: CountedWrite, S: CountedWrite>(
     alloc: Global,
-    rt: &(impl Threads + Wait + Sync),
+    rt: &(impl Threads + Sync),
     files: &F,
     options: &WhyOptions,
     input: &mut R,
@@ -264,8 +264,13 @@ pub(crate) fn explain_build<
         result }
     ensures taken { LosesBeginning (most_bundle_bytes + 1) (R.remaining input.old) (R.remaining input.new) }
 {
-    let teller = ExplanationTeller { executor };
-    tell_by(alloc, rt, files, file, &teller, input, output, errors)
+    match file {
+        Some(name) => explain_file(alloc, rt, files, name.as_str(), output, errors, executor),
+        None => {
+            let ended = explain_bundle(alloc, rt, input, output, executor);
+            finish(errors, ended)
+        }
+    }
 }
 
 /// The form of faults by the flag `--json`.
@@ -296,6 +301,34 @@ fn build_file<F: Files, W: CountedWrite, S: CountedWrite, E: Executor>(
     match open_bundle(files, name) {
         Ok(mut file) => {
             let ended = run_build(alloc, rt, &mut file, output, executor, workers, &OpenGate);
+            finish_file(alloc, errors, ended, name, file.why)
+        }
+        Err(error) => {
+            let ended = Err(open_fault(&error));
+            finish_file(alloc, errors, ended, name, why_of(error.kind()))
+        }
+    }
+}
+
+/// Prints which instruction fails of the bundle of a file.
+fn explain_file<F: Files, W: CountedWrite, S: CountedWrite, E: Executor>(
+    alloc: Global,
+    rt: &(impl Threads + Wait + Sync),
+    files: &F,
+    name: &str,
+    output: &mut W,
+    errors: &mut S,
+    executor: &E,
+) -> u8
+    requires writes { W.failures output.old < u64.MAX }
+    requires says { S.failures errors.old < u64.MAX }
+    ensures { CallsFile name.now (ExplainEnds (E.out executor.now))
+        (stream (W.contents output.old) (W.failures output.old)) (stream (W.contents output.new) (W.failures output.new))
+        (stream (S.contents errors.old) (S.failures errors.old)) (stream (S.contents errors.new) (S.failures errors.new)) result }
+{
+    match open_bundle(files, name) {
+        Ok(mut file) => {
+            let ended = explain_bundle(alloc, rt, &mut file, output, executor);
             finish_file(alloc, errors, ended, name, file.why)
         }
         Err(error) => {
@@ -363,7 +396,7 @@ fn graph_file<F: Files, W: CountedWrite, S: CountedWrite>(
 /// Prints what a teller tells of a bundle.
 fn tell_by<T: Teller, F: Files, R: CountedRead, W: CountedWrite, S: CountedWrite>(
     alloc: Global,
-    rt: &(impl Threads + Wait + Sync),
+    rt: &(impl Threads + Sync),
     files: &F,
     file: &Option<Text>,
     teller: &T,
@@ -392,7 +425,7 @@ fn tell_by<T: Teller, F: Files, R: CountedRead, W: CountedWrite, S: CountedWrite
 /// Prints what a teller tells of the bundle of a file.
 fn tell_file<T: Teller, F: Files, W: CountedWrite, S: CountedWrite>(
     alloc: Global,
-    rt: &(impl Threads + Wait + Sync),
+    rt: &(impl Threads + Sync),
     files: &F,
     name: &str,
     teller: &T,

@@ -8,7 +8,6 @@ use build::{BuildFault, Status};
 use checks::{Checked, Form, check};
 use plain::{Bytes, Memory};
 use std::alloc::Global;
-use std::sync::Wait;
 use std::thread::Threads;
 
 /// Tells all faults of a bundle in a form.
@@ -31,7 +30,7 @@ impl Teller for FaultTeller {
 
     ghost moves_stops = { λ teller. never_moves };
 
-    fn tell<H: Threads + Wait + Sync>(
+    fn tell<H: Threads + Sync>(
         &self,
         alloc: Global,
         rt: &H,

@@ -13,7 +13,6 @@ use build::{BuildFault, Status, ask};
 use imageconfig::Config;
 use plain::{Bytes, Fault, Memory};
 use std::alloc::Global;
-use std::sync::Wait;
 use std::thread::Threads;
 
 /// Tells the configuration of a bundle's target as a line of JSON, or the bundle's refusal.
@@ -33,7 +32,7 @@ impl Teller for ConfigTeller {
 
     ghost moves_stops = { λ teller. never_moves };
 
-    fn tell<H: Threads + Wait + Sync>(
+    fn tell<H: Threads + Sync>(
         &self,
         alloc: Global,
         rt: &H,

@@ -21,7 +21,6 @@ use plain::{Bytes, Exact, Fault, Items, Memory, Text};
 use plans::Plan;
 use rewrite::{flatten_links, prune};
 use std::alloc::Global;
-use std::sync::Wait;
 use std::thread::Threads;
 
 /// What a definition has of a bundle beside its graph.
@@ -56,7 +55,7 @@ impl<'a> Teller for DefinitionTeller<'a> {
 
     ghost moves_stops = { λ teller. llb_moves_stops teller.options.now };
 
-    fn tell<H: Threads + Wait + Sync>(
+    fn tell<H: Threads + Sync>(
         &self,
         alloc: Global,
         rt: &H,

@@ -15,7 +15,6 @@ use imageconfig::Config;
 use plain::{Bytes, Fault, Memory, Text};
 use plans::Plan;
 use std::alloc::Global;
-use std::sync::Wait;
 use std::thread::Threads;
 
 /// Tells a bundle's graph in the DOT language, or the bundle's refusal.
@@ -36,7 +35,7 @@ impl Teller for PictureTeller {
 
     ghost moves_stops = { λ teller. never_moves };
 
-    fn tell<H: Threads + Wait + Sync>(
+    fn tell<H: Threads + Sync>(
         &self,
         alloc: Global,
         rt: &H,

@@ -10,7 +10,6 @@ use build::{BuildFault, Status};
 use counted::{CountedRead, CountedWrite, read_all, write_all};
 use plain::limits::MOST_BUNDLE_BYTES;
 use std::alloc::Global;
-use std::sync::Wait;
 use std::thread::Threads;
 
 /// What knows one thing to tell of a bundle, such as its faults.
@@ -28,7 +27,7 @@ pub(crate) trait Teller {
 
     /// What is due of a bundle's bytes. `Memory` says only that a growth was refused, and `Device` is never answered. Threads may share the handle,
     /// which the bound alone doesn't say in a trait.
-    fn tell<H: Threads + Wait + Sync>(
+    fn tell<H: Threads + Sync>(
         &self,
         alloc: Global,
         rt: &H,
@@ -50,7 +49,7 @@ pub(crate) trait Teller {
 #[tactic(auto, unfolding(plain::specs::Limits::most_bundle_bytes))]
 pub(crate) fn tell_bundle<T: Teller, R: CountedRead, W: CountedWrite>(
     alloc: Global,
-    rt: &(impl Threads + Wait + Sync),
+    rt: &(impl Threads + Sync),
     teller: &T,
     input: &mut R,
     output: &mut W,
@@ -69,7 +68,7 @@ pub(crate) fn tell_bundle<T: Teller, R: CountedRead, W: CountedWrite>(
 /// The same, the limit of bundles being a value and no number that is written out.
 fn tell_within<T: Teller, R: CountedRead, W: CountedWrite>(
     alloc: Global,
-    rt: &(impl Threads + Wait + Sync),
+    rt: &(impl Threads + Sync),
     most: usize,
     teller: &T,
     input: &mut R,

@@ -10,7 +10,6 @@ use imageconfig::Config;
 use plain::{Fault, Memory, Text};
 use reasons::reasons;
 use std::alloc::Global;
-use std::sync::Wait;
 use std::thread::Threads;
 
 /// Tells of each of these paths whether it is kept in a bundle's context, and which line of the ignore file decided. Or it tells the bundle's refusal.
@@ -33,7 +32,7 @@ impl<'a> Teller for PathTeller<'a> {
 
     ghost moves_stops = { λ teller. never_moves };
 
-    fn tell<H: Threads + Wait + Sync>(
+    fn tell<H: Threads + Sync>(
         &self,
         alloc: Global,
         _rt: &H,
