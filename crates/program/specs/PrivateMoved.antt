@@ -112,14 +112,14 @@ answers_moved bytes others out status text same answers =
 
 -- and the same explanation
 pub explain_moves : (out : Out) → Moves (Explains out)
-explain_moves out bytes bundle Built text same told = (told.0, answers_moved bytes bundle out Built _ same told.1, told.2)
+explain_moves out bytes bundle Built text same told = (told.0, answers_moved bytes bundle out Built _ same.parts told.1, told.2)
 explain_moves out bytes bundle Failed text same told =
     let shows = told.3 in
     let reads = shows.1 in
-    (told.0, told.1, answers_moved bytes bundle out Failed _ same told.2, (shows.0, (reads.0, (sym same ∙ reads.1.0, reads.1.1)), shows.2))
+    (told.0, told.1, answers_moved bytes bundle out Failed _ same.parts told.2, (shows.0, (reads.0, (sym same.parts ∙ reads.1.0, reads.1.1)), shows.2))
 explain_moves out bytes bundle Refused text same told =
     let shows = told.2 in
-    (told.0, answers_moved bytes bundle out Refused _ same told.1, (shows.0, checked_moved bytes bundle Plain shows.0 same shows.1, shows.2))
+    (told.0, answers_moved bytes bundle out Refused _ same.parts told.1, (shows.0, checked_moved bytes bundle Plain shows.0 same shows.1, shows.2))
 
 -- and one of which nothing is due is of no bundle
 pub never_moves : MovesStops never
