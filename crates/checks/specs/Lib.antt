@@ -1,3 +1,4 @@
 pub mod Checked
 pub mod Checks
+pub mod Failing
 pub mod Shown

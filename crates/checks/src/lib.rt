@@ -8,7 +8,10 @@
 // fault is shown in one walk through the text. Where there are several, the lines are listed first, so each is found at once. `check` does both,
 // and shows bytes that are no bundle with where they are wrong, which `flaws` finds.
 //
-// The central definitions are `AreFaultsOf` in specs/Checks.antt, `shown_faults` in specs/Shown.antt, and `IsCheckOf` in specs/Checked.antt.
+// `shown_failure` shows an instruction that a build failed at in the same form.
+//
+// The central definitions are `AreFaultsOf` in specs/Checks.antt, `shown_faults` in specs/Shown.antt, `IsCheckOf` in specs/Checked.antt, and
+// `shown_failure` in specs/Failing.antt.
 //
 // ```
 // let checked = check(alloc, &rt, bytes, Form::Plain)?; // of a bundle with the Dockerfile FROM scratch\nRUNN make
@@ -20,6 +23,7 @@
 
 mod checked;
 mod checking;
+mod failing;
 mod form;
 pub mod laws;
 mod showing;
@@ -27,5 +31,6 @@ mod visible;
 
 pub use checked::{Checked, check};
 pub use checking::{Findings, check_bundle};
+pub use failing::shown_failure;
 pub use form::Form;
 pub use showing::shown_faults;

@@ -165,7 +165,7 @@ fn index_of(number: u32) -> usize
 }
 
 /// The line of this number, the empty one where there is none.
-fn found_line(text: &str, number: u32) -> &str
+pub(crate) fn found_line(text: &str, number: u32) -> &str
     ensures { result.now ≡ line_at (text_lines text.now) number }
 {
     match without_byte_order_mark(text).lines().nth(index_of(number)) {

@@ -24,7 +24,7 @@ use Rattle.command.specs.Llb.{llb_of}
 use Rattle.command.specs.declared.task.LlbOptions.{LlbOptions}
 use Rattle.command.specs.declared.task.PackOptions.{PackOptions}
 use Rattle.command.specs.declared.task.Task.{Task}
-use Rattle.command.specs.declared.task.Task.TheVariants.{Build, Graph, Pack, Why, Llb, Config, Check}
+use Rattle.command.specs.declared.task.Task.TheVariants.{Build, Graph, Pack, Why, Llb, Config, Check, Explain}
 use Rattle.command.proofs.BuildWalk.{leaf, leaf_ok}
 use Rattle.command.proofs.PackWalk.{folder_ok, leaf as pack_leaf}
 use Rattle.command.proofs.Kept.{or_else-left, or_else-right, some_kind}
@@ -95,6 +95,7 @@ task_args (Some found) (Why options) asked = rw asked.0 refl
 task_args (Some found) (Llb options) asked = rw (asked.0, asked.1) refl
 task_args (Some found) (Config file) asked = rw asked.0 refl
 task_args (Some found) (Check options) asked = rw asked.0 refl
+task_args (Some found) (Explain file) asked = rw asked.0 refl
 
 -- the other commands as clap builds them
 abbrev graph_leaf : Shape
@@ -112,17 +113,20 @@ config_leaf = slice_index_or app.subs 5 (new_shape [])
 abbrev check_leaf : Shape
 check_leaf = slice_index_or app.subs 6 (new_shape [])
 
+abbrev explain_leaf : Shape
+explain_leaf = slice_index_or app.subs 7 (new_shape [])
+
 abbrev help_leaf : Shape
-help_leaf = slice_index_or app.subs 7 (new_shape [])
+help_leaf = slice_index_or app.subs 8 (new_shape [])
 
 or_false : (b : Bool) → (b || false) ≡ true → b ≡ true
 or_false true e = refl
 or_false false e = e
 
 -- the command that a name leads to, by which it answers to
-abbrev leads : Bool → Bool → Bool → Bool → Bool → Bool → Bool → Bool → Option Shape
-leads x y p w l c k z =
-    cond x (Some leaf) (cond y (Some graph_leaf) (cond p (Some pack_leaf) (cond w (Some why_leaf) (cond l (Some llb_leaf) (cond c (Some config_leaf) (cond k (Some check_leaf) (cond z (Some help_leaf) None)))))))
+abbrev leads : Bool → Bool → Bool → Bool → Bool → Bool → Bool → Bool → Bool → Option Shape
+leads x y p w l c k e z =
+    cond x (Some leaf) (cond y (Some graph_leaf) (cond p (Some pack_leaf) (cond w (Some why_leaf) (cond l (Some llb_leaf) (cond c (Some config_leaf) (cond k (Some check_leaf) (cond e (Some explain_leaf) (cond z (Some help_leaf) None))))))))
 
 -- `pack` has a folder, and each build argument and each image a `=`
 pack_at : (rows : List Row) (folder : Text) → first_of (codes "DIR") rows ≡ Some folder → argument_faults (Some (codes "pack", rows)) ≡ []
@@ -143,36 +147,37 @@ llb_at rows e = go (llb_of rows) refl
     go None is = absurd (some_kind _ _ (rw is at e))
     go (Some options) is = (options, is)
 
-met_at : (p : Text × List Text) (x y k w l c h z : Bool) → answers_to p.0 (label_of help_leaf) ≡ z → NotHelp (Some p)
-    → is_some (option_map (λ s. rows_at s p.1) (leads x y k w l c h z)) ≡ true
-    → option_map_or (λ s. level_fault s [] nothing_held p.1 false []) (leads x y k w l c h z) [] ≡ []
-    → argument_faults (option_map (λ s. rows_at s p.1) (leads x y k w l c h z)) ≡ []
-    → (task : Task) × IsTaskOf (option_map (λ s. rows_at s p.1) (leads x y k w l c h z)) task
-met_at p true y k w l c h z help not_help some e args =
+met_at : (p : Text × List Text) (x y k w l c h v z : Bool) → answers_to p.0 (label_of help_leaf) ≡ z → NotHelp (Some p)
+    → is_some (option_map (λ s. rows_at s p.1) (leads x y k w l c h v z)) ≡ true
+    → option_map_or (λ s. level_fault s [] nothing_held p.1 false []) (leads x y k w l c h v z) [] ≡ []
+    → argument_faults (option_map (λ s. rows_at s p.1) (leads x y k w l c h v z)) ≡ []
+    → (task : Task) × IsTaskOf (option_map (λ s. rows_at s p.1) (leads x y k w l c h v z)) task
+met_at p true y k w l c h v z help not_help some e args =
     let found = workers_of _ (leaf_ok p.1 e) in
     (Build (record { workers = found.0; file = bundle_file (rows_at leaf p.1).1 }), (refl, record { workers = found.1; file = refl }))
-met_at p false true k w l c h z help not_help some e args = (Graph (graph_of (rows_at graph_leaf p.1).1), (refl, refl))
-met_at p false false true w l c h z help not_help some e args =
+met_at p false true k w l c h v z help not_help some e args = (Graph (graph_of (rows_at graph_leaf p.1).1), (refl, refl))
+met_at p false false true w l c h v z help not_help some e args =
     let folder = folder_ok p.1 e in
     let found = pack_at (finished pack_leaf.rules (walk pack_leaf.rules [] nothing_held p.1).held) folder.0 folder.1 args in
     (Pack found.0, (refl, found.1))
-met_at p false false false true l c h z help not_help some e args = (Why (why_of (rows_at why_leaf p.1).1), (refl, refl))
-met_at p false false false false true c h z help not_help some e args =
+met_at p false false false true l c h v z help not_help some e args = (Why (why_of (rows_at why_leaf p.1).1), (refl, refl))
+met_at p false false false false true c h v z help not_help some e args =
     let found = llb_at (finished llb_leaf.rules (walk llb_leaf.rules [] nothing_held p.1).held) args in
     (Llb found.0, (refl, found.1))
-met_at p false false false false false true h z help not_help some e args = (Config (bundle_file (rows_at config_leaf p.1).1), (refl, refl))
-met_at p false false false false false false true z help not_help some e args = (Check (check_of (rows_at check_leaf p.1).1), (refl, refl))
-met_at p false false false false false false false true help not_help some e args =
+met_at p false false false false false true h v z help not_help some e args = (Config (bundle_file (rows_at config_leaf p.1).1), (refl, refl))
+met_at p false false false false false false true v z help not_help some e args = (Check (check_of (rows_at check_leaf p.1).1), (refl, refl))
+met_at p false false false false false false false true z help not_help some e args = (Explain (bundle_file (rows_at explain_leaf p.1).1), (refl, refl))
+met_at p false false false false false false false false true help not_help some e args =
     let same = (bytes_eq-Decides (codes "help") p.0).0 (or_false _ help) in
     absurd (true≢false (sym ((bytes_eq-Decides p.0 (codes "help")).1 (sym same)) ∙ not_help))
-met_at p false false false false false false false false help not_help some e args = absurd (true≢false (sym some))
+met_at p false false false false false false false false false help not_help some e args = absurd (true≢false (sym some))
 
 stopped_at : (stop : Option (Text × List Text)) → NotHelp stop → is_some (entered app stop) ≡ true → entered_fault app stop ≡ []
     → argument_faults (entered app stop) ≡ [] → (task : Task) × IsTaskOf (entered app stop) task
 stopped_at None not_help some e args = absurd (true≢false (sym some))
 stopped_at (Some p) not_help some e args =
     met_at p (answers_to p.0 (label_of leaf)) (answers_to p.0 (label_of graph_leaf)) (answers_to p.0 (label_of pack_leaf)) (answers_to p.0 (label_of why_leaf))
-    (answers_to p.0 (label_of llb_leaf)) (answers_to p.0 (label_of config_leaf)) (answers_to p.0 (label_of check_leaf)) (answers_to p.0 (label_of help_leaf)) refl not_help some e args
+    (answers_to p.0 (label_of llb_leaf)) (answers_to p.0 (label_of config_leaf)) (answers_to p.0 (label_of check_leaf)) (answers_to p.0 (label_of explain_leaf)) (answers_to p.0 (label_of help_leaf)) refl not_help some e args
 
 -- a subcommand is wanted
 has_command : (has : Bool) (rows : List Row) → check_fault app.top rows has ≡ [] → has ≡ true

@@ -11,7 +11,7 @@ use Rattle.command.specs.CommandLine.{least_workers}
 use Rattle.command.specs.Tasks.{IsBuild, IsTaskOf, IsWorkers}
 use Rattle.command.specs.declared.task.BuildOptions.{BuildOptions}
 use Rattle.command.specs.declared.task.Task.{Task}
-use Rattle.command.specs.declared.task.Task.TheVariants.{Build, Graph, Pack, Why, Llb, Config, Check}
+use Rattle.command.specs.declared.task.Task.TheVariants.{Build, Graph, Pack, Why, Llb, Config, Check, Explain}
 
 pub if_none : {T : Type 0} (answer : Option T) (P : Type 0) → P → IfNone answer P
 if_none None P p = p
@@ -61,3 +61,4 @@ no_task o name rows is build none (Why options) h = let why : name ≡ codes "wh
 no_task o name rows is build none (Llb options) h = let llb : name ≡ codes "llb" = (subst (λ found. IsTaskOf found (Llb options)) is h).0 in absurd (true≢false (ap (λ t. bytes_eq t (codes "build")) (sym build ∙ llb)))
 no_task o name rows is build none (Config file) h = let config : name ≡ codes "config" = (subst (λ found. IsTaskOf found (Config file)) is h).0 in absurd (true≢false (ap (λ t. bytes_eq t (codes "build")) (sym build ∙ config)))
 no_task o name rows is build none (Check options) h = let check : name ≡ codes "check" = (subst (λ found. IsTaskOf found (Check options)) is h).0 in absurd (true≢false (ap (λ t. bytes_eq t (codes "build")) (sym build ∙ check)))
+no_task o name rows is build none (Explain file) h = let explain : name ≡ codes "explain" = (subst (λ found. IsTaskOf found (Explain file)) is h).0 in absurd (true≢false (ap (λ t. bytes_eq t (codes "build")) (sym build ∙ explain)))

@@ -115,6 +115,12 @@ json_flag = record (new_rule (codes "json")) { long = Some (codes "json"); actio
 abbrev pub check_command : App
 check_command = with_rule (with_rule (new_app (codes "check")) json_flag) bundle_argument
 
+-- `explain [FILE]` (own)
+abbrev pub explain_command : App
+explain_command = with_rule (new_app (codes "explain")) bundle_argument
+
 -- `dfsolve COMMAND` (own)
 abbrev pub whole_command : App
-whole_command = with_subcommand (with_subcommand (with_subcommand asking_command llb_command.top) config_command.top) check_command.top
+whole_command = with_subcommand
+    (with_subcommand (with_subcommand (with_subcommand asking_command llb_command.top) config_command.top) check_command.top)
+    explain_command.top

@@ -16,7 +16,7 @@ use Rattle.command.specs.declared.task.GraphOptions.{GraphOptions}
 use Rattle.command.specs.declared.task.PackOptions.{PackOptions}
 use Rattle.command.specs.declared.task.WhyOptions.{WhyOptions}
 use Rattle.command.specs.declared.task.Task.{Task}
-use Rattle.command.specs.declared.task.Task.TheVariants.{Build, Graph, Pack, Why, Llb, Config, Check}
+use Rattle.command.specs.declared.task.Task.TheVariants.{Build, Graph, Pack, Why, Llb, Config, Check, Explain}
 
 -- the number that the value of `--workers` says, within its range: decimal digits, of which a `+` may stand in front, which is how
 -- clap reads a number (own)
@@ -109,6 +109,7 @@ IsTaskOf (Some found) (Why options) = (found.0 ≡ codes "why") × (options ≡ 
 IsTaskOf (Some found) (Llb options) = (found.0 ≡ codes "llb") × (llb_of found.1 ≡ Some options)
 IsTaskOf (Some found) (Config file) = (found.0 ≡ codes "config") × (file ≡ bundle_file found.1)
 IsTaskOf (Some found) (Check options) = (found.0 ≡ codes "check") × (options ≡ check_of found.1)
+IsTaskOf (Some found) (Explain file) = (found.0 ≡ codes "explain") × (file ≡ bundle_file found.1)
 
 -- `pack` with a build argument or an image without a `=` (own)
 abbrev pub has_bare_argument : Text × List Row → Bool

@@ -1,7 +1,7 @@
 ghost use Rattle.std.specs.Prelude.{◌≡◌, IfOk, IsOkAnd, false};
 ghost use Rattle.clap.specs.Words.{app_of, rule_of, with_subcommand};
 ghost use Rattle.clap.specs.declared.builder.command.Command.TheViews.{out-Command};
-ghost use Rattle.command.specs.CommandLine.{argument_option, asking_command, bare_command, build_command, bundle_argument, bundle_command, check_command, config_command, dot_flag, folder_argument, graph_command, ignore_flag, image_option, json_flag, llb_command, llb_options, pack_command, pack_from, pack_to, pack_with, paths_argument, text_option, whole_command, why_command, workers_option};
+ghost use Rattle.command.specs.CommandLine.{argument_option, asking_command, bare_command, build_command, bundle_argument, bundle_command, check_command, config_command, dot_flag, explain_command, folder_argument, graph_command, ignore_flag, image_option, json_flag, llb_command, llb_options, pack_command, pack_from, pack_to, pack_with, paths_argument, text_option, whole_command, why_command, workers_option};
 
 use clap::{Arg, ArgAction, Command, value_parser};
 use plain::limits::MOST_WORKERS;
@@ -79,6 +79,9 @@ const CONFIG_HELP: &str =
 const CHECK_HELP: &str =
     "Status: 0 if there is no fault, 1 if there is one, 2 if the command line is refused, 3 if there was no memory or a device failed.\nExample: dfsolve pack . | dfsolve check";
 
+const EXPLAIN_HELP: &str =
+    "Status: 0 if a tree is built, 1 if an instruction fails, 2 if the bundle or the command line is refused, 3 if there was no memory or a device failed.\nExample: dfsolve explain bundle.json";
+
 /// The version of the program, which `--version` prints after its name.
 const VERSION: &str = "0.1.0";
 
@@ -89,7 +92,8 @@ pub fn whole_command<'a>(alloc: Global) -> Result<Command<'a>, AllocError>
     let command = asking_command(alloc)?;
     let command = with_command(command, llb_command(alloc))?;
     let command = with_command(command, config_command(alloc))?;
-    with_command(command, check_command(alloc))
+    let command = with_command(command, check_command(alloc))?;
+    with_command(command, explain_command(alloc))
 }
 
 /// `dfsolve COMMAND` with the commands that have to do with no engine but the program's own.
@@ -284,6 +288,17 @@ fn check_command<'a>(alloc: Global) -> Result<Command<'a>, AllocError>
         .about("Prints all faults of a bundle, with what helps, and builds nothing")
         .after_help(CHECK_HELP)
         .arg(json_flag(alloc))?
+        .arg(bundle_argument(alloc))
+}
+
+/// `explain [FILE]`.
+fn explain_command<'a>(alloc: Global) -> Result<Command<'a>, AllocError>
+    ensures app { IfOk result (λ command. app_of command ≡ explain_command) }
+    ensures local { IfOk result (λ command. (out-Command command).has_globals ≡ false) }
+{
+    Command::new(alloc, "explain")
+        .about("Builds a bundle, and prints which instruction fails and why, or all its faults")
+        .after_help(EXPLAIN_HELP)
         .arg(bundle_argument(alloc))
 }
 

@@ -30,7 +30,7 @@ use std::alloc::{AllocError, Global};
 /// `why` is one with a word PATH once or more, and with `--bundle FILE` once at most.
 /// `llb` is one with a word FILE that may be left out, with `--unique TEXT` just once, and with `--platform P` and `--network N` once at most; P is
 /// `OS/ARCH` or `OS/ARCH/VARIANT`, and `linux/amd64` by default; N is `default`, `none` or `host`, and the first of these by default.
-/// `config` and `check` are commands with a word FILE that may be left out, and `check` with `--json` once at most.
+/// `config`, `check` and `explain` are commands with a word FILE that may be left out, and `check` with `--json` once at most.
 /// `help` alone or before the name of a command, `--help` and `-h`, before a command or after it, ask for help, and `--version` or `-V`
 /// before it for the program's name and version.
 ///
@@ -141,6 +141,10 @@ fn task_of(alloc: Global, matches: &ArgMatches) -> Result<Option<Task>, AllocErr
     if name == "check" {
         let options = check_of(alloc, found)?;
         return Ok(Some(Task::Check(options)));
+    }
+    if name == "explain" {
+        let file = text_of(alloc, found, BUNDLE)?;
+        return Ok(Some(Task::Explain(file)));
     }
     Ok(None)
 }

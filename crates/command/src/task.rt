@@ -17,6 +17,8 @@ pub enum Task {
     Config(Option<Text>),
     /// `check`: write all faults of a bundle.
     Check(CheckOptions),
+    /// `explain`: build a bundle, of the file that is named, or on standard input, and write which instruction fails.
+    Explain(Option<Text>),
 }
 
 /// What `build` is asked for.

@@ -6,6 +6,7 @@ use Rattle.plain.specs.declared.fault.Fault.TheVariants.{Because}
 use Rattle.expand.specs.declared.reason.Rejection.{Rejection}
 use Rattle.command.specs.declared.task.LlbOptions.{LlbOptions}
 use Rattle.imageconfig.specs.Reading.{config_in}
+use Rattle.plans.specs.Value.{Out}
 use Rattle.evaluation.specs.declared.evaluated.Evaluated.{Evaluated}
 use Rattle.bundle.specs.Reading.{ReadsBundle}
 use Rattle.flaws.specs.Flaws.{flaw_in}
@@ -15,9 +16,12 @@ use Rattle.checks.specs.Checked.{IsCheckOf, faulty_text_in}
 use Rattle.checks.specs.Shown.{readable_lines, shown_check}
 use Rattle.checks.specs.declared.checked.Checked.{Checked}
 use Rattle.checks.specs.declared.form.Form.{Form}
+use Rattle.checks.specs.declared.form.Form.TheVariants.{Plain}
+use Rattle.build.specs.declared.status.Status.{Status}
 use Rattle.build.specs.declared.status.Status.TheVariants.{Built, Failed, Refused}
-use Rattle.build.specs.Meaning.{Asks}
+use Rattle.build.specs.Meaning.{Answers, Asks}
 use Rattle.build.specs.Titled.{HasTitlesOf, HasLeftOut}
+use Rattle.explains.specs.Explained.{Explains}
 use Rattle.program.specs.declared.exporting.Beside.{Beside}
 use Rattle.program.specs.Check.{TellsFaults}
 use Rattle.program.specs.Config.{TellsConfig}
@@ -99,6 +103,23 @@ why_moves paths bytes bundle Built text same told =
     (told.0, record { parts = told.1.parts; is = sym same.parts ∙ told.1.is; has = told.1.has }, told.2)
 why_moves paths bytes bundle Failed text same told = told
 why_moves paths bytes bundle Refused text same told = (told.0, refused bytes bundle told.0 same.parts told.1, told.2)
+
+-- the same answer of a build
+answers_moved : (bytes others : List ℕ) (out : Out) (status : Status) (text : List ℕ) → held bytes ≡ held others → Answers bytes out status text
+    → Answers others out status text
+answers_moved bytes others out status text same answers =
+    record { asked = answers.asked; asks = asks bytes others answers.asked same answers.asks; tells = answers.tells }
+
+-- and the same explanation
+pub explain_moves : (out : Out) → Moves (Explains out)
+explain_moves out bytes bundle Built text same told = (told.0, answers_moved bytes bundle out Built _ same.parts told.1, told.2)
+explain_moves out bytes bundle Failed text same told =
+    let shows = told.3 in
+    let reads = shows.1 in
+    (told.0, told.1, answers_moved bytes bundle out Failed _ same.parts told.2, (shows.0, (reads.0, (sym same.parts ∙ reads.1.0, reads.1.1)), shows.2))
+explain_moves out bytes bundle Refused text same told =
+    let shows = told.2 in
+    (told.0, answers_moved bytes bundle out Refused _ same.parts told.1, (shows.0, checked_moved bytes bundle Plain shows.0 same shows.1, shows.2))
 
 -- and one of which nothing is due is of no bundle
 pub never_moves : MovesStops never

@@ -11,7 +11,7 @@ use Rattle.command.specs.CommandLine.{whole_command}
 use Rattle.command.specs.Tasks.{IsTaskOf, faults_of}
 use Rattle.command.specs.declared.task.PackOptions.{PackOptions}
 use Rattle.command.specs.declared.task.Task.{Task}
-use Rattle.command.specs.declared.task.Task.TheVariants.{Build, Graph, Pack, Why, Llb, Config, Check}
+use Rattle.command.specs.declared.task.Task.TheVariants.{Build, Graph, Pack, Why, Llb, Config, Check, Explain}
 use Rattle.plans.specs.Value.{Out}
 use Rattle.build.specs.declared.status.Status.{Status}
 use Rattle.build.specs.declared.status.BuildFault.{BuildFault}
@@ -29,6 +29,7 @@ use Rattle.program.specs.declared.arguments.NotText.{NotText}
 use Rattle.program.specs.Check.{CheckEnds, form_by}
 use Rattle.program.specs.Config.{ConfigEnds}
 use Rattle.program.specs.Dot.{DrawingEnds}
+use Rattle.program.specs.Explain.{ExplainEnds}
 use Rattle.program.specs.Llb.{LlbEnds}
 use Rattle.program.specs.Saying.{Stream, Says}
 use Rattle.program.specs.Why.{WhyEnds}
@@ -187,7 +188,7 @@ CallsBy None EndsSo old new status = Calls EndsSo old new status
 CallsBy (Some name) EndsSo old new status = OnWriters (CallsFile name EndsSo) old new status
 
 -- a task was done: a build was run, a graph was drawn or written for BuildKit, a folder was packed, or the target's configuration was printed, all
--- faults of a bundle, or why paths are kept or left out
+-- faults of a bundle, which instruction fails, or why paths are kept or left out
 abbrev pub Does : Out → Task → Streams → Streams → ℕ → Type 0
 Does out (Build options) old new status = CallsBy options.file (Ends out) old new status
 Does out (Graph options) old new status = CallsBy options.file (DrawingEnds options.dot) old new status
@@ -196,6 +197,7 @@ Does out (Why options) old new status = CallsBy options.file (WhyEnds options.pa
 Does out (Llb options) old new status = CallsBy options.file (LlbEnds options) old new status
 Does out (Config file) old new status = CallsBy file ConfigEnds old new status
 Does out (Check options) old new status = CallsBy options.file (CheckEnds (form_by options.json)) old new status
+Does out (Explain file) old new status = CallsBy file (ExplainEnds out) old new status
 
 -- a mistake in the words
 abbrev pub Mistakes : Stream → Stream → Stream → Stream → ℕ → Type 0

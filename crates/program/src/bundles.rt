@@ -10,6 +10,7 @@ ghost use Rattle.build.specs.declared.status.BuildFault.TheVariants.{Device};
 ghost use Rattle.program.specs.Check.{CheckEnds, form_by};
 ghost use Rattle.program.specs.Config.{ConfigEnds};
 ghost use Rattle.program.specs.Dot.{DrawingEnds};
+ghost use Rattle.program.specs.Explain.{ExplainEnds};
 ghost use Rattle.program.specs.Llb.{LlbEnds};
 ghost use Rattle.program.specs.Runs.{CallsBy, CallsFile, IsOpenFault, IsTold, SaysEnd, SaysFileEnd, SaysNamed, streams};
 ghost use Rattle.program.specs.Saying.{stream};
@@ -19,6 +20,7 @@ ghost use Rattle.program.specs.Why.{WhyEnds};
 use crate::bundle_file::{open_bundle, why_of};
 use crate::checking::FaultTeller;
 use crate::config::ConfigTeller;
+use crate::explaining::explain_bundle;
 use crate::exporting::DefinitionTeller;
 use crate::picturing::PictureTeller;
 use crate::saying::{NO_MEMORY_LINE, say};
@@ -236,6 +238,41 @@ pub(crate) fn check_bundle<F: Files, R: CountedRead, W: CountedWrite, S: Counted
     )
 }
 
+/// Prints which instruction of a bundle fails, and gives the status to end with.
+pub(crate) fn explain_build<
+    F: Files,
+    R: CountedRead,
+    W: CountedWrite,
+    S: CountedWrite,
+    E: Executor,
+>(
+    alloc: Global,
+    rt: &(impl Threads + Wait + Sync),
+    files: &F,
+    file: &Option<Text>,
+    input: &mut R,
+    output: &mut W,
+    errors: &mut S,
+    executor: &E,
+) -> u8
+    requires reads { R.failures input.old < u64.MAX }
+    requires writes { W.failures output.old < u64.MAX }
+    requires says { S.failures errors.old < u64.MAX }
+    ensures calls { CallsBy file.now (ExplainEnds (E.out executor.now))
+        (streams (devices (R.remaining input.old) (R.failures input.old) (W.contents output.old) (W.failures output.old)) (stream (S.contents errors.old) (S.failures errors.old)))
+        (streams (devices (R.remaining input.new) (R.failures input.new) (W.contents output.new) (W.failures output.new)) (stream (S.contents errors.new) (S.failures errors.new)))
+        result }
+    ensures taken { LosesBeginning (most_bundle_bytes + 1) (R.remaining input.old) (R.remaining input.new) }
+{
+    match file {
+        Some(name) => explain_file(alloc, rt, files, name.as_str(), output, errors, executor),
+        None => {
+            let ended = explain_bundle(alloc, rt, input, output, executor);
+            finish(errors, ended)
+        }
+    }
+}
+
 /// The form of faults by the flag `--json`.
 fn form_by(json: bool) -> Form
     ensures { result ≡ form_by json }
@@ -264,6 +301,34 @@ fn build_file<F: Files, W: CountedWrite, S: CountedWrite, E: Executor>(
     match open_bundle(files, name) {
         Ok(mut file) => {
             let ended = run_build(alloc, rt, &mut file, output, executor, workers, &OpenGate);
+            finish_file(alloc, errors, ended, name, file.why)
+        }
+        Err(error) => {
+            let ended = Err(open_fault(&error));
+            finish_file(alloc, errors, ended, name, why_of(error.kind()))
+        }
+    }
+}
+
+/// Prints which instruction fails of the bundle of a file.
+fn explain_file<F: Files, W: CountedWrite, S: CountedWrite, E: Executor>(
+    alloc: Global,
+    rt: &(impl Threads + Wait + Sync),
+    files: &F,
+    name: &str,
+    output: &mut W,
+    errors: &mut S,
+    executor: &E,
+) -> u8
+    requires writes { W.failures output.old < u64.MAX }
+    requires says { S.failures errors.old < u64.MAX }
+    ensures { CallsFile name.now (ExplainEnds (E.out executor.now))
+        (stream (W.contents output.old) (W.failures output.old)) (stream (W.contents output.new) (W.failures output.new))
+        (stream (S.contents errors.old) (S.failures errors.old)) (stream (S.contents errors.new) (S.failures errors.new)) result }
+{
+    match open_bundle(files, name) {
+        Ok(mut file) => {
+            let ended = explain_bundle(alloc, rt, &mut file, output, executor);
             finish_file(alloc, errors, ended, name, file.why)
         }
         Err(error) => {

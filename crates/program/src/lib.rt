@@ -1,7 +1,7 @@
 // What the program does, whole: the words of a command line, a reader and two writers in, an exit status out.
 //
 // It is no `main`: it opens nothing and knows no system. `dfsolve` joins it to standard input, output and error. It decides nothing of
-// a bundle either: `command` reads the words, and `build`, `packing`, `reasons`, `exported` and `checks` do the work.
+// a bundle either: `command` reads the words, and `build`, `packing`, `reasons`, `exported`, `checks` and `explains` do the work.
 //
 // Its central definition is `Runs` in specs/Runs.antt: for every end of every command what is written where, and the status.
 //
@@ -15,6 +15,7 @@ mod bundle_file;
 mod bundles;
 mod checking;
 mod config;
+mod explaining;
 mod exporting;
 pub mod laws;
 mod picturing;

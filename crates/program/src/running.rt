@@ -11,7 +11,8 @@ ghost use Rattle.packing.specs.Ends.{fault_text as pack_fault_text};
 ghost use Rattle.program.specs.Saying.{stream};
 
 use crate::bundles::{
-    build_bundle, check_bundle, draw_bundle, explain_paths, export_bundle, tell_config,
+    build_bundle, check_bundle, draw_bundle, explain_build, explain_paths, export_bundle,
+    tell_config,
 };
 use crate::saying::{NO_MEMORY_LINE, say};
 use crate::{NotText, WordsFault};
@@ -119,6 +120,11 @@ pub fn run_program<
         Ok(Task::Check(options)) => {
             let status = check_bundle(alloc, rt, files, &options, input, output, errors);
             drop(options);
+            status
+        }
+        Ok(Task::Explain(file)) => {
+            let status = explain_build(alloc, rt, files, &file, input, output, errors, executor);
+            drop(file);
             status
         }
         Err(error) => refuse_words(alloc, output, errors, &error),

@@ -1,3 +1,4 @@
+pub mod Failing
 pub mod Json
 pub mod Showing
 pub mod Subject

@@ -1,11 +1,11 @@
-// What a person or a program reads of a refusal: a sentence that says what is wrong, one that says what helps, and the forms in which both are
-// shown.
+// What a person or a program reads of a refusal, or a person of an instruction that failed: a sentence that says what is wrong, one that says what
+// helps, and the forms in which both are shown.
 //
 // It knows the codes, and of a line the name of its instruction, since some codes have several causes. It reads no instruction: a line
 // that is refused may spell none.
 //
 // The central definitions are the table in specs/Table.antt, which has one sentence and one remedy for each code and instruction, `shown` in
-// specs/Showing.antt, and `json_line` in specs/Json.antt.
+// specs/Showing.antt, `json_line` in specs/Json.antt, and `shown_cause` in specs/Failing.antt, with a table of causes.
 //
 // ```
 // shown(alloc, "Dockerfile", &Rejection::of(Refusal { code: Code::R16, line: 9 }), "COPY --chown=node:node a b")?
@@ -15,11 +15,13 @@
 // ```
 #![tactic(auto)]
 
+mod failing;
 mod json;
 mod showing;
 mod subject;
 mod table;
 
+pub use failing::shown_cause;
 pub use json::{json_line, place_line};
 pub use showing::{shown, shown_place};
 pub use subject::Subject;

@@ -9,7 +9,7 @@ use plain::{Code, Memory};
 use std::alloc::Global;
 
 /// A line after its number, and what helps after a margin that is as wide.
-fn cited(alloc: Global, number: &str, line: &str, helps: &str) -> Result<String, Memory>
+pub(crate) fn cited(alloc: Global, number: &str, line: &str, helps: &str) -> Result<String, Memory>
     ensures { IfOk result (λ text. string_bytes text ≡ cited number.now line.now helps.now) }
 {
     let margin = " ".repeat(alloc, number.len())?;

@@ -60,6 +60,11 @@ fn task_text(alloc: Global, task: Task) -> Result<String, Memory> {
             drop(options);
             told
         }
+        Task::Explain(file) => {
+            let told = explain_text(alloc, &file);
+            drop(file);
+            told
+        }
     }
 }
 
@@ -133,6 +138,13 @@ fn llb_text(alloc: Global, options: &LlbOptions) -> Result<String, Memory> {
 /// What `config` is asked for.
 fn config_text(alloc: Global, file: &Option<Text>) -> Result<String, Memory> {
     let mut told = String::from_str(alloc, "config")?;
+    add_text(alloc, &mut told, "of", file)?;
+    Ok(told)
+}
+
+/// What `explain` is asked for.
+fn explain_text(alloc: Global, file: &Option<Text>) -> Result<String, Memory> {
+    let mut told = String::from_str(alloc, "explain")?;
     add_text(alloc, &mut told, "of", file)?;
     Ok(told)
 }

@@ -1,0 +1,149 @@
+ghost use Rattle.std.specs.Prelude.{◌≡◌, ◌<◌, ◌≤◌, [], IfOk, Ok as OkOf};
+ghost use Rattle.plain.specs.Limits.{most_workers};
+ghost use Rattle.checks.specs.Checked.{IsCheckOf};
+ghost use Rattle.checks.specs.declared.form.Form.TheVariants.{Plain};
+ghost use Rattle.build.specs.Lowerable.{IsLowerable};
+ghost use Rattle.build.specs.Meaning.{Asks};
+ghost use Rattle.build.specs.declared.status.Status.TheVariants.{Built, Failed, Refused};
+ghost use Rattle.checks.specs.declared.checked.Checked.{Checked};
+ghost use Rattle.explains.specs.Explained.{Explains, ShowsFailure};
+ghost use Rattle.explains.specs.PrivateFailure.{IsAccepted};
+
+use crate::failing::failure_of;
+use build::{Asked, Status, ask};
+use bundle::read_bundle;
+use checks::{Checked, Form, check, shown_failure};
+use executor::Executor;
+use imageconfig::Config;
+use plain::{Fault, Memory, Text};
+use std::alloc::Global;
+use std::sync::Wait;
+use std::thread::Threads;
+use trees::Cause;
+
+/// What a person is told of a build.
+#[derive(Drop)]
+pub struct Explained {
+    /// What its answer says.
+    pub status: Status,
+    /// The instruction that fails, with its cause, or all faults. It is empty if the build gives a tree, and holds no control characters but LF and
+    /// tabs.
+    pub text: Text,
+}
+
+/// What a person is told of the build of the bundle of these bytes.
+///
+/// The bundle is built by this many workers, 1 to 64, as `run_build` builds it, and its answer isn't written. `Memory` says nothing of it. Nothing says
+/// that it returns, since it may wait.
+pub fn explain<E: Executor>(
+    alloc: Global,
+    rt: &(impl Threads + Wait + Sync),
+    bytes: &[u8],
+    executor: &E,
+    workers: u32,
+) -> Result<Explained, Memory>
+    requires { (0 < workers) × (workers ≤ most_workers) }
+    ensures { IfOk result (λ explained. Explains (E.out executor.now) bytes.now explained.status explained.text) }
+{
+    match ask(alloc, rt, bytes) {
+        Ok(asked) => explain_asked(alloc, rt, bytes, asked, executor, workers),
+        Err(Fault::Because(refusal)) => {
+            drop(refusal);
+            explain_faults(alloc, rt, bytes)
+        }
+        Err(Fault::Memory) => Err(Memory),
+    }
+}
+
+/// What a person is told of the build of a bundle that isn't refused.
+fn explain_asked<E: Executor>(
+    alloc: Global,
+    rt: &(impl Threads + Wait + Sync),
+    bytes: &[u8],
+    asked: Asked,
+    executor: &E,
+    workers: u32,
+) -> Result<Explained, Memory>
+    requires workers { (0 < workers) × (workers ≤ most_workers) }
+    requires asks { Asks bytes.now (OkOf asked.evaluated) }
+    requires lowerable { IsLowerable asked.evaluated }
+    requires idle { asked.caches.holds ≡ [] }
+    ensures { IfOk result (λ explained. Explains (E.out executor.now) bytes.now explained.status explained.text) }
+{
+    match failure_of(alloc, rt, asked, executor, workers) {
+        Ok(Some((line, cause))) => explain_failure(alloc, rt, bytes, line, cause),
+        Ok(None) => Ok(explain_nothing(alloc)),
+        Err(memory) => Err(memory),
+    }
+}
+
+/// What a person is told of a build that gives a tree.
+fn explain_nothing(alloc: Global) -> Explained
+    ensures status { result.status ≡ Built }
+    ensures text { result.text ≡ [] }
+{
+    Explained {
+        status: Status::Built,
+        text: Text::from_string(String::new(alloc)),
+    }
+}
+
+/// What a person is told of a build that fails.
+fn explain_failure(
+    alloc: Global,
+    rt: &(impl Threads + Sync),
+    bytes: &[u8],
+    line: u32,
+    cause: Cause,
+) -> Result<Explained, Memory>
+    requires { IsAccepted bytes.now }
+    ensures status { IfOk result (λ explained. explained.status ≡ Failed) }
+    ensures text { IfOk result (λ explained. ShowsFailure bytes.now line cause explained.text) }
+{
+    let text = show_failure(alloc, rt, bytes, line, cause)?;
+    Ok(Explained {
+        status: Status::Failed,
+        text,
+    })
+}
+
+/// What is shown of an instruction of a bundle that isn't refused. The bundle is read again, for its Dockerfile.
+fn show_failure(
+    alloc: Global,
+    rt: &(impl Threads + Sync),
+    bytes: &[u8],
+    line: u32,
+    cause: Cause,
+) -> Result<Text, Memory>
+    requires { IsAccepted bytes.now }
+    ensures { IfOk result (ShowsFailure bytes.now line cause) }
+{
+    match read_bundle::<Config>(alloc, rt, bytes) {
+        Ok(bundle) => {
+            let shown = shown_failure(alloc, bundle.dockerfile.as_slice(), line, cause);
+            drop(bundle);
+            shown
+        }
+        Err(Fault::Because(_)) => {
+            build::laws::a_bundle_asks_for_one_thing();
+            unreachable!()
+        }
+        Err(Fault::Memory) => Err(Memory),
+    }
+}
+
+/// All faults of a bundle, as what is told of its build.
+fn explain_faults(
+    alloc: Global,
+    rt: &(impl Threads + Sync),
+    bytes: &[u8],
+) -> Result<Explained, Memory>
+    ensures status { IfOk result (λ explained. explained.status ≡ Refused) }
+    ensures text { IfOk result (λ explained. (checked : Checked) × IsCheckOf bytes.now Plain checked × (explained.text ≡ checked.text)) }
+{
+    let Checked { text, is_sound: _ } = check(alloc, rt, bytes, Form::Plain)?;
+    Ok(Explained {
+        status: Status::Refused,
+        text,
+    })
+}

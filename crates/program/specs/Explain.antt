@@ -1,0 +1,12 @@
+-- How a call ends that writes which instruction of a bundle fails (own).
+use Rattle.std.specs.Prelude.{Result}
+use Rattle.plans.specs.Value.{Out}
+use Rattle.build.specs.declared.status.Status.{Status}
+use Rattle.build.specs.declared.status.BuildFault.{BuildFault}
+use Rattle.build.specs.Ends.{Devices}
+use Rattle.explains.specs.Explained.{Explains}
+use Rattle.program.specs.Telling.{TellingEnds, never}
+
+-- how writing it ends; it never stops
+abbrev pub ExplainEnds : Out → Devices → Devices → Result Status BuildFault → Type 0
+ExplainEnds out old new ended = TellingEnds (Explains out) never old new ended
