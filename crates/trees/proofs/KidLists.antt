@@ -1,15 +1,14 @@
 -- The children of a node as the list of their names and maps, in the order of the names.
 use Rattle.std.specs.Prelude.{◌≡◌, ℕ, Bool, true, false, ◌&&◌, cond, T, IsTrue, Option, Some, None, ◌↔◌, List, [], ◌∷◌, ◌++◌, is_some, option_and_then, option_map}
 use Rattle.std.proofs.Common.{sym, ap, refl, ◌∙◌, subst, true≢false, append_assoc, unwrap_or}
-use Rattle.std.specs.Ordering.{eq_by_cmp, is_lt, ordering_reverse, match_ordering}
-use Rattle.std.specs.declared.cmp.Ordering.{Ordering}
-use Rattle.std.specs.declared.cmp.Ordering.TheVariants.{Less, Equal, Greater}
+use Rattle.std.specs.Ordering.{eq_by_cmp, is_lt}
+use Rattle.std.specs.declared.cmp.Ordering.TheVariants.{Less}
 use Rattle.std.specs.Cmp.Lexicographic.{nat_list_cmp_total}
 use Rattle.std.specs.List.{AllByRecursion}
 use Rattle.std.specs.List.Sorted.{IsStrictlySortedBy}
 use Rattle.std.specs.Map.{keys_of, lookup}
 use Rattle.std.specs.Option.{option_or}
-use Rattle.std.specs.BTreeMap.{insert_entry, is_at}
+use Rattle.std.specs.BTreeMap.{is_at}
 use Rattle.std.specs.FinMap.{get, find, insert, slice_cmp-IsAntisymmetric, nat_cmp-IsAntisymmetric}
 use Rattle.std.specs.FinMap.Entries.{is_sorted, below_all, same_entries}
 use Rattle.trees.specs.declared.entry.Entry.{Entry}
@@ -137,33 +136,6 @@ found-among all before rest its name kid ordered so_far next =
 -- one was gone through
 pub passed-more : (all before rest its : List (List ℕ × NodeValue)) (name : List ℕ) (kid : NodeValue) → before ++ its ≡ all → its ≡ (name, kid) ∷ rest → (before ++ (name, kid) ∷ []) ++ rest ≡ all
 passed-more all before rest its name kid so_far next = append_assoc before ((name, kid) ∷ []) rest ∙ ap (λ l. before ++ l) (sym next) ∙ so_far
-
--- ---- one child more
-
-first_below : (k c : List ℕ) (v : NodeValue) (es rest : List (List ℕ × NodeValue)) → below_all name_cmp c (es ++ (k, v) ∷ rest) ≡ true → name_cmp c k ≡ Less
-first_below k c v [] rest h = less (name_cmp c k) (both_first _ _ h)
-  where
-    less : (o : Ordering) → is_lt o ≡ true → o ≡ Less
-    less Less e = refl
-    less Equal e = absurd (true≢false (sym e))
-    less Greater e = absurd (true≢false (sym e))
-first_below k c v (e ∷ es) rest h = first_below k c v es rest (both_second (is_lt (name_cmp c e.0)) _ h)
-
--- a child whose name is above all others comes last
-pub insert-last : (es : List (List ℕ × NodeValue)) (k : List ℕ) (v : NodeValue) (rest : List (List ℕ × NodeValue)) → is_sorted name_cmp (es ++ (k, v) ∷ rest) ≡ true → insert_entry name_cmp es k v ≡ es ++ (k, v) ∷ []
-insert-last [] k v rest h = refl
-insert-last (e ∷ es) k v rest h =
-    let above : name_cmp k e.0 ≡ Greater = nat_list_cmp_total.antisymm k e.0 ∙ ap ordering_reverse (first_below k e.0 v es rest (both_first _ _ h)) in
-    ap (λ o. match_ordering o ((k, v) ∷ e ∷ es) ((e.0, v) ∷ es) (e ∷ insert_entry name_cmp es k v)) above
-    ∙ ap (λ xs. e ∷ xs) (insert-last es k v rest (both_second (below_all name_cmp e.0 (es ++ (k, v) ∷ rest)) _ h))
-
--- a step of a copy: the children copied so far and those that are left are all of them
-pub copy-step : (es its rest all es' : List (List ℕ × NodeValue)) (key name : List ℕ) (v kid : NodeValue) → es ++ its ≡ all → IsStrictlySortedBy name_cmp (keys_of all) → its ≡ (name, kid) ∷ rest → es' ≡ insert_entry name_cmp es key v → key ≡ name → v ≡ kid → es' ++ rest ≡ all
-copy-step es its rest all es' key name v kid so_far ordered next done same_key same_kid =
-    let whole : es ++ (name, kid) ∷ rest ≡ all = ap (λ xs. es ++ xs) (sym next) ∙ so_far in
-    let sorted : is_sorted name_cmp (es ++ (name, kid) ∷ rest) ≡ true = ap (is_sorted name_cmp) whole ∙ sorted-from_keys all ordered in
-    ap (λ xs. xs ++ rest) (done ∙ (λ i. insert_entry name_cmp es (same_key i) (same_kid i)) ∙ insert-last es name kid rest sorted)
-    ∙ append_assoc es ((name, kid) ∷ []) rest ∙ whole
 
 -- ---- a step of a comparison
 

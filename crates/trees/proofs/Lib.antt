@@ -21,6 +21,8 @@ mod CutSteps
 mod CopySteps
 mod CopyRows
 mod FillSteps
+mod NameSteps
+mod BelowSteps
 mod MeetSteps
 mod DepthSteps
 mod PlacedSteps

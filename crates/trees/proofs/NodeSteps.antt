@@ -27,7 +27,7 @@ use Rattle.trees.proofs.NodeLaws.{get-map_of_root, get-map_of_cons, get-joined, 
 
 -- the value of a node with this entry and these children
 abbrev pub node_of : Entry → List (List ℕ × NodeValue) → NodeValue
-node_of top kids = record { top = top; below = joined kids; height = height_of kids + 1 }
+node_of top kids = record { top = top; below = joined kids; height = height_of kids + 2 }
 
 whole_rest : {A : Type 0} (x : A) (xs : List A) → take (length (x ∷ xs) - 1) (drop 1 (x ∷ xs)) ≡ xs
 whole_rest x xs = grind (arith, common_steps)

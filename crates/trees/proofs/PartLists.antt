@@ -1,9 +1,9 @@
 -- Children in parts: where a name stands, and what a change of one part does to all.
-use Rattle.std.specs.Prelude.{◌≡◌, ℕ, ◌+◌, ◌<◌, Bool, true, false, ◌&&◌, cond, Option, Some, None, List, [], ◌∷◌, ◌++◌, length, take, drop, get_or, filter}
+use Rattle.std.specs.Prelude.{◌≡◌, ℕ, ◌+◌, ◌<◌, Bool, true, false, ◌&&◌, cond, Option, Some, None, List, [], ◌∷◌, ◌++◌, length, take, drop, get_or}
 use Rattle.std.proofs.Common.{sym, ap, refl, ◌∙◌, subst, true≢false, append_assoc, take-append-drop, zero, suc, ◌≤◌, arith}
 use Rattle.std.proofs.lemmas.List.{drop_more}
 use Rattle.std.specs.Option.{option_or}
-use Rattle.std.specs.Ordering.{eq_by_cmp, is_lt, is_gt, is_le, is_eq, ordering_reverse, match_ordering}
+use Rattle.std.specs.Ordering.{eq_by_cmp, is_lt, is_eq, ordering_reverse, match_ordering}
 use Rattle.std.specs.declared.cmp.Ordering.{Ordering}
 use Rattle.std.specs.declared.cmp.Ordering.TheVariants.{Less, Equal, Greater}
 use Rattle.std.specs.Cmp.Lexicographic.{nat_list_cmp_total}
@@ -12,7 +12,7 @@ use Rattle.std.specs.BTreeMap.{insert_entry}
 use Rattle.std.specs.FinMap.{find}
 use Rattle.std.specs.FinMap.Entries.{is_sorted, below_all}
 use Rattle.paths.specs.Order.{name_cmp}
-use Rattle.paths.proofs.FrontLaws.{name_same, name_itself, both_hold, both_first, both_second}
+use Rattle.paths.proofs.FrontLaws.{name_same, both_hold, both_first, both_second}
 use Rattle.trees.specs.PrivateNode.{flat, is_full, are_full, are_parts, are_below, begins_past, IsPlace}
 
 pub less : (o : Ordering) → is_lt o ≡ true → o ≡ Less
@@ -257,7 +257,7 @@ module _ {V : Type 0} where
   pub flat-cut : (ls : List (List (List ℕ × V))) (at : ℕ) (p : List (List ℕ × V)) → at < length ls → p ≡ get_or ls at p → flat ls ≡ flat (take at ls) ++ (p ++ flat (drop (at + 1) ls))
   flat-cut ls at p less is = ap flat (split-at ls at p less is) ∙ flat-one (take at ls) p (drop (at + 1) ls)
 
-  less-below : (c d : List ℕ) (ys : List (List ℕ × V)) → name_cmp c d ≡ Less → below_all name_cmp d ys ≡ true → below_all name_cmp c ys ≡ true
+  pub less-below : (c d : List ℕ) (ys : List (List ℕ × V)) → name_cmp c d ≡ Less → below_all name_cmp d ys ≡ true → below_all name_cmp c ys ≡ true
   less-below c d [] l h = refl
   less-below c d (y ∷ ys) l h = both_hold _ _ (ap is_lt (nat_list_cmp_total.trans c d y.0 l (less _ (both_first _ _ h)))) (less-below c d ys l (both_second (is_lt (name_cmp d y.0)) _ h))
 
@@ -266,7 +266,7 @@ module _ {V : Type 0} where
   above-from name [] ys s b = absurd (true≢false (sym b))
   above-from name (k ∷ ks) ys s b = both_hold _ _ b (less-below name k.0 (ks ++ ys) (less _ b) (both_first _ _ s))
 
-  below-until : (name k : List ℕ) (v : V) (ks xs : List (List ℕ × V)) → is_lt (name_cmp name k) ≡ false → are_under xs ((k, v) ∷ ks) ≡ true → are_below name xs ≡ true
+  pub below-until : (name k : List ℕ) (v : V) (ks xs : List (List ℕ × V)) → is_lt (name_cmp name k) ≡ false → are_under xs ((k, v) ∷ ks) ≡ true → are_below name xs ≡ true
   below-until name k v ks [] b u = refl
   below-until name k v ks (x ∷ xs) b u = both_hold _ _ (ap is_lt (not-past name k x.0 b (less _ (both_first _ _ (both_first _ _ u))))) (below-until name k v ks xs b (both_second (below_all name_cmp x.0 ((k, v) ∷ ks)) _ u))
 
@@ -329,27 +329,3 @@ module _ {V : Type 0} where
         by : (ms : List (List (List ℕ × V))) → (0 < length ms → low < high) → below_all name_cmp name (flat (drop high ms)) ≡ true → below_all name_cmp name (flat (drop (low + 1) ms)) ≡ true
         by [] apart h = ap (λ r. below_all name_cmp name (flat r)) (drop-none (low + 1))
         by (m ∷ ms) apart h = let same : high ≡ low + 1 = (let a = apart (omega arith) in omega arith) in subst (λ (n : ℕ). below_all name_cmp name (flat (drop n (m ∷ ms))) ≡ true) same h
-
-  -- ---- a part in two halves
-
-  full-filter : (test : List ℕ × V → Bool) (xs : List (List ℕ × V)) (y : List ℕ × V) (ys : List (List ℕ × V)) → test y ≡ true → is_full (filter test (xs ++ y ∷ ys)) ≡ true
-  full-filter test [] y ys h = ap (λ b. is_full (cond b (y ∷ filter test ys) (filter test ys))) h
-  full-filter test (x ∷ xs) y ys h = by (test x) (full-filter test xs y ys h)
-    where
-      by : (b : Bool) → is_full (filter test (xs ++ y ∷ ys)) ≡ true → is_full (cond b (x ∷ filter test (xs ++ y ∷ ys)) (filter test (xs ++ y ∷ ys))) ≡ true
-      by true f = refl
-      by false f = f
-
-  -- below a name with others before it are some, and from it on too
-  pub full-below : (name : List ℕ) (v : V) (xs ys : List (List ℕ × V)) → is_full xs ≡ true → is_sorted name_cmp (xs ++ (name, v) ∷ ys) ≡ true → is_full (filter (λ e. is_gt (name_cmp name e.0)) (xs ++ (name, v) ∷ ys)) ≡ true
-  full-below name v [] ys f s = absurd (true≢false (sym f))
-  full-below name v (x ∷ xs) ys f s =
-      full-filter (λ e. is_gt (name_cmp name e.0)) [] x (xs ++ (name, v) ∷ ys) (ap is_gt (nat_list_cmp_total.antisymm name x.0 ∙ ap ordering_reverse (less _ (both_first _ _ (below-second x.0 xs ((name, v) ∷ ys) (both_first _ _ s))))))
-
-  pub full-from : (name : List ℕ) (v : V) (xs ys : List (List ℕ × V)) → is_full (filter (λ e. is_le (name_cmp name e.0)) (xs ++ (name, v) ∷ ys)) ≡ true
-  full-from name v xs ys = full-filter (λ e. is_le (name_cmp name e.0)) xs (name, v) ys (ap is_le (equal _ (name_itself name)))
-    where
-      equal : (o : Ordering) → is_eq o ≡ true → o ≡ Equal
-      equal Less e = absurd (true≢false (sym e))
-      equal Equal e = refl
-      equal Greater e = absurd (true≢false (sym e))

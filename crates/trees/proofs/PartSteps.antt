@@ -1,12 +1,10 @@
 -- What the code of parts does, step by step.
-use Rattle.std.specs.Prelude.{◌≡◌, ℕ, ◌+◌, ◌<◌, ◌≤◌, Bool, true, false, ◌==◌, cond, Option, Some, None, IfSome, Result, Ok, Err, OnOk, OnErr, if◌then◌else◌, is_ok, List, [], ◌∷◌, ◌++◌, length, take, drop, set, get_or, filter, ◌↔◌}
+use Rattle.std.specs.Prelude.{◌≡◌, ℕ, ◌+◌, ◌<◌, ◌≤◌, Bool, true, false, ◌==◌, cond, Option, Some, None, Result, Ok, Err, OnOk, OnErr, if◌then◌else◌, is_ok, List, [], ◌∷◌, ◌++◌, length, take, drop, set, get_or, ◌↔◌}
 use Rattle.std.proofs.Common.{sym, ap, refl, ◌∙◌, subst, true≢false, append_assoc, zero, suc, add-one, arith}
-use Rattle.std.proofs.lemmas.List.{drop_more, length_push, set-get_or, set_split, take_more_set, take-set, drop-set-lt}
+use Rattle.std.proofs.lemmas.List.{drop_more, set-get_or, set_split, take_more_set, take-set, drop-set-lt}
 use Rattle.std.specs.List.{insert, remove}
-use Rattle.std.specs.List.Sorted.{IsStrictlySortedBy}
 use Rattle.std.specs.Arc.{arc_value}
 use Rattle.std.specs.declared.sync.Arc.{Arc}
-use Rattle.std.specs.BTreeMap.{BTreeMap}
 use Rattle.std.specs.Map.{lookup}
 use Rattle.std.specs.BTreeMap.{is_at}
 use Rattle.std.specs.FinMap.{find}
@@ -14,85 +12,78 @@ use Rattle.paths.specs.Order.{name_cmp}
 use Rattle.std.specs.Map.{keys_of}
 use Rattle.std.specs.Cmp.{eq_by_cmp_equiv}
 use Rattle.std.specs.Cmp.Lexicographic.{nat_list_cmp_total}
-use Rattle.std.specs.Ordering.{eq_by_cmp, is_gt, is_le}
+use Rattle.std.specs.Ordering.{eq_by_cmp}
 use Rattle.std.specs.FinMap.Entries.{is_sorted}
 use Rattle.paths.proofs.FrontLaws.{name_same, both_hold, both_first, both_second}
-use Rattle.trees.specs.PrivateNode.{NodeValue, lists_of, flat, is_full, are_full, are_parts, begins_past, IsPlace, AreKids, IsPut, IsTaken, IsHalved, IsWithin}
-use Rattle.trees.proofs.PartLists.{IsSearched, search-start, search-down, search-up, search-done, find-between, changed-between, same-sorted, same-full, full-append, full-second, full-first, flat-one, flat-append, split-at, between, are_under, under-first, under-none, sorted-under, sorted-second, under-insert, insert-under, full-insert, under-remove, remove-under, full-below, full-from, flat-cut}
+use Rattle.trees.specs.PrivateNode.{NodeValue, lists_of, flat, is_full, are_full, are_parts, begins_past, IsPlace, AreKids, IsPut, IsTaken, IsHalved}
+use Rattle.trees.proofs.PartLists.{IsSearched, search-start, search-down, search-up, search-done, find-between, changed-between, same-sorted, same-full, full-append, full-second, full-first, flat-one, flat-append, split-at, between, are_under, under-first, under-none, sorted-under, sorted-second, under-insert, insert-under, full-insert, under-remove, remove-under, flat-cut}
 use Rattle.trees.proofs.NodeLaws.{lookup-find}
 use Rattle.trees.proofs.KidLists.{sorted-from_keys}
 
 module _ {Z : Type 0} where
-  pub lists-append : (xs ys : List (Arc (BTreeMap (List ℕ) NodeValue) Z)) → lists_of (xs ++ ys) ≡ lists_of xs ++ lists_of ys
+  pub lists-append : (xs ys : List (Arc (List (List ℕ × NodeValue)) Z)) → lists_of (xs ++ ys) ≡ lists_of xs ++ lists_of ys
   lists-append [] ys = refl
-  lists-append (x ∷ xs) ys = ap (λ l. (arc_value x).entries ∷ l) (lists-append xs ys)
+  lists-append (x ∷ xs) ys = ap (λ l. (arc_value x) ∷ l) (lists-append xs ys)
 
-  pub lists-length : (xs : List (Arc (BTreeMap (List ℕ) NodeValue) Z)) → length (lists_of xs) ≡ length xs
+  pub lists-length : (xs : List (Arc (List (List ℕ × NodeValue)) Z)) → length (lists_of xs) ≡ length xs
   lists-length [] = refl
   lists-length (x ∷ xs) = ap suc (lists-length xs)
 
-  pub lists-take : (at : ℕ) (xs : List (Arc (BTreeMap (List ℕ) NodeValue) Z)) → lists_of (take at xs) ≡ take at (lists_of xs)
+  pub lists-take : (at : ℕ) (xs : List (Arc (List (List ℕ × NodeValue)) Z)) → lists_of (take at xs) ≡ take at (lists_of xs)
   lists-take zero xs = refl
   lists-take (suc at) [] = refl
-  lists-take (suc at) (x ∷ xs) = ap (λ l. (arc_value x).entries ∷ l) (lists-take at xs)
+  lists-take (suc at) (x ∷ xs) = ap (λ l. (arc_value x) ∷ l) (lists-take at xs)
 
-  pub lists-drop : (at : ℕ) (xs : List (Arc (BTreeMap (List ℕ) NodeValue) Z)) → lists_of (drop at xs) ≡ drop at (lists_of xs)
+  pub lists-drop : (at : ℕ) (xs : List (Arc (List (List ℕ × NodeValue)) Z)) → lists_of (drop at xs) ≡ drop at (lists_of xs)
   lists-drop zero xs = refl
   lists-drop (suc at) [] = refl
   lists-drop (suc at) (x ∷ xs) = lists-drop at xs
 
-  pub lists-get : (xs : List (Arc (BTreeMap (List ℕ) NodeValue) Z)) (at : ℕ) (x : Arc (BTreeMap (List ℕ) NodeValue) Z) (d : List (List ℕ × NodeValue)) → at < length xs → x ≡ get_or xs at x → (arc_value x).entries ≡ get_or (lists_of xs) at d
+  pub lists-get : (xs : List (Arc (List (List ℕ × NodeValue)) Z)) (at : ℕ) (x : Arc (List (List ℕ × NodeValue)) Z) (d : List (List ℕ × NodeValue)) → at < length xs → x ≡ get_or xs at x → (arc_value x) ≡ get_or (lists_of xs) at d
   lists-get [] at x d less is = absurd (omega arith)
-  lists-get (y ∷ ys) zero x d less is = ap (λ (a : Arc (BTreeMap (List ℕ) NodeValue) Z). (arc_value a).entries) is
+  lists-get (y ∷ ys) zero x d less is = ap (λ (a : Arc (List (List ℕ × NodeValue)) Z). (arc_value a)) is
   lists-get (y ∷ ys) (suc at) x d less is = lists-get ys at x d (omega arith) is
 
   -- one shared more
-  pub share-step : (shared parts : List (Arc (BTreeMap (List ℕ) NodeValue) Z)) (at : ℕ) (x part : Arc (BTreeMap (List ℕ) NodeValue) Z) → lists_of shared ++ lists_of (drop at parts) ≡ lists_of parts → at < length parts → part ≡ get_or parts at part → arc_value x ≡ arc_value part
+  pub share-step : (shared parts : List (Arc (List (List ℕ × NodeValue)) Z)) (at : ℕ) (x part : Arc (List (List ℕ × NodeValue)) Z) → lists_of shared ++ lists_of (drop at parts) ≡ lists_of parts → at < length parts → part ≡ get_or parts at part → arc_value x ≡ arc_value part
       → lists_of (shared ++ x ∷ []) ++ lists_of (drop (at + 1) parts) ≡ lists_of parts
   share-step shared parts at x part so_far less is same =
-      ap (λ l. l ++ lists_of (drop (at + 1) parts)) (lists-append shared (x ∷ []) ∙ (λ i. lists_of shared ++ (same i).entries ∷ []))
-      ∙ append_assoc (lists_of shared) ((arc_value part).entries ∷ []) (lists_of (drop (at + 1) parts))
+      ap (λ l. l ++ lists_of (drop (at + 1) parts)) (lists-append shared (x ∷ []) ∙ (λ i. lists_of shared ++ same i ∷ []))
+      ∙ append_assoc (lists_of shared) ((arc_value part) ∷ []) (lists_of (drop (at + 1) parts))
       ∙ ap (λ l. lists_of shared ++ l) (sym (ap lists_of (drop_more parts at part less ∙ ap (λ q. q ∷ drop (at + 1) parts) (sym is)))) ∙ so_far
 
--- one child more was passed
-pub middle-step : (half : ℕ) (before its rest all : List (List ℕ × NodeValue)) (name : List ℕ) (kid : NodeValue) (n : ℕ) → (n ≤ half) × ((b : List (List ℕ × NodeValue)) × (b ++ its ≡ all) × (length b ≡ n)) → its ≡ (name, kid) ∷ rest → n < half
-    → (n + 1 ≤ half) × ((b : List (List ℕ × NodeValue)) × (b ++ rest ≡ all) × (length b ≡ n + 1))
-middle-step half before its rest all name kid n so_far next less =
-    let b = so_far.1.0 in
-    (omega arith, (b ++ (name, kid) ∷ [], append_assoc b ((name, kid) ∷ []) rest ∙ ap (λ l. b ++ l) (sym next) ∙ so_far.1.1, length_push b (name, kid) ∙ ap (λ (k : ℕ). k + 1) so_far.1.2))
-
-module _ {Z : Type 0} (name : List ℕ) (items : List (Arc (BTreeMap (List ℕ) NodeValue) Z)) (parts : are_parts (lists_of items) ≡ true) where
+module _ {Z : Type 0} (name : List ℕ) (items : List (Arc (List (List ℕ × NodeValue)) Z)) (parts : are_parts (lists_of items) ≡ true) where
   pub place-start : IsSearched name (lists_of items) 0 (length items)
   place-start = subst (λ (n : ℕ). IsSearched name (lists_of items) 0 n) (lists-length items) (search-start name (lists_of items) parts)
 
   module _ (low high mid : ℕ) (so_far : IsSearched name (lists_of items) low high) where
-    pub place-down : low < mid → mid < high → (x : Arc (BTreeMap (List ℕ) NodeValue) Z) → x ≡ get_or items mid x → (told : Bool) → told ≡ begins_past name (arc_value x).entries → told ≡ true → IsSearched name (lists_of items) low mid
+    pub place-down : low < mid → mid < high → (x : Arc (List (List ℕ × NodeValue)) Z) → x ≡ get_or items mid x → (told : Bool) → told ≡ begins_past name (arc_value x) → told ≡ true → IsSearched name (lists_of items) low mid
     place-down more less_high x is told says t =
-        search-down name (lists_of items) parts low high mid so_far (arc_value x).entries less_high (lists-get items mid x (arc_value x).entries (let w = so_far.within in let e = lists-length items in omega arith) is) more (sym says ∙ t)
+        search-down name (lists_of items) parts low high mid so_far (arc_value x) less_high (lists-get items mid x (arc_value x) (let w = so_far.within in let e = lists-length items in omega arith) is) more (sym says ∙ t)
 
-    pub place-up : mid < high → (x : Arc (BTreeMap (List ℕ) NodeValue) Z) → x ≡ get_or items mid x → (told : Bool) → told ≡ begins_past name (arc_value x).entries → told ≡ false → IsSearched name (lists_of items) mid high
+    pub place-up : mid < high → (x : Arc (List (List ℕ × NodeValue)) Z) → x ≡ get_or items mid x → (told : Bool) → told ≡ begins_past name (arc_value x) → told ≡ false → IsSearched name (lists_of items) mid high
     place-up less_high x is told says f =
-        search-up name (lists_of items) parts low high mid so_far (arc_value x).entries less_high (lists-get items mid x (arc_value x).entries (let w = so_far.within in let e = lists-length items in omega arith) is) (sym says ∙ f)
+        search-up name (lists_of items) parts low high mid so_far (arc_value x) less_high (lists-get items mid x (arc_value x) (let w = so_far.within in let e = lists-length items in omega arith) is) (sym says ∙ f)
 
   pub place-done : (low high : ℕ) → IsSearched name (lists_of items) low high → high ≤ low + 1 → IsPlace name (lists_of items) low
   place-done low high so_far near = search-done name (lists_of items) parts low high so_far near
 
-module _ {Z : Type 0} (name : List ℕ) (seen items lent : List (Arc (BTreeMap (List ℕ) NodeValue) Z)) (kids : List (List ℕ × NodeValue)) (at : ℕ) where
-  pub get-found : (part : Arc (BTreeMap (List ℕ) NodeValue) Z) (map : BTreeMap (List ℕ) NodeValue) (found : Option NodeValue) → flat (lists_of items) ≡ kids → IsPlace name (lists_of seen) at → seen ≡ items → lent ≡ items
-      → at < length lent → part ≡ get_or lent at part → map ≡ arc_value part → found ≡ lookup (is_at (name_cmp name)) map.entries → found ≡ lookup (is_at (name_cmp name)) kids
+module _ {Z : Type 0} (name : List ℕ) (seen items lent : List (Arc (List (List ℕ × NodeValue)) Z)) (kids : List (List ℕ × NodeValue)) (at : ℕ) where
+  pub get-found : (part : Arc (List (List ℕ × NodeValue)) Z) (map : List (List ℕ × NodeValue)) (found : Option NodeValue) → flat (lists_of items) ≡ kids → IsPlace name (lists_of seen) at → seen ≡ items → lent ≡ items
+      → at < length lent → part ≡ get_or lent at part → map ≡ arc_value part → found ≡ lookup (is_at (name_cmp name)) map → found ≡ lookup (is_at (name_cmp name)) kids
   get-found part map found view place s l less is m f =
-      let here : IsPlace name (lists_of items) at = subst (λ (xs : List (Arc (BTreeMap (List ℕ) NodeValue) Z)). IsPlace name (lists_of xs) at) s place in
-      let p = (arc_value part).entries in
+      let here : IsPlace name (lists_of items) at = subst (λ (xs : List (Arc (List (List ℕ × NodeValue)) Z)). IsPlace name (lists_of xs) at) s place in
+      let p = (arc_value part) in
       let inside : at < length (lists_of items) = (let e = lists-length items in let h = ap length l in omega arith) in
       let same : p ≡ get_or (lists_of items) at p = lists-get lent at part p less is ∙ (λ i. get_or (lists_of (l i)) at p) in
-      f ∙ ap (λ (b : BTreeMap (List ℕ) NodeValue). lookup (is_at (name_cmp name)) b.entries) m ∙ lookup-find name p
+      f ∙ ap (lookup (is_at (name_cmp name))) m ∙ lookup-find name p
       ∙ sym (find-between name (flat (take at (lists_of items))) p (flat (drop (at + 1) (lists_of items))) here.before here.behind)
       ∙ ap (find name_cmp name) (sym (flat-cut (lists_of items) at p inside same) ∙ view) ∙ sym (lookup-find name kids)
 
   pub get-none : flat (lists_of items) ≡ kids → IsPlace name (lists_of seen) at → seen ≡ items → lent ≡ items → length lent ≤ at → None ≡ lookup (is_at (name_cmp name)) kids
-  get-none view place s l past = by items (subst (λ (xs : List (Arc (BTreeMap (List ℕ) NodeValue) Z)). IsPlace name (lists_of xs) at) s place) (let e = lists-length items in let h = ap length l in omega arith) view
+  get-none view place s l past = by items (subst (λ (xs : List (Arc (List (List ℕ × NodeValue)) Z)). IsPlace name (lists_of xs) at) s place) (let e = lists-length items in let h = ap length l in omega arith) view
     where
-      by : (xs : List (Arc (BTreeMap (List ℕ) NodeValue) Z)) → IsPlace name (lists_of xs) at → length (lists_of xs) ≤ at → flat (lists_of xs) ≡ kids → None ≡ lookup (is_at (name_cmp name)) kids
+      by : (xs : List (Arc (List (List ℕ × NodeValue)) Z)) → IsPlace name (lists_of xs) at → length (lists_of xs) ≤ at → flat (lists_of xs) ≡ kids → None ≡ lookup (is_at (name_cmp name)) kids
       by [] here far e = ap (lookup (is_at (name_cmp name))) e
       by (x ∷ xs) here far e = absurd (let w = here.within (omega arith) in omega arith)
 
@@ -102,85 +93,85 @@ pub found-changed : (old new : List (List ℕ × NodeValue)) (name : List ℕ) (
 found-changed old new name kid at d = sym (lookup-find d new) ∙ at d ∙ (λ i. cond ((eq_by_cmp_equiv nat_list_cmp_total).symm name d i) kid (lookup-find d old i))
 
 -- one part of a folder's is another
-module _ {Z : Type 0} (items : List (Arc (BTreeMap (List ℕ) NodeValue) Z)) (at : ℕ) (x y : Arc (BTreeMap (List ℕ) NodeValue) Z) (inside : at < length items) (is : x ≡ get_or items at x) where
+module _ {Z : Type 0} (items : List (Arc (List (List ℕ × NodeValue)) Z)) (at : ℕ) (x y : Arc (List (List ℕ × NodeValue)) Z) (inside : at < length items) (is : x ≡ get_or items at x) where
   abbrev before : List (List ℕ × NodeValue)
   before = flat (take at (lists_of items))
 
   abbrev behind : List (List ℕ × NodeValue)
   behind = flat (drop (at + 1) (lists_of items))
 
-  lists-set : (xs : List (Arc (BTreeMap (List ℕ) NodeValue) Z)) (n : ℕ) → lists_of (set xs n y) ≡ set (lists_of xs) n (arc_value y).entries
+  lists-set : (xs : List (Arc (List (List ℕ × NodeValue)) Z)) (n : ℕ) → lists_of (set xs n y) ≡ set (lists_of xs) n (arc_value y)
   lists-set [] n = refl
   lists-set (z ∷ zs) zero = refl
-  lists-set (z ∷ zs) (suc n) = ap (λ l. (arc_value z).entries ∷ l) (lists-set zs n)
+  lists-set (z ∷ zs) (suc n) = ap (λ l. (arc_value z) ∷ l) (lists-set zs n)
 
   here : at < length (lists_of items)
   here = let e = lists-length items in omega arith
 
-  part_is : (arc_value x).entries ≡ get_or (lists_of items) at (arc_value x).entries
-  part_is = lists-get items at x (arc_value x).entries inside is
+  part_is : (arc_value x) ≡ get_or (lists_of items) at (arc_value x)
+  part_is = lists-get items at x (arc_value x) inside is
 
-  cut-old : flat (lists_of items) ≡ before ++ ((arc_value x).entries ++ behind)
-  cut-old = flat-cut (lists_of items) at (arc_value x).entries here part_is
+  cut-old : flat (lists_of items) ≡ before ++ ((arc_value x) ++ behind)
+  cut-old = flat-cut (lists_of items) at (arc_value x) here part_is
 
-  split-new : lists_of (set items at y) ≡ take at (lists_of items) ++ (arc_value y).entries ∷ drop (at + 1) (lists_of items)
-  split-new = lists-set items at ∙ set_split (lists_of items) at (arc_value y).entries here ∙ (λ i. take at (lists_of items) ++ (arc_value y).entries ∷ drop (sym (add-one at) i) (lists_of items))
+  split-new : lists_of (set items at y) ≡ take at (lists_of items) ++ (arc_value y) ∷ drop (at + 1) (lists_of items)
+  split-new = lists-set items at ∙ set_split (lists_of items) at (arc_value y) here ∙ (λ i. take at (lists_of items) ++ (arc_value y) ∷ drop (sym (add-one at) i) (lists_of items))
 
-  pub cut-new : flat (lists_of (set items at y)) ≡ before ++ ((arc_value y).entries ++ behind)
-  cut-new = ap flat split-new ∙ flat-one (take at (lists_of items)) (arc_value y).entries (drop (at + 1) (lists_of items))
+  pub cut-new : flat (lists_of (set items at y)) ≡ before ++ ((arc_value y) ++ behind)
+  cut-new = ap flat split-new ∙ flat-one (take at (lists_of items)) (arc_value y) (drop (at + 1) (lists_of items))
 
   -- of the same children
-  pub item-same : (arc_value y).entries ≡ (arc_value x).entries → lists_of (set items at y) ≡ lists_of items
-  item-same same = lists-set items at ∙ ap (set (lists_of items) at) (same ∙ part_is) ∙ set-get_or (lists_of items) at (arc_value x).entries
+  pub item-same : (arc_value y) ≡ (arc_value x) → lists_of (set items at y) ≡ lists_of items
+  item-same same = lists-set items at ∙ ap (set (lists_of items) at) (same ∙ part_is) ∙ set-get_or (lists_of items) at (arc_value x)
 
   module _ (parts : are_parts (lists_of items) ≡ true) where
-    pub item-same_parts : (arc_value y).entries ≡ (arc_value x).entries → are_parts (lists_of (set items at y)) ≡ true
+    pub item-same_parts : (arc_value y) ≡ (arc_value x) → are_parts (lists_of (set items at y)) ≡ true
     item-same_parts same = ap are_parts (item-same same) ∙ parts
 
-    pub split-full : are_full (take at (lists_of items) ++ (arc_value x).entries ∷ drop (at + 1) (lists_of items)) ≡ true
-    split-full = ap are_full (sym (split-at (lists_of items) at (arc_value x).entries here part_is)) ∙ both_first _ _ parts
+    pub split-full : are_full (take at (lists_of items) ++ (arc_value x) ∷ drop (at + 1) (lists_of items)) ≡ true
+    split-full = ap are_full (sym (split-at (lists_of items) at (arc_value x) here part_is)) ∙ both_first _ _ parts
 
-    pub x_full : is_full (arc_value x).entries ≡ true
-    x_full = both_first _ _ (full-second (take at (lists_of items)) ((arc_value x).entries ∷ drop (at + 1) (lists_of items)) split-full)
+    pub x_full : is_full (arc_value x) ≡ true
+    x_full = both_first _ _ (full-second (take at (lists_of items)) ((arc_value x) ∷ drop (at + 1) (lists_of items)) split-full)
 
-    new-full : is_full (arc_value y).entries ≡ true → are_full (lists_of (set items at y)) ≡ true
+    new-full : is_full (arc_value y) ≡ true → are_full (lists_of (set items at y)) ≡ true
     new-full f =
         ap are_full split-new
-        ∙ full-append (take at (lists_of items)) ((arc_value y).entries ∷ drop (at + 1) (lists_of items)) (full-first (take at (lists_of items)) _ split-full)
-        (both_hold _ _ f (both_second (is_full (arc_value x).entries) _ (full-second (take at (lists_of items)) ((arc_value x).entries ∷ drop (at + 1) (lists_of items)) split-full)))
+        ∙ full-append (take at (lists_of items)) ((arc_value y) ∷ drop (at + 1) (lists_of items)) (full-first (take at (lists_of items)) _ split-full)
+        (both_hold _ _ f (both_second (is_full (arc_value x)) _ (full-second (take at (lists_of items)) ((arc_value x) ∷ drop (at + 1) (lists_of items)) split-full)))
 
-    pub old-sorted : is_sorted name_cmp (before ++ ((arc_value x).entries ++ behind)) ≡ true
+    pub old-sorted : is_sorted name_cmp (before ++ ((arc_value x) ++ behind)) ≡ true
     old-sorted = ap (is_sorted name_cmp) (sym cut-old) ∙ both_second (are_full (lists_of items)) _ parts
 
-    pub new-parts : is_full (arc_value y).entries ≡ true → is_sorted name_cmp (before ++ ((arc_value y).entries ++ behind)) ≡ true → are_parts (lists_of (set items at y)) ≡ true
+    pub new-parts : is_full (arc_value y) ≡ true → is_sorted name_cmp (before ++ ((arc_value y) ++ behind)) ≡ true → are_parts (lists_of (set items at y)) ≡ true
     new-parts f s = both_hold _ _ (new-full f) (ap (is_sorted name_cmp) cut-new ∙ s)
 
     -- of the same names
-    pub item-keys : keys_of (arc_value y).entries ≡ keys_of (arc_value x).entries → are_parts (lists_of (set items at y)) ≡ true
-    item-keys same = new-parts (same-full (arc_value x).entries (arc_value y).entries same x_full) (same-sorted before (arc_value x).entries (arc_value y).entries behind same old-sorted)
+    pub item-keys : keys_of (arc_value y) ≡ keys_of (arc_value x) → are_parts (lists_of (set items at y)) ≡ true
+    item-keys same = new-parts (same-full (arc_value x) (arc_value y) same x_full) (same-sorted before (arc_value x) (arc_value y) behind same old-sorted)
 
   module _ (name : List ℕ) (place : IsPlace name (lists_of items) at) (kids : List (List ℕ × NodeValue)) (view : flat (lists_of items) ≡ kids) where
-    pub item-found : find name_cmp name kids ≡ find name_cmp name (arc_value x).entries
-    item-found = ap (find name_cmp name) (sym view ∙ cut-old) ∙ find-between name before (arc_value x).entries behind place.before place.behind
+    pub item-found : find name_cmp name kids ≡ find name_cmp name (arc_value x)
+    item-found = ap (find name_cmp name) (sym view ∙ cut-old) ∙ find-between name before (arc_value x) behind place.before place.behind
 
     -- with another child of this name, or none
-    pub item-changed : (kid : Option NodeValue) → ((d : List ℕ) → find name_cmp d (arc_value y).entries ≡ cond (eq_by_cmp name_cmp d name) kid (find name_cmp d (arc_value x).entries)) → AreKids kids (flat (lists_of (set items at y))) name kid
+    pub item-changed : (kid : Option NodeValue) → ((d : List ℕ) → find name_cmp d (arc_value y) ≡ cond (eq_by_cmp name_cmp d name) kid (find name_cmp d (arc_value x))) → AreKids kids (flat (lists_of (set items at y))) name kid
     item-changed kid changed = record {
-      at = λ d. ap (find name_cmp d) cut-new ∙ changed-between name before (arc_value x).entries (arc_value y).entries behind kid place.before place.behind changed d ∙ ap (λ l. cond (eq_by_cmp name_cmp d name) kid (find name_cmp d l)) (sym cut-old ∙ view);
+      at = λ d. ap (find name_cmp d) cut-new ∙ changed-between name before (arc_value x) (arc_value y) behind kid place.before place.behind changed d ∙ ap (λ l. cond (eq_by_cmp name_cmp d name) kid (find name_cmp d l)) (sym cut-old ∙ view);
     }
 
-pub none-found : {Z : Type 0} (name : List ℕ) (seen items : List (Arc (BTreeMap (List ℕ) NodeValue) Z)) (kids : List (List ℕ × NodeValue)) (at : ℕ) → flat (lists_of items) ≡ kids → IsPlace name (lists_of seen) at → seen ≡ items → length items ≤ at → find name_cmp name kids ≡ None
+pub none-found : {Z : Type 0} (name : List ℕ) (seen items : List (Arc (List (List ℕ × NodeValue)) Z)) (kids : List (List ℕ × NodeValue)) (at : ℕ) → flat (lists_of items) ≡ kids → IsPlace name (lists_of seen) at → seen ≡ items → length items ≤ at → find name_cmp name kids ≡ None
 none-found name seen items kids at view place s past = sym (lookup-find name kids) ∙ sym (get-none name seen items items kids at view place s refl past)
 
-pub place-of : {Z : Type 0} (name : List ℕ) (seen items : List (Arc (BTreeMap (List ℕ) NodeValue) Z)) (at : ℕ) → IsPlace name (lists_of seen) at → seen ≡ items → IsPlace name (lists_of items) at
-place-of {Z = Z} name seen items at place s = subst (λ (xs : List (Arc (BTreeMap (List ℕ) NodeValue) Z)). IsPlace name (lists_of xs) at) s place
+pub place-of : {Z : Type 0} (name : List ℕ) (seen items : List (Arc (List (List ℕ × NodeValue)) Z)) (at : ℕ) → IsPlace name (lists_of seen) at → seen ≡ items → IsPlace name (lists_of items) at
+place-of {Z = Z} name seen items at place s = subst (λ (xs : List (Arc (List (List ℕ × NodeValue)) Z)). IsPlace name (lists_of xs) at) s place
 
 -- a list cut before an element that was written
 pub taken_set : {A : Type 0} (xs : List A) (at : ℕ) (y : A) → drop (at + 1) (set xs at y) ≡ drop (at + 1) xs
 taken_set xs at y = drop-set-lt (at + 1) xs at y (omega arith)
 
 -- one part of a folder's is cut in two, or goes
-module _ {Z : Type 0} (items : List (Arc (BTreeMap (List ℕ) NodeValue) Z)) (at : ℕ) (x y : Arc (BTreeMap (List ℕ) NodeValue) Z) (inside : at < length items) (is : x ≡ get_or items at x) (parts : are_parts (lists_of items) ≡ true) where
+module _ {Z : Type 0} (items : List (Arc (List (List ℕ × NodeValue)) Z)) (at : ℕ) (x y : Arc (List (List ℕ × NodeValue)) Z) (inside : at < length items) (is : x ≡ get_or items at x) (parts : are_parts (lists_of items) ≡ true) where
   abbrev front : List (List (List ℕ × NodeValue))
   front = take at (lists_of items)
 
@@ -188,7 +179,7 @@ module _ {Z : Type 0} (items : List (Arc (BTreeMap (List ℕ) NodeValue) Z)) (at
   rest = drop (at + 1) (lists_of items)
 
   abbrev old : List (List ℕ × NodeValue)
-  old = (arc_value x).entries
+  old = (arc_value x)
 
   full_split : are_full (front ++ old ∷ rest) ≡ true
   full_split = split-full items at x y inside is parts
@@ -202,17 +193,17 @@ module _ {Z : Type 0} (items : List (Arc (BTreeMap (List ℕ) NodeValue) Z)) (at
   within : at < length (lists_of items)
   within = let e = lists-length items in omega arith
 
-  module _ (z : Arc (BTreeMap (List ℕ) NodeValue) Z) (halved : IsHalved (arc_value x).entries (arc_value y).entries (arc_value z).entries) where
-    lists-cut : lists_of (insert (set items at y) (at + 1) z) ≡ front ++ (arc_value y).entries ∷ (arc_value z).entries ∷ rest
+  module _ (z : Arc (List (List ℕ × NodeValue)) Z) (halved : IsHalved (arc_value x) (arc_value y) (arc_value z)) where
+    lists-cut : lists_of (insert (set items at y) (at + 1) z) ≡ front ++ (arc_value y) ∷ (arc_value z) ∷ rest
     lists-cut =
         lists-append (take (at + 1) (set items at y)) (z ∷ drop (at + 1) (set items at y))
-        ∙ (λ i. (ap lists_of (take_more_set items at y inside) ∙ lists-append (take at items) (y ∷ []) ∙ ap (λ l. l ++ (arc_value y).entries ∷ []) (lists-take at items)) i ++ (arc_value z).entries ∷ (ap lists_of (taken_set items at y) ∙ lists-drop (at + 1) items) i)
-        ∙ append_assoc front ((arc_value y).entries ∷ []) ((arc_value z).entries ∷ rest)
+        ∙ (λ i. (ap lists_of (take_more_set items at y inside) ∙ lists-append (take at items) (y ∷ []) ∙ ap (λ l. l ++ (arc_value y) ∷ []) (lists-take at items)) i ++ (arc_value z) ∷ (ap lists_of (taken_set items at y) ∙ lists-drop (at + 1) items) i)
+        ∙ append_assoc front ((arc_value y) ∷ []) ((arc_value z) ∷ rest)
 
     pub cut-kids : flat (lists_of (insert (set items at y) (at + 1) z)) ≡ flat (lists_of items)
     cut-kids =
-        ap flat lists-cut ∙ flat-one front (arc_value y).entries ((arc_value z).entries ∷ rest)
-        ∙ ap (λ l. flat front ++ l) (sym (append_assoc (arc_value y).entries (arc_value z).entries (flat rest)) ∙ ap (λ l. l ++ flat rest) (sym halved.whole))
+        ap flat lists-cut ∙ flat-one front (arc_value y) ((arc_value z) ∷ rest)
+        ∙ ap (λ l. flat front ++ l) (sym (append_assoc (arc_value y) (arc_value z) (flat rest)) ∙ ap (λ l. l ++ flat rest) (sym halved.whole))
         ∙ sym (flat-cut (lists_of items) at old within (lists-get items at x old inside is))
 
     pub cut-parts : are_parts (lists_of (insert (set items at y) (at + 1) z)) ≡ true
@@ -220,12 +211,12 @@ module _ {Z : Type 0} (items : List (Arc (BTreeMap (List ℕ) NodeValue) Z)) (at
         both_hold _ _ (ap are_full lists-cut ∙ full-append front _ front_full (both_hold _ _ halved.lower_full (both_hold _ _ halved.upper_full rest_full)))
         (ap (is_sorted name_cmp) cut-kids ∙ both_second (are_full (lists_of items)) _ parts)
 
-  module _ (name : List ℕ) (left : Bool) (taken : IsTaken name (arc_value x).entries (arc_value y).entries left) where
+  module _ (name : List ℕ) (left : Bool) (taken : IsTaken name (arc_value x) (arc_value y) left) where
     -- some are left
     pub taken-parts : left ≡ false → are_parts (lists_of (set items at y)) ≡ true
     taken-parts f =
-        new-parts items at x y inside is parts (some (arc_value y).entries (λ e. true≢false (sym (taken.left.1 e) ∙ f)))
-        (between (flat front) old (arc_value y).entries (flat rest) (old-sorted items at x y inside is parts) (sorted-from_keys (arc_value y).entries taken.rise)
+        new-parts items at x y inside is parts (some (arc_value y) (λ e. true≢false (sym (taken.left.1 e) ∙ f)))
+        (between (flat front) old (arc_value y) (flat rest) (old-sorted items at x y inside is parts) (sorted-from_keys (arc_value y) taken.rise)
         (ap (are_under (flat front)) taken.entries ∙ under-remove (flat front) old _ (under-first (flat front) old (flat rest) (sorted-under (flat front) (old ++ flat rest) (old-sorted items at x y inside is parts))))
         (ap (λ l. are_under l (flat rest)) taken.entries ∙ remove-under old (flat rest) _ (sorted-under old (flat rest) (sorted-second (flat front) (old ++ flat rest) (old-sorted items at x y inside is parts)))))
       where
@@ -239,8 +230,8 @@ module _ {Z : Type 0} (items : List (Arc (BTreeMap (List ℕ) NodeValue) Z)) (at
         lists-append (take at (set items at y)) (drop (suc at) (set items at y))
         ∙ (λ i. (ap lists_of (take-set items at y) ∙ lists-take at items) i ++ (ap lists_of ((λ j. drop (sym (add-one at) j) (set items at y)) ∙ taken_set items at y) ∙ lists-drop (at + 1) items) i)
 
-    none-left : left ≡ true → (arc_value y).entries ≡ []
-    none-left t = none (arc_value y).entries (taken.left.0 t)
+    none-left : left ≡ true → (arc_value y) ≡ []
+    none-left t = none (arc_value y) (taken.left.0 t)
       where
         none : (l : List (List ℕ × NodeValue)) → length l ≡ 0 → l ≡ []
         none [] e = refl
@@ -259,38 +250,25 @@ module _ {Z : Type 0} (items : List (Arc (BTreeMap (List ℕ) NodeValue) Z)) (at
 
     module _ (place : IsPlace name (lists_of items) at) (kids : List (List ℕ × NodeValue)) (view : flat (lists_of items) ≡ kids) where
       pub taken-kids : AreKids kids (flat (lists_of (set items at y))) name None
-      taken-kids = item-changed items at x y inside is name place kids view None (found-changed old (arc_value y).entries name None taken.at)
+      taken-kids = item-changed items at x y inside is name place kids view None (found-changed old (arc_value y) name None taken.at)
 
       pub gone-kids : left ≡ true → AreKids kids (flat (lists_of (remove (set items at y) at))) name None
       gone-kids t = record { at = λ d. ap (find name_cmp d) (flat-gone t) ∙ taken-kids.at d }
 
-  module _ (name : List ℕ) (kid : NodeValue) (place : IsPlace name (lists_of items) at) (done : IsPut name kid (arc_value x).entries (arc_value y).entries) where
+  module _ (name : List ℕ) (kid : NodeValue) (place : IsPlace name (lists_of items) at) (done : IsPut name kid (arc_value x) (arc_value y)) where
     pub put-parts : are_parts (lists_of (set items at y)) ≡ true
     put-parts =
         new-parts items at x y inside is parts (ap is_full done.entries ∙ full-insert old name kid)
-        (between (flat front) old (arc_value y).entries (flat rest) (old-sorted items at x y inside is parts) (sorted-from_keys (arc_value y).entries done.rise)
+        (between (flat front) old (arc_value y) (flat rest) (old-sorted items at x y inside is parts) (sorted-from_keys (arc_value y) done.rise)
         (ap (are_under (flat front)) done.entries ∙ under-insert (flat front) old name kid place.before (under-first (flat front) old (flat rest) (sorted-under (flat front) (old ++ flat rest) (old-sorted items at x y inside is parts))))
         (ap (λ l. are_under l (flat rest)) done.entries ∙ insert-under old (flat rest) name kid place.behind (sorted-under old (flat rest) (sorted-second (flat front) (old ++ flat rest) (old-sorted items at x y inside is parts)))))
 
     pub put-kids : (kids : List (List ℕ × NodeValue)) → flat (lists_of items) ≡ kids → AreKids kids (flat (lists_of (set items at y))) name (Some kid)
-    put-kids kids view = item-changed items at x y inside is name place kids view (Some kid) (found-changed old (arc_value y).entries name (Some kid) done.at)
+    put-kids kids view = item-changed items at x y inside is name place kids view (Some kid) (found-changed old (arc_value y) name (Some kid) done.at)
 
 -- a child put among these was put among the same
 pub put-from : (name : List ℕ) (kid : NodeValue) (from from' new : List (List ℕ × NodeValue)) → from ≡ from' → IsPut name kid from new → IsPut name kid from' new
 put-from name kid from from' new same done = subst (λ (o : List (List ℕ × NodeValue)). IsPut name kid o new) same done
-
--- the halves of a part
-pub halved-at : (name : List ℕ) (found : Option (List ℕ)) (seen kids from lower upper : List (List ℕ × NodeValue)) → IfSome found (λ c. IsWithin c seen) → found ≡ Some name → seen ≡ kids → from ≡ kids → from ≡ lower ++ upper
-    → lower ≡ filter (λ e. is_gt (name_cmp name e.0)) from → upper ≡ filter (λ e. is_le (name_cmp name e.0)) from → IsHalved kids lower upper
-halved-at name found seen kids from lower upper within is lent same both below above =
-    halved (subst (λ (l : List (List ℕ × NodeValue)). IsWithin name l) lent (subst (λ (o : Option (List ℕ)). IfSome o (λ c. IsWithin c seen)) is within))
-  where
-    halved : IsWithin name kids → IsHalved kids lower upper
-    halved w = record {
-      whole = sym same ∙ both;
-      lower_full = ap is_full (below ∙ ap (filter (λ e. is_gt (name_cmp name e.0))) (same ∙ w.whole)) ∙ full-below name w.kid w.before w.behind w.full (ap (is_sorted name_cmp) (sym w.whole) ∙ sorted-from_keys kids w.rise);
-      upper_full = ap is_full (above ∙ ap (filter (λ e. is_le (name_cmp name e.0))) (same ∙ w.whole)) ∙ full-from name w.kid w.before w.behind;
-    }
 
 -- what holds anyway holds after a refusal
 pub anyway : {A E P : Type 0} (r : Result A E) → P → OnErr r P
@@ -306,14 +284,14 @@ pub done-ok : {A E X : Type 0} (r : Result A E) (a : A) (x y z : X) → r ≡ Ok
 done-ok r a x y z is e = e ∙ ap (λ (o : Result _ _). if is_ok o then y else z) is
 
 -- a place is one of the parts, where there are any
-pub place-inside : {Z : Type 0} (name : List ℕ) (seen items : List (Arc (BTreeMap (List ℕ) NodeValue) Z)) (at : ℕ) → IsPlace name (lists_of seen) at → seen ≡ items → 0 < length items → at < length items
+pub place-inside : {Z : Type 0} (name : List ℕ) (seen items : List (Arc (List (List ℕ × NodeValue)) Z)) (at : ℕ) → IsPlace name (lists_of seen) at → seen ≡ items → 0 < length items → at < length items
 place-inside name seen items at place s some = let e = lists-length seen in let l = ap length s in let w = place.within (omega arith) in omega arith
 
 -- no part, no child
-pub no-parts : {Z : Type 0} (items : List (Arc (BTreeMap (List ℕ) NodeValue) Z)) (kids : List (List ℕ × NodeValue)) → are_parts (lists_of items) ≡ true → flat (lists_of items) ≡ kids → (length items ≡ 0) ↔ (kids ≡ [])
+pub no-parts : {Z : Type 0} (items : List (Arc (List (List ℕ × NodeValue)) Z)) (kids : List (List ℕ × NodeValue)) → are_parts (lists_of items) ≡ true → flat (lists_of items) ≡ kids → (length items ≡ 0) ↔ (kids ≡ [])
 no-parts {Z = Z} items kids parts view = (λ e. sym view ∙ empty items e, λ e. by items parts (view ∙ e))
   where
-    empty : (xs : List (Arc (BTreeMap (List ℕ) NodeValue) Z)) → length xs ≡ 0 → flat (lists_of xs) ≡ []
+    empty : (xs : List (Arc (List (List ℕ × NodeValue)) Z)) → length xs ≡ 0 → flat (lists_of xs) ≡ []
     empty [] e = refl
     empty (x ∷ xs) e = absurd (omega arith)
 
@@ -321,29 +299,13 @@ no-parts {Z = Z} items kids parts view = (λ e. sym view ∙ empty items e, λ e
     some [] rest f e = true≢false (sym f)
     some (k ∷ ks) rest f e = omega (arith, ap length e)
 
-    by : (xs : List (Arc (BTreeMap (List ℕ) NodeValue) Z)) → are_parts (lists_of xs) ≡ true → flat (lists_of xs) ≡ [] → length xs ≡ 0
+    by : (xs : List (Arc (List (List ℕ × NodeValue)) Z)) → are_parts (lists_of xs) ≡ true → flat (lists_of xs) ≡ [] → length xs ≡ 0
     by [] p e = refl
-    by (x ∷ xs) p e = absurd (some (arc_value x).entries (flat (lists_of xs)) (both_first _ _ (both_first _ _ p)) e)
+    by (x ∷ xs) p e = absurd (some (arc_value x) (flat (lists_of xs)) (both_first _ _ (both_first _ _ p)) e)
 
 pub some-parts : (n : ℕ) (told : Bool) → told ≡ (n == 0) → told ≡ false → 0 < n
 some-parts zero told is f = absurd (true≢false (sym is ∙ f))
 some-parts (suc n) told is f = omega arith
-
--- the name in the middle, with others before it
-pub middle-found : (half : ℕ) (its rest all : List (List ℕ × NodeValue)) (name key : List ℕ) (kid : NodeValue) (n : ℕ) → (n ≤ half) × ((b : List (List ℕ × NodeValue)) × (b ++ its ≡ all) × (length b ≡ n)) → its ≡ (name, kid) ∷ rest → n ≡ half → 0 < half → key ≡ name → IsStrictlySortedBy name_cmp (keys_of all)
-    → IsWithin key all
-middle-found half its rest all name key kid n so_far next mid more same rise = record {
-  before = so_far.1.0;
-  behind = rest;
-  kid = kid;
-  whole = sym so_far.1.1 ∙ ap (λ l. so_far.1.0 ++ l) (next ∙ (λ i. (sym same i, kid) ∷ rest));
-  full = some so_far.1.0 (so_far.1.2 ∙ mid);
-  rise = rise;
-}
-  where
-    some : (l : List (List ℕ × NodeValue)) → length l ≡ half → is_full l ≡ true
-    some [] e = absurd (omega (arith, e, more))
-    some (k ∷ ks) e = refl
 
 -- what isn't there needn't go
 pub no-change : (old new : List (List ℕ × NodeValue)) (name : List ℕ) → new ≡ old → find name_cmp name old ≡ None → AreKids old new name None

@@ -5,7 +5,6 @@ use Rattle.std.proofs.lemmas.List.{drop_more}
 use Rattle.std.specs.Ordering.{eq_by_cmp}
 use Rattle.std.specs.Arc.{arc_value}
 use Rattle.std.specs.declared.sync.Arc.{Arc}
-use Rattle.std.specs.BTreeMap.{BTreeMap, insert_entry}
 use Rattle.std.specs.List.Sorted.{IsStrictlySortedBy}
 use Rattle.std.specs.Map.{keys_of}
 use Rattle.std.specs.FinMap.{get, find, entries, get-entries}
@@ -22,7 +21,7 @@ use Rattle.trees.specs.PrivateNode.{NodeValue, map_of, below_name, lists_of, fla
 use Rattle.trees.specs.PrivateWalk.{rows_of}
 use Rattle.trees.specs.PrivateCopy.{placed_rows, IsPlacedNode, ArePlacedKids, ArePlacedParts, keeping}
 use Rattle.trees.proofs.NodeSteps.{node_of}
-use Rattle.trees.proofs.KidLists.{sorted-from_keys, insert-last, passed-more}
+use Rattle.trees.proofs.KidLists.{passed-more}
 use Rattle.trees.proofs.PartLists.{names-append, same-sorted, same-full, full-append, full-second, flat-one}
 use Rattle.trees.proofs.PartSteps.{lists-append}
 use Rattle.trees.proofs.RowLists.{entries-kids, entries-node}
@@ -62,7 +61,7 @@ kids-more o xs ys us vs h g = record {
   rows = rows_of-append us vs ∙ (λ i. h.rows i ++ g.rows i) ∙ sym (placed_rows-append o (rows_of xs) (rows_of ys)) ∙ ap (placed_rows o) (sym (rows_of-append xs ys));
 }
 
-moved : (o : CopyOptions) (xs xs' ys ys' : Kids) → xs ≡ xs' → ys ≡ ys' → ArePlacedKids o xs ys → ArePlacedKids o xs' ys'
+pub moved : (o : CopyOptions) (xs xs' ys ys' : Kids) → xs ≡ xs' → ys ≡ ys' → ArePlacedKids o xs ys → ArePlacedKids o xs' ys'
 moved o xs xs' ys ys' p q h = subst (λ (s : Kids). ArePlacedKids o s ys') p (subst (λ (s : Kids). ArePlacedKids o xs s) q h)
 
 -- ---- the children of a part
@@ -80,19 +79,26 @@ part-start o its all done same none = record {
   placed = moved o [] [] [] done refl (sym none) (record { names = refl; rows = refl });
 }
 
-pub part-step : (o : CopyOptions) (done its rest all done' : Kids) (key name : List ℕ) (v kid : NodeValue) → ArePlacedSoFar o its all done → IsStrictlySortedBy name_cmp (keys_of all) → its ≡ (name, kid) ∷ rest → done' ≡ insert_entry name_cmp done key v → key ≡ name
-    → IsPlacedNode o kid v → ArePlacedSoFar o rest all done'
-part-step o done its rest all done' key name v kid so ordered next put same_key placed =
-    let more : ArePlacedKids o (so.before ++ (name, kid) ∷ []) (done ++ (name, v) ∷ []) = kids-more o so.before ((name, kid) ∷ []) done ((name, v) ∷ []) so.placed (one-placed o name kid v placed) in
-    let whole : (so.before ++ (name, kid) ∷ []) ++ rest ≡ all = passed-more all so.before rest its name kid so.whole next in
-    let sorted : is_sorted name_cmp ((so.before ++ (name, kid) ∷ []) ++ rest) ≡ true = ap (is_sorted name_cmp) whole ∙ sorted-from_keys all ordered in
-    let then : is_sorted name_cmp ((done ++ (name, v) ∷ []) ++ rest) ≡ true = same-sorted [] (so.before ++ (name, kid) ∷ []) (done ++ (name, v) ∷ []) rest more.names sorted in
-    let last : insert_entry name_cmp done name v ≡ done ++ (name, v) ∷ [] = insert-last done name v rest (ap (is_sorted name_cmp) (sym (append_assoc done ((name, v) ∷ []) rest)) ∙ then) in
-    record {
-      before = so.before ++ (name, kid) ∷ [];
-      whole = whole;
-      placed = moved o (so.before ++ (name, kid) ∷ []) (so.before ++ (name, kid) ∷ []) (done ++ (name, v) ∷ []) done' refl (sym (put ∙ ap (λ (k : List ℕ). insert_entry name_cmp done k v) same_key ∙ last)) more;
-    }
+pub row-step : (o : CopyOptions) (done done' all : Kids) (at : ℕ) (x : List ℕ × NodeValue) (key : List ℕ) (v : NodeValue) → ArePlacedSoFar o (drop at all) all done → at < length all → x ≡ get_or all at x → key ≡ x.0 → IsPlacedNode o x.1 v → done' ≡ done ++ (key, v) ∷ []
+    → ArePlacedSoFar o (drop (at + 1) all) all done'
+row-step o done done' all at x key v so less is same_key placed more = record {
+  before = so.before ++ x ∷ [];
+  whole = passed-more all so.before (drop (at + 1) all) (drop at all) x.0 x.1 so.whole (drop_more all at x less ∙ ap (λ (q : List ℕ × NodeValue). q ∷ drop (at + 1) all) (sym is));
+  placed =
+      moved o (so.before ++ x ∷ []) (so.before ++ x ∷ []) (done ++ (x.0, v) ∷ []) done' refl (sym (more ∙ (λ i. done ++ (same_key i, v) ∷ [])))
+      (kids-more o so.before (x ∷ []) done ((x.0, v) ∷ []) so.placed (one-placed o x.0 x.1 v placed));
+}
+
+-- a node is less high than its folder
+pub row-low : (rows : Kids) (at : ℕ) (x : List ℕ × NodeValue) → at < length rows → x ≡ get_or rows at x → x.1.height + 1 ≤ height_of rows
+row-low [] at x less is = absurd (omega arith)
+row-low (r ∷ rows) zero x less is = let same : x.1.height ≡ r.1.height = ap (λ (q : List ℕ × NodeValue). q.1.height) is in omega arith
+row-low (r ∷ rows) (suc at) x less is = let rest = row-low rows at x (omega arith) is in omega arith
+
+-- names that are placed rise as before
+pub placed-rise : (o : CopyOptions) (old new : Kids) → ArePlacedKids o old new → is_sorted name_cmp old ≡ true → is_sorted name_cmp new ≡ true
+placed-rise o old new h rise =
+    ap (is_sorted name_cmp) (sym (append-nil new)) ∙ same-sorted [] old new [] h.names (ap (is_sorted name_cmp) (append-nil old) ∙ rise)
 
 pub part-end : (o : CopyOptions) (its all done : Kids) → ArePlacedSoFar o its all done → its ≡ [] → ArePlacedKids o all done
 part-end o its all done so none = moved o so.before all done done (sym (append-nil so.before) ∙ ap (λ (l : Kids). so.before ++ l) (sym none) ∙ so.whole) refl so.placed
@@ -128,24 +134,24 @@ part-more o left rest all done old new so next full h =
     ends ls l = ap (λ (r : Kids). flat ls ++ r) (sym (append-nil l)) ∙ sym (flat-one ls l [])
 
 abbrev Part : Type 0 → Type 0
-Part Z = Arc (BTreeMap (List ℕ) NodeValue) Z
+Part Z = Arc (List (List ℕ × NodeValue)) Z
 
 module _ {Z : Type 0} where
-  pub parts-step : (o : CopyOptions) (done done' parts : List (Part Z)) (at : ℕ) (x part : Part Z) (lent : BTreeMap (List ℕ) NodeValue) → ArePartsSoFar o (lists_of (drop at parts)) (lists_of parts) (lists_of done) → at < length parts → part ≡ get_or parts at part → are_full (lists_of parts) ≡ true
-      → lent ≡ arc_value part → ArePlacedKids o lent.entries (arc_value x).entries → done' ≡ done ++ x ∷ [] → ArePartsSoFar o (lists_of (drop (at + 1) parts)) (lists_of parts) (lists_of done')
+  pub parts-step : (o : CopyOptions) (done done' parts : List (Part Z)) (at : ℕ) (x part : Part Z) (lent : List (List ℕ × NodeValue)) → ArePartsSoFar o (lists_of (drop at parts)) (lists_of parts) (lists_of done) → at < length parts → part ≡ get_or parts at part → are_full (lists_of parts) ≡ true
+      → lent ≡ arc_value part → ArePlacedKids o lent (arc_value x) → done' ≡ done ++ x ∷ [] → ArePartsSoFar o (lists_of (drop (at + 1) parts)) (lists_of parts) (lists_of done')
   parts-step o done done' parts at x part lent so less is full same h more =
       subst (λ (d : List Kids). ArePartsSoFar o (lists_of (drop (at + 1) parts)) (lists_of parts) d) (sym (ap lists_of more ∙ lists-append done (x ∷ [])))
-      (part-more o (lists_of (drop at parts)) (lists_of (drop (at + 1) parts)) (lists_of parts) (lists_of done) (arc_value part).entries (arc_value x).entries so (ap lists_of (drop_more parts at part less ∙ ap (λ (q : Part Z). q ∷ drop (at + 1) parts) (sym is))) full (moved o lent.entries (arc_value part).entries (arc_value x).entries (arc_value x).entries (ap (λ (m : BTreeMap (List ℕ) NodeValue). m.entries) same) refl h))
+      (part-more o (lists_of (drop at parts)) (lists_of (drop (at + 1) parts)) (lists_of parts) (lists_of done) (arc_value part) (arc_value x) so (ap lists_of (drop_more parts at part less ∙ ap (λ (q : Part Z). q ∷ drop (at + 1) parts) (sym is))) full (moved o lent (arc_value part) (arc_value x) (arc_value x) same refl h))
 
   -- a part is no higher than its folder
-  pub part-low : (parts : List (Part Z)) (at : ℕ) (part : Part Z) → at < length parts → part ≡ get_or parts at part → height_of (arc_value part).entries ≤ height_of (flat (lists_of parts))
+  pub part-low : (parts : List (Part Z)) (at : ℕ) (part : Part Z) → at < length parts → part ≡ get_or parts at part → height_of (arc_value part) ≤ height_of (flat (lists_of parts))
   part-low [] at part less is = absurd (omega arith)
   part-low (p ∷ parts) zero part less is =
-      let e = height_of-append (arc_value p).entries (flat (lists_of parts)) in
-      let same : height_of (arc_value part).entries ≡ height_of (arc_value p).entries = ap (λ (x : Part Z). height_of (arc_value x).entries) is in
+      let e = height_of-append (arc_value p) (flat (lists_of parts)) in
+      let same : height_of (arc_value part) ≡ height_of (arc_value p) = ap (λ (x : Part Z). height_of (arc_value x)) is in
       omega arith
   part-low (p ∷ parts) (suc at) part less is =
-      let e = height_of-append (arc_value p).entries (flat (lists_of parts)) in
+      let e = height_of-append (arc_value p) (flat (lists_of parts)) in
       let rest = part-low parts at part (omega arith) is in
       omega arith
 

@@ -1,7 +1,7 @@
 -- What a node of a stored tree stands for: its own entry, the map of what is below it, and how high it is.
 --
 -- A node knows the names of its children and not its own path, so its map's paths begin at the node itself.
-use Rattle.std.specs.Prelude.{◌≡◌, ◌↔◌, ℕ, ◌+◌, ◌<◌, ◌≤◌, Bool, true, false, ◌&&◌, cond, max, IsTrue, Option, Some, None, List, [], ◌∷◌, ◌++◌, map, length, take, drop, is_some, not, refl}
+use Rattle.std.specs.Prelude.{◌≡◌, ◌↔◌, ℕ, ◌+◌, ◌<◌, ◌≤◌, Bool, true, false, ◌&&◌, cond, max, IsTrue, Option, Some, None, IsSome, List, [], ◌∷◌, ◌++◌, map, length, take, drop, is_some, not, refl}
 use Rattle.std.specs.Coded.{Coded, code_by, coded×, coded_ℕ, coded_list}
 use Rattle.std.specs.Ordering.{eq_by_cmp, is_lt}
 use Rattle.std.specs.List.Sorted.{IsStrictlySortedBy}
@@ -9,7 +9,7 @@ use Rattle.std.specs.Map.{values_of, keys_of, remove_entry, lookup}
 use Rattle.std.specs.Arc.{arc_value}
 use Rattle.std.specs.declared.sync.Arc.{Arc}
 use Rattle.std.specs.declared.vec.Vec.{Vec}
-use Rattle.std.specs.BTreeMap.{BTreeMap, insert_entry, is_at}
+use Rattle.std.specs.BTreeMap.{insert_entry, is_at}
 use Rattle.std.specs.FinMap.Entries.{is_sorted, below_all}
 use Rattle.std.specs.FinMap.{get, insert, empty, entries, retain_keys, find, code}
 use Rattle.std.proofs.Common.{arith}
@@ -44,9 +44,14 @@ abbrev pub kids_code : Coded (List (List ℕ × NodeValue))
 kids_code = coded_list (coded× (coded_list coded_ℕ) node_code)
 
 -- the children of a folder's parts, part by part
-abbrev pub lists_of : {Z : Type 0} → List (Arc (BTreeMap (List ℕ) NodeValue) Z) → List (List (List ℕ × NodeValue))
+abbrev pub lists_of : {Z : Type 0} → List (Arc (List (List ℕ × NodeValue)) Z) → List (List (List ℕ × NodeValue))
 lists_of [] = []
-lists_of (part ∷ parts) = (arc_value part).entries ∷ lists_of parts
+lists_of (part ∷ parts) = (arc_value part) ∷ lists_of parts
+
+-- the children behind a pointer, if there is one
+abbrev pub shared_kids : {Z : Type 0} → Option (Arc (List (List ℕ × NodeValue)) Z) → List (List ℕ × NodeValue)
+shared_kids None = []
+shared_kids (Some kids) = arc_value kids
 
 -- lists, one after the other
 abbrev pub flat : {V : Type 0} → List (List (List ℕ × V)) → List (List ℕ × V)
@@ -54,13 +59,8 @@ flat [] = []
 flat (kids ∷ more) = kids ++ flat more
 
 -- the children of all parts
-abbrev pub kids_of : {Z : Type 0} → Vec (Arc (BTreeMap (List ℕ) NodeValue) Z) Z → List (List ℕ × NodeValue)
+abbrev pub kids_of : {Z : Type 0} → Vec (Arc (List (List ℕ × NodeValue)) Z) Z → List (List ℕ × NodeValue)
 kids_of parts = flat (lists_of parts.items)
-
--- the children left of a part that was begun
-abbrev pub left_of : {V : Type 0} → Option (List (List ℕ × V)) → List (List ℕ × V)
-left_of None = []
-left_of (Some kids) = kids
 
 -- whether there are any
 abbrev pub is_full : {V : Type 0} → List (List ℕ × V) → Bool
@@ -92,6 +92,25 @@ pub record IsPlace {V : Type 0} (name : List ℕ) (lists : List (List (List ℕ 
   pub before : are_below name (flat (take at lists)) ≡ true
   pub behind : below_all name_cmp name (flat (drop (at + 1) lists)) ≡ true
 
+-- names, one of which stands at a place
+pub record StandsAt (name : List ℕ) (rows : List (List ℕ × NodeValue)) (at : ℕ) : Type 0 where
+  pub before : List (List ℕ × NodeValue)
+  pub kid : NodeValue
+  pub behind : List (List ℕ × NodeValue)
+  pub whole : rows ≡ before ++ (name, kid) ∷ behind
+  pub place : length before ≡ at
+
+-- a place among names that rise at which another name keeps them rising
+pub record GoesAt (name : List ℕ) (rows : List (List ℕ × NodeValue)) (at : ℕ) : Type 0 where
+  pub within : at ≤ length rows
+  pub before : are_below name (take at rows) ≡ true
+  pub behind : below_all name_cmp name (drop at rows) ≡ true
+
+-- the same names, of which the node of one, if it is there, is another
+pub record IsGiven (name : List ℕ) (kid : NodeValue) (old new : List (List ℕ × NodeValue)) : Type 0 where
+  pub names : keys_of new ≡ keys_of old
+  pub at : IsSome (lookup (is_at (name_cmp name)) old) → (q : List ℕ) → lookup (is_at (name_cmp q)) new ≡ cond (is_at (name_cmp name) q) (Some kid) (lookup (is_at (name_cmp q)) old)
+
 -- a part in which a child was put
 pub record IsPut (name : List ℕ) (kid : NodeValue) (old new : List (List ℕ × NodeValue)) : Type 0 where
   pub entries : new ≡ insert_entry name_cmp old name kid
@@ -105,20 +124,16 @@ pub record IsTaken (name : List ℕ) (old new : List (List ℕ × NodeValue)) (n
   pub at : (q : List ℕ) → lookup (is_at (name_cmp q)) new ≡ cond (is_at (name_cmp name) q) None (lookup (is_at (name_cmp q)) old)
   pub left : IsTrue none_left ↔ (length new ≡ 0)
 
+-- names cut in two at a place
+pub record IsCutAt (at : ℕ) (old lower upper : List (List ℕ × NodeValue)) : Type 0 where
+  pub whole : old ≡ lower ++ upper
+  pub place : length lower ≡ at
+
 -- a part in two halves
 pub record IsHalved (old lower upper : List (List ℕ × NodeValue)) : Type 0 where
   pub whole : old ≡ lower ++ upper
   pub lower_full : is_full lower ≡ true
   pub upper_full : is_full upper ≡ true
-
--- a name with others before it
-pub record IsWithin (name : List ℕ) (kids : List (List ℕ × NodeValue)) : Type 0 where
-  pub before : List (List ℕ × NodeValue)
-  pub behind : List (List ℕ × NodeValue)
-  pub kid : NodeValue
-  pub whole : kids ≡ before ++ (name, kid) ∷ behind
-  pub full : is_full before ≡ true
-  pub rise : IsStrictlySortedBy name_cmp (keys_of kids)
 
 -- of the children, the one of this name is another or none, and all others are the same
 pub record AreKids (old new : List (List ℕ × NodeValue)) (name : List ℕ) (kid : Option NodeValue) : Type 0 where
@@ -155,12 +170,12 @@ pub height_of-append : (xs ys : List (List ℕ × NodeValue)) → height_of (xs 
 height_of-append [] ys = omega arith
 height_of-append (x ∷ xs) ys = let rest = height_of-append xs ys in omega arith
 
--- each child is less high than its folder
-pub height_falls : {Z : Type 0} (parts : List (Arc (BTreeMap (List ℕ) NodeValue) Z)) → most (λ (part : Arc (BTreeMap (List ℕ) NodeValue) Z). most (λ (kid : NodeValue). kid.height + 1) (values_of (arc_value {X = BTreeMap (List ℕ) NodeValue} part).entries)) parts ≤ height_of (flat (lists_of parts))
-height_falls [] = omega arith
-height_falls (part ∷ parts) =
-    let rest = height_falls parts in
-    let e = height_of-append (arc_value part).entries (flat (lists_of parts)) in
+-- no part is higher than its folder
+pub parts_fall : {Z : Type 0} (parts : List (Arc (List (List ℕ × NodeValue)) Z)) → most (λ (part : Arc (List (List ℕ × NodeValue)) Z). height_of (arc_value {X = List (List ℕ × NodeValue)} part) + height_of (arc_value {X = List (List ℕ × NodeValue)} part) + 1) parts ≤ height_of (flat (lists_of parts)) + height_of (flat (lists_of parts)) + 1
+parts_fall [] = omega arith
+parts_fall (part ∷ parts) =
+    let rest = parts_fall parts in
+    let e = height_of-append (arc_value part) (flat (lists_of parts)) in
     omega arith
 
 -- No path below a node has more names than this. A number above 64, the most names of a path of a tree, says nothing.

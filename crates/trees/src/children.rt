@@ -18,8 +18,7 @@ use crate::copy::Change;
 use crate::kids::Kids;
 use crate::node::{Node, lifted};
 use crate::part::{
-    Part, has_room, make_room, own, part_of_one, place, placed_parts, put, put_into, share,
-    take_away,
+    Part, has_room, make_room, own, part_of_one, place, placed_parts, put, share, take_away,
 };
 use crate::{CopyOptions, Entry, Meta};
 use paths::{LongPath, Path};
@@ -44,7 +43,7 @@ pub(crate) struct Children {
 }
 
 impl Model for Children {
-    ghost use Rattle.std.specs.Prelude.{◌≡◌, true, ℕ, List};
+    ghost use Rattle.std.specs.Prelude.{◌≡◌, ◌+◌, true, ℕ, List};
     ghost use Rattle.trees.specs.PrivateNode.{NodeValue, kids_code, lists_of, kids_of, are_parts, height_of};
 
     ghost Value = { List (List ℕ × NodeValue) };
@@ -55,7 +54,7 @@ impl Model for Children {
 
     ghost invariant = { λ c. are_parts (lists_of c.parts.items) ≡ true };
 
-    ghost size = { height_of };
+    ghost size = { λ v. height_of v + height_of v + 1 };
 
     ghost use Rattle.trees.specs.PrivateFall.{children_fall};
 
@@ -143,13 +142,13 @@ impl Children {
         let Some(part) = self.parts.get_mut(at) else {
             return Err(Fault::Because(Absent));
         };
-        if let Err(Memory) = own(alloc, part) {
+        if let Err(Memory) = own(alloc, part, 0) {
             return Err(Fault::Memory);
         }
-        let Some(map) = Arc::get_mut(part) else {
+        let Some(names) = Arc::get_mut(part) else {
             return Err(Fault::Memory);
         };
-        match map.get_mut(name) {
+        match names.get_mut(name) {
             Some(kid) => Ok(kid),
             None => Err(Fault::Because(Absent)),
         }
@@ -211,16 +210,16 @@ impl Children {
             let kid = Node::chain(alloc, rest, parent, entry)?;
             return self.insert(alloc, name, kid);
         };
-        own(alloc, part)?;
-        let Some(map) = Arc::get_mut(part) else {
+        own(alloc, part, 0)?;
+        let Some(names) = Arc::get_mut(part) else {
             return Err(Memory);
         };
-        if let Some(kid) = map.get_mut(name) {
+        if let Some(kid) = names.get_mut(name) {
             return kid.plant(alloc, rest, parent, entry);
         }
         let kid = Node::chain(alloc, rest, parent, entry)?;
-        if has_room(map, parts) {
-            return put_into(alloc, map, name, kid);
+        if has_room(names, parts) {
+            return names.put(alloc, name, kid);
         }
         self.insert(alloc, name, kid)
     }
@@ -302,7 +301,7 @@ impl Children {
 
     /// Whether nothing of these is left once others are laid over them, as far as is seen at once: the others begin with the same names,
     /// and each of their nodes hides the one of its name.
-    fn is_hidden_by(&self, upper: &Children) -> bool
+    pub(crate) fn is_hidden_by(&self, upper: &Children) -> bool
         ensures { IsTrue result → AreLaid self.now upper.now upper.now }
     {
         let mut kids = self.iter();

@@ -93,7 +93,7 @@ fn whole_folder(
     if !is_free_below(root, dest) {
         return Ok(Whole::Neither);
     }
-    let mut joined = Node::leaf(alloc, Entry::Directory(Meta::directory()));
+    let mut joined = Node::leaf(Entry::Directory(Meta::directory()));
     match join_sources(alloc, &mut joined, options, from, dest, sources)? {
         Joined::All => {}
         Joined::TooDeep => return Ok(Whole::Deep),

@@ -4,26 +4,25 @@ ghost use Rattle.trees.specs.PrivateNode.{lists_of, flat, are_full};
 use crate::node::Node;
 use crate::part::Part;
 use plain::Text;
-use std::collections::btree_map;
 use std::marker::Model;
 
 /// The children of a folder that are left to be gone through, in the order of their names.
 #[derive(Drop)]
 pub(crate) struct Kids<'a> {
     /// What is left of the part that was begun.
-    begun: Option<btree_map::Iter<'a, Text, Node>>,
+    begun: &'a [(Text, Node)],
     parts: &'a [Part],
 }
 
 impl<'a> Model for Kids<'a> {
     ghost use Rattle.std.specs.Prelude.{◌≡◌, true, ℕ, List, ◌++◌};
-    ghost use Rattle.trees.specs.PrivateNode.{NodeValue, kids_code, lists_of, flat, left_of, are_full};
+    ghost use Rattle.trees.specs.PrivateNode.{NodeValue, kids_code, lists_of, flat, are_full};
 
     ghost Value = { List (List ℕ × NodeValue) };
 
     ghost coded = { kids_code };
 
-    ghost view = { λ k. left_of k.begun ++ flat (lists_of k.parts.now) };
+    ghost view = { λ k. k.begun.now ++ flat (lists_of k.parts.now) };
 
     ghost invariant = { λ k. are_full (lists_of k.parts.now) ≡ true };
 }
@@ -34,26 +33,28 @@ impl<'a> Kids<'a> {
         requires { are_full (lists_of parts.now) ≡ true }
         ensures { result ≡ flat (lists_of parts.now) }
     {
-        Kids { begun: None, parts }
+        Kids { begun: &[], parts }
     }
 
     /// The next child.
     pub(crate) fn next(&mut self) -> Option<(&'a Text, &'a Node)>
         ensures { MatchOption result ((self.old ≡ []) × (self.new ≡ [])) (λ kid. self.old ≡ (kid.0.now, kid.1.now) ∷ self.new) }
     {
-        if let Some(names) = &mut self.begun {
-            if let Some(kid) = names.next() {
-                return Some(kid);
-            }
+        if let [(name, kid), rest @ ..] = self.begun {
+            self.begun = rest;
+            return Some((name, kid));
         }
         match self.parts {
             [] => None,
             [part, rest @ ..] => {
-                let mut names = part.iter();
-                let kid = names.next();
-                self.begun = Some(names);
                 self.parts = rest;
-                kid
+                match part.rows() {
+                    [] => None,
+                    [(name, kid), left @ ..] => {
+                        self.begun = left;
+                        Some((name, kid))
+                    }
+                }
             }
         }
     }

@@ -15,6 +15,7 @@
 #![tactic(auto)]
 
 mod apply;
+mod below;
 mod branch;
 mod cause;
 mod changes;
@@ -26,6 +27,7 @@ mod folder;
 mod kids;
 pub mod laws;
 mod meta;
+mod names;
 mod node;
 mod part;
 mod put;

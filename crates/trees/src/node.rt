@@ -10,7 +10,7 @@ ghost use Rattle.trees.specs.PrivateNode.{map_of, joined, IsDepth, IsDeeper, IsP
 ghost use Rattle.trees.specs.PrivateWalk.{rows_of};
 ghost use Rattle.trees.specs.PrivateCopy.{IsPlacedNode, MeetInDirectories};
 
-use crate::children::Children;
+use crate::below::Below;
 use crate::copy::Change;
 use crate::kids::Kids;
 use crate::{CopyOptions, Entry, Meta};
@@ -31,7 +31,7 @@ const UNKNOWN: usize = MOST_COMPONENTS + 1;
 #[cycle(nodes)]
 pub(crate) struct Node {
     entry: Entry,
-    kids: Children,
+    kids: Below,
     /// How many names the longest path below this node has.
     depth: usize,
 }
@@ -45,24 +45,24 @@ impl Model for Node {
 
     ghost coded = { node_code };
 
-    ghost view = { λ n. record { top = n.entry; below = joined n.kids; height = height_of n.kids + 1 } };
+    ghost view = { λ n. record { top = n.entry; below = joined n.kids; height = height_of n.kids + 2 } };
 
     ghost invariant = { λ n. IsDepth n.depth (joined n.kids) };
 
-    ghost size = { λ v. v.height };
+    ghost size = { λ v. v.height + v.height };
 
     ghost size_decreases = { λ a h. omega arith };
 }
 
 impl Node {
     /// An entry with nothing below it. It takes no memory.
-    pub(crate) fn leaf(alloc: Global, entry: Entry) -> Node
+    pub(crate) fn leaf(entry: Entry) -> Node
         ensures top { result.top ≡ entry }
         ensures below { result.below ≡ empty }
     {
         Node {
             entry,
-            kids: Children::none(alloc),
+            kids: Below::none(),
             depth: 0,
         }
     }
@@ -176,12 +176,12 @@ impl Node {
         ensures { IfOk result (λ n. IsPlanted (λ _. None) (map_of n) path.now parent entry) }
     {
         match path {
-            [] => Ok(Node::leaf(alloc, entry)),
+            [] => Ok(Node::leaf(entry)),
             [name, rest @ ..] => {
                 let kid = Node::chain(alloc, rest, parent, entry)?;
                 Ok(Node {
                     entry: Entry::Directory(parent),
-                    kids: Children::one(alloc, name, kid)?,
+                    kids: Below::one(alloc, name, kid)?,
                     depth: path.len(),
                 })
             }
@@ -228,7 +228,7 @@ impl Node {
         ensures { IfOk result (λ n. n ≡ self.now) }
     {
         let entry = self.entry.copy(alloc)?;
-        let kids = self.kids.copy(alloc)?;
+        let kids = self.kids.copy()?;
         Ok(Node {
             entry,
             kids,
@@ -314,7 +314,7 @@ impl Node {
     {
         match path {
             [] => {
-                self.kids = folder.kids.copy(alloc)?;
+                self.kids = folder.kids.copy()?;
                 self.depth = folder.depth;
                 Ok(())
             }
@@ -374,7 +374,7 @@ impl Node {
 }
 
 /// How deep children are that are no deeper than `deepest`, and as deep as that unless one of them is less deep than before.
-fn depth_of(kids: &Children, deepest: usize, is_less: bool) -> usize
+fn depth_of(kids: &Below, deepest: usize, is_less: bool) -> usize
     requires { IsDepth deepest (joined kids.now) }
     ensures { IsDepth result (joined kids.now) }
 {

@@ -1,20 +1,20 @@
 // The parts of a folder's children: which one a name is in, and how one is changed that others may share.
-ghost use Rattle.std.specs.Prelude.{◌≡◌, ◌+◌, ◌<◌, ◌≤◌, ◌↔◌, IfSome, true, false, length, IsTrue, IfOk, OnOk, OnErr, [], ◌∷◌, ◌++◌, vec_len};
+ghost use Rattle.std.specs.Prelude.{◌≡◌, ◌+◌, ◌<◌, ◌≤◌, ◌↔◌, true, false, length, IsTrue, IfOk, OnOk, OnErr, [], ◌∷◌, ◌++◌, vec_len};
 ghost use Rattle.std.specs.Arc.{arc_value};
-ghost use Rattle.trees.specs.PrivateNode.{lists_of, flat, are_parts, begins_past, IsPlace, IsPut, IsTaken, IsHalved, IsWithin};
+ghost use Rattle.trees.specs.PrivateNode.{lists_of, flat, are_parts, begins_past, IsPlace, IsPut, IsTaken, IsHalved};
 ghost use Rattle.trees.specs.PrivateCopy.{ArePlacedKids, ArePlacedParts};
 
 use crate::CopyOptions;
+use crate::names::Names;
 use crate::node::Node;
 use plain::{Exact, Memory, Text};
 use std::alloc::Global;
-use std::collections::BTreeMap;
 use std::sync::Arc;
 
 /// Some children of a folder whose names follow each other, behind a pointer that folders share.
-pub(crate) type Part = Arc<BTreeMap<Text, Node>, Global>;
+pub(crate) type Part = Arc<Names, Global>;
 
-/// So many names every part may have before it is cut in two. They lie in one block of memory: a map's node has room for so many.
+/// So many names every part may have before it is cut in two.
 const FEW_NAMES: usize = 15;
 
 /// For each so many parts of a folder, its parts may have one name more: a change copies the pointers to all parts and the names of
@@ -45,11 +45,11 @@ pub(crate) fn place(parts: &[Part], name: &Text) -> usize
 
 /// Whether a part's first name is above a name.
 fn begins_past(part: &Part, name: &Text) -> bool
-    ensures { result ≡ begins_past name.now (arc_value part.now).entries }
+    ensures { result ≡ begins_past name.now (arc_value part.now) }
 {
-    match part.first_key_value() {
-        Some((first, _)) => name < first,
-        None => false,
+    match part.rows() {
+        [] => false,
+        [first, ..] => name < &first.0,
     }
 }
 
@@ -66,36 +66,24 @@ pub(crate) fn share(alloc: Global, parts: &[Part]) -> Result<Vec<Part>, Memory>
 
 /// A part of one child.
 pub(crate) fn part_of_one(alloc: Global, name: &Text, kid: Node) -> Result<Part, Memory>
-    ensures { IfOk result (λ part. (arc_value part).entries ≡ (name.now, kid) ∷ []) }
+    ensures { IfOk result (λ part. arc_value part ≡ (name.now, kid) ∷ []) }
 {
-    let mut map = BTreeMap::new(alloc);
-    map.insert(name.copy(alloc)?, kid)?;
-    let part = Arc::new(alloc, map)?;
+    let names = Names::one(alloc, name.copy(alloc)?, kid)?;
+    let part = Arc::new(alloc, names)?;
     Ok(part)
 }
 
 /// Makes a part the holder's own: where others share it, a part with the same children takes its place, each of which shares what
-/// is below it.
-pub(crate) fn own(alloc: Global, part: &mut Part) -> Result<(), Memory>
-    ensures { (arc_value part.new).entries ≡ (arc_value part.old).entries }
+/// is below it, with room for so many more.
+pub(crate) fn own(alloc: Global, part: &mut Part, more: usize) -> Result<(), Memory>
+    ensures { arc_value part.new ≡ arc_value part.old }
 {
     if let Some(_alone) = Arc::get_mut(part) {
         return Ok(());
     }
-    let map = copy_of(alloc, part)?;
-    *part = Arc::new(alloc, map)?;
+    let names = part.copy(alloc, more)?;
+    *part = Arc::new(alloc, names)?;
     Ok(())
-}
-
-/// A map of its own with the same nodes, each of which shares what is below it.
-fn copy_of(alloc: Global, map: &BTreeMap<Text, Node>) -> Result<BTreeMap<Text, Node>, Memory>
-    ensures { IfOk result (λ copy. copy.entries ≡ map.now.entries) }
-{
-    let mut copy = BTreeMap::new(alloc);
-    for (name, kid) in map.iter() {
-        copy.insert(name.copy(alloc)?, kid.copy(alloc)?)?;
-    }
-    Ok(copy)
 }
 
 /// Parts of the same names, each of whose nodes is as a COPY places it, with all below it.
@@ -110,69 +98,38 @@ pub(crate) fn placed_parts(
 {
     let mut placed = Vec::with_capacity(alloc, parts.len())?;
     for part in parts {
-        placed.push(placed_part(alloc, options, part)?)?;
+        let names = part.placed(alloc, options)?;
+        placed.push(Arc::new(alloc, names)?)?;
     }
     Ok(placed)
 }
 
-/// A part of the same names, each of whose nodes is as a COPY places it, with all below it.
-#[cycle(placing)]
-fn placed_part(
-    alloc: Global,
-    options: &CopyOptions,
-    map: &BTreeMap<Text, Node>,
-) -> Result<Part, Memory>
-    ensures { IfOk result (λ part. ArePlacedKids options.now map.now.entries (arc_value part).entries) }
-{
-    let mut placed = BTreeMap::new(alloc);
-    for (name, kid) in map.iter() {
-        placed.insert(name.copy(alloc)?, kid.placed(alloc, options)?)?;
-    }
-    let part = Arc::new(alloc, placed)?;
-    Ok(part)
-}
-
 /// Puts a child into a part.
 pub(crate) fn put(alloc: Global, part: &mut Part, name: &Text, kid: Node) -> Result<(), Memory>
-    ensures ok { OnOk result (IsPut name.now kid (arc_value part.old).entries (arc_value part.new).entries) }
-    ensures err { OnErr result ((arc_value part.new).entries ≡ (arc_value part.old).entries) }
+    ensures ok { OnOk result (IsPut name.now kid (arc_value part.old) (arc_value part.new)) }
+    ensures err { OnErr result ((arc_value part.new) ≡ (arc_value part.old)) }
 {
-    own(alloc, part)?;
-    let Some(map) = Arc::get_mut(part) else {
+    own(alloc, part, 1)?;
+    let Some(names) = Arc::get_mut(part) else {
         return Err(Memory);
     };
-    put_into(alloc, map, name, kid)
-}
-
-/// Puts a child among those of a part that nobody shares.
-pub(crate) fn put_into(
-    alloc: Global,
-    map: &mut BTreeMap<Text, Node>,
-    name: &Text,
-    kid: Node,
-) -> Result<(), Memory>
-    ensures ok { OnOk result (IsPut name.now kid map.old.entries map.new.entries) }
-    ensures err { OnErr result (map.new.entries ≡ map.old.entries) }
-{
-    map.insert(name.copy(alloc)?, kid)?;
-    Ok(())
+    names.put(alloc, name, kid)
 }
 
 /// Takes a child out of a part, and answers whether none is left.
 pub(crate) fn take_away(alloc: Global, part: &mut Part, name: &Text) -> Result<bool, Memory>
-    ensures ok { IfOk result (λ none_left. IsTaken name.now (arc_value part.old).entries (arc_value part.new).entries none_left) }
-    ensures err { OnErr result ((arc_value part.new).entries ≡ (arc_value part.old).entries) }
+    ensures ok { IfOk result (λ none_left. IsTaken name.now (arc_value part.old) (arc_value part.new) none_left) }
+    ensures err { OnErr result ((arc_value part.new) ≡ (arc_value part.old)) }
 {
-    own(alloc, part)?;
-    let Some(map) = Arc::get_mut(part) else {
+    own(alloc, part, 0)?;
+    let Some(names) = Arc::get_mut(part) else {
         return Err(Memory);
     };
-    map.remove(name);
-    Ok(map.is_empty())
+    Ok(names.remove(name))
 }
 
 /// Whether a part, one of so many, may take one name more.
-pub(crate) fn has_room(part: &BTreeMap<Text, Node>, parts: usize) -> bool {
+pub(crate) fn has_room(part: &Names, parts: usize) -> bool {
     part.len() < FEW_NAMES + parts / PARTS_A_NAME
 }
 
@@ -190,7 +147,7 @@ pub(crate) fn make_room(
     ensures more { vec_len parts.old ≤ vec_len parts.new }
 {
     parts.reserve(1)?;
-    let mut upper = Arc::new(alloc, BTreeMap::new(alloc))?;
+    let mut upper = Arc::new(alloc, Names::none(alloc))?;
     let halved = halve(alloc, &mut parts[at], &mut upper, name)?;
     if halved {
         parts.insert(at + 1, upper).unwrap();
@@ -200,46 +157,32 @@ pub(crate) fn make_room(
 
 /// Moves the upper half of a part into an empty one, so that a new name has room. Where there is nothing to move, nothing has changed.
 fn halve(alloc: Global, part: &mut Part, upper: &mut Part, new: &Text) -> Result<bool, Memory>
-    ensures done { IfOk result (λ halved. IsTrue halved → IsHalved (arc_value part.old).entries (arc_value part.new).entries (arc_value upper.new).entries) }
-    ensures kept { IfOk result (λ halved. halved ≡ false → (arc_value part.new).entries ≡ (arc_value part.old).entries) }
-    ensures err { OnErr result ((arc_value part.new).entries ≡ (arc_value part.old).entries) }
+    ensures done { IfOk result (λ halved. IsTrue halved → IsHalved (arc_value part.old) (arc_value part.new) (arc_value upper.new)) }
+    ensures kept { IfOk result (λ halved. halved ≡ false → (arc_value part.new) ≡ (arc_value part.old)) }
+    ensures err { OnErr result ((arc_value part.new) ≡ (arc_value part.old)) }
 {
-    let Some(name) = middle(alloc, part, new)? else {
+    let half = lower_half(part, new);
+    if half >= part.len() {
         return Ok(false);
-    };
-    own(alloc, part)?;
-    let Some(map) = Arc::get_mut(part) else {
+    }
+    own(alloc, part, 0)?;
+    let Some(names) = Arc::get_mut(part) else {
         return Err(Memory);
     };
     let Some(empty) = Arc::get_mut(upper) else {
         return Err(Memory);
     };
-    *empty = map.split_off(&name)?;
+    *empty = names.split_off(half)?;
     Ok(true)
-}
-
-/// The name with which the upper half begins where a new name needs room, with names before it.
-fn middle(alloc: Global, map: &BTreeMap<Text, Node>, new: &Text) -> Result<Option<Text>, Memory>
-    ensures { IfOk result (λ found. IfSome found (λ name. IsWithin name map.now.entries)) }
-{
-    let half = lower_half(map, new);
-    let mut passed = 0;
-    for (name, _) in map.iter() {
-        if passed == half {
-            return Ok(Some(name.copy(alloc)?));
-        }
-        passed += 1;
-    }
-    Ok(None)
 }
 
 /// How many names stay where a part is cut: half of them. Rows in the order of a walk are placed last first, so all but one go where a new
 /// name comes before them: the parts of a folder are full then.
-fn lower_half(map: &BTreeMap<Text, Node>, new: &Text) -> usize
+fn lower_half(part: &Names, new: &Text) -> usize
     ensures { 0 < result }
 {
-    match map.first_key_value() {
-        Some((first, _)) if new < first => 1,
-        _ => map.len() / 2 + 1,
+    match part.rows() {
+        [first, ..] if new < &first.0 => 1,
+        _ => part.len() / 2 + 1,
     }
 }

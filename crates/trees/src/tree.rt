@@ -48,7 +48,7 @@ impl Tree {
         ensures { result ≡ empty_tree }
     {
         Tree {
-            root: Node::leaf(alloc, Entry::Directory(Meta::directory())),
+            root: Node::leaf(Entry::Directory(Meta::directory())),
         }
     }
 

@@ -8,6 +8,7 @@ use Rattle.trees.proofs.KidLists.{found-among, passed-more}
 use Rattle.trees.specs.PrivateWalk.{rows_of}
 use Rattle.trees.proofs.RowLists.{child-clean, below-clean, kids-clean}
 use Rattle.trees.proofs.CopyRows.{items-step, items-all, items-node}
+use Rattle.trees.proofs.BelowSteps.{no-kids, none-changes}
 use Rattle.trees.proofs.+changing.Goals as goal
 
 pub children::Children::push_changes-loop-name-init : goal.children::Children::push_changes-loop-name-init
@@ -39,11 +40,14 @@ children::Children::push_changes-returns t c =
 
 pub node::Node::push_changes-push_changes-requires : goal.node::Node::push_changes-push_changes-requires
 node::Node::push_changes-push_changes-requires t c =
-    let same : height_of c.self.inside.kids + 1 ≡ c.args.self.now.height = ap (λ v. v.height) c.self.view_is in
+    let same : height_of c.self.inside.kids + 2 ≡ c.args.self.now.height = ap (λ v. v.height) c.self.view_is in
     let d : c.args.self.now.height + c.args.self.now.height ≡ t = c.decreases in
-    let g : height_of c.self.inside.kids + height_of c.self.inside.kids + 1 < t = omega arith in
+    let g : height_of c.self.inside.kids + height_of c.self.inside.kids + 2 < t = omega arith in
     (g, kids-clean _ c.self.inside.entry c.self.inside.kids c.self.view_is c.requires)
 
 pub node::Node::push_changes-returns : goal.node::Node::push_changes-returns
 node::Node::push_changes-returns t c =
     on_ok_weaker _ (items-node c.args.options.now c.args.at.now _ c.self.inside.entry c.self.inside.kids c.args.changes.now.items c.push_changes.new.changes.items c.self.view_is) c.push_changes.ensures
+
+pub below::Below::push_changes-returns-in-None : goal.below::Below::push_changes-returns-in-None
+below::Below::push_changes-returns-in-None t c = none-changes c.args.changes.now.items c.args.options.now c.args.at.now c.args.self.now (no-kids c.self.inside.kids c.args.self.now c.self.view_is c.in-None.is)

@@ -16,3 +16,6 @@ invariant-children::Children::push_changes-loop-name l = (l.changes.items ++ pla
 
 abbrev pub decreases-children::Children::push_changes-loop-name : goal.decreases-children::Children::push_changes-loop-name
 decreases-children::Children::push_changes-loop-name l = length l.kids
+
+abbrev pub decreases-below::Below::push_changes : goal.decreases-below::Below::push_changes
+decreases-below::Below::push_changes l = height_of l.self.now + height_of l.self.now + 2

@@ -1,5 +1,6 @@
 use Rattle.std.proofs.Common.{◌∙◌, sym, [], ◌∷◌, ◌++◌, true≢false}
 use Rattle.trees.proofs.KidLists.{same-start, same-both, same-not, same-step, passed-more}
+use Rattle.trees.proofs.BelowSteps.{no-kids, some-kids, same-none, none-same}
 use Rattle.trees.proofs.+comparing.Goals as goal
 
 pub node::Node::same-returns-then-same : goal.node::Node::same-returns-then-same
@@ -19,3 +20,11 @@ children::Children::same-loop-name-preserved t c = (
   same-step c.loop-name.kids c.next.new.self c.loop-name.others c.next-in-Some.new.self c.in-Some.name.now c.in-Some-next.other_name.now c.in-Some.kid.now c.in-Some-next.other_kid.now c.loop-name.invariant.0 c.in-Some.ensures c.in-Some-next.ensures (c.same.ensures.0 c.if-not-same.false) (c.same-in-Some-next.ensures.0 c.if-not-same-2.false),
   (c.loop-name.invariant.1.0 ++ (c.in-Some.name.now, c.in-Some.kid.now) ∷ [], passed-more c.args.self.now c.loop-name.invariant.1.0 c.next.new.self c.loop-name.kids c.in-Some.name.now c.in-Some.kid.now c.loop-name.invariant.1.1 c.in-Some.ensures),
 )
+
+pub below::Below::same-returns-in_default : goal.below::Below::same-returns-in_default
+below::Below::same-returns-in_default t c = same-none c.args.self.now c.args.other.now _ (no-kids c.self.inside.kids c.args.self.now c.self.view_is c.in_default.is) c.is_none.ensures
+
+pub below::Below::same-returns-in-None : goal.below::Below::same-returns-in-None
+below::Below::same-returns-in-None t c =
+    none-same c.deref.result.now c.args.self.now c.args.other.now _ (some-kids c.self.inside.kids c.in-Some.kids c.deref.result.now c.args.self.now c.self.view_is c.in-Some.is c.deref.ensures)
+    (no-kids c.other.inside.kids c.args.other.now c.other.view_is c.in-None.is) c.is_none-in-None.ensures

@@ -14,3 +14,6 @@ decreases-node::Node::same l = l.self.now.height + l.self.now.height
 
 abbrev pub decreases-children::Children::same : goal.decreases-children::Children::same
 decreases-children::Children::same l = height_of l.self.now + height_of l.self.now + 1
+
+abbrev pub decreases-below::Below::same : goal.decreases-below::Below::same
+decreases-below::Below::same l = height_of l.self.now + height_of l.self.now + 2

@@ -8,6 +8,7 @@ use Rattle.trees.proofs.CutSteps.{long-path}
 use Rattle.std.specs.Prelude.{is_ok}
 use Rattle.trees.proofs.NodeSteps.{is-kid, at-err, there, found-lower}
 use Rattle.trees.proofs.DepthSteps.{depth-cut}
+use Rattle.trees.proofs.BelowSteps.{no-kids, none-cut}
 use Rattle.trees.proofs.+cutting.Goals as goal
 
 pub node::Node::cut-returns-in_ok-cut-in-len1-up-clause-ok : goal.node::Node::cut-returns-in_ok-cut-in-len1-up-clause-ok
@@ -27,9 +28,9 @@ children::Children::cut-cut-requires t c =
 
 pub node::Node::cut-cut-requires : goal.node::Node::cut-cut-requires
 node::Node::cut-cut-requires t c =
-    let same : height_of c.self.inside.kids + 1 ≡ c.args.self.now.height = ap (λ v. v.height) c.self.view_is in
+    let same : height_of c.self.inside.kids + 2 ≡ c.args.self.now.height = ap (λ v. v.height) c.self.view_is in
     let d : c.args.self.now.height + c.args.self.now.height ≡ t = c.decreases in
-    let g : height_of c.self.inside.kids + height_of c.self.inside.kids + 1 < t = omega arith in
+    let g : height_of c.self.inside.kids + height_of c.self.inside.kids + 2 < t = omega arith in
     (g, tt)
 
 pub children::Children::cut-returns-then-is_empty-clause-ok : goal.children::Children::cut-returns-then-is_empty-clause-ok
@@ -50,3 +51,7 @@ pub children::Children::cut-returns-in-Err-Because-clause-ok : goal.children::Ch
 children::Children::cut-returns-in-Err-Because-clause-ok t c =
     let none = there c.args.self.now c.args.name.now None (c.in-Err-Because.ensures.absent c.in-Err-Because.field-0-0 c.in-Err-Because.field-0-is) in
     cut-kid c.args.self.now c.own_mut.follows.lender-at-none c.args.name.now _ None None none (kids-kept _ _ _ (at-err c.own_mut.result c.in-Err-Because.field-0 c.in-Err-Because.is c.own_mut.follows.holds-at-none) none) (cut-none _)
+
+pub below::Below::cut-returns-in_default-clause-ok : goal.below::Below::cut-returns-in_default-clause-ok
+below::Below::cut-returns-in_default-clause-ok t c =
+    none-cut c.args.self.now _ c.args.name.now c.args.rest.now (no-kids c.self.inside.kids c.args.self.now c.self.view_is c.in_default.is) c.self.view_is

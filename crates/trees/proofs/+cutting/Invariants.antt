@@ -7,3 +7,6 @@ decreases-node::Node::cut l = l.self.now.height + l.self.now.height
 
 abbrev pub decreases-children::Children::cut : goal.decreases-children::Children::cut
 decreases-children::Children::cut l = height_of l.self.now + height_of l.self.now + 1
+
+abbrev pub decreases-below::Below::cut : goal.decreases-below::Below::cut
+decreases-below::Below::cut l = height_of l.self.now + height_of l.self.now + 2

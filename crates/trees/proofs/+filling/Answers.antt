@@ -7,6 +7,7 @@ use Rattle.trees.specs.PrivateNode.{height_of}
 use Rattle.std.specs.Prelude.{is_ok}
 use Rattle.trees.proofs.NodeSteps.{is-kid, at-err, there, found-lower}
 use Rattle.trees.proofs.DepthSteps.{depth-filled, max-left, max-right}
+use Rattle.trees.proofs.BelowSteps.{no-kids, none-filled}
 use Rattle.trees.proofs.+filling.Goals as goal
 
 pub node::Node::fill-returns-in_ok-fill-in-len1-up : goal.node::Node::fill-returns-in_ok-fill-in-len1-up
@@ -34,9 +35,9 @@ children::Children::fill-fill-requires t c =
 
 pub node::Node::fill-fill-requires : goal.node::Node::fill-fill-requires
 node::Node::fill-fill-requires t c =
-    let same : height_of c.self.inside.kids + 1 ≡ c.args.self.now.height = ap (λ v. v.height) c.self.view_is in
+    let same : height_of c.self.inside.kids + 2 ≡ c.args.self.now.height = ap (λ v. v.height) c.self.view_is in
     let d : c.args.self.now.height + c.args.self.now.height ≡ t = c.decreases in
-    let g : height_of c.self.inside.kids + height_of c.self.inside.kids + 1 < t = omega arith in
+    let g : height_of c.self.inside.kids + height_of c.self.inside.kids + 2 < t = omega arith in
     (g, tt)
 
 pub children::Children::fill-returns-in-Ok : goal.children::Children::fill-returns-in-Ok
@@ -48,3 +49,7 @@ pub children::Children::fill-returns-in-Err-Because : goal.children::Children::f
 children::Children::fill-returns-in-Err-Because t c =
     fill-none c.args.self.now c.own_mut.follows.lender-at-none c.args.name.now _ _ (there c.args.self.now c.args.name.now None (c.in-Err-Because.ensures.absent c.in-Err-Because.field-0-0 c.in-Err-Because.field-0-is))
     (at-err c.own_mut.result c.in-Err-Because.field-0 c.in-Err-Because.is c.own_mut.follows.holds-at-none)
+
+pub below::Below::fill-returns-in_default : goal.below::Below::fill-returns-in_default
+below::Below::fill-returns-in_default t c =
+    none-filled c.args.self.now _ c.args.name.now c.args.rest.now c.args.folder.now.below (no-kids c.self.inside.kids c.args.self.now c.self.view_is c.in_default.is) c.self.view_is

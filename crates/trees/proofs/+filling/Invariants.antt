@@ -7,3 +7,6 @@ decreases-node::Node::fill l = l.self.now.height + l.self.now.height
 
 abbrev pub decreases-children::Children::fill : goal.decreases-children::Children::fill
 decreases-children::Children::fill l = height_of l.self.now + height_of l.self.now + 1
+
+abbrev pub decreases-below::Below::fill : goal.decreases-below::Below::fill
+decreases-below::Below::fill l = height_of l.self.now + height_of l.self.now + 2

@@ -15,3 +15,6 @@ invariant-children::Children::lay_over-loop-name l = AreLaying l.initial.self l.
 
 abbrev pub decreases-children::Children::lay_over-loop-name : goal.decreases-children::Children::lay_over-loop-name
 decreases-children::Children::lay_over-loop-name l = length l.uppers
+
+abbrev pub decreases-below::Below::lay_over : goal.decreases-below::Below::lay_over
+decreases-below::Below::lay_over l = height_of l.upper.now + height_of l.upper.now + 2

@@ -6,6 +6,7 @@ use Rattle.trees.proofs.NodeSteps.{kid-lower}
 use Rattle.trees.proofs.KidLists.{found-among, passed-more}
 use Rattle.trees.specs.PrivateWalk.{rows_of}
 use Rattle.trees.proofs.RowLists.{child-clean, below-clean, kids-clean, rows-step, rows-all, rows-node}
+use Rattle.trees.proofs.BelowSteps.{no-kids, none-rows}
 use Rattle.trees.proofs.+listing.Goals as goal
 
 pub children::Children::push_rows-loop-name-init : goal.children::Children::push_rows-loop-name-init
@@ -36,11 +37,14 @@ children::Children::push_rows-returns t c =
 
 pub node::Node::push_rows-push_rows-requires : goal.node::Node::push_rows-push_rows-requires
 node::Node::push_rows-push_rows-requires t c =
-    let same : height_of c.self.inside.kids + 1 ≡ c.args.self.now.height = ap (λ v. v.height) c.self.view_is in
+    let same : height_of c.self.inside.kids + 2 ≡ c.args.self.now.height = ap (λ v. v.height) c.self.view_is in
     let d : c.args.self.now.height + c.args.self.now.height ≡ t = c.decreases in
-    let g : height_of c.self.inside.kids + height_of c.self.inside.kids + 1 < t = omega arith in
+    let g : height_of c.self.inside.kids + height_of c.self.inside.kids + 2 < t = omega arith in
     (g, kids-clean _ c.self.inside.entry c.self.inside.kids c.self.view_is c.requires)
 
 pub node::Node::push_rows-returns : goal.node::Node::push_rows-returns
 node::Node::push_rows-returns t c =
     on_ok_weaker _ (rows-node _ c.self.inside.entry c.self.inside.kids c.args.at.now c.in_ok-copy.field-0 _ c.args.rows.now.items c.push.new.self.items (lent_rows c.push_rows.new.rows.items) c.self.view_is refl c.in_ok-copy.ensures c.in_ok-push.ensures.items) c.push_rows.ensures
+
+pub below::Below::push_rows-returns-in-None : goal.below::Below::push_rows-returns-in-None
+below::Below::push_rows-returns-in-None t c = none-rows _ c.args.at.now c.args.self.now (no-kids c.self.inside.kids c.args.self.now c.self.view_is c.in-None.is)

@@ -16,3 +16,6 @@ invariant-children::Children::push_rows-loop-name l = (lent_rows l.rows.items ++
 
 abbrev pub decreases-children::Children::push_rows-loop-name : goal.decreases-children::Children::push_rows-loop-name
 decreases-children::Children::push_rows-loop-name l = length l.kids
+
+abbrev pub decreases-below::Below::push_rows : goal.decreases-below::Below::push_rows
+decreases-below::Below::push_rows l = height_of l.self.now + height_of l.self.now + 2

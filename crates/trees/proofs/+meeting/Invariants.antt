@@ -15,3 +15,6 @@ invariant-children::Children::meets-loop-name l = (MeetInDirectories (joined l.s
 
 abbrev pub decreases-children::Children::meets-loop-name : goal.decreases-children::Children::meets-loop-name
 decreases-children::Children::meets-loop-name l = length l.others
+
+abbrev pub decreases-below::Below::meets : goal.decreases-below::Below::meets
+decreases-below::Below::meets l = height_of l.other.now + height_of l.other.now + 2

@@ -1,22 +1,23 @@
-use Rattle.std.proofs.Common.{◌∙◌, sym, ap, ◌≡◌, ◌<◌, ◌+◌, ℕ, List, drop, arith}
+use Rattle.std.proofs.Common.{◌∙◌, refl, sym, ap, ◌≡◌, ◌<◌, ◌+◌, drop, arith}
+use Rattle.std.proofs.lemmas.List.{drop_all}
 use Rattle.std.specs.Arc.{arc_value}
-use Rattle.std.specs.BTreeMap.{BTreeMap}
 use Rattle.std.specs.FinMap.Entries.{is_sorted}
 use Rattle.paths.specs.Order.{name_cmp}
 use Rattle.paths.proofs.FrontLaws.{both_first, both_second}
-use Rattle.trees.specs.PrivateNode.{NodeValue, height_of, lists_of, flat, are_full}
+use Rattle.trees.specs.PrivateNode.{height_of, lists_of, flat, are_full}
 use Rattle.trees.proofs.KidLists.{keys-from_sorted}
-use Rattle.trees.proofs.PlacedSteps.{part-step, parts-step, parts-done, part-low, none-left, node-placed}
+use Rattle.trees.proofs.PlacedSteps.{moved, part-end, placed-rise, row-low, row-step, parts-step, parts-done, part-low, none-left, node-placed}
 use Rattle.trees.proofs.DepthSteps.{depth-placed}
+use Rattle.trees.proofs.BelowSteps.{no-kids, none-rise}
 use Rattle.trees.proofs.+placing.Goals as goal
 
 pub node::Node::placed-placed-requires : goal.node::Node::placed-placed-requires
 node::Node::placed-placed-requires t c =
-    let same : height_of c.self.inside.kids + 1 ≡ c.args.self.now.height = ap (λ v. v.height) c.self.view_is in
+    let same : height_of c.self.inside.kids + 2 ≡ c.args.self.now.height = ap (λ v. v.height) c.self.view_is in
     let k = height_of c.self.inside.kids in
     let h = c.args.self.now.height in
     let d : h + h + h + h ≡ t = c.decreases in
-    let g : k + k + k + k + 3 < t = omega arith in
+    let g : k + k + k + k + 4 < t = omega arith in
     (g, tt)
 
 pub node::Node::placed-invariant_of-result : goal.node::Node::placed-invariant_of-result
@@ -37,31 +38,45 @@ pub children::Children::placed-returns-clause-ordered : goal.children::Children:
 children::Children::placed-returns-clause-ordered t c =
     keys-from_sorted c.args.self.now (ap (is_sorted name_cmp) (sym c.self.view_is) ∙ both_second (are_full (lists_of c.self.inside.parts.items)) _ c.self.invariant)
 
-pub part::placed_part-loop-name-preserved-in_ok-insert : goal.part::placed_part-loop-name-preserved-in_ok-insert
-part::placed_part-loop-name-preserved-in_ok-insert t c =
-    part-step c.args.options.now c.loop-name.placed.entries c.loop-name.name-iterator c.next.new.self c.args.map.now.entries c.insert.new.self.entries c.in_ok-copy.field-0 c.in-Some.name.now c.in_ok-placed.field-0 c.in-Some.kid.now
-    c.loop-name.invariant c.iter-name-items.ensures.ordered c.in-Some.ensures.steps c.in_ok-insert.ensures.entries c.in_ok-copy.ensures c.in_ok-placed.ensures
+pub names::Names::placed-placed-requires : goal.names::Names::placed-placed-requires
+names::Names::placed-placed-requires t c =
+    let low = row-low c.as_slice-all.result.now c.loop-row.row-index c.row-item.result c.loop-row-test.true c.row-item.is in
+    let same : height_of c.as_slice-all.result.now ≡ height_of c.args.self.now = ap height_of (c.as_slice-all.ensures.value ∙ c.self.view_is) in
+    let h = c.row-item.result.1.height in
+    let k = height_of c.args.self.now in
+    let d : k + k + k + k + 1 ≡ t = c.decreases in
+    let g : h + h + h + h < t = omega arith in
+    (g, tt)
 
-pub part::placed_part-loop-name-preserved : goal.part::placed_part-loop-name-preserved
-part::placed_part-loop-name-preserved t c =
-    part-step c.args.options.now c.loop-name.placed.entries c.loop-name.name-iterator c.next.new.self c.args.map.now.entries c.insert.new.self.entries c.in_ok-copy.field-0 c.in-Some.name.now c.in_ok-placed.field-0 c.in-Some.kid.now
-    c.loop-name.invariant c.iter-name-items.ensures.ordered c.in-Some.ensures.steps c.in_ok-insert.ensures.entries c.in_ok-copy.ensures c.in_ok-placed.ensures
+pub names::Names::placed-loop-row-preserved : goal.names::Names::placed-loop-row-preserved
+names::Names::placed-loop-row-preserved t c =
+    row-step c.args.options.now c.loop-row.rows.items c.push.new.self.items c.as_slice-all.result.now c.loop-row.row-index c.row-item.result c.in_ok-copy.field-0 c.in_ok-placed.field-0 c.loop-row.invariant c.loop-row-test.true c.row-item.is
+    c.in_ok-copy.ensures c.in_ok-placed.ensures c.in_ok-push.ensures.items
 
-pub part::placed_parts-placed_part-requires : goal.part::placed_parts-placed_part-requires
-part::placed_parts-placed_part-requires t c =
+pub names::Names::placed-invariant_of-result : goal.names::Names::placed-invariant_of-result
+names::Names::placed-invariant_of-result t c =
+    let all = c.as_slice-all.result.now in
+    placed-rise c.args.options.now all c.loop-row.rows.items (part-end c.args.options.now (drop c.loop-row.row-index all) all c.loop-row.rows.items c.loop-row.invariant (drop_all c.loop-row.row-index all c.loop-row-test.false))
+    (ap (is_sorted name_cmp) c.as_slice-all.ensures.value ∙ c.self.invariant)
+
+pub part::placed_parts-placed-requires : goal.part::placed_parts-placed-requires
+part::placed_parts-placed-requires t c =
     let low = part-low c.args.parts.now c.loop-part.part-index c.part-item.result c.loop-part-test.true c.part-item.is in
-    let k = height_of c.deref.result.now.entries in
+    let k = height_of c.deref.result.now in
     let h = height_of (flat (lists_of c.args.parts.now)) in
-    let same : k ≡ height_of (arc_value c.part-item.result).entries = ap (λ (m : BTreeMap (List ℕ) NodeValue). height_of m.entries) c.deref.ensures in
+    let same : k ≡ height_of (arc_value c.part-item.result) = ap height_of c.deref.ensures in
     let d : h + h + h + h + 2 ≡ t = c.decreases in
     let g : k + k + k + k + 1 < t = omega arith in
     (g, tt)
 
 pub part::placed_parts-loop-part-preserved : goal.part::placed_parts-loop-part-preserved
 part::placed_parts-loop-part-preserved t c =
-    parts-step c.args.options.now c.loop-part.placed.items c.push.new.self.items c.args.parts.now c.loop-part.part-index c.in_ok-placed_part.field-0 c.part-item.result c.deref.result.now c.loop-part.invariant c.loop-part-test.true c.part-item.is
-    (both_first (are_full (lists_of c.args.parts.now)) _ c.requires) c.deref.ensures c.in_ok-placed_part.ensures c.in_ok-push.ensures.items
+    parts-step c.args.options.now c.loop-part.placed.items c.push.new.self.items c.args.parts.now c.loop-part.part-index c.in_ok-new.field-0 c.part-item.result c.deref.result.now c.loop-part.invariant c.loop-part-test.true c.part-item.is
+    (both_first (are_full (lists_of c.args.parts.now)) _ c.requires) c.deref.ensures (moved c.args.options.now _ _ _ _ refl (sym c.in_ok-new.ensures.ok) c.in_ok-names.ensures) c.in_ok-push.ensures.items
 
 pub part::placed_parts-returns : goal.part::placed_parts-returns
 part::placed_parts-returns t c =
     parts-done c.args.options.now (lists_of (drop c.loop-part.part-index c.args.parts.now)) (lists_of c.args.parts.now) (lists_of c.loop-part.placed.items) c.loop-part.invariant (none-left c.loop-part.part-index c.args.parts.now c.loop-part-test.false) c.requires
+
+pub below::Below::placed-returns-in-None-clause-ordered : goal.below::Below::placed-returns-in-None-clause-ordered
+below::Below::placed-returns-in-None-clause-ordered t c = none-rise c.args.self.now (no-kids c.self.inside.kids c.args.self.now c.self.view_is c.in-None.is)

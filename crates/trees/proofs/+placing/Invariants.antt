@@ -12,13 +12,16 @@ decreases-children::Children::placed l = height_of l.self.now + height_of l.self
 abbrev pub decreases-part::placed_parts : goal.decreases-part::placed_parts
 decreases-part::placed_parts l = height_of (flat (lists_of l.parts.now)) + height_of (flat (lists_of l.parts.now)) + height_of (flat (lists_of l.parts.now)) + height_of (flat (lists_of l.parts.now)) + 2
 
-abbrev pub decreases-part::placed_part : goal.decreases-part::placed_part
-decreases-part::placed_part l = height_of l.map.now.entries + height_of l.map.now.entries + height_of l.map.now.entries + height_of l.map.now.entries + 1
+abbrev pub decreases-names::Names::placed : goal.decreases-names::Names::placed
+decreases-names::Names::placed l = height_of l.self.now + height_of l.self.now + height_of l.self.now + height_of l.self.now + 1
 
 -- the parts made so far are as those before the ones that are left are placed
 abbrev pub invariant-part::placed_parts-loop-part : goal.invariant-part::placed_parts-loop-part
 invariant-part::placed_parts-loop-part l = ArePartsSoFar l.options (lists_of (drop l.part-index l.parts)) (lists_of l.parts) (lists_of l.placed.items)
 
--- the children made so far are as those before the ones that are left are placed
-abbrev pub invariant-part::placed_part-loop-name : goal.invariant-part::placed_part-loop-name
-invariant-part::placed_part-loop-name l = ArePlacedSoFar l.options l.name-iterator l.map.entries l.placed.entries
+-- the rows made so far are as those before the ones that are left are placed
+abbrev pub invariant-names::Names::placed-loop-row : goal.invariant-names::Names::placed-loop-row
+invariant-names::Names::placed-loop-row l = ArePlacedSoFar l.options (drop l.row-index l.all) l.all l.rows.items
+
+abbrev pub decreases-below::Below::placed : goal.decreases-below::Below::placed
+decreases-below::Below::placed l = height_of l.self.now + height_of l.self.now + height_of l.self.now + height_of l.self.now + 4

@@ -10,9 +10,10 @@ use Rattle.paths.specs.Order.{name_cmp}
 use Rattle.trees.specs.TreeMap.{TreeMap}
 use Rattle.trees.specs.PrivateNode.{NodeValue, height_of, flat, joined, IsDepth}
 use Rattle.trees.proofs.NodeLaws.{lookup-find}
-use Rattle.trees.proofs.NodeSteps.{is-kid, kids-from, there}
+use Rattle.trees.proofs.NodeSteps.{is-kid, kids-from, there, found-lower}
 use Rattle.trees.proofs.PartSteps.{none-found, place-of, item-same, item-same_parts, item-keys, item-found, item-changed, found-changed, put-parts, put-kids, put-from, either-way, anyway}
 use Rattle.trees.proofs.DepthSteps.{depth-planted, depth-more, max-left, max-right}
+use Rattle.trees.proofs.BelowSteps.{no-kids, none-planted}
 use Rattle.trees.proofs.+planting.Goals as goal
 
 pub node::Node::plant-returns-in-empty-clause-ok : goal.node::Node::plant-returns-in-empty-clause-ok
@@ -33,9 +34,19 @@ node::Node::plant-invariant_of-self-in-len1-up t c =
 
 pub node::Node::plant-plant-requires : goal.node::Node::plant-plant-requires
 node::Node::plant-plant-requires t c =
-    let same : height_of c.self.inside.kids + 1 ≡ c.args.self.now.height = ap (λ v. v.height) c.self.view_is in
+    let same : height_of c.self.inside.kids + 2 ≡ c.args.self.now.height = ap (λ v. v.height) c.self.view_is in
     let d : c.args.self.now.height + c.args.self.now.height ≡ t = c.decreases in
-    let g : height_of c.self.inside.kids + height_of c.self.inside.kids + 1 < t = omega arith in
+    let g : height_of c.self.inside.kids + height_of c.self.inside.kids + 2 < t = omega arith in
+    (g, tt)
+
+pub children::Children::plant-plant-requires : goal.children::Children::plant-plant-requires
+children::Children::plant-plant-requires t c =
+    let place = place-of c.args.name.now c.as_slice.result.now c.self.inside.parts.items c.place-at.result c.place-at.ensures c.as_slice.ensures.value in
+    let map = c.in-Some-get_mut.ensures.value ∙ c.own.ensures in
+    let found = item-found c.self.inside.parts.items c.place-at.result c.in-Some.part.now c.own.new.part c.in-Some.ensures.item.3.0 c.in-Some.ensures.item.1 c.args.name.now place c.args.self.now c.self.view_is ∙ ap (find name_cmp c.args.name.now) (sym map) ∙ sym (lookup-find c.args.name.now c.in-Some-get_mut.names.now) ∙ sym c.in-Some-get_mut-2.ensures.value in
+    let low = found-lower c.args.self.now c.args.name.now c.in-Some-get_mut-2.kid.now found in
+    let d : height_of c.args.self.now + height_of c.args.self.now + 1 ≡ t = c.decreases in
+    let g : c.in-Some-get_mut-2.kid.now.height + c.in-Some-get_mut-2.kid.now.height < t = omega arith in
     (g, tt)
 
 pub children::Children::plant-returns-in_default-clause-ok : goal.children::Children::plant-returns-in_default-clause-ok
@@ -62,82 +73,87 @@ children::Children::plant-returns-in_default-get_mut-clause-err t c =
 
 pub children::Children::plant-invariant_of-self-in-Some-get_mut-2 : goal.children::Children::plant-invariant_of-self-in-Some-get_mut-2
 children::Children::plant-invariant_of-self-in-Some-get_mut-2 t c =
-    let same = (c.get_mut-3.follows.holds c.plant.new.self).1 ∙ ap (λ m. keys_of m.entries) c.in-Some-get_mut.ensures.value ∙ ap keys_of c.own.ensures in
+    let same = (c.get_mut-3.follows.holds c.plant.new.self).names ∙ ap keys_of c.in-Some-get_mut.ensures.value ∙ ap keys_of c.own.ensures in
     item-keys c.self.inside.parts.items c.place-at.result c.in-Some.part.now _ c.in-Some.ensures.item.3.0 c.in-Some.ensures.item.1 c.self.invariant same
 
 pub children::Children::plant-returns-in-Some-get_mut-2-clause-ok : goal.children::Children::plant-returns-in-Some-get_mut-2-clause-ok
 children::Children::plant-returns-in-Some-get_mut-2-clause-ok t c =
     let new = c.plant.new.self in
     let place = place-of c.args.name.now c.as_slice.result.now c.self.inside.parts.items c.place-at.result c.place-at.ensures c.as_slice.ensures.value in
-    let map = ap (λ m. m.entries) c.in-Some-get_mut.ensures.value ∙ c.own.ensures in
+    let map = c.in-Some-get_mut.ensures.value ∙ c.own.ensures in
     let stands = subst (λ (o : Option NodeValue). IsSome o) c.in-Some-get_mut-2.ensures.value refl in
-    let found = item-found c.self.inside.parts.items c.place-at.result c.in-Some.part.now c.own.new.part c.in-Some.ensures.item.3.0 c.in-Some.ensures.item.1 c.args.name.now place c.args.self.now c.self.view_is ∙ ap (find name_cmp c.args.name.now) (sym map) ∙ sym (lookup-find c.args.name.now c.in-Some-get_mut.map.now.entries) ∙ sym c.in-Some-get_mut-2.ensures.value in
+    let found = item-found c.self.inside.parts.items c.place-at.result c.in-Some.part.now c.own.new.part c.in-Some.ensures.item.3.0 c.in-Some.ensures.item.1 c.args.name.now place c.args.self.now c.self.view_is ∙ ap (find name_cmp c.args.name.now) (sym map) ∙ sym (lookup-find c.args.name.now c.in-Some-get_mut.names.now) ∙ sym c.in-Some-get_mut-2.ensures.value in
     let kids = item-changed c.self.inside.parts.items c.place-at.result c.in-Some.part.now (arc_with_value c.own.new.part (c.get_mut-3.follows.lender new)) c.in-Some.ensures.item.3.0 c.in-Some.ensures.item.1 c.args.name.now place c.args.self.now c.self.view_is (Some new)
-    (found-changed c.in-Some.part.now.value.entries (c.get_mut-3.follows.lender new).entries c.args.name.now (Some new) (λ q. ((c.get_mut-3.follows.holds new).3 stands).0 q ∙ ap (λ l. cond (is_at (name_cmp c.args.name.now) q) (Some new) (lookup (is_at (name_cmp q)) l)) map)) in
+    (found-changed c.in-Some.part.now.value (c.get_mut-3.follows.lender new) c.args.name.now (Some new) (λ q. (c.get_mut-3.follows.holds new).at stands q ∙ ap (λ l. cond (is_at (name_cmp c.args.name.now) q) (Some new) (lookup (is_at (name_cmp q)) l)) map)) in
     on_ok_weaker _ (plant-kid c.args.self.now _ c.args.name.now _ _ _ new (Some c.in-Some-get_mut-2.kid.now) (there c.args.self.now c.args.name.now (Some c.in-Some-get_mut-2.kid.now) found) (is-kid c.args.self.now _ c.args.name.now new kids)) c.plant.ensures.ok
 
 pub children::Children::plant-returns-in-Some-get_mut-2-clause-err : goal.children::Children::plant-returns-in-Some-get_mut-2-clause-err
 children::Children::plant-returns-in-Some-get_mut-2-clause-err t c =
     let new = c.plant.new.self in
     let place = place-of c.args.name.now c.as_slice.result.now c.self.inside.parts.items c.place-at.result c.place-at.ensures c.as_slice.ensures.value in
-    let map = ap (λ m. m.entries) c.in-Some-get_mut.ensures.value ∙ c.own.ensures in
+    let map = c.in-Some-get_mut.ensures.value ∙ c.own.ensures in
     let stands = subst (λ (o : Option NodeValue). IsSome o) c.in-Some-get_mut-2.ensures.value refl in
-    let found = item-found c.self.inside.parts.items c.place-at.result c.in-Some.part.now c.own.new.part c.in-Some.ensures.item.3.0 c.in-Some.ensures.item.1 c.args.name.now place c.args.self.now c.self.view_is ∙ ap (find name_cmp c.args.name.now) (sym map) ∙ sym (lookup-find c.args.name.now c.in-Some-get_mut.map.now.entries) ∙ sym c.in-Some-get_mut-2.ensures.value in
+    let found = item-found c.self.inside.parts.items c.place-at.result c.in-Some.part.now c.own.new.part c.in-Some.ensures.item.3.0 c.in-Some.ensures.item.1 c.args.name.now place c.args.self.now c.self.view_is ∙ ap (find name_cmp c.args.name.now) (sym map) ∙ sym (lookup-find c.args.name.now c.in-Some-get_mut.names.now) ∙ sym c.in-Some-get_mut-2.ensures.value in
     let kids = item-changed c.self.inside.parts.items c.place-at.result c.in-Some.part.now (arc_with_value c.own.new.part (c.get_mut-3.follows.lender new)) c.in-Some.ensures.item.3.0 c.in-Some.ensures.item.1 c.args.name.now place c.args.self.now c.self.view_is (Some new)
-    (found-changed c.in-Some.part.now.value.entries (c.get_mut-3.follows.lender new).entries c.args.name.now (Some new) (λ q. ((c.get_mut-3.follows.holds new).3 stands).0 q ∙ ap (λ l. cond (is_at (name_cmp c.args.name.now) q) (Some new) (lookup (is_at (name_cmp q)) l)) map)) in
+    (found-changed c.in-Some.part.now.value (c.get_mut-3.follows.lender new) c.args.name.now (Some new) (λ q. (c.get_mut-3.follows.holds new).at stands q ∙ ap (λ l. cond (is_at (name_cmp c.args.name.now) q) (Some new) (lookup (is_at (name_cmp q)) l)) map)) in
     on_err_weaker _ (keep-kid c.args.self.now _ c.args.name.now new c.in-Some-get_mut-2.kid.now (there c.args.self.now c.args.name.now (Some c.in-Some-get_mut-2.kid.now) found) (is-kid c.args.self.now _ c.args.name.now new kids)) c.plant.ensures.err
 
 pub children::Children::plant-invariant_of-self-in-Break-branch-3 : goal.children::Children::plant-invariant_of-self-in-Break-branch-3
 children::Children::plant-invariant_of-self-in-Break-branch-3 t c =
-    let same = ap (λ m. m.entries) (c.get_mut-3.follows.holds-at-none ∙ c.in-Some-get_mut.ensures.value) ∙ c.own.ensures in
+    let same = (c.get_mut-3.follows.holds-at-none ∙ c.in-Some-get_mut.ensures.value) ∙ c.own.ensures in
     item-same_parts c.self.inside.parts.items c.place-at.result c.in-Some.part.now _ c.in-Some.ensures.item.3.0 c.in-Some.ensures.item.1 c.self.invariant same
 
 pub children::Children::plant-returns-in_err-kid-2-clause-err : goal.children::Children::plant-returns-in_err-kid-2-clause-err
 children::Children::plant-returns-in_err-kid-2-clause-err t c =
-    let same = ap (λ m. m.entries) (c.get_mut-3.follows.holds-at-none ∙ c.in-Some-get_mut.ensures.value) ∙ c.own.ensures in
+    let same = (c.get_mut-3.follows.holds-at-none ∙ c.in-Some-get_mut.ensures.value) ∙ c.own.ensures in
     let part = arc_with_value c.own.new.part c.get_mut-3.follows.lender-at-none in
     anyway c.from_residual-in_err-kid-2.result (ap joined (ap flat (item-same c.self.inside.parts.items c.place-at.result c.in-Some.part.now part c.in-Some.ensures.item.3.0 c.in-Some.ensures.item.1 same) ∙ c.self.view_is))
 
 pub children::Children::plant-invariant_of-self-then-has_room : goal.children::Children::plant-invariant_of-self-then-has_room
 children::Children::plant-invariant_of-self-then-has_room t c =
-    let same = ap (λ m. m.entries) (c.get_mut-3.follows.holds-at-none ∙ c.in-Some-get_mut.ensures.value) ∙ c.own.ensures in
+    let same = (c.get_mut-3.follows.holds-at-none ∙ c.in-Some-get_mut.ensures.value) ∙ c.own.ensures in
     let place = place-of c.args.name.now c.as_slice.result.now c.self.inside.parts.items c.place-at.result c.place-at.ensures c.as_slice.ensures.value in
-    let part = arc_with_value c.own.new.part c.put_into.new.map in
-    either-way c.put_into.result c.put_into.ensures.ok c.put_into.ensures.err (λ done. put-parts c.self.inside.parts.items c.place-at.result c.in-Some.part.now part c.in-Some.ensures.item.3.0 c.in-Some.ensures.item.1 c.self.invariant c.args.name.now c.in_ok-kid-2.kid place (put-from c.args.name.now c.in_ok-kid-2.kid _ _ _ same done)) (λ kept. item-same_parts c.self.inside.parts.items c.place-at.result c.in-Some.part.now part c.in-Some.ensures.item.3.0 c.in-Some.ensures.item.1 c.self.invariant (kept ∙ same))
+    let part = arc_with_value c.own.new.part c.put.new.self in
+    either-way c.put.result c.put.ensures.ok c.put.ensures.err (λ done. put-parts c.self.inside.parts.items c.place-at.result c.in-Some.part.now part c.in-Some.ensures.item.3.0 c.in-Some.ensures.item.1 c.self.invariant c.args.name.now c.in_ok-kid-2.kid place (put-from c.args.name.now c.in_ok-kid-2.kid _ _ _ same done)) (λ kept. item-same_parts c.self.inside.parts.items c.place-at.result c.in-Some.part.now part c.in-Some.ensures.item.3.0 c.in-Some.ensures.item.1 c.self.invariant (kept ∙ same))
 
 pub children::Children::plant-returns-then-has_room-clause-ok : goal.children::Children::plant-returns-then-has_room-clause-ok
 children::Children::plant-returns-then-has_room-clause-ok t c =
-    let same = ap (λ m. m.entries) (c.get_mut-3.follows.holds-at-none ∙ c.in-Some-get_mut.ensures.value) ∙ c.own.ensures in
+    let same = (c.get_mut-3.follows.holds-at-none ∙ c.in-Some-get_mut.ensures.value) ∙ c.own.ensures in
     let place = place-of c.args.name.now c.as_slice.result.now c.self.inside.parts.items c.place-at.result c.place-at.ensures c.as_slice.ensures.value in
-    let map = ap (λ m. m.entries) c.in-Some-get_mut.ensures.value ∙ c.own.ensures in
-    let none = there c.args.self.now c.args.name.now None (item-found c.self.inside.parts.items c.place-at.result c.in-Some.part.now c.own.new.part c.in-Some.ensures.item.3.0 c.in-Some.ensures.item.1 c.args.name.now place c.args.self.now c.self.view_is ∙ ap (find name_cmp c.args.name.now) (sym map) ∙ sym (lookup-find c.args.name.now c.in-Some-get_mut.map.now.entries) ∙ sym c.in_default-get_mut-2.ensures.value) in
-    let part = arc_with_value c.own.new.part c.put_into.new.map in
-    on_ok_weaker c.put_into.result (λ done. plant-kid c.args.self.now _ c.args.name.now _ _ _ c.in_ok-kid-2.kid None none
-    (is-kid c.args.self.now _ c.args.name.now c.in_ok-kid-2.kid (put-kids c.self.inside.parts.items c.place-at.result c.in-Some.part.now part c.in-Some.ensures.item.3.0 c.in-Some.ensures.item.1 c.self.invariant c.args.name.now c.in_ok-kid-2.kid place (put-from c.args.name.now c.in_ok-kid-2.kid _ _ _ same done) c.args.self.now c.self.view_is)) c.in_ok-kid-2.ensures) c.put_into.ensures.ok
+    let map = c.in-Some-get_mut.ensures.value ∙ c.own.ensures in
+    let none = there c.args.self.now c.args.name.now None (item-found c.self.inside.parts.items c.place-at.result c.in-Some.part.now c.own.new.part c.in-Some.ensures.item.3.0 c.in-Some.ensures.item.1 c.args.name.now place c.args.self.now c.self.view_is ∙ ap (find name_cmp c.args.name.now) (sym map) ∙ sym (lookup-find c.args.name.now c.in-Some-get_mut.names.now) ∙ sym c.in_default-get_mut-2.ensures.value) in
+    let part = arc_with_value c.own.new.part c.put.new.self in
+    on_ok_weaker c.put.result (λ done. plant-kid c.args.self.now _ c.args.name.now _ _ _ c.in_ok-kid-2.kid None none
+    (is-kid c.args.self.now _ c.args.name.now c.in_ok-kid-2.kid (put-kids c.self.inside.parts.items c.place-at.result c.in-Some.part.now part c.in-Some.ensures.item.3.0 c.in-Some.ensures.item.1 c.self.invariant c.args.name.now c.in_ok-kid-2.kid place (put-from c.args.name.now c.in_ok-kid-2.kid _ _ _ same done) c.args.self.now c.self.view_is)) c.in_ok-kid-2.ensures) c.put.ensures.ok
 
 pub children::Children::plant-returns-then-has_room-clause-err : goal.children::Children::plant-returns-then-has_room-clause-err
 children::Children::plant-returns-then-has_room-clause-err t c =
-    let same = ap (λ m. m.entries) (c.get_mut-3.follows.holds-at-none ∙ c.in-Some-get_mut.ensures.value) ∙ c.own.ensures in
-    let part = arc_with_value c.own.new.part c.put_into.new.map in
-    on_err_weaker c.put_into.result (λ kept. ap joined (ap flat (item-same c.self.inside.parts.items c.place-at.result c.in-Some.part.now part c.in-Some.ensures.item.3.0 c.in-Some.ensures.item.1 (kept ∙ same)) ∙ c.self.view_is)) c.put_into.ensures.err
+    let same = (c.get_mut-3.follows.holds-at-none ∙ c.in-Some-get_mut.ensures.value) ∙ c.own.ensures in
+    let part = arc_with_value c.own.new.part c.put.new.self in
+    on_err_weaker c.put.result (λ kept. ap joined (ap flat (item-same c.self.inside.parts.items c.place-at.result c.in-Some.part.now part c.in-Some.ensures.item.3.0 c.in-Some.ensures.item.1 (kept ∙ same)) ∙ c.self.view_is)) c.put.ensures.err
 
 pub children::Children::plant-invariant_of-self-else-has_room : goal.children::Children::plant-invariant_of-self-else-has_room
 children::Children::plant-invariant_of-self-else-has_room t c =
-    let same = ap (λ m. m.entries) (c.get_mut-3.follows.holds-at-none ∙ c.in-Some-get_mut.ensures.value) ∙ c.own.ensures in
+    let same = (c.get_mut-3.follows.holds-at-none ∙ c.in-Some-get_mut.ensures.value) ∙ c.own.ensures in
     item-same_parts c.self.inside.parts.items c.place-at.result c.in-Some.part.now _ c.in-Some.ensures.item.3.0 c.in-Some.ensures.item.1 c.self.invariant same
 
 pub children::Children::plant-returns-clause-ok : goal.children::Children::plant-returns-clause-ok
 children::Children::plant-returns-clause-ok t c =
-    let same = ap (λ m. m.entries) (c.get_mut-3.follows.holds-at-none ∙ c.in-Some-get_mut.ensures.value) ∙ c.own.ensures in
+    let same = (c.get_mut-3.follows.holds-at-none ∙ c.in-Some-get_mut.ensures.value) ∙ c.own.ensures in
     let place = place-of c.args.name.now c.as_slice.result.now c.self.inside.parts.items c.place-at.result c.place-at.ensures c.as_slice.ensures.value in
-    let map = ap (λ m. m.entries) c.in-Some-get_mut.ensures.value ∙ c.own.ensures in
-    let none = there c.args.self.now c.args.name.now None (item-found c.self.inside.parts.items c.place-at.result c.in-Some.part.now c.own.new.part c.in-Some.ensures.item.3.0 c.in-Some.ensures.item.1 c.args.name.now place c.args.self.now c.self.view_is ∙ ap (find name_cmp c.args.name.now) (sym map) ∙ sym (lookup-find c.args.name.now c.in-Some-get_mut.map.now.entries) ∙ sym c.in_default-get_mut-2.ensures.value) in
+    let map = c.in-Some-get_mut.ensures.value ∙ c.own.ensures in
+    let none = there c.args.self.now c.args.name.now None (item-found c.self.inside.parts.items c.place-at.result c.in-Some.part.now c.own.new.part c.in-Some.ensures.item.3.0 c.in-Some.ensures.item.1 c.args.name.now place c.args.self.now c.self.view_is ∙ ap (find name_cmp c.args.name.now) (sym map) ∙ sym (lookup-find c.args.name.now c.in-Some-get_mut.names.now) ∙ sym c.in_default-get_mut-2.ensures.value) in
     let part = arc_with_value c.own.new.part c.get_mut-3.follows.lender-at-none in
     on_ok_weaker _ (λ h. plant-kid c.args.self.now c.insert-2.new.self c.args.name.now _ _ _ c.in_ok-kid-2.kid None none
     (is-kid c.args.self.now c.insert-2.new.self c.args.name.now c.in_ok-kid-2.kid (kids-from _ c.args.self.now c.insert-2.new.self c.args.name.now (Some c.in_ok-kid-2.kid) (ap flat (item-same c.self.inside.parts.items c.place-at.result c.in-Some.part.now part c.in-Some.ensures.item.3.0 c.in-Some.ensures.item.1 same) ∙ c.self.view_is) h)) c.in_ok-kid-2.ensures) c.insert-2.ensures.ok
 
 pub children::Children::plant-returns-clause-err : goal.children::Children::plant-returns-clause-err
 children::Children::plant-returns-clause-err t c =
-    let same = ap (λ m. m.entries) (c.get_mut-3.follows.holds-at-none ∙ c.in-Some-get_mut.ensures.value) ∙ c.own.ensures in
+    let same = (c.get_mut-3.follows.holds-at-none ∙ c.in-Some-get_mut.ensures.value) ∙ c.own.ensures in
     let part = arc_with_value c.own.new.part c.get_mut-3.follows.lender-at-none in
     on_err_weaker c.insert-2.result (λ kept. ap joined (kept ∙ (ap flat (item-same c.self.inside.parts.items c.place-at.result c.in-Some.part.now part c.in-Some.ensures.item.3.0 c.in-Some.ensures.item.1 same) ∙ c.self.view_is))) c.insert-2.ensures.err
+
+pub below::Below::plant-returns-in_default-clause-ok : goal.below::Below::plant-returns-in_default-clause-ok
+below::Below::plant-returns-in_default-clause-ok t c =
+    none-planted c.args.self.now _ c.args.name.now c.args.rest.now c.args.parent c.args.entry c.in_ok-kid.kid (no-kids c.self.inside.kids c.args.self.now c.self.view_is c.in_default.is)
+    (c.branch.view_is ∙ c.in_ok-self-inside.ensures) c.in_ok-kid.ensures

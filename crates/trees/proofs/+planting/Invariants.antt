@@ -7,3 +7,6 @@ decreases-node::Node::plant l = l.self.now.height + l.self.now.height
 
 abbrev pub decreases-children::Children::plant : goal.decreases-children::Children::plant
 decreases-children::Children::plant l = height_of l.self.now + height_of l.self.now + 1
+
+abbrev pub decreases-below::Below::plant : goal.decreases-below::Below::plant
+decreases-below::Below::plant l = height_of l.self.now + height_of l.self.now + 2

@@ -17,13 +17,13 @@ returns-in_default c = (
 
 pub invariant_of-self-lent : goal.invariant_of-self-lent
 invariant_of-self-lent c = λ w.
-    let same = (c.get_mut-3.follows.holds w).1 ∙ ap (λ m. keys_of m.entries) c.in-Some-get_mut.ensures.value ∙ ap keys_of c.own.ensures in
+    let same = (c.get_mut-3.follows.holds w).names ∙ ap keys_of c.in-Some-get_mut.ensures.value ∙ ap keys_of c.own.ensures in
     item-keys c.self.inside.parts.items c.place-at.result c.in-Some.part.now _ c.in-Some.ensures.item.3.0 c.in-Some.ensures.item.1 c.self.invariant same
 
 pub invariant_of-self-in-None : goal.invariant_of-self-in-None
 invariant_of-self-in-None c =
     item-same_parts c.self.inside.parts.items c.place-at.result c.in-Some.part.now _ c.in-Some.ensures.item.3.0 c.in-Some.ensures.item.1 c.self.invariant
-    (ap (λ m. m.entries) (c.get_mut-3.follows.holds-at-none ∙ c.in-Some-get_mut.ensures.value) ∙ c.own.ensures)
+    ((c.get_mut-3.follows.holds-at-none ∙ c.in-Some-get_mut.ensures.value) ∙ c.own.ensures)
 
 pub invariant_of-self-in-Err : goal.invariant_of-self-in-Err
 invariant_of-self-in-Err c =
@@ -48,21 +48,21 @@ returns-in_default-get_mut c = (
 pub returns-in-Some-get_mut-2 : goal.returns-in-Some-get_mut-2
 returns-in-Some-get_mut-2 c =
     let place = place-of c.args.name.now c.as_slice.result.now c.self.inside.parts.items c.place-at.result c.place-at.ensures c.as_slice.ensures.value in
-    let map = ap (λ m. m.entries) c.in-Some-get_mut.ensures.value ∙ c.own.ensures in
+    let map = c.in-Some-get_mut.ensures.value ∙ c.own.ensures in
     let there = subst (λ (o : Option NodeValue). IsSome o) c.in-Some-get_mut-2.ensures.value refl in (
       (
         refl,
         λ w _. item-changed c.self.inside.parts.items c.place-at.result c.in-Some.part.now _ c.in-Some.ensures.item.3.0 c.in-Some.ensures.item.1 c.args.name.now place c.args.self.now c.self.view_is (Some w)
-            (found-changed c.in-Some.part.now.value.entries (c.get_mut-3.follows.lender w).entries c.args.name.now (Some w) (λ q. ((c.get_mut-3.follows.holds w).3 there).0 q ∙ ap (λ l. cond (is_at (name_cmp c.args.name.now) q) (Some w) (lookup (is_at (name_cmp q)) l)) map)),
+            (found-changed c.in-Some.part.now.value (c.get_mut-3.follows.lender w) c.args.name.now (Some w) (λ q. (c.get_mut-3.follows.holds w).at there q ∙ ap (λ l. cond (is_at (name_cmp c.args.name.now) q) (Some w) (lookup (is_at (name_cmp q)) l)) map)),
         tt,
       ),
-      record { lends = tt; kid = item-found c.self.inside.parts.items c.place-at.result c.in-Some.part.now c.own.new.part c.in-Some.ensures.item.3.0 c.in-Some.ensures.item.1 c.args.name.now place c.args.self.now c.self.view_is ∙ ap (find name_cmp c.args.name.now) (sym map) ∙ sym (lookup-find c.args.name.now c.in-Some-get_mut.map.now.entries) ∙ sym c.in-Some-get_mut-2.ensures.value; absent = tt },
+      record { lends = tt; kid = item-found c.self.inside.parts.items c.place-at.result c.in-Some.part.now c.own.new.part c.in-Some.ensures.item.3.0 c.in-Some.ensures.item.1 c.args.name.now place c.args.self.now c.self.view_is ∙ ap (find name_cmp c.args.name.now) (sym map) ∙ sym (lookup-find c.args.name.now c.in-Some-get_mut.names.now) ∙ sym c.in-Some-get_mut-2.ensures.value; absent = tt },
     )
 
 pub returns-in-None : goal.returns-in-None
 returns-in-None c =
     let place = place-of c.args.name.now c.as_slice.result.now c.self.inside.parts.items c.place-at.result c.place-at.ensures c.as_slice.ensures.value in
-    let map = ap (λ m. m.entries) c.in-Some-get_mut.ensures.value ∙ c.own.ensures in (
-      (refl, λ w e. absurd (true≢false (sym e)), ap flat (item-same c.self.inside.parts.items c.place-at.result c.in-Some.part.now _ c.in-Some.ensures.item.3.0 c.in-Some.ensures.item.1 (ap (λ m. m.entries) c.get_mut-3.follows.holds-at-none ∙ map)) ∙ c.self.view_is),
-      record { lends = tt; kid = tt; absent = λ _ _. item-found c.self.inside.parts.items c.place-at.result c.in-Some.part.now c.own.new.part c.in-Some.ensures.item.3.0 c.in-Some.ensures.item.1 c.args.name.now place c.args.self.now c.self.view_is ∙ ap (find name_cmp c.args.name.now) (sym map) ∙ sym (lookup-find c.args.name.now c.in-Some-get_mut.map.now.entries) ∙ sym c.in-None.ensures.value },
+    let map = c.in-Some-get_mut.ensures.value ∙ c.own.ensures in (
+      (refl, λ w e. absurd (true≢false (sym e)), ap flat (item-same c.self.inside.parts.items c.place-at.result c.in-Some.part.now _ c.in-Some.ensures.item.3.0 c.in-Some.ensures.item.1 (c.get_mut-3.follows.holds-at-none ∙ map)) ∙ c.self.view_is),
+      record { lends = tt; kid = tt; absent = λ _ _. item-found c.self.inside.parts.items c.place-at.result c.in-Some.part.now c.own.new.part c.in-Some.ensures.item.3.0 c.in-Some.ensures.item.1 c.args.name.now place c.args.self.now c.self.view_is ∙ ap (find name_cmp c.args.name.now) (sym map) ∙ sym (lookup-find c.args.name.now c.in-Some-get_mut.names.now) ∙ sym c.in-None.ensures.value },
     )

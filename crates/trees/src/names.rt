@@ -1,0 +1,186 @@
+// Names with their nodes, in the order of the names: what a part of a folder holds.
+ghost use Rattle.std.specs.Prelude.{◌≡◌, ◌≤◌, true, IfOk, IfErr, OnOk, OnErr, [], ◌∷◌, length, option_copied};
+ghost use Rattle.std.specs.Option.{option_copied_mut};
+ghost use Rattle.std.specs.Borrow.{sem};
+ghost use Rattle.std.specs.Map.{lookup};
+ghost use Rattle.std.specs.BTreeMap.{is_at};
+ghost use Rattle.std.specs.FinMap.Entries.{is_sorted};
+ghost use Rattle.paths.specs.Order.{name_cmp};
+ghost use Rattle.trees.specs.PrivateNode.{StandsAt, GoesAt, IsPut, IsTaken, IsCutAt};
+ghost use Rattle.trees.specs.PrivateLent.{LendsNode};
+ghost use Rattle.trees.specs.PrivateCopy.{ArePlacedKids};
+
+use crate::CopyOptions;
+use crate::node::Node;
+use plain::{Exact, Memory, Text};
+use std::alloc::Global;
+use std::cmp::Ordering;
+use std::marker::Model;
+
+/// Names that rise, each with its node. They lie one after another in one block of memory.
+#[derive(Drop)]
+#[cycle(nodes)]
+pub(crate) struct Names {
+    rows: Vec<(Text, Node)>,
+}
+
+impl Model for Names {
+    ghost use Rattle.std.specs.Prelude.{◌≡◌, ◌+◌, true, ℕ, List};
+    ghost use Rattle.std.specs.FinMap.Entries.{is_sorted};
+    ghost use Rattle.paths.specs.Order.{name_cmp};
+    ghost use Rattle.trees.specs.PrivateNode.{NodeValue, kids_code, height_of};
+
+    ghost Value = { List (List ℕ × NodeValue) };
+
+    ghost coded = { kids_code };
+
+    ghost view = { λ n. n.rows.items };
+
+    ghost invariant = { λ n. is_sorted name_cmp n.rows.items ≡ true };
+
+    ghost size = { λ v. height_of v + height_of v };
+
+    ghost use Rattle.trees.specs.PrivateFall.{names_fall};
+
+    ghost size_decreases = { λ a h. names_fall a };
+}
+
+impl Names {
+    /// No names. It takes no memory.
+    pub(crate) fn none(alloc: Global) -> Names
+        ensures { result ≡ [] }
+    {
+        Names {
+            rows: Vec::new(alloc),
+        }
+    }
+
+    /// One name.
+    pub(crate) fn one(alloc: Global, name: Text, kid: Node) -> Result<Names, Memory>
+        ensures { IfOk result (λ names. names ≡ (name, kid) ∷ []) }
+    {
+        let mut rows = Vec::with_capacity(alloc, 1)?;
+        rows.push((name, kid))?;
+        Ok(Names { rows })
+    }
+
+    /// The names with their nodes, lent.
+    pub(crate) fn rows(&self) -> &[(Text, Node)]
+        ensures rows { result.now ≡ self.now }
+        ensures rise { is_sorted name_cmp self.now ≡ true }
+    {
+        self.rows.as_slice()
+    }
+
+    /// How many there are.
+    pub(crate) fn len(&self) -> usize
+        ensures { result ≡ length self.now }
+    {
+        self.rows.len()
+    }
+
+    /// The node of a name.
+    pub(crate) fn get(&self, name: &Text) -> Option<&Node>
+        ensures value { option_copied result ≡ lookup (is_at (name_cmp name.now)) self.now }
+    {
+        match find(self.rows.as_slice(), name) {
+            Ok(at) => Some(&self.rows[at].1),
+            Err(_) => None,
+        }
+    }
+
+    /// The node of a name, lent to be changed.
+    pub(crate) fn get_mut(&mut self, name: &Text) -> Option<&mut Node>
+        ensures* lends { sem 𝓛 (LendsNode self.entry name.now result) }
+        ensures value { option_copied_mut result ≡ lookup (is_at (name_cmp name.now)) self.old }
+    {
+        match find(self.rows.as_slice(), name) {
+            Ok(at) => Some(&mut self.rows[at].1),
+            Err(_) => None,
+        }
+    }
+
+    /// Puts a node under a name. Where there is no memory, nothing has changed.
+    pub(crate) fn put(&mut self, alloc: Global, name: &Text, kid: Node) -> Result<(), Memory>
+        ensures ok { OnOk result (IsPut name.now kid self.old self.new) }
+        ensures err { OnErr result (self.new ≡ self.old) }
+    {
+        match find(self.rows.as_slice(), name) {
+            Ok(at) => {
+                self.rows[at].1 = kid;
+                Ok(())
+            }
+            Err(at) => {
+                self.rows.insert(at, (name.copy(alloc)?, kid))?;
+                Ok(())
+            }
+        }
+    }
+
+    /// Takes a name away, if it is there, and answers whether none is left.
+    pub(crate) fn remove(&mut self, name: &Text) -> bool
+        ensures { IsTaken name.now self.old self.new result }
+    {
+        match find(self.rows.as_slice(), name) {
+            Ok(at) => {
+                self.rows.remove(at);
+                self.rows.is_empty()
+            }
+            Err(_) => self.rows.len() == 0,
+        }
+    }
+
+    /// Takes the names from a place on away, and gives them.
+    pub(crate) fn split_off(&mut self, at: usize) -> Result<Names, Memory>
+        requires { at ≤ length self.old }
+        ensures ok { IfOk result (λ upper. IsCutAt at self.old self.new upper) }
+        ensures err { OnErr result (self.new ≡ self.old) }
+    {
+        let rows = self.rows.split_off(at)?;
+        Ok(Names { rows })
+    }
+
+    /// The same names, each of whose nodes shares what is below it, with room for so many more.
+    pub(crate) fn copy(&self, alloc: Global, more: usize) -> Result<Names, Memory>
+        ensures { IfOk result (λ names. names ≡ self.now) }
+    {
+        let mut rows = Vec::with_capacity(alloc, self.rows.len().saturating_add(more))?;
+        let all = self.rows.as_slice();
+        for row in all {
+            rows.push((row.0.copy(alloc)?, row.1.copy(alloc)?))?;
+        }
+        Ok(Names { rows })
+    }
+
+    /// The same names, each with its node as a COPY places it, with all below it.
+    #[cycle(placing)]
+    pub(crate) fn placed(&self, alloc: Global, options: &CopyOptions) -> Result<Names, Memory>
+        ensures { IfOk result (λ names. ArePlacedKids options.now self.now names) }
+    {
+        let mut rows = Vec::with_capacity(alloc, self.rows.len())?;
+        let all = self.rows.as_slice();
+        for row in all {
+            rows.push((row.0.copy(alloc)?, row.1.placed(alloc, options)?))?;
+        }
+        Ok(Names { rows })
+    }
+}
+
+/// Where a name stands among names that rise, or where it would stand.
+fn find(rows: &[(Text, Node)], name: &Text) -> Result<usize, usize>
+    requires { is_sorted name_cmp rows.now ≡ true }
+    ensures stands { IfOk result (λ at. StandsAt name.now rows.now at) }
+    ensures absent { IfErr result (λ at. GoesAt name.now rows.now at) }
+{
+    let mut low = 0;
+    let mut high = rows.len();
+    'seeking: while low < high {
+        let middle = low + (high - low) / 2;
+        match name.cmp(&rows[middle].0) {
+            Ordering::Less => high = middle,
+            Ordering::Equal => return Ok(middle),
+            Ordering::Greater => low = middle + 1,
+        }
+    }
+    Err(low)
+}
