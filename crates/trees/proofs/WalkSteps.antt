@@ -1,7 +1,7 @@
 -- The steps of a walk: it enters what comes next, and leaves a folder that has nothing left.
-use Rattle.std.specs.Prelude.{◌≡◌, ℕ, ◌+◌, ◌<◌, ◌≤◌, Option, Some, None, List, [], ◌∷◌, ◌++◌, length, IsSome, vec_len, vec_capacity}
+use Rattle.std.specs.Prelude.{◌≡◌, ℕ, ◌+◌, ◌-◌, ◌<◌, ◌≤◌, Option, Some, None, List, [], ◌∷◌, ◌++◌, length, take, IsSome, vec_len, vec_capacity}
 use Rattle.std.proofs.Common.{sym, ap, refl, ◌∙◌, subst, true≢false, arith, length-append, Bor}
-use Rattle.std.proofs.lemmas.List.{map-append, length-map}
+use Rattle.std.proofs.lemmas.List.{map-append, length-map, take-take, take_at}
 use Rattle.std.specs.List.{AllByRecursion}
 use Rattle.std.specs.Option.{option_to_list}
 use Rattle.std.specs.FinMap.{entries}
@@ -128,3 +128,33 @@ begins names above kids root tree own no_names none_above room_names room_above 
       room_names = omega arith;
       room_above = omega arith;
     }
+
+-- ---- the names that stay on the way
+
+-- the first names of a list that are as many as these are these
+are_first-append : (names : List (Bor (List ℕ))) (more : List (Bor (List ℕ))) → take (length names) (lent_names (names ++ more)) ≡ lent_names names
+are_first-append names more =
+    ap (take (length names)) (map-append (λ (n : Bor (List ℕ)). n.now) names more)
+    ∙ take_at (lent_names names) (lent_names more) (length names) (length-lent_names names)
+
+-- after a folder is left, the names are still the first ones
+pub stay_first : (old names names' : List (Bor (List ℕ))) (name : List (Bor (List ℕ))) → take (length names) (lent_names old) ≡ lent_names names → names ≡ names' ++ name → take (length names') (lent_names old) ≡ lent_names names'
+stay_first old names names' name first left =
+    let n = length names' in
+    let long : length names ≡ n + length name = ap length left ∙ length-append names' name in
+    sym (take-take n (length names) (lent_names old) (omega arith)) ∙ ap (take n) (first ∙ ap lent_names left) ∙ are_first-append names' name
+
+-- after a name is added, all but the last are
+pub all_but_last : (old names names' : List (Bor (List ℕ))) (name : Bor (List ℕ)) → take (length names) (lent_names old) ≡ lent_names names → names' ≡ names ++ name ∷ [] → take (length names' - 1) (lent_names names') ≡ take (length names' - 1) (lent_names old)
+all_but_last old names names' name first named =
+    let one : length names' ≡ length names + 1 = ap length named ∙ length-append names (name ∷ []) in
+    let n : length names' - 1 ≡ length names = omega arith in
+    (λ i. take (n i) (lent_names (named i))) ∙ are_first-append names (name ∷ []) ∙ sym first ∙ ap (λ k. take k (lent_names old)) (sym n)
+
+-- no name is left where no folder is
+pub none_left : {Z : Type 0} (old : List (Bor (List ℕ))) (names : Vec (Bor (List ℕ)) Z) (above : Vec (List (List ℕ × NodeValue)) Z) (kids : List (List ℕ × NodeValue)) → IsOnWay names above kids → above.items ≡ [] → take (length names.items - 1) (lent_names names.items) ≡ take (length names.items - 1) (lent_names old)
+none_left old names above kids way none =
+    let level = way.level in
+    let long : length above.items ≡ 0 = ap length none in
+    let n : length names.items - 1 ≡ 0 = omega arith in
+    ap (λ k. take k (lent_names names.items)) n ∙ ap (λ k. take k (lent_names old)) (sym n)

@@ -197,7 +197,7 @@ impl Below {
         }
     }
 
-    /// Lays other children over these, as [`Children::lay_over`] does. Those that hide all of these are shared, with their list.
+    /// Lays other children over these, as [`Children::lay_over`] does. Where they hide all of these, they are shared.
     #[cycle(laying)]
     pub(crate) fn lay_over(&mut self, alloc: Global, upper: &Below) -> Result<bool, Memory>
         ensures { OnOk result (AreLaid self.old upper.now self.new) }
@@ -209,6 +209,7 @@ impl Below {
             *self = upper.copy()?;
             return Ok(false);
         };
+        // Folders of files are mostly laid over others of the same names: they are shared then, and no name is copied.
         if shared.is_hidden_by(uppers) {
             *self = upper.copy()?;
             return Ok(true);

@@ -62,15 +62,6 @@ impl Model for Children {
 }
 
 impl Children {
-    /// No children. It takes no memory.
-    pub(crate) fn none(alloc: Global) -> Children
-        ensures { result ≡ [] }
-    {
-        Children {
-            parts: Vec::new(alloc),
-        }
-    }
-
     /// One child.
     pub(crate) fn one(alloc: Global, name: &Text, kid: Node) -> Result<Children, Memory>
         ensures { IfOk result (λ kids. kids ≡ (name.now, kid) ∷ []) }
@@ -274,15 +265,6 @@ impl Children {
     pub(crate) fn lay_over(&mut self, alloc: Global, upper: &Children) -> Result<bool, Memory>
         ensures { OnOk result (AreLaid self.old upper.now self.new) }
     {
-        if self.is_none() {
-            *self = upper.copy(alloc)?;
-            return Ok(false);
-        }
-        // Folders of files are mostly laid over others of the same names: they are shared then, and no name is copied.
-        if self.is_hidden_by(upper) {
-            *self = upper.copy(alloc)?;
-            return Ok(true);
-        }
         let mut is_less = false;
         let mut uppers = upper.iter();
         while let Some((name, kid)) = uppers.next() {

@@ -111,6 +111,7 @@ impl Names {
                 Ok(())
             }
             Err(at) => {
+                grow(&mut self.rows)?;
                 self.rows.insert(at, (name.copy(alloc)?, kid))?;
                 Ok(())
             }
@@ -164,6 +165,17 @@ impl Names {
         }
         Ok(Names { rows })
     }
+}
+
+/// Makes room for one row more. A full list grows by a quarter and not to twice its length: many parts are full once, and room that they
+/// don't use would take as much as all names.
+fn grow(rows: &mut Vec<(Text, Node)>) -> Result<(), Memory>
+    ensures { rows.new.items ≡ rows.old.items }
+{
+    if rows.len() == rows.capacity() {
+        rows.reserve_exact(rows.len() / 4 + 1)?;
+    }
+    Ok(())
 }
 
 /// Where a name stands among names that rise, or where it would stand.

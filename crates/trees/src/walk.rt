@@ -1,4 +1,4 @@
-ghost use Rattle.std.specs.Prelude.{◌≡◌, [], ◌∷◌, IfOk, MatchOption};
+ghost use Rattle.std.specs.Prelude.{◌≡◌, ◌-◌, [], ◌∷◌, IfOk, MatchOption, length, take};
 ghost use Rattle.std.specs.FinMap.{entries};
 ghost use Rattle.trees.specs.Rows.{lent_names};
 ghost use Rattle.trees.specs.TreeMap.{IsTree};
@@ -69,9 +69,10 @@ impl<'a> Walk<'a> {
         self.names.as_slice()
     }
 
-    /// The next entry, if one is left.
+    /// The next entry, if one is left. All names on the way to it but its last are on the way to the one before, at the same places.
     pub fn next(&mut self) -> Option<&'a Entry>
-        ensures { MatchOption result ((self.old.left ≡ []) × (self.new.left ≡ [])) (λ entry. self.old.left ≡ (self.new.at, entry.now) ∷ self.new.left) }
+        ensures next { MatchOption result ((self.old.left ≡ []) × (self.new.left ≡ [])) (λ entry. self.old.left ≡ (self.new.at, entry.now) ∷ self.new.left) }
+        ensures keeps { take (length self.new.at - 1) self.new.at ≡ take (length self.new.at - 1) self.old.at }
     {
         match self.root.take() {
             Some(entry) => Some(entry),
@@ -91,6 +92,7 @@ fn step<'a>(
     ensures next { MatchOption result
         ((left_below_root names.old above.old kids.old ≡ []) × (left_below_root names.new above.new kids.new ≡ []))
         (λ entry. left_below_root names.old above.old kids.old ≡ (lent_names names.new.items, entry.now) ∷ left_below_root names.new above.new kids.new) }
+    ensures keeps { take (length names.new.items - 1) (lent_names names.new.items) ≡ take (length names.new.items - 1) (lent_names names.old.items) }
 {
     loop {
         if let Some((name, kid)) = kids.next() {

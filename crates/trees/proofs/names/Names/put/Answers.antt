@@ -18,10 +18,10 @@ returns-in-Ok-clause-ok c =
 pub invariant_of-self-in-Err : goal.invariant_of-self-in-Err
 invariant_of-self-in-Err c =
     let goes = goes-of c.args.name.now c.as_slice.result.now c.self.inside.rows.items c.in-Err.at c.as_slice.ensures.value c.in-Err.ensures.absent in
-    sorted-from_keys _ (put-new c.args.name.now c.args.kid c.self.inside.rows.items c.insert.new.self.items c.in-Err.at c.self.invariant goes (c.in_ok-insert-in-Err.ensures.items ∙ (λ i. insert c.self.inside.rows.items c.in-Err.at (c.in_ok-copy-in-Err.ensures i, c.args.kid)))).rise
+    sorted-from_keys _ (put-new c.args.name.now c.args.kid c.self.inside.rows.items c.insert.new.self.items c.in-Err.at c.self.invariant goes (c.in_ok-insert-in-Err.ensures.items ∙ (λ i. insert (c.grow.ensures i) c.in-Err.at (c.in_ok-copy-in-Err.ensures i, c.args.kid)))).rise
 
 pub returns-in_ok-insert-in-Err-clause-ok : goal.returns-in_ok-insert-in-Err-clause-ok
 returns-in_ok-insert-in-Err-clause-ok c =
     let goes = goes-of c.args.name.now c.as_slice.result.now c.self.inside.rows.items c.in-Err.at c.as_slice.ensures.value c.in-Err.ensures.absent in
     put-from c.args.name.now c.args.kid c.self.inside.rows.items c.args.self.now _ c.self.view_is
-    (put-new c.args.name.now c.args.kid c.self.inside.rows.items c.insert.new.self.items c.in-Err.at c.self.invariant goes (c.in_ok-insert-in-Err.ensures.items ∙ (λ i. insert c.self.inside.rows.items c.in-Err.at (c.in_ok-copy-in-Err.ensures i, c.args.kid))))
+    (put-new c.args.name.now c.args.kid c.self.inside.rows.items c.insert.new.self.items c.in-Err.at c.self.invariant goes (c.in_ok-insert-in-Err.ensures.items ∙ (λ i. insert (c.grow.ensures i) c.in-Err.at (c.in_ok-copy-in-Err.ensures i, c.args.kid))))
