@@ -9,6 +9,7 @@ use crate::index::Index;
 use plain::{Memory, Text};
 use std::alloc::Global;
 use std::marker::Model;
+use std::mem;
 use trees::Tree;
 
 /// Contents of caches, in the order in which they came.
@@ -96,7 +97,7 @@ impl Contents {
     {
         match self.position_of(id, slot) {
             Some(at) => {
-                self.list[at].tree = tree;
+                drop(mem::replace(&mut self.list[at].tree, tree));
             }
             None => unreachable!(),
         }
