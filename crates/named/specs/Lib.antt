@@ -1,0 +1,2 @@
+pub mod PrivatePlaces
+pub mod Rows

@@ -1,0 +1,170 @@
+// The index beside a list of rows: the place of each by its name.
+
+ghost use Rattle.std.specs.Prelude.{◌≡◌, ◌+◌, ◌≤◌, ◌<◌, true, false, [], ◌∷◌, ◌++◌, length, IfSome, IfNone, OnOk, OnErr, vec_len, vec_capacity};
+ghost use Rattle.named.specs.Rows.{put_row, give_row, has_row};
+ghost use Rattle.named.specs.PrivatePlaces.{IsIndexed, IsPlace, IsPut, Grows, are_known, is_known};
+
+use plain::growth::add;
+use plain::{Memory, Text};
+use std::alloc::Global;
+use std::collections::BTreeMap;
+
+/// The places of rows by their names. It may know other names too, since a row is compared before it is found.
+pub(crate) type Places = BTreeMap<String, usize>;
+
+/// Whether the row of a name stands at a place.
+fn stands<V>(rows: &[(Text, V)], name: &str, place: usize) -> bool
+    ensures yes { result ≡ true → IsPlace rows.now name.now place }
+    ensures no { IsPlace rows.now name.now place → result ≡ true }
+{
+    match rows.get(place) {
+        Some((other, _)) => name == other.as_str(),
+        None => false,
+    }
+}
+
+/// The place of the row of a name.
+pub(crate) fn place<V>(rows: &[(Text, V)], places: &Places, name: &str) -> Option<usize>
+    requires indexed { IsIndexed rows.now places.now.entries }
+    ensures found { IfSome result (IsPlace rows.now name.now) }
+    ensures none { IfNone result (has_row name.now rows.now ≡ false) }
+{
+    let place = *places.get(name)?;
+    if stands(rows, name, place) {
+        Some(place)
+    } else {
+        None
+    }
+}
+
+/// Gives a name a place. After `Memory` the places are as they were.
+fn enter(alloc: Global, places: &mut Places, name: &str, place: usize) -> Result<(), Memory>
+    ensures ok { OnOk result (IsPut places.old.entries places.new.entries name.now place) }
+    ensures err { OnErr result (places.new.entries ≡ places.old.entries) }
+{
+    let key = String::from_str(alloc, name)?;
+    places.insert(key, place)?;
+    Ok(())
+}
+
+/// Gives a name that is known another place. It takes no memory.
+fn move_to(places: &mut Places, name: &str, place: usize)
+    requires known { is_known places.old.entries name.now ≡ true }
+    ensures { IsPut places.old.entries places.new.entries name.now place }
+{
+    *places.get_mut(name).unwrap() = place;
+}
+
+/// Adds a row whose name isn't there. After `Memory` the rows are as they were.
+pub(crate) fn push<V: Drop>(
+    alloc: Global,
+    rows: &mut Vec<(Text, V)>,
+    places: &mut Places,
+    name: Text,
+    value: V,
+) -> Result<(), Memory>
+    requires indexed { IsIndexed rows.old.items places.old.entries }
+    requires fresh { has_row name rows.old.items ≡ false }
+    ensures ok { OnOk result (rows.new.items ≡ rows.old.items ++ (name, value) ∷ []) }
+    ensures err { OnErr result (rows.new.items ≡ rows.old.items) }
+    ensures indexed { IsIndexed rows.new.items places.new.entries }
+{
+    rows.reserve(1)?;
+    enter(alloc, places, name.as_str(), rows.len())?;
+    add(rows, (name, value));
+    Ok(())
+}
+
+/// Makes the names of rows known, so that putting these takes no memory but that of the list.
+pub(crate) fn know_all<V, W>(
+    alloc: Global,
+    rows: &[(Text, V)],
+    places: &mut Places,
+    more: &[(Text, W)],
+) -> Result<(), Memory>
+    requires indexed { IsIndexed rows.now places.old.entries }
+    ensures indexed { IsIndexed rows.now places.new.entries }
+    ensures known { OnOk result (are_known places.new.entries more.now ≡ true) }
+{
+    for (name, _) in more {
+        know(alloc, rows, places, name.as_str())?;
+    }
+    Ok(())
+}
+
+/// Makes a name known.
+fn know<V>(
+    alloc: Global,
+    rows: &[(Text, V)],
+    places: &mut Places,
+    name: &str,
+) -> Result<(), Memory>
+    requires indexed { IsIndexed rows.now places.old.entries }
+    ensures indexed { IsIndexed rows.now places.new.entries }
+    ensures grows { Grows places.old.entries places.new.entries }
+    ensures known { OnOk result (is_known places.new.entries name.now ≡ true) }
+{
+    if places.contains_key(name) {
+        return Ok(());
+    }
+    enter(alloc, places, name, rows.len())
+}
+
+/// Adds a row whose name isn't there, but is known.
+fn append<V>(rows: &mut Vec<(Text, V)>, places: &mut Places, name: Text, value: V)
+    requires indexed { IsIndexed rows.old.items places.old.entries }
+    requires fresh { has_row name rows.old.items ≡ false }
+    requires known { is_known places.old.entries name ≡ true }
+    requires room { vec_len rows.old < vec_capacity rows.old }
+    ensures rows { rows.new.items ≡ rows.old.items ++ (name, value) ∷ [] }
+    ensures indexed { IsIndexed rows.new.items places.new.entries }
+    ensures grows { Grows places.old.entries places.new.entries }
+    ensures len { vec_len rows.new ≡ vec_len rows.old + 1 }
+    ensures capacity { vec_capacity rows.old ≤ vec_capacity rows.new }
+{
+    move_to(places, name.as_str(), rows.len());
+    add(rows, (name, value));
+}
+
+/// Puts a row whose name is known. It takes no memory.
+pub(crate) fn put<V: Drop>(rows: &mut Vec<(Text, V)>, places: &mut Places, name: Text, value: V)
+    requires indexed { IsIndexed rows.old.items places.old.entries }
+    requires known { is_known places.old.entries name ≡ true }
+    requires room { vec_len rows.old < vec_capacity rows.old }
+    ensures rows { rows.new.items ≡ put_row rows.old.items name value }
+    ensures indexed { IsIndexed rows.new.items places.new.entries }
+    ensures grows { Grows places.old.entries places.new.entries }
+    ensures len { vec_len rows.new ≤ vec_len rows.old + 1 }
+    ensures capacity { vec_capacity rows.old ≤ vec_capacity rows.new }
+{
+    match place(rows.as_slice(), places, name.as_str()) {
+        Some(place) => rows[place].1 = value,
+        None => append(rows, places, name, value),
+    }
+}
+
+/// Gives a row whose name is known. It takes no memory.
+pub(crate) fn give<V: Drop>(
+    rows: &mut Vec<(Text, Option<V>)>,
+    places: &mut Places,
+    name: Text,
+    value: Option<V>,
+)
+    requires indexed { IsIndexed rows.old.items places.old.entries }
+    requires known { is_known places.old.entries name ≡ true }
+    requires room { vec_len rows.old < vec_capacity rows.old }
+    ensures rows { rows.new.items ≡ give_row rows.old.items name value }
+    ensures indexed { IsIndexed rows.new.items places.new.entries }
+    ensures grows { Grows places.old.entries places.new.entries }
+    ensures len { vec_len rows.new ≤ vec_len rows.old + 1 }
+    ensures capacity { vec_capacity rows.old ≤ vec_capacity rows.new }
+{
+    match place(rows.as_slice(), places, name.as_str()) {
+        Some(place) => {
+            if value.is_some() {
+                rows[place].1 = value;
+            }
+        }
+        None => append(rows, places, name, value),
+    }
+}
