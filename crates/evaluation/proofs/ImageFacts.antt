@@ -1,8 +1,6 @@
 -- The images that are named: names are kept, and each has its tree.
 use Rattle.std.specs.Prelude.{◌≡◌, ◌≤◌, ◌+◌, ◌||◌, ℕ, Bool, true, false, cond, List, [], ◌∷◌, ◌++◌, Option, Some, None, option_map, length, map, nat_lt, bytes_eq, refl, if◌then◌else◌}
 use Rattle.std.specs.List.{All, list_any}
-use Rattle.std.specs.String.{string_bytes}
-use Rattle.std.specs.declared.string.String.{String}
 use Rattle.std.specs.Cmp.Lexicographic.{nat_list_cmp_total, texts_ties}
 use Rattle.std.specs.FinMap.{FinMap, empty, get, insert, remove, contains_key, len, get-empty, get-insert, get-remove, len-empty, len-insert}
 use Rattle.std.proofs.Common.{sym, ◌∙◌, ap, subst, arith, append_assoc, length-append}
@@ -12,6 +10,7 @@ use Rattle.std.proofs.lemmas.List.{append-nil}
 use Rattle.std.proofs.lemmas.Slice.Eq.{bytes_eq-Decides}
 use Rattle.std.proofs.lemmas.List.Elements.{All-nil, All-cons}
 use Rattle.std.proofs.lemmas.List.Folds.{list_any-append}
+use Rattle.named.specs.Rows.{add_row, has_row}
 use Rattle.plain.specs.Limits.{most_images}
 use Rattle.trees.specs.TreeMap.{TreeMap}
 use Rattle.llb.specs.declared.op.Source.TheVariants.{Scratch, Context, Image}
@@ -22,31 +21,26 @@ use Rattle.rows.specs.declared.row.Origin.{Origin}
 use Rattle.rows.specs.declared.row.Origin.TheVariants.{Source as SourceOf, Stage as StageOf}
 use Rattle.evaluation.specs.Images.{ImageNames, is_among, with_name, with_origin, with_origins, named_tree, AreSources}
 
--- a text that is added to a set of texts is a name that is added to theirs
+-- a row that is added to a set of names is a name that is added to theirs
 
-any_shown : {Z : Type 0} (ks : List (String Z)) (name : List ℕ) → list_any (λ k. bytes_eq name (string_bytes k)) ks ≡ is_among (map string_bytes ks) name
-any_shown [] name = refl
-any_shown (k ∷ ks) name = ap (λ b. bytes_eq name (string_bytes k) || b) (any_shown ks name)
+any_named : {V : Type 0} (rows : List (List ℕ × V)) (name : List ℕ) → has_row name rows ≡ is_among (map (λ row. row.0) rows) name
+any_named [] name = refl
+any_named (row ∷ rows) name = ap (λ b. bytes_eq name row.0 || b) (any_named rows name)
 
-map_push : {Z : Type 0} (ks : List (String Z)) (k : String Z) → map string_bytes (ks ++ k ∷ []) ≡ map string_bytes ks ++ string_bytes k ∷ []
-map_push [] k = refl
-map_push (l ∷ ks) k = ap (λ (ns : ImageNames). string_bytes l ∷ ns) (map_push ks k)
+names_push : {V : Type 0} (rows : List (List ℕ × V)) (row : List ℕ × V) → map (λ r. r.0) (rows ++ row ∷ []) ≡ map (λ r. r.0) rows ++ row.0 ∷ []
+names_push [] row = refl
+names_push (r ∷ rows) row = ap (λ (ns : ImageNames). r.0 ∷ ns) (names_push rows row)
 
-pub names_there : {Z : Type 0} (ks : List (String Z)) (name : List ℕ) → list_any (λ k. bytes_eq name (string_bytes k)) ks ≡ true → map string_bytes ks ≡ with_name (map string_bytes ks) name
-names_there ks name there = rw (sym (any_shown ks name) ∙ there) refl
+row_added : {V : Type 0} (rows : List (List ℕ × V)) (name : List ℕ) (value : V) → map (λ r. r.0) (add_row rows name value) ≡ with_name (map (λ r. r.0) rows) name
+row_added {V} rows name value = by (has_row name rows) ∙ ap (λ b. cond b (map (λ r. r.0) rows) (map (λ r. r.0) rows ++ name ∷ [])) (any_named rows name)
+  where
+    by : (b : Bool) → map (λ r. r.0) (cond b rows (rows ++ (name, value) ∷ [])) ≡ cond b (map (λ r. r.0) rows) (map (λ r. r.0) rows ++ name ∷ [])
+    by true = refl
+    by false = names_push rows (name, value)
 
-pub names_added : {Z : Type 0} (ks : List (String Z)) (key : String Z) (name : List ℕ) → string_bytes key ≡ name → list_any (λ k. bytes_eq name (string_bytes k)) ks ≡ false
-    → map string_bytes (ks ++ key ∷ []) ≡ with_name (map string_bytes ks) name
-names_added ks key name is none =
-    map_push ks key ∙ (ap (λ (n : List ℕ). map string_bytes ks ++ n ∷ []) is ∙ sym (rw (sym (any_shown ks name) ∙ none) refl))
-
-pub names_inserted : {Z : Type 0} (ks new : List (String Z)) (key : String Z) (name : List ℕ) → string_bytes key ≡ name
-    → list_any (λ k. bytes_eq (string_bytes key) (string_bytes k)) ks ≡ false
-    → new ≡ (if list_any (λ k. bytes_eq (string_bytes key) (string_bytes k)) ks then ks else ks ++ key ∷ [])
-    → map string_bytes new ≡ with_name (map string_bytes ks) name
-names_inserted ks new key name is none made =
-    ap (map string_bytes) (made ∙ ap (λ b. if b then ks else ks ++ key ∷ []) none)
-    ∙ names_added ks key name is (subst (λ (n : List ℕ). list_any (λ k. bytes_eq n (string_bytes k)) ks ≡ false) is none)
+pub name_added : {V : Type 0} (rows new : List (List ℕ × V)) (copied name : List ℕ) (value : V) (old : ImageNames) → new ≡ add_row rows copied value → copied ≡ name → map (λ r. r.0) rows ≡ old → map (λ r. r.0) new ≡ with_name old name
+name_added {V} rows new copied name value old made is view =
+    ap (λ (rs : List (List ℕ × V)). map (λ r. r.0) rs) made ∙ row_added rows copied value ∙ ap (λ (ns : ImageNames). with_name ns copied) view ∙ ap (with_name old) is
 
 -- names that are there stay, and those that are added are there
 

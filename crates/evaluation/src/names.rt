@@ -2,10 +2,10 @@ ghost use Rattle.std.specs.Prelude.{◌≡◌, [], length, nat_lt, IfOk, OnOk, O
 ghost use Rattle.plain.specs.Limits.{most_images};
 ghost use Rattle.evaluation.specs.Images.{with_name, with_origin, with_origins};
 
-use indexmap::IndexSet;
 use llb::Source;
+use named::{NamedRows, Present};
 use plain::limits::MOST_IMAGES;
-use plain::{Items, Memory, Text};
+use plain::{Exact, Items, Memory, Text};
 use rows::Origin;
 use std::alloc::Global;
 use std::marker::Model;
@@ -15,19 +15,18 @@ use std::marker::Model;
 /// Contracts see a list of them, each once, in the order in which they were named first.
 #[derive(Drop)]
 pub struct NamedImages {
-    names: IndexSet<String>,
+    names: NamedRows<Present>,
 }
 
 impl Model for NamedImages {
     ghost use Rattle.std.specs.Prelude.{List, ℕ, map};
     ghost use Rattle.std.specs.Coded.{coded_list, coded_ℕ};
-    ghost use Rattle.std.specs.String.{string_bytes};
 
     ghost Value = { List (List ℕ) };
 
     ghost coded = { coded_list (coded_list coded_ℕ) };
 
-    ghost view = { λ n. map string_bytes n.names.keys };
+    ghost view = { λ n. map (λ row. row.0) n.names };
 }
 
 impl NamedImages {
@@ -36,7 +35,7 @@ impl NamedImages {
         ensures { result ≡ [] }
     {
         NamedImages {
-            names: IndexSet::new(alloc),
+            names: NamedRows::new(alloc),
         }
     }
 
@@ -52,11 +51,7 @@ impl NamedImages {
         ensures ok { OnOk result (self.new ≡ with_name self.old name.now) }
         ensures err { OnErr result (self.new ≡ self.old) }
     {
-        if self.names.contains(name.as_str()) {
-            return Ok(());
-        }
-        let name = String::from_str(alloc, name.as_str())?;
-        self.names.insert(name)?;
+        self.names.add(alloc, name.copy(alloc)?, Present)?;
         Ok(())
     }
 
@@ -95,8 +90,8 @@ impl NamedImages {
     {
         let NamedImages { names } = self;
         let mut items = Items::new(alloc);
-        for name in names {
-            items.push(Text::from_string(name))?;
+        for (name, _) in names.into_rows().into_vec() {
+            items.push(name)?;
         }
         Ok(items)
     }

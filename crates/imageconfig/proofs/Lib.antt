@@ -1,4 +1,3 @@
-mod CopyFacts
 mod EnvLaws
 mod FloatFacts
 mod LawFacts

@@ -10,7 +10,9 @@ use Rattle.scopes.specs.Scope.{is_environment_name, names_differ, names_of as va
 use Rattle.imageconfig.specs.Environment.{IsEnvironment, row_of, variables_of}
 use Rattle.imageconfig.specs.Reading.{cut_row, if_they_differ}
 use Rattle.imageconfig.specs.Rows.{Row, names_of, put_row, put_rows, add_name}
-use Rattle.imageconfig.specs.PrivateRows.{has_row, add_rows}
+use Rattle.named.specs.Rows.{has_row}
+use Rattle.imageconfig.specs.PrivateRows.{add_rows}
+use Rattle.imageconfig.proofs.RowFacts.{names-put}
 
 both : (a b : Bool) → a ≡ true → b ≡ true → (a && b) ≡ true
 both true b h i = i
@@ -25,20 +27,6 @@ is_off false h = refl
 
 neither : (a b : Bool) → a ≡ false → b ≡ false → (a || b) ≡ false
 neither a b h i = rw (h, i) refl
-
--- a row that is put adds its name, unless it is there
-pub names-put : (rows : List Row) (name value : List ℕ) → names_of (put_row rows name value) ≡ add_name (names_of rows) name
-names-put [] name value = refl
-names-put (row ∷ rows) name value = by (bytes_eq name row.0) (names-put rows name value)
-  where
-    by : (b : Bool) → names_of (put_row rows name value) ≡ cond (list_any (bytes_eq name) (names_of rows)) (names_of rows) (names_of rows ++ name ∷ [])
-        → names_of (cond b ((row.0, value) ∷ rows) (row ∷ put_row rows name value)) ≡ cond (b || list_any (bytes_eq name) (names_of rows)) (row.0 ∷ names_of rows) (row.0 ∷ names_of rows ++ name ∷ [])
-    by true h = refl
-    by false h = ap (λ (ns : List (List ℕ)). row.0 ∷ ns) h ∙ inside (list_any (bytes_eq name) (names_of rows))
-      where
-        inside : (b : Bool) → row.0 ∷ cond b (names_of rows) (names_of rows ++ name ∷ []) ≡ cond b (row.0 ∷ names_of rows) (row.0 ∷ names_of rows ++ name ∷ [])
-        inside true = refl
-        inside false = refl
 
 any-snoc : (n : List ℕ) (ns : List (List ℕ)) (m : List ℕ) → list_any (bytes_eq n) ns ≡ false → bytes_eq n m ≡ false → list_any (bytes_eq n) (ns ++ m ∷ []) ≡ false
 any-snoc n [] m h i = rw i refl

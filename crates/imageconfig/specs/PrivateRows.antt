@@ -1,17 +1,11 @@
--- What maps are seen as, and how rows are taken one after another where no name may be there twice.
-use Rattle.std.specs.Prelude.{ℕ, Bool, List, [], ◌∷◌, ◌++◌, map, Option, Some, None, bytes_eq, if◌then◌else◌}
-use Rattle.std.specs.List.{list_any}
-use Rattle.std.specs.String.{string_bytes}
-use Rattle.std.specs.declared.string.String.{String}
+-- What a set of names is seen as, and how rows are taken one after another where no name may be there twice.
+use Rattle.std.specs.Prelude.{ℕ, List, [], ◌∷◌, ◌++◌, map, Option, Some, None, if◌then◌else◌}
+use Rattle.named.specs.Rows.{has_row}
 use Rattle.imageconfig.specs.Rows.{Row}
 
--- the rows that entries are seen as
-abbrev pub rows_of : {Z : Type 0} → List (String Z × List ℕ) → List Row
-rows_of entries = map (λ e. (string_bytes e.0, e.1)) entries
-
--- a row has the name
-abbrev pub has_row : List ℕ → List Row → Bool
-has_row name rows = list_any (λ row. bytes_eq name row.0) rows
+-- the names of rows, whatever their values
+abbrev pub of_names : {V : Type 0} → List (List ℕ × V) → List (List ℕ)
+of_names rows = map (λ row. row.0) rows
 
 -- rows with more of them, where none has a name that is there
 abbrev pub add_rows : List Row → List Row → Option (List Row)

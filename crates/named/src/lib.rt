@@ -3,7 +3,7 @@
 // A Dockerfile and an image's file choose their names freely, and may have hundreds of thousands. So a name is found by an order of the names and by no
 // hash: with a hash of a seed that is known, names could be chosen that all meet in one place, and each would then be compared with all before it.
 //
-// `NamedRows<V>` is such a list, which contracts see as its rows. A set of names is one whose values are `()`. Nothing is taken out of it. What a row
+// `NamedRows<V>` is such a list, which contracts see as its rows. A set of names is one whose values are `Present`. Nothing is taken out of it. What a row
 // means is said by the crates that use it. The central definition is `put_row`.
 //
 // ```
@@ -16,6 +16,8 @@
 #![tactic(auto)]
 
 mod places;
+mod present;
 mod rows;
 
+pub use present::Present;
 pub use rows::NamedRows;

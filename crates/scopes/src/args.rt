@@ -2,7 +2,7 @@ ghost use Rattle.std.specs.Prelude.{◌≡◌, Option, OnOk, OnErr, option_map};
 ghost use Rattle.std.specs.FinMap as map;
 
 use expand::Lookup;
-use indexmap::IndexMap;
+use named::NamedRows;
 use plain::{Memory, Text};
 use std::alloc::Global;
 use std::marker::Model;
@@ -12,7 +12,7 @@ use std::marker::Model;
 /// Contracts see a finite map from names to values.
 #[derive(Drop)]
 pub struct Args {
-    values: IndexMap<String, Text>,
+    values: NamedRows<Text>,
 }
 
 impl Model for Args {
@@ -33,7 +33,7 @@ impl Args {
         ensures { result ≡ map.empty }
     {
         Args {
-            values: IndexMap::new(alloc),
+            values: NamedRows::new(alloc),
         }
     }
 
@@ -42,11 +42,10 @@ impl Args {
         ensures ok { OnOk result (self.new ≡ map.insert self.old name.now value.now) }
         ensures err { OnErr result (self.new ≡ self.old) }
     {
-        let name = String::from_str(alloc, name)?;
+        let name = Text::from_str(alloc, name)?;
         let copied = Text::from_str(alloc, value)?;
         let value = copied.shared(alloc)?;
-        self.values.insert(name, value)?;
-        Ok(())
+        self.values.set(alloc, name, value)
     }
 
     /// The value of a name; none where it has none.

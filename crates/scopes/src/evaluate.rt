@@ -2,12 +2,10 @@ ghost use Rattle.std.specs.Prelude.{◌≡◌, map, None, IfOk};
 ghost use Rattle.std.specs.FinMap.{get as arg_value};
 ghost use Rattle.expand.specs.Expanding.{unexpanded, worse};
 ghost use Rattle.scopes.specs.Scope.{or_else, value_in};
-ghost use Rattle.scopes.specs.Evaluate.{assigned_variable, declaration_of, env_variables, env_fault, arg_line, arg_fault, fallback, default_fault, Says};
-ghost use Rattle.scopes.specs.PrivateEvaluate.{IsLonger};
-ghost use Rattle.scopes.specs.declared.declaration.Declaration.TheVariants.{Arg};
+ghost use Rattle.scopes.specs.Evaluate.{assigned_variable, env_variables, env_fault, arg_fault, fallback, default_fault, Says};
+ghost use Rattle.scopes.specs.PrivateEvaluate.{IsLonger, row_of, argument_row};
 
 use crate::args::Args;
-use crate::declaration::Declaration;
 use crate::scope::Scope;
 use expand::{ExpandFault, Unexpanded, expand_next};
 use instructions::{Argument, Assignment};
@@ -67,39 +65,39 @@ fn assigned(
     Ok(Setting { variables, fault })
 }
 
-/// Variables as ENVs, whose copies share the bytes of the values.
-pub(crate) fn variable_declarations(
+/// Names with the values that variables give them. Whoever takes a copy of a value shares its bytes.
+pub(crate) fn variable_rows(
     alloc: Global,
     variables: &[Variable],
-) -> Result<Items<Declaration>, Memory>
-    ensures { IfOk result (λ line. line ≡ map declaration_of variables.now) }
+) -> Result<Items<(Text, Text)>, Memory>
+    ensures { IfOk result (λ rows. rows ≡ map row_of variables.now) }
 {
-    let mut line = Items::new(alloc);
+    let mut rows = Items::new(alloc);
     for variable in variables {
         let name = variable.name.copy(alloc)?;
         let value = variable.value.copy(alloc)?;
         let value = value.shared(alloc)?;
-        line.push(Declaration::Env { name, value })?;
+        rows.push((name, value))?;
     }
-    Ok(line)
+    Ok(rows)
 }
 
 /// What an ARG line says so far, and what is against its texts: if something is, what it says doesn't count.
 #[derive(Drop)]
 pub(crate) struct Saying {
-    pub(crate) line: Items<Declaration>,
+    pub(crate) line: Items<(Text, Option<Text>)>,
     pub(crate) fault: Option<Unexpanded>,
 }
 
 /// What an ARG line says under the scope before it, unless something is against its defaults that count.
-pub(crate) fn argument_declarations(
+pub(crate) fn argument_rows(
     alloc: Global,
     arguments: &[Argument],
     before: &Scope,
     args: &Args,
     outer: &Scope,
-) -> Result<Items<Declaration>, ExpandFault>
-    ensures { Says (arg_line (value_in before.now) (arg_value args.now) (value_in outer.now) arguments.now) (arg_fault (value_in before.now) (arg_value args.now) arguments.now) result }
+) -> Result<Items<(Text, Option<Text>)>, ExpandFault>
+    ensures { Says (map (argument_row (value_in before.now) (arg_value args.now) (value_in outer.now)) arguments.now) (arg_fault (value_in before.now) (arg_value args.now) arguments.now) result }
 {
     let mut saying = Saying {
         line: Items::new(alloc),
@@ -127,12 +125,12 @@ fn argued(
     args: &Args,
     outer: &Scope,
 ) -> Result<Saying, Memory>
-    ensures { IfOk result (λ more. IsLonger saying.line saying.fault (Arg argument.now.name (or_else (arg_value args.now argument.now.name) (fallback (value_in before.now) (value_in outer.now argument.now.name) argument.now.default))) (default_fault (value_in before.now) (arg_value args.now argument.now.name) argument.now.default) more.line more.fault) }
+    ensures { IfOk result (λ more. IsLonger saying.line saying.fault (argument_row (value_in before.now) (arg_value args.now) (value_in outer.now) argument.now) (default_fault (value_in before.now) (arg_value args.now argument.now.name) argument.now.default) more.line more.fault) }
 {
     let Saying { mut line, fault } = saying;
     let name = argument.name.copy(alloc)?;
     let (value, fault) = argument_value(alloc, argument, before, args, outer, fault)?;
-    line.push(Declaration::Arg { name, value })?;
+    line.push((name, value))?;
     Ok(Saying { line, fault })
 }
 

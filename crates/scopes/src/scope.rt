@@ -4,15 +4,15 @@ ghost use Rattle.std.specs.FinMap.{get as arg_value};
 ghost use Rattle.ascii.specs.Names.{is_name};
 ghost use Rattle.instructions.specs.Instruction.{assignment_names};
 ghost use Rattle.scopes.specs.Scope.{value_in, kept, run_env, names_of, is_environment_name};
+ghost use Rattle.scopes.specs.PrivateMaps.{env_row_of, arg_row_of};
 ghost use Rattle.scopes.specs.Evaluate.{declaration_of, env_variables, env_fault, arg_line, arg_fault, Says, Declares};
 
 use crate::args::Args;
-use crate::declaration::Declaration;
-use crate::evaluate::{argument_declarations, assigned_variables, variable_declarations};
-use crate::maps::{env_count, listed, push_arguments, push_variables, put_all, with_keys};
+use crate::evaluate::{argument_rows, assigned_variables, variable_rows};
+use crate::maps::{push_arguments, push_variables};
 use expand::{ExpandFault, Lookup};
-use indexmap::IndexMap;
 use instructions::{Argument, Assignment};
+use named::NamedRows;
 use plain::{Items, Memory, Text, Variable};
 use std::alloc::Global;
 use std::marker::Model;
@@ -23,8 +23,8 @@ use std::marker::Model;
 /// names came first, then an ARG for each name that one has declared, in the order in which these were first declared.
 #[derive(Drop)]
 pub struct Scope {
-    variables: IndexMap<String, Text>,
-    arguments: IndexMap<String, Option<Text>>,
+    variables: NamedRows<Text>,
+    arguments: NamedRows<Option<Text>>,
 }
 
 impl Model for Scope {
@@ -36,9 +36,9 @@ impl Model for Scope {
     ghost use Rattle.scopes.specs.Scope.{kept, value_in};
     ghost use Rattle.scopes.specs.PrivateMaps.{declared};
 
-    ghost view = { λ s. declared s.variables.entries s.arguments.entries };
+    ghost view = { λ s. declared s.variables s.arguments };
 
-    ghost invariant = { λ s. kept (declared s.variables.entries s.arguments.entries) ≡ declared s.variables.entries s.arguments.entries };
+    ghost invariant = { λ s. kept (declared s.variables s.arguments) ≡ declared s.variables s.arguments };
 }
 
 impl Scope {
@@ -47,8 +47,8 @@ impl Scope {
         ensures { result ≡ [] }
     {
         Scope {
-            variables: IndexMap::new(alloc),
-            arguments: IndexMap::new(alloc),
+            variables: NamedRows::new(alloc),
+            arguments: NamedRows::new(alloc),
         }
     }
 
@@ -68,8 +68,8 @@ impl Scope {
     ) -> Result<(), ExpandFault>
         ensures { Declares self.old (arg_line (value_in self.old) (arg_value args.now) (value_in outer.now) arguments.now) (arg_fault (value_in self.old) (arg_value args.now) arguments.now) self.new result }
     {
-        let line = argument_declarations(alloc, arguments, self, args, outer)?;
-        self.add(alloc, line)?;
+        let rows = argument_rows(alloc, arguments, self, args, outer)?;
+        self.give(alloc, rows)?;
         Ok(())
     }
 
@@ -96,23 +96,24 @@ impl Scope {
         ensures ok { OnOk result (self.new ≡ kept (self.old ++ map declaration_of variables.now)) }
         ensures err { OnErr result (self.new ≡ self.old) }
     {
-        let line = variable_declarations(alloc, variables)?;
-        self.add(alloc, line)
+        let rows = variable_rows(alloc, variables)?;
+        self.set(alloc, rows)
     }
 
-    /// Adds declarations. After `Memory` the scope is as it was.
-    fn add(&mut self, alloc: Global, line: Items<Declaration>) -> Result<(), Memory>
-        ensures ok { OnOk result (self.new ≡ kept (self.old ++ line)) }
+    /// Adds an ENV for each row. After `Memory` the scope is as it was.
+    fn set(&mut self, alloc: Global, rows: Items<(Text, Text)>) -> Result<(), Memory>
+        ensures ok { OnOk result (self.new ≡ kept (self.old ++ map env_row_of rows)) }
         ensures err { OnErr result (self.new ≡ self.old) }
     {
-        let line = line.into_vec();
-        let variables = env_count(line.as_slice());
-        let arguments = line.len() - variables;
-        let line = with_keys(alloc, line)?;
-        self.variables.reserve(variables)?;
-        self.arguments.reserve(arguments)?;
-        put_all(&mut self.variables, &mut self.arguments, line);
-        Ok(())
+        self.variables.set_all(alloc, rows)
+    }
+
+    /// Adds an ARG for each row. After `Memory` the scope is as it was.
+    fn give(&mut self, alloc: Global, rows: Items<(Text, Option<Text>)>) -> Result<(), Memory>
+        ensures ok { OnOk result (self.new ≡ kept (self.old ++ map arg_row_of rows)) }
+        ensures err { OnErr result (self.new ≡ self.old) }
+    {
+        self.arguments.give_all(alloc, rows)
     }
 
     /// The value of a name: that of its last ENV, else of the last ARG that gives it one; none where it is unset.
@@ -132,8 +133,8 @@ impl Scope {
         ensures { IfOk result (λ rows. rows ≡ run_env self.now) }
     {
         let mut rows = Items::new(alloc);
-        push_variables(alloc, &mut rows, &self.variables)?;
-        push_arguments(alloc, &mut rows, &self.arguments, &self.variables)?;
+        push_variables(alloc, &mut rows, self.variables.as_slice())?;
+        push_arguments(alloc, &mut rows, self.arguments.as_slice(), &self.variables)?;
         Ok(rows)
     }
 
@@ -141,10 +142,12 @@ impl Scope {
     pub fn copy(&self, alloc: Global) -> Result<Scope, Memory>
         ensures { IfOk result (λ copied. copied ≡ self.now) }
     {
-        let line = listed(alloc, &self.variables, &self.arguments)?;
-        let mut copied = Scope::new(alloc);
-        copied.add(alloc, line)?;
-        Ok(copied)
+        let variables = self.variables.copy(alloc)?;
+        let arguments = self.arguments.copy(alloc)?;
+        Ok(Scope {
+            variables,
+            arguments,
+        })
     }
 }
 

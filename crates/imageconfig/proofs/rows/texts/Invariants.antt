@@ -1,8 +1,7 @@
-use Rattle.std.proofs.Common.{◌≡◌, ◌++◌, map}
+use Rattle.std.proofs.Common.{◌≡◌, ◌++◌, map, drop}
 use Rattle.serde_json.specs.View.{view}
-use Rattle.imageconfig.specs.PrivateRows.{rows_of}
 use Rattle.imageconfig.specs.Writing.{variable_data}
 use Rattle.imageconfig.proofs.rows.texts.Given as goal
 
 abbrev pub invariant-loop-name : goal.invariant-loop-name
-invariant-loop-name l = map view l.values.items ++ map variable_data (rows_of l.name-iterator) ≡ map variable_data (rows_of l.initial.name-iterator)
+invariant-loop-name l = map view l.values.items ++ map variable_data (drop l.name-index l.rows) ≡ map variable_data l.rows

@@ -5,4 +5,4 @@ use Rattle.scopes.proofs.ArgLemmas.{get-args_of}
 use Rattle.scopes.proofs.args.Args.get.Goals as goal
 
 pub returns : goal.returns
-returns c = c.get.ensures.value ∙ sym (get-args_of c.args.name.now c.self.inside.values.entries) ∙ ap (λ (m : BuildArguments). get m c.args.name.now) c.self.view_is
+returns c = c.get.ensures ∙ sym (get-args_of c.args.name.now c.self.inside.values) ∙ ap (λ (m : BuildArguments). get m c.args.name.now) c.self.view_is
