@@ -93,12 +93,7 @@ pub(crate) fn know_all<V, W>(
 }
 
 /// Makes a name known.
-fn know<V>(
-    alloc: Global,
-    rows: &[(Text, V)],
-    places: &mut Places,
-    name: &str,
-) -> Result<(), Memory>
+fn know<V>(alloc: Global, rows: &[(Text, V)], places: &mut Places, name: &str) -> Result<(), Memory>
     requires indexed { IsIndexed rows.now places.old.entries }
     ensures indexed { IsIndexed rows.now places.new.entries }
     ensures grows { Grows places.old.entries places.new.entries }

@@ -126,7 +126,12 @@ impl<V: Drop> NamedRows<V> {
     {
         let more = more.into_vec();
         room(&mut self.rows, more.len())?;
-        know_all(alloc, self.rows.as_slice(), &mut self.places, more.as_slice())?;
+        know_all(
+            alloc,
+            self.rows.as_slice(),
+            &mut self.places,
+            more.as_slice(),
+        )?;
         put_all(&mut self.rows, &mut self.places, more);
         Ok(())
     }
@@ -141,7 +146,12 @@ impl<V: Drop> NamedRows<Option<V>> {
     {
         let more = more.into_vec();
         room(&mut self.rows, more.len())?;
-        know_all(alloc, self.rows.as_slice(), &mut self.places, more.as_slice())?;
+        know_all(
+            alloc,
+            self.rows.as_slice(),
+            &mut self.places,
+            more.as_slice(),
+        )?;
         give_each(&mut self.rows, &mut self.places, more);
         Ok(())
     }
