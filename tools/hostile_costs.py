@@ -9,7 +9,7 @@ import time
 
 from hostile_inputs import PLAIN, Spelled, bundle_of, lines_of, nested
 
-# the hasher of the maps' tables: its first state, and what it multiplies by
+# the hasher of the toolchain's tables, in which names stood once: its first state, and what it multiplies by
 STATE = 0x243F6A8885A308D3
 MULTIPLIER = 0x9E3779B97F4A7C15
 LETTERS = "abcdefghijklmnopqrstuvwxyzABCDEFGHIJKLMNOPQRSTUVWXYZ_0123456789"
@@ -40,7 +40,7 @@ def files(names, text=""):
 
 
 def env_names(count):
-    """Variables on one line whose names meet in the map's table."""
+    """Variables on one line whose names have one hash of the toolchain's tables, in which they stood once."""
     return bundle_of(lines_of("ENV " + " ".join(name + "=" for name in names_that_meet(count))))
 
 
