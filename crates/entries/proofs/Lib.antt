@@ -5,3 +5,4 @@ pub mod ApartFacts
 mod FingerprintFacts
 pub mod WrittenFacts
 mod PrintingFacts
+mod HeldFacts

@@ -4,6 +4,7 @@ pub mod PrivateDigits
 pub mod Listing
 pub mod PrivateOrder
 pub mod PrivateFingerprint
+pub mod PrivateFront
 pub mod PrivateSought
 pub mod Whole
 pub mod Written

@@ -13,6 +13,7 @@
 mod apart;
 mod digits;
 mod fingerprint;
+mod front;
 pub mod laws;
 mod listing;
 mod printing;

@@ -3,14 +3,16 @@ ghost use Rattle.std.specs.Char.{digit_char};
 ghost use Rattle.std.specs.List.{list_all};
 ghost use Rattle.hex.specs.Hex.{encode_lower};
 ghost use Rattle.json.specs.Print.{escape, escape_byte, escape_letter};
-ghost use Rattle.paths.specs.Path.{text_of};
+ghost use Rattle.paths.specs.Path.{text_of, rooted};
 ghost use Rattle.counted.specs.Gathering.{sink, Says, HasRoom};
 ghost use Rattle.serde_json.specs.Written.{comma_if, compact_text};
 ghost use Rattle.trees.specs.declared.entry.Entry.TheVariants.{Directory, File};
 ghost use Rattle.trees.specs.Rows.{lent_names};
 ghost use Rattle.entries.specs.Written.{mode_text, entry_data, tree_data};
 ghost use Rattle.entries.specs.PrivatePrinting.{is_plain, end_text, entry_text};
+ghost use Rattle.entries.specs.PrivateFront.{HoldsNames};
 
+use crate::front::PathFront;
 use crate::writing::octal_digit;
 use counted::{CountedWrite, Gathered, gather};
 use itoa::Buffer;
@@ -36,9 +38,11 @@ pub fn put_tree<W: CountedWrite>(output: &mut W, gathered: &mut Gathered, walk: 
 {
     gather(output, gathered, b"[");
     let mut walk = walk;
+    let mut front = PathFront::none();
     let mut later = false;
     while let Some(entry) = walk.next() {
-        put_row(output, gathered, later, walk.names(), entry);
+        front.go_to(walk.names());
+        put_row(output, gathered, later, &front, walk.names(), entry);
         later = true;
     }
     gather(output, gathered, b"]");
@@ -50,9 +54,11 @@ fn put_row<W: CountedWrite>(
     output: &mut W,
     gathered: &mut Gathered,
     later: bool,
+    front: &PathFront,
     names: &[&Text],
     entry: &Entry,
 )
+    requires held { HoldsNames (lent_names names.now) front.now.names front.now }
     requires room { HasRoom (W.failures output.old) gathered.old }
     ensures says { Says
         (sink (W.contents output.old) (W.failures output.old) gathered.old)
@@ -61,9 +67,17 @@ fn put_row<W: CountedWrite>(
     ensures room { HasRoom (W.failures output.new) gathered.new }
 {
     match entry {
-        Entry::Directory(meta) => put_directory(output, gathered, later, names, *meta),
+        Entry::Directory(meta) => put_directory(output, gathered, later, front, names, *meta),
         Entry::File(meta, content) => {
-            put_file(output, gathered, later, names, *meta, content.as_slice());
+            put_file(
+                output,
+                gathered,
+                later,
+                front,
+                names,
+                *meta,
+                content.as_slice(),
+            );
         }
     }
 }
@@ -73,9 +87,11 @@ fn put_directory<W: CountedWrite>(
     output: &mut W,
     gathered: &mut Gathered,
     later: bool,
+    front: &PathFront,
     names: &[&Text],
     meta: Meta,
 )
+    requires held { HoldsNames (lent_names names.now) front.now.names front.now }
     requires room { HasRoom (W.failures output.old) gathered.old }
     ensures says { Says
         (sink (W.contents output.old) (W.failures output.old) gathered.old)
@@ -87,7 +103,7 @@ fn put_directory<W: CountedWrite>(
     gather(output, gathered, directory_start(later));
     put_number(output, gathered, meta.gid);
     gather(output, gathered, b",\"mode\":\"");
-    put_end(output, gathered, names, meta);
+    put_end(output, gathered, front, names, meta);
 }
 
 /// What a directory's text begins with, and the comma before a later one.
@@ -106,10 +122,12 @@ fn put_file<W: CountedWrite>(
     output: &mut W,
     gathered: &mut Gathered,
     later: bool,
+    front: &PathFront,
     names: &[&Text],
     meta: Meta,
     bytes: &[u8],
 )
+    requires held { HoldsNames (lent_names names.now) front.now.names front.now }
     requires room { HasRoom (W.failures output.old) gathered.old }
     ensures says { Says
         (sink (W.contents output.old) (W.failures output.old) gathered.old)
@@ -123,7 +141,7 @@ fn put_file<W: CountedWrite>(
     gather(output, gathered, b",\"hex\":\"");
     put_hex(output, gathered, bytes);
     gather(output, gathered, b"\",\"mode\":\"");
-    put_end(output, gathered, names, meta);
+    put_end(output, gathered, front, names, meta);
 }
 
 /// What a file's text begins with, and the comma before a later one.
@@ -134,7 +152,14 @@ fn file_start(later: bool) -> &'static [u8]
 }
 
 /// Says what directories and files end with: the mode's digits, path and user.
-fn put_end<W: CountedWrite>(output: &mut W, gathered: &mut Gathered, names: &[&Text], meta: Meta)
+fn put_end<W: CountedWrite>(
+    output: &mut W,
+    gathered: &mut Gathered,
+    front: &PathFront,
+    names: &[&Text],
+    meta: Meta,
+)
+    requires held { HoldsNames (lent_names names.now) front.now.names front.now }
     requires room { HasRoom (W.failures output.old) gathered.old }
     ensures says { Says
         (sink (W.contents output.old) (W.failures output.old) gathered.old)
@@ -143,7 +168,7 @@ fn put_end<W: CountedWrite>(output: &mut W, gathered: &mut Gathered, names: &[&T
     ensures room { HasRoom (W.failures output.new) gathered.new }
 {
     put_mode_and_path_key(output, gathered, meta.mode);
-    put_names(output, gathered, names);
+    front.put_path(output, gathered, names);
     gather(output, gathered, b"\",\"uid\":");
     put_number(output, gathered, meta.uid);
     gather(output, gathered, b"}");
@@ -231,19 +256,15 @@ fn put_digits<W: CountedWrite>(output: &mut W, gathered: &mut Gathered, piece: &
     gather(output, gathered, digits);
 }
 
-/// Says the text of the path of these names as it stands in a JSON string.
-fn put_names<W: CountedWrite>(output: &mut W, gathered: &mut Gathered, names: &[&Text])
+/// Says names, each behind its `/`, as they stand in a JSON string.
+pub(crate) fn put_names<W: CountedWrite>(output: &mut W, gathered: &mut Gathered, names: &[&Text])
     requires room { HasRoom (W.failures output.old) gathered.old }
     ensures says { Says
         (sink (W.contents output.old) (W.failures output.old) gathered.old)
         (sink (W.contents output.new) (W.failures output.new) gathered.new)
-        (escape (text_of (lent_names names.now))) }
+        (escape (rooted (lent_names names.now))) }
     ensures room { HasRoom (W.failures output.new) gathered.new }
 {
-    if names.is_empty() {
-        gather(output, gathered, b"/");
-        return;
-    }
     for name in names {
         put_name(output, gathered, name.as_str().as_bytes());
     }
@@ -330,7 +351,7 @@ fn hex_digit(digit: u8) -> u8
 }
 
 /// Whether each byte stands for itself in a JSON string.
-fn is_plain_text(bytes: &[u8]) -> bool
+pub(crate) fn is_plain_text(bytes: &[u8]) -> bool
     ensures { result ≡ list_all is_plain bytes.now }
 {
     bytes.iter().all(|byte| is_plain(*byte))

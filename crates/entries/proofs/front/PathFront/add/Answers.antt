@@ -1,0 +1,19 @@
+use Rattle.std.proofs.Common.{◌≡◌, ◌+◌, ◌<◌, ◌≤◌, true, length, get_or, sym, ◌∙◌, arith, rules}
+use Rattle.std.specs.List.{list_all}
+use Rattle.entries.specs.PrivatePrinting.{is_plain}
+use Rattle.entries.proofs.PrintingFacts.{escape-plain}
+use Rattle.entries.proofs.HeldFacts.{holds-more}
+use Rattle.entries.proofs.front.PathFront.add.Goals as goal
+
+pub returns : goal.returns
+returns c =
+    let front = c.args.self.now in
+    let bytes = c.as_bytes-name.result.now in
+    let plain : list_all is_plain bytes ≡ true = first_of (search rules, grind (arith)) in
+    let begin = get_or front.ends front.names 0 in
+    let inside : begin ≤ 4096 = c.requires.holds.inside in
+    let room : front.names < 65 = c.requires.holds.room in
+    let other : front.names + 1 < 65 = first_of (omega arith, grind (arith)) in
+    let fits : begin + 1 + length bytes ≤ 4096 = first_of (omega arith, grind (arith)) in
+    holds-more c.args.names.now front c.index-names-self.result bytes c.write_at.new.text c.write_at-2.new.text c.requires.holds c.requires.more
+    (first_of (search rules, grind (arith))) (c.as_bytes-name.ensures.value ∙ c.as_str.ensures) (escape-plain bytes plain) other fits c.write_at.ensures.front c.write_at.ensures.long c.write_at-2.ensures.front c.write_at-2.ensures.long
