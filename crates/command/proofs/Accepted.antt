@@ -10,7 +10,7 @@ use Rattle.clap.specs.Kinds.{HasKind, Kinds, or_else}
 use Rattle.clap.specs.declared.error.Error.{Error}
 use Rattle.clap.specs.Faults.{check_fault, defaults_fault, entered_fault, level_fault, settle_fault, walk_fault}
 use Rattle.std.specs.Option.{option_map_or}
-use Rattle.std.specs.Prelude.{option_and_then, option_map, unwrap_or, slice_index_or, not, ◌||◌, ◌==◌}
+use Rattle.std.specs.Prelude.{option_map, unwrap_or, slice_index_or, not, ◌||◌, ◌==◌}
 use Rattle.clap.specs.Lexer.{without_minus}
 use Rattle.clap.specs.Values.{IsSignedIn}
 use Rattle.clap.specs.Walk.{answers_to, finished, nothing_held, settled, walk, walk_from}

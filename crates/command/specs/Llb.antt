@@ -26,20 +26,26 @@ after_slash text = after_first (λ c. c == 47) text
 abbrev pub has_no_slash : Text → Bool
 has_no_slash text = position_or_len (λ c. c == 47) text == length text
 
--- the names of a platform: of its parts the variant alone may be empty, and none has a `/`
-abbrev pub are_names : Text → Text → Text → Bool
-are_names os architecture variant = not (length os == 0) && (not (length architecture == 0) && has_no_slash variant)
+-- The end of a platform's text, after its OS, where the second text is what stands after the first `/` of that: there is no `/`, or a variant without
+-- one. A `/` with nothing after it ends no platform.
+abbrev pub ends_platform : Text → Text → Bool
+ends_platform rest variant = if length variant == 0 then has_no_slash rest else has_no_slash variant
+
+-- the names of a platform: neither the OS nor the architecture is empty, and after them the text ends
+abbrev pub are_names : Text → Text → Text → Text → Bool
+are_names os rest architecture variant = not (length os == 0) && (not (length architecture == 0) && ends_platform rest variant)
 
 abbrev pub platform_with : Text → Text → Text → PlatformName
 platform_with os architecture variant = record { os = os; architecture = architecture; variant = variant }
 
--- the platform of these names
-abbrev pub platform_of_names : Text → Text → Text → Option PlatformName
-platform_of_names os architecture variant = if are_names os architecture variant then Some (platform_with os architecture variant) else None
+-- the platform of these names, where the second is what stands after the OS
+abbrev pub platform_of_names : Text → Text → Text → Text → Option PlatformName
+platform_of_names os rest architecture variant = if are_names os rest architecture variant then Some (platform_with os architecture variant) else None
 
 -- the platform of a text `OS/ARCH` or `OS/ARCH/VARIANT`
 abbrev pub platform_named : Text → Option PlatformName
-platform_named text = platform_of_names (before_slash text) (before_slash (after_slash text)) (after_slash (after_slash text))
+platform_named text =
+    platform_of_names (before_slash text) (after_slash text) (before_slash (after_slash text)) (after_slash (after_slash text))
 
 -- the platform that the matches hold, or the usual one
 abbrev pub platform_of : List Row → Option PlatformName

@@ -1,7 +1,7 @@
 // What the matches of `llb` ask for.
 ghost use Rattle.std.specs.Prelude.{◌≡◌, IfOk, codes, unwrap_or};
 ghost use Rattle.clap.specs.Words.{first_of, found_of, rows_of};
-ghost use Rattle.command.specs.Llb.{after_slash, are_names, before_slash, llb_of, network_named, network_of, platform_named, platform_of};
+ghost use Rattle.command.specs.Llb.{after_slash, are_names, before_slash, ends_platform, llb_of, network_named, network_of, platform_named, platform_of};
 
 use crate::commands::{BUNDLE, DEFAULT_NETWORK, DEFAULT_PLATFORM, NETWORK, PLATFORM, UNIQUE};
 use crate::reading::text_of;
@@ -79,7 +79,7 @@ fn platform_named(alloc: Global, text: &str) -> Result<Option<PlatformName>, All
 {
     let (os, rest) = cut_at_slash(text);
     let (architecture, variant) = cut_at_slash(rest);
-    if !are_names(os, architecture, variant) {
+    if !are_names(os, rest, architecture, variant) {
         return Ok(None);
     }
     let os = String::from_str(alloc, os)?;
@@ -92,11 +92,19 @@ fn platform_named(alloc: Global, text: &str) -> Result<Option<PlatformName>, All
     }))
 }
 
-/// Whether these are the names of a platform: of its parts the variant alone may be empty.
-fn are_names(os: &str, architecture: &str, variant: &str) -> bool
-    ensures { result ≡ are_names os.now architecture.now variant.now }
+/// Whether these are the names of a platform, where `rest` is what stands after its OS.
+fn are_names(os: &str, rest: &str, architecture: &str, variant: &str) -> bool
+    ensures { result ≡ are_names os.now rest.now architecture.now variant.now }
 {
-    !os.is_empty() && !architecture.is_empty() && variant.split_once('/').is_none()
+    !os.is_empty() && !architecture.is_empty() && ends_platform(rest, variant)
+}
+
+/// Whether a platform's text ends after its architecture, without a `/`, or after its variant.
+fn ends_platform(rest: &str, variant: &str) -> bool
+    ensures { result ≡ ends_platform rest.now variant.now }
+{
+    let last = if variant.is_empty() { rest } else { variant };
+    last.split_once('/').is_none()
 }
 
 /// A text, cut at its first `/`.
