@@ -1,5 +1,5 @@
-// What is done with a bundle: it is built, its graph is drawn or written for BuildKit, its target's configuration is printed, or it is said why paths
-// of its context are kept or left out. It is on the reader, or a file that is named holds it.
+// What is done with a bundle: it is built, its graph is drawn or written for BuildKit, its target's configuration or its faults are printed, or it is
+// said which instruction of it fails, or why paths of its context are kept or left out. It is on the reader, or a file that is named holds it.
 ghost use Rattle.std.specs.Prelude.{◌≡◌, ◌<◌, ◌≤◌, ◌+◌, ◌++◌, ℕ, List, IfOk};
 ghost use Rattle.counted.specs.Edges.{LosesBeginning, line_of};
 ghost use Rattle.plain.specs.Limits.{most_bundle_bytes, most_workers};
