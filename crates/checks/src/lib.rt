@@ -8,7 +8,8 @@
 // fault is shown in one walk through the text. Where there are several, the lines are listed first, so each is found at once. `check` does both,
 // and shows bytes that are no bundle with where they are wrong, which `flaws` finds.
 //
-// `shown_failure` shows an instruction that a build failed at in the same form.
+// `shown_failure` shows an instruction that a build failed at in the same form. Of a COPY that misses a source `shown_missing` names it, and
+// `shown_left_out` the line of the ignore file that leaves it out.
 //
 // The central definitions are `AreFaultsOf` in specs/Checks.antt, `shown_faults` in specs/Shown.antt, `IsCheckOf` in specs/Checked.antt, and
 // `shown_failure` in specs/Failing.antt.
@@ -31,6 +32,6 @@ mod visible;
 
 pub use checked::{Checked, check};
 pub use checking::{Findings, check_bundle};
-pub use failing::shown_failure;
+pub use failing::{shown_failure, shown_left_out, shown_missing};
 pub use form::Form;
 pub use showing::shown_faults;

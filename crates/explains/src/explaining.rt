@@ -1,21 +1,24 @@
 ghost use Rattle.std.specs.Prelude.{◌≡◌, ◌<◌, ◌≤◌, [], IfOk, Ok as OkOf};
 ghost use Rattle.plain.specs.Limits.{most_workers};
 ghost use Rattle.checks.specs.Checked.{IsCheckOf};
+ghost use Rattle.checks.specs.Shown.{readable_lines};
 ghost use Rattle.checks.specs.declared.form.Form.TheVariants.{Plain};
 ghost use Rattle.build.specs.Lowerable.{IsLowerable};
 ghost use Rattle.build.specs.Meaning.{Asks};
 ghost use Rattle.build.specs.declared.status.Status.TheVariants.{Built, Failed, Refused};
 ghost use Rattle.checks.specs.declared.checked.Checked.{Checked};
-ghost use Rattle.explains.specs.Explained.{Explains, ShowsFailure};
-ghost use Rattle.explains.specs.PrivateFailure.{IsAccepted};
+ghost use Rattle.explains.specs.Explained.{Explains, IsLeftOutBy, ShowsFailure, ShowsMissed, shown_missed};
+ghost use Rattle.explains.specs.PrivateFailure.{IsAccepted, IsDockerfileOf, IsMissedOf};
 
 use crate::failing::failure_of;
 use build::{Asked, Status, ask};
 use bundle::read_bundle;
-use checks::{Checked, Form, check, shown_failure};
+use checks::{Checked, Form, check, shown_failure, shown_left_out, shown_missing};
 use executor::Executor;
 use imageconfig::Config;
-use plain::{Fault, Memory, Text};
+use lacking::{Missed, missed_source};
+use plain::{Bytes, Fault, Memory, Text};
+use reasons::{LeavingLine, leaving_line};
 use std::alloc::Global;
 use std::sync::Wait;
 use std::thread::Threads;
@@ -107,7 +110,7 @@ fn explain_failure(
     })
 }
 
-/// What is shown of an instruction of a bundle that isn't refused. The bundle is read again, for its Dockerfile.
+/// What is shown of an instruction of a bundle that isn't refused. The bundle is read again, for its Dockerfile and for what the instruction names.
 fn show_failure(
     alloc: Global,
     rt: &(impl Threads + Sync),
@@ -118,17 +121,122 @@ fn show_failure(
     requires { IsAccepted bytes.now }
     ensures { IfOk result (ShowsFailure bytes.now line cause) }
 {
+    let dockerfile = dockerfile_of(alloc, rt, bytes)?;
+    let missed = missed_of(alloc, rt, bytes, line, cause)?;
+    show_missed(alloc, bytes, dockerfile.as_slice(), line, cause, missed)
+}
+
+/// The Dockerfile of a bundle that isn't refused.
+fn dockerfile_of(alloc: Global, rt: &(impl Threads + Sync), bytes: &[u8]) -> Result<Bytes, Memory>
+    requires { IsAccepted bytes.now }
+    ensures { IfOk result (IsDockerfileOf bytes.now) }
+{
     match read_bundle::<Config>(alloc, rt, bytes) {
         Ok(bundle) => {
-            let shown = shown_failure(alloc, bundle.dockerfile.as_slice(), line, cause);
+            let text = Bytes::from_slice(alloc, bundle.dockerfile.as_slice());
             drop(bundle);
-            shown
+            text
         }
         Err(Fault::Because(_)) => {
             build::laws::a_bundle_asks_for_one_thing();
             unreachable!()
         }
         Err(Fault::Memory) => Err(Memory),
+    }
+}
+
+/// The source that an instruction of a bundle that isn't refused misses, if that is known.
+fn missed_of(
+    alloc: Global,
+    rt: &(impl Threads + Sync),
+    bytes: &[u8],
+    line: u32,
+    cause: Cause,
+) -> Result<Option<Missed>, Memory>
+    requires { IsAccepted bytes.now }
+    ensures { IfOk result (IsMissedOf bytes.now line cause) }
+{
+    match ask(alloc, rt, bytes) {
+        Ok(asked) => {
+            let made = &asked.evaluated;
+            let found = missed_source(alloc, &made.sources, made.rows.as_slice(), line, cause);
+            drop(asked);
+            found
+        }
+        Err(Fault::Because(_)) => {
+            build::laws::a_bundle_asks_for_one_thing();
+            unreachable!()
+        }
+        Err(Fault::Memory) => Err(Memory),
+    }
+}
+
+/// The line of the ignore file that leaves a source out, if it is a path of the context and one does.
+#[tactic(auto, using(crate::proofs::FailureFacts::left_known, crate::proofs::FailureFacts::left_none))]
+fn left_out_by(
+    alloc: Global,
+    bytes: &[u8],
+    source: &str,
+    is_path: bool,
+) -> Result<Option<LeavingLine>, Memory>
+    requires { IsAccepted bytes.now }
+    ensures { IfOk result (IsLeftOutBy bytes.now source.now is_path) }
+{
+    if !is_path {
+        return Ok(None);
+    }
+    match leaving_line::<Config>(alloc, bytes, source) {
+        Ok(left) => Ok(left),
+        Err(Fault::Because(_)) => {
+            build::laws::a_bundle_asks_for_one_thing();
+            unreachable!()
+        }
+        Err(Fault::Memory) => Err(Memory),
+    }
+}
+
+/// What is shown of an instruction, by the source that it misses, if that is known.
+fn show_missed(
+    alloc: Global,
+    bytes: &[u8],
+    dockerfile: &[u8],
+    line: u32,
+    cause: Cause,
+    missed: Option<Missed>,
+) -> Result<Text, Memory>
+    requires { IsAccepted bytes.now }
+    ensures { IfOk result (ShowsMissed bytes.now (readable_lines dockerfile.now) line cause missed) }
+{
+    match missed {
+        None => shown_failure(alloc, dockerfile, line, cause),
+        Some(missed) => {
+            let source = missed.source.as_str();
+            let left = left_out_by(alloc, bytes, source, missed.is_context_path)?;
+            show_source(alloc, dockerfile, line, source, left)
+        }
+    }
+}
+
+/// What is shown of a COPY that misses a source, by the line of the ignore file that leaves it out, if one does.
+fn show_source(
+    alloc: Global,
+    dockerfile: &[u8],
+    line: u32,
+    source: &str,
+    left: Option<LeavingLine>,
+) -> Result<Text, Memory>
+    ensures { IfOk result (λ text. text ≡ shown_missed (readable_lines dockerfile.now) line source.now left) }
+{
+    match left {
+        None => shown_missing(alloc, dockerfile, line, source),
+        Some(left) => shown_left_out(
+            alloc,
+            dockerfile,
+            line,
+            source,
+            left.number,
+            left.text.as_slice(),
+        ),
     }
 }
 

@@ -3,6 +3,7 @@
 ghost use Rattle.std.specs.Prelude.{◌≡◌, true, is_some, IfOk};
 ghost use Rattle.std.specs.Option.{option_and_then};
 ghost use Rattle.serde_json.specs.Data.{array, no_items};
+ghost use Rattle.serde_json.specs.Read.{read};
 ghost use Rattle.serde_json.specs.View.{view};
 ghost use Rattle.strict.specs.Gives.{Gives};
 ghost use Rattle.borrowed.specs.Seen.{data_of};
@@ -40,15 +41,18 @@ pub(crate) fn read_image(alloc: Global, text: &str) -> Result<Value, ReadFault>
     }
 }
 
-/// Whether a text is JSON; `false` also where there is no memory to find out.
-pub(crate) fn is_json(alloc: Global, text: &str) -> bool {
+/// Whether a text is JSON.
+pub(crate) fn is_json(alloc: Global, text: &str) -> Result<bool, Memory>
+    ensures { IfOk result (λ answer. answer ≡ is_some (read text.now)) }
+{
     let mut scratch = Scratch::new(alloc);
     match borrowed::read(alloc, text, &mut scratch) {
         Ok(value) => {
             drop(value);
-            true
+            Ok(true)
         }
-        Err(_) => false,
+        Err(Fault::Because(_)) => Ok(false),
+        Err(Fault::Memory) => Err(Memory),
     }
 }
 

@@ -143,14 +143,11 @@ fn image_of_bytes(
         Ok(text) => match read_image(alloc, text) {
             Ok(image) => Ok(image),
             Err(Fault::Memory) => Err(PackFault::Memory),
-            Err(Fault::Because(_)) => {
-                let what = if is_json(alloc, text) {
-                    NO_IMAGE
-                } else {
-                    NO_JSON
-                };
-                Err(refuse(alloc, why, place, what))
-            }
+            Err(Fault::Because(_)) => match is_json(alloc, text) {
+                Ok(true) => Err(refuse(alloc, why, place, NO_IMAGE)),
+                Ok(false) => Err(refuse(alloc, why, place, NO_JSON)),
+                Err(_) => Err(PackFault::Memory),
+            },
         },
         Err(_) => Err(refuse(alloc, why, place, NO_JSON)),
     }

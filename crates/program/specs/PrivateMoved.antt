@@ -1,9 +1,10 @@
 -- What is told of a bundle is told of every one that holds the same: the laws of the tellers. They stand among the definitions since the tellers cite
 -- them as laws of their trait.
-use Rattle.std.proofs.Common.{◌≡◌, inl, inr, ℕ, List, Option, Result, Ok, Err, sym, ap, ◌∙◌}
+use Rattle.std.proofs.Common.{◌≡◌, inl, inr, ℕ, Bool, true, false, List, Option, Some, None, Result, Ok, Err, sym, ap, ◌∙◌}
 use Rattle.plain.specs.declared.refusal.Refusal.{Refusal}
 use Rattle.plain.specs.declared.fault.Fault.TheVariants.{Because}
 use Rattle.expand.specs.declared.reason.Rejection.{Rejection}
+use Rattle.trees.specs.declared.cause.Cause.{Cause}
 use Rattle.command.specs.declared.task.LlbOptions.{LlbOptions}
 use Rattle.imageconfig.specs.Reading.{config_in}
 use Rattle.plans.specs.Value.{Out}
@@ -11,6 +12,7 @@ use Rattle.evaluation.specs.declared.evaluated.Evaluated.{Evaluated}
 use Rattle.bundle.specs.Reading.{ReadsBundle}
 use Rattle.flaws.specs.Flaws.{flaw_in}
 use Rattle.flaws.specs.declared.flaw.Flaw.{Flaw}
+use Rattle.reasons.specs.declared.leaving.LeavingLine.{LeavingLine}
 use Rattle.checks.specs.Checks.{AreFaultsOf}
 use Rattle.checks.specs.Checked.{IsCheckOf, faulty_text_in}
 use Rattle.checks.specs.Shown.{readable_lines, shown_check}
@@ -21,7 +23,9 @@ use Rattle.build.specs.declared.status.Status.{Status}
 use Rattle.build.specs.declared.status.Status.TheVariants.{Built, Failed, Refused}
 use Rattle.build.specs.Meaning.{Answers, Asks}
 use Rattle.build.specs.Titled.{HasTitlesOf, HasLeftOut}
-use Rattle.explains.specs.Explained.{Explains}
+use Rattle.explains.specs.Explained.{Explains, IsLeftOutBy, ShowsMissed}
+use Rattle.lacking.specs.Missing.{missed_source}
+use Rattle.lacking.specs.declared.missing.Missed.{Missed}
 use Rattle.program.specs.declared.exporting.Beside.{Beside}
 use Rattle.program.specs.Check.{TellsFaults}
 use Rattle.program.specs.Config.{TellsConfig}
@@ -110,13 +114,39 @@ answers_moved : (bytes others : List ℕ) (out : Out) (status : Status) (text : 
 answers_moved bytes others out status text same answers =
     record { asked = answers.asked; asks = asks bytes others answers.asked same answers.asks; tells = answers.tells }
 
+-- the same line of the ignore file leaves a source out
+left_out_moved : (bytes others source : List ℕ) (is_path : Bool) (left : Option LeavingLine) → held bytes ≡ held others → IsLeftOutBy bytes source is_path left
+    → IsLeftOutBy others source is_path left
+left_out_moved bytes others source false left same is = is
+left_out_moved bytes others source true left same is = (is.0, record { parts = is.1.parts; is = sym same ∙ is.1.is; has = is.1.has }, is.2)
+
+-- the same is shown of a source
+missed_moved : (bytes others : List ℕ) (lines : List (List ℕ)) (line : ℕ) (cause : Cause) (found : Option Missed) (text : List ℕ)
+    → held bytes ≡ held others → ShowsMissed bytes lines line cause found text → ShowsMissed others lines line cause found text
+missed_moved bytes others lines line cause None text same shown = shown
+missed_moved bytes others lines line cause (Some found) text same shown =
+    (shown.0, left_out_moved bytes others found.source found.is_context_path shown.0 same shown.1, shown.2)
+
 -- and the same explanation
 pub explain_moves : (out : Out) → Moves (Explains out)
 explain_moves out bytes bundle Built text same told = (told.0, answers_moved bytes bundle out Built _ same.parts told.1, told.2)
 explain_moves out bytes bundle Failed text same told =
     let shows = told.3 in
     let reads = shows.1 in
-    (told.0, told.1, answers_moved bytes bundle out Failed _ same.parts told.2, (shows.0, (reads.0, (sym same.parts ∙ reads.1.0, reads.1.1)), shows.2))
+    let asked = shows.2 in (
+      told.0,
+      told.1,
+      answers_moved bytes bundle out Failed _ same.parts told.2,
+      (
+        shows.0,
+        (reads.0, (sym same.parts ∙ reads.1.0, reads.1.1)),
+        (
+          asked.0,
+          asks bytes bundle (Ok asked.0) same.parts asked.1,
+          missed_moved bytes bundle (readable_lines shows.0.dockerfile) told.0 told.1 (missed_source asked.0.sources asked.0.rows told.0 told.1) text same.parts asked.2,
+        ),
+      ),
+    )
 explain_moves out bytes bundle Refused text same told =
     let shows = told.2 in
     (told.0, answers_moved bytes bundle out Refused _ same.parts told.1, (shows.0, checked_moved bytes bundle Plain shows.0 same shows.1, shows.2))

@@ -1,2 +1,3 @@
 mod Cuts
 mod Known
+mod LeavingFacts

@@ -59,7 +59,7 @@ fn decided(
 }
 
 /// That the line at a position has a number, and the line of that number a text.
-fn known_line(
+pub(crate) fn known_line(
     file: &IgnoreFile,
     numbers: &[usize],
     texts: &[&[u8]],

@@ -33,3 +33,24 @@ headed_cause file number cause wrong rest =
 abbrev pub shown_cause : List ℕ → ℕ → Cause → List ℕ → List ℕ
 shown_cause file number cause line =
     headed_cause file (decimal number) cause (cause_sentence cause) (cited (decimal number) line (cause_remedy cause))
+
+-- why a COPY failed that misses this source
+unfoldable pub missing_sentence : List ℕ → List ℕ
+missing_sentence source = cause_sentence F1 ++ (codes ": " ++ source)
+
+-- what helps against a line of the ignore file that leaves a source out, by its number and its text
+unfoldable pub left_out_remedy : ℕ → List ℕ → List ℕ
+left_out_remedy number text = codes ".dockerignore:" ++ (decimal number ++ (codes " leaves it out: " ++ text))
+
+-- what is shown of a COPY that misses a source, with the file's line of its number, and then what helps
+unfoldable pub shown_without : List ℕ → ℕ → List ℕ → List ℕ → List ℕ → List ℕ
+shown_without file number source line helps =
+    headed_cause file (decimal number) F1 (missing_sentence source) (cited (decimal number) line helps)
+
+-- what is shown of a COPY that misses a source
+abbrev pub shown_missing : List ℕ → ℕ → List ℕ → List ℕ → List ℕ
+shown_missing file number source line = shown_without file number source line (cause_remedy F1)
+
+-- the same of a source that a line of the ignore file leaves out, by the number and the text of that line
+abbrev pub shown_left_out : List ℕ → ℕ → List ℕ → List ℕ → ℕ → List ℕ → List ℕ
+shown_left_out file number source line ignoring text = shown_without file number source line (left_out_remedy ignoring text)

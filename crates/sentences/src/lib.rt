@@ -5,7 +5,8 @@
 // that is refused may spell none.
 //
 // The central definitions are the table in specs/Table.antt, which has one sentence and one remedy for each code and instruction, `shown` in
-// specs/Showing.antt, `json_line` in specs/Json.antt, and `shown_cause` in specs/Failing.antt, with a table of causes.
+// specs/Showing.antt, `json_line` in specs/Json.antt, and `shown_cause` in specs/Failing.antt, with a table of causes. Of a COPY that misses a source
+// `shown_missing` names it, and `shown_left_out` the line of the ignore file that leaves it out.
 //
 // ```
 // shown(alloc, "Dockerfile", &Rejection::of(Refusal { code: Code::R16, line: 9 }), "COPY --chown=node:node a b")?
@@ -21,7 +22,7 @@ mod showing;
 mod subject;
 mod table;
 
-pub use failing::shown_cause;
+pub use failing::{shown_cause, shown_left_out, shown_missing};
 pub use json::{json_line, place_line};
 pub use showing::{shown, shown_place};
 pub use subject::Subject;
