@@ -17,7 +17,7 @@ use Rattle.bundle.specs.declared.whole.Bundle.{Bundle}
 use Rattle.flaws.specs.Flaws.{flaw_in}
 use Rattle.flaws.specs.declared.flaw.Flaw.{Flaw}
 use Rattle.checks.specs.Checks.{AreFaultsOf}
-use Rattle.checks.specs.Checked.{faulty_part, faulty_text_in, faulty_text, IsCheckOf}
+use Rattle.checks.specs.Checked.{faulty_part, faulty_text_in, faulty_text, target_part, target_in, asked_target, IsCheckOf}
 use Rattle.checks.specs.Shown.{readable_lines, shown_check}
 use Rattle.checks.specs.declared.checked.Checked.{Checked}
 use Rattle.checks.specs.declared.checking.Findings.{Findings}
@@ -45,10 +45,30 @@ pub bundle_text : (bytes : List ℕ) (bundle : Bundle Config) → ReadsBundle co
 bundle_text bytes bundle these =
     these.1.1.1.1.dockerfile ∙ sym (ap faulty_text_in these.1.0 ∙ ap (faulty_part these.0) these.1.1.1.0)
 
+-- a bundle's target is what it asks for; one that is refused asks for none
+pub bundle_target : (bytes : List ℕ) (bundle : Bundle Config) → ReadsBundle config_in bytes (Ok bundle) → bundle.target ≡ asked_target bytes
+bundle_target bytes bundle these =
+    these.1.1.1.1.target ∙ sym (ap target_in these.1.0 ∙ ap (target_part these.0) these.1.1.1.0)
+
+no_target : (read : Option (Parts Config)) → read ≡ None → None ≡ target_in read
+no_target read none = sym (ap target_in none)
+
+bad_line_target : (read : Option (Parts Config)) (parts : Parts Config) (number : ℕ) → read ≡ Some parts → ignore_of (ignore_bytes parts.files.context) ≡ Err number
+    → None ≡ target_in read
+bad_line_target read parts number are bad = sym (ap target_in are ∙ ap (target_part parts) bad)
+
+pub refused_target : (bytes : List ℕ) (refusal : Refusal) → ReadsBundle config_in bytes (Err (Because refusal)) → None ≡ asked_target bytes
+refused_target bytes refusal (inl none) = no_target (parts_of config_in bytes) none.0
+refused_target bytes refusal (inr these) = bad_line_target (parts_of config_in bytes) these.0 these.1.1.0 these.1.0 these.1.1.1.0
+
 -- what is found has it
 pub found_text : (result : Result Findings Memory) (one other : List ℕ) → one ≡ other → IfOk result (λ found. found.text ≡ one) → IfOk result (λ found. found.text ≡ other)
 found_text (Ok found) one other same is = is ∙ same
 found_text (Err memory) one other same is = tt
+
+pub found_target : (result : Result Findings Memory) (one other : Option (List ℕ)) → one ≡ other → IfOk result (λ found. found.target ≡ one) → IfOk result (λ found. found.target ≡ other)
+found_target (Ok found) one other same is = is ∙ same
+found_target (Err memory) one other same is = tt
 
 -- a bundle is wrong nowhere
 pub found_flaw : (result : Result Findings Memory) (flaw : Option Flaw) → flaw ≡ None → IfOk result (λ found. found.flaw ≡ None) → IfOk result (λ found. found.flaw ≡ flaw)
@@ -57,11 +77,11 @@ found_flaw (Err memory) flaw none is = tt
 
 -- what is found and shown is what a check gives
 pub checked : (bytes : List ℕ) (form : Form) (found : Findings) (made : Checked) → AreFaultsOf bytes found.faults → found.text ≡ faulty_text bytes
-    → found.flaw ≡ flaw_in config_in bytes → made.text ≡ shown_check form found.flaw (readable_lines found.text) found.faults → made.is_sound ≡ (length found.faults == 0) → IsCheckOf bytes form made
-checked bytes form found made are text flaw shown sound = record {
+    → found.target ≡ asked_target bytes → found.flaw ≡ flaw_in config_in bytes → made.text ≡ shown_check form found.flaw found.target (readable_lines found.text) found.faults → made.is_sound ≡ (length found.faults == 0) → IsCheckOf bytes form made
+checked bytes form found made are text target flaw shown sound = record {
   faults = found.faults;
   are = are;
-  text = shown ∙ (λ i. shown_check form (flaw i) (readable_lines (text i)) found.faults);
+  text = shown ∙ (λ i. shown_check form (flaw i) (target i) (readable_lines (text i)) found.faults);
   is_sound = sound;
 }
 
@@ -75,7 +95,7 @@ HaveOneList = (bytes : List ℕ) (faults others : List Rejection) → AreFaultsO
 pub some_check : HaveFaults → (bytes : List ℕ) (form : Form) → (made : Checked) × IsCheckOf bytes form made
 some_check some bytes form =
     let found = some bytes in (
-      record { text = shown_check form (flaw_in config_in bytes) (readable_lines (faulty_text bytes)) found.0; is_sound = length found.0 == 0 },
+      record { text = shown_check form (flaw_in config_in bytes) (asked_target bytes) (readable_lines (faulty_text bytes)) found.0; is_sound = length found.0 == 0 },
       record { faults = found.0; are = found.1; text = refl; is_sound = refl },
     )
 
@@ -92,5 +112,5 @@ pub one_check : HaveOneList → (bytes : List ℕ) (form : Form) (one other : Ch
 one_check unique bytes form one other these those =
     let same = unique bytes these.faults those.faults these.are those.are in
     same_checked one other
-    (these.text ∙ ap (shown_check form (flaw_in config_in bytes) (readable_lines (faulty_text bytes))) same ∙ sym those.text)
+    (these.text ∙ ap (shown_check form (flaw_in config_in bytes) (asked_target bytes) (readable_lines (faulty_text bytes))) same ∙ sym those.text)
     (one_sound unique bytes form form one other these those)

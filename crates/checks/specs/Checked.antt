@@ -28,9 +28,22 @@ faulty_text_in (Some parts) = faulty_part parts (ignore_of (ignore_bytes parts.f
 abbrev pub faulty_text : List ℕ → List ℕ
 faulty_text bytes = faulty_text_in (parts_of config_in bytes)
 
+-- the target of a bundle with this ignore file; of one whose ignore file is bad none is asked for
+abbrev pub target_part : Parts Config → Result (List Line) ℕ → Option (List ℕ)
+target_part parts (Ok lines) = parts.files.target
+target_part parts (Err number) = None
+
+abbrev pub target_in : Option (Parts Config) → Option (List ℕ)
+target_in None = None
+target_in (Some parts) = target_part parts (ignore_of (ignore_bytes parts.files.context))
+
+-- the target that a bundle's bytes ask for
+abbrev pub asked_target : List ℕ → Option (List ℕ)
+asked_target bytes = target_in (parts_of config_in bytes)
+
 -- what checking bytes gives: all their faults in a form, with the lines or the place that they are about, and whether there is none
 pub record IsCheckOf (bytes : List ℕ) (form : Form) (checked : Checked) : Type 0 where
   pub faults : List Rejection
   pub are : AreFaultsOf bytes faults
-  pub text : checked.text ≡ shown_check form (flaw_in config_in bytes) (readable_lines (faulty_text bytes)) faults
+  pub text : checked.text ≡ shown_check form (flaw_in config_in bytes) (asked_target bytes) (readable_lines (faulty_text bytes)) faults
   pub is_sound : checked.is_sound ≡ (length faults == 0)

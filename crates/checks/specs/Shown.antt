@@ -3,6 +3,7 @@ use Rattle.std.specs.Prelude.{◌++◌, ◌-◌, ◌/◌, ◌%◌, ◌==◌, ◌
 use Rattle.std.specs.Char.{is_control}
 use Rattle.std.specs.Fmt.{digit_glyph}
 use Rattle.std.specs.List.{flat_map}
+use Rattle.std.specs.Option.{option_map}
 use Rattle.std.specs.Str.Lossy.{utf8_lossy}
 use Rattle.plain.specs.declared.refusal.Code.TheVariants.{R19, R20}
 use Rattle.expand.specs.declared.reason.Reason.{Reason}
@@ -12,6 +13,7 @@ use Rattle.lines.specs.Text.{text_lines}
 use Rattle.sentences.specs.Json.{json_line, place_line}
 use Rattle.sentences.specs.Showing.{shown, shown_place}
 use Rattle.flaws.specs.Places.{place_text}
+use Rattle.checks.specs.Meant.{meant_by}
 use Rattle.flaws.specs.declared.flaw.Flaw.{Flaw}
 use Rattle.checks.specs.declared.form.Form.{Form}
 use Rattle.checks.specs.declared.form.Form.TheVariants.{Plain, Json}
@@ -56,18 +58,21 @@ abbrev pub visible_reason : Reason → Reason
 visible_reason (Coded code) = Coded code
 visible_reason (Required text) = Required (visible text)
 
--- what is shown of a fault that is about this line: a person gets all texts as a terminal may have them, and a program as they stand
-abbrev pub shown_with : Form → Rejection → List ℕ → List ℕ
-shown_with Plain refusal line = shown (place_of refusal.reason) (record { reason = visible_reason refusal.reason; line = refusal.line }) (visible line)
-shown_with Json refusal line = json_line (place_of refusal.reason) refusal line
+-- what is shown of a fault that is about this line, with the name that may have been meant: a person gets all texts as a terminal may have them, and a
+-- program as they stand
+abbrev pub shown_with : Form → Rejection → List ℕ → Option (List ℕ) → List ℕ
+shown_with Plain refusal line meant =
+    shown (place_of refusal.reason) (record { reason = visible_reason refusal.reason; line = refusal.line }) (visible line) (option_map visible meant)
+shown_with Json refusal line meant = json_line (place_of refusal.reason) refusal line meant
 
--- what is shown of a fault of a text with these lines
-abbrev pub shown_fault : Form → List (List ℕ) → Rejection → List ℕ
-shown_fault form lines refusal = shown_with form refusal (line_at lines refusal.line)
+-- what is shown of a fault of a build of this target, in a text with these lines
+abbrev pub shown_fault : Form → Option (List ℕ) → List (List ℕ) → Rejection → List ℕ
+shown_fault form target lines refusal =
+    shown_with form refusal (line_at lines refusal.line) (meant_by target lines refusal.reason (line_at lines refusal.line))
 
 -- what is shown of faults, one after another
-abbrev pub shown_faults : Form → List (List ℕ) → List Rejection → List ℕ
-shown_faults form lines faults = flat_map (shown_fault form lines) faults
+abbrev pub shown_faults : Form → Option (List ℕ) → List (List ℕ) → List Rejection → List ℕ
+shown_faults form target lines faults = flat_map (shown_fault form target lines) faults
 
 -- what is shown of bytes that are no bundle, being wrong in this place, which is written as `flaws` writes it
 abbrev pub shown_flaw : Form → List ℕ → List ℕ
@@ -75,6 +80,6 @@ shown_flaw Plain place = shown_place (codes "bundle") R20 (visible place)
 shown_flaw Json place = place_line (codes "bundle") R20 place
 
 -- what is shown of a bundle's faults: bytes that are no bundle are shown with where they are wrong
-abbrev pub shown_check : Form → Option Flaw → List (List ℕ) → List Rejection → List ℕ
-shown_check form None lines faults = shown_faults form lines faults
-shown_check form (Some flaw) lines faults = shown_flaw form (place_text flaw)
+abbrev pub shown_check : Form → Option Flaw → Option (List ℕ) → List (List ℕ) → List Rejection → List ℕ
+shown_check form None target lines faults = shown_faults form target lines faults
+shown_check form (Some flaw) target lines faults = shown_flaw form (place_text flaw)

@@ -28,10 +28,16 @@ pub fn check(
 ) -> Result<Checked, Memory>
     ensures { IfOk result (λ checked. IsCheckOf bytes.now form checked) }
 {
-    let Findings { faults, text, flaw } = check_bundle(alloc, rt, bytes)?;
+    let Findings {
+        faults,
+        text,
+        target,
+        flaw,
+    } = check_bundle(alloc, rt, bytes)?;
     let text = shown_check(
         alloc,
         flaw.as_ref(),
+        target.as_ref(),
         faults.as_slice(),
         text.as_slice(),
         form,

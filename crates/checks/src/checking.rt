@@ -9,7 +9,7 @@ ghost use Rattle.bundle.specs.IgnoreFile.{ignore_bytes_of};
 ghost use Rattle.bundle.specs.Reading.{ReadsBundle};
 ghost use Rattle.flaws.specs.Flaws.{flaw_in};
 ghost use Rattle.checks.specs.Checks.{AreTableFaults, AreStageFaults, AreFileFaults, AreFaultsOf};
-ghost use Rattle.checks.specs.Checked.{faulty_text};
+ghost use Rattle.checks.specs.Checked.{faulty_text, asked_target};
 
 use bundle::{Bundle, read_bundle, read_ignore_bytes};
 use dockerfile::Dockerfile;
@@ -17,7 +17,7 @@ use evaluation::evaluate;
 use expand::Rejection;
 use flaws::{Flaw, find};
 use imageconfig::Config;
-use plain::{Bytes, Fault, Items, Memory, Refusal};
+use plain::{Bytes, Exact, Fault, Items, Memory, Refusal, Text};
 use stages::StageTable;
 use std::alloc::Global;
 use std::thread::Threads;
@@ -30,6 +30,8 @@ pub struct Findings {
     /// The bytes of the file whose lines they count: those of the ignore file if a line of it is bad, and else of the Dockerfile. There are
     /// none if there is no bundle.
     pub text: Bytes,
+    /// The target that the bundle asks for. There is none if its Dockerfile isn't looked at.
+    pub target: Option<Text>,
     /// Where the bytes are wrong if they are no bundle.
     pub flaw: Option<Flaw>,
 }
@@ -46,6 +48,7 @@ pub fn check_bundle(
 ) -> Result<Findings, Memory>
     ensures faults { IfOk result (λ found. AreFaultsOf bytes.now found.faults) }
     ensures text { IfOk result (λ found. found.text ≡ faulty_text bytes.now) }
+    ensures target { IfOk result (λ found. found.target ≡ asked_target bytes.now) }
     ensures flaw { IfOk result (λ found. found.flaw ≡ flaw_in config_in bytes.now) }
 {
     flaws::laws::a_bundle_has_no_flaw::<Config>();
@@ -61,12 +64,18 @@ fn refused(alloc: Global, bytes: &[u8], refusal: Refusal) -> Result<Findings, Me
     requires { ReadsBundle config_in bytes.now (Err (Because refusal)) }
     ensures faults { IfOk result (λ found. found.faults ≡ rejection_of refusal ∷ []) }
     ensures text { IfOk result (λ found. found.text ≡ faulty_text bytes.now) }
+    ensures target { IfOk result (λ found. found.target ≡ asked_target bytes.now) }
     ensures flaw { IfOk result (λ found. found.flaw ≡ flaw_in config_in bytes.now) }
 {
     let text = ignore_file_or_none(alloc, bytes)?;
     let flaw = find::<Config>(alloc, bytes)?;
     let faults = alone(alloc, Rejection::of(refusal))?;
-    Ok(Findings { faults, text, flaw })
+    Ok(Findings {
+        faults,
+        text,
+        target: None,
+        flaw,
+    })
 }
 
 /// The bytes of a bundle's ignore file; there are none if there is no bundle.
@@ -80,18 +89,30 @@ fn ignore_file_or_none(alloc: Global, bytes: &[u8]) -> Result<Bytes, Memory>
     }
 }
 
-/// The faults of a bundle's Dockerfile, and its text.
+/// The text of a bundle's Dockerfile, and its target.
+fn asked(alloc: Global, bundle: &Bundle<Config>) -> Result<(Bytes, Option<Text>), Memory>
+    ensures text { IfOk result (λ it. it.0 ≡ bundle.now.dockerfile) }
+    ensures target { IfOk result (λ it. it.1 ≡ bundle.now.target) }
+{
+    let text = Bytes::from_slice(alloc, bundle.dockerfile.as_slice())?;
+    let target = bundle.target.copy(alloc)?;
+    Ok((text, target))
+}
+
+/// The faults of a bundle's Dockerfile, its text and the bundle's target.
 fn check_whole(alloc: Global, bundle: Bundle<Config>) -> Result<Findings, Memory>
     ensures faults { IfOk result (λ found. AreFileFaults bundle.images (arg_value bundle.args) bundle.target bundle.dockerfile found.faults) }
     ensures text { IfOk result (λ found. found.text ≡ bundle.dockerfile) }
+    ensures target { IfOk result (λ found. found.target ≡ bundle.target) }
     ensures flaw { IfOk result (λ found. found.flaw ≡ None) }
 {
-    match Bytes::from_slice(alloc, bundle.dockerfile.as_slice()) {
-        Ok(text) => {
+    match asked(alloc, &bundle) {
+        Ok((text, target)) => {
             let faults = check_file(alloc, bundle)?;
             Ok(Findings {
                 faults,
                 text,
+                target,
                 flaw: None,
             })
         }

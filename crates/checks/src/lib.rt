@@ -8,6 +8,8 @@
 // fault is shown in one walk through the text. Where there are several, the lines are listed first, so each is found at once. `check` does both,
 // and shows bytes that are no bundle with where they are wrong, which `flaws` finds.
 //
+// Of an instruction that isn't known, and of a target that is no stage, the name is shown that may have been meant, which `nearest` finds.
+//
 // `shown_failure` shows an instruction that a build failed at in the same form. Of a COPY that misses a source `shown_missing` names it, and
 // `shown_left_out` the line of the ignore file that leaves it out.
 //
@@ -16,7 +18,7 @@
 //
 // ```
 // let checked = check(alloc, &rt, bytes, Form::Plain)?; // of a bundle with the Dockerfile FROM scratch\nRUNN make
-// // Dockerfile:2: R04: there is no such instruction here
+// // Dockerfile:2: R04: there is no such instruction here; did you mean RUN?
 // //     2 | RUNN make
 // //       | use FROM, ARG, ENV, ..
 // ```
@@ -27,6 +29,7 @@ mod checking;
 mod failing;
 mod form;
 pub mod laws;
+mod meant;
 mod showing;
 mod visible;
 

@@ -1,12 +1,16 @@
-ghost use Rattle.std.specs.Prelude.{◌≡◌, ◌-◌, map, IfOk};
+ghost use Rattle.std.specs.Prelude.{◌≡◌, ◌-◌, false, map, IfOk};
 ghost use Rattle.std.specs.Option.{option_copied};
 ghost use Rattle.std.specs.String.{string_bytes};
 ghost use Rattle.lines.specs.Text.{without_byte_order_mark, text_lines};
 ghost use Rattle.sentences.specs.Showing.{shown};
-ghost use Rattle.checks.specs.Shown.{place_of, readable_lines, line_at, visible, visible_reason, shown_with, shown_faults, shown_flaw, shown_check};
+ghost use Rattle.checks.specs.PrivateMeant.{needs_lines};
+ghost use Rattle.checks.specs.Shown.{place_of, readable_lines, line_at, visible, visible_reason, shown_with, shown_fault, shown_faults, shown_flaw, shown_check};
+ghost use Rattle.checks.specs.declared.form.Form.TheVariants.{Plain};
+ghost use Rattle.checks.specs.Meant.{meant_by};
 ghost use Rattle.flaws.specs.Places.{place_text};
 
 use crate::Form;
+use crate::meant::{meant_by, needs_lines};
 use crate::visible::visible;
 use expand::{Reason, Rejection};
 use flaws::{Flaw, place_text};
@@ -14,21 +18,24 @@ use plain::{Code, Memory, Text};
 use sentences::{json_line, place_line, shown, shown_place};
 use std::alloc::{AllocError, Global};
 
-/// What is shown of faults, in their order and in this form, whose lines are counted in this text: a Dockerfile's, or that of its ignore file. It
-/// need not be UTF-8: what isn't is shown as U+FFFD. The line of a number that the text hasn't is shown as an empty one.
+/// What is shown of faults of a build of this target, in their order and in this form, whose lines are counted in this text: a Dockerfile's, or that of its
+/// ignore file. It need not be UTF-8: what isn't is shown as U+FFFD. The line of a number that the text hasn't is shown as an empty one.
+///
+/// Of an instruction that isn't known, and of a target that is no stage, the name is shown that may have been meant, if one is near.
 ///
 /// To a person a control character of a line, other than a tab, is shown by its number, as `\x1b`, and so is one of the text of R21, so none gives
 /// orders to a terminal. A program gets both as they stand.
 pub fn shown_faults(
     alloc: Global,
     faults: &[Rejection],
+    target: Option<&Text>,
     text: &[u8],
     form: Form,
 ) -> Result<Text, Memory>
-    ensures { IfOk result (λ shown. shown ≡ shown_faults form (readable_lines text.now) faults.now) }
+    ensures { IfOk result (λ shown. shown ≡ shown_faults form (option_copied target.entry) (readable_lines text.now) faults.now) }
 {
     let readable = String::from_utf8_lossy(alloc, text)?;
-    let shown = shown_in(alloc, faults, readable.as_str(), form)?;
+    let shown = shown_in(alloc, faults, target, readable.as_str(), form)?;
     Ok(Text::from_string(shown))
 }
 
@@ -50,62 +57,112 @@ fn shown_flaw(alloc: Global, flaw: &Flaw, form: Form) -> Result<String, Memory>
 pub(crate) fn shown_check(
     alloc: Global,
     flaw: Option<&Flaw>,
+    target: Option<&Text>,
     faults: &[Rejection],
     text: &[u8],
     form: Form,
 ) -> Result<Text, Memory>
-    ensures { IfOk result (λ shown. shown ≡ shown_check form (option_copied flaw.entry) (readable_lines text.now) faults.now) }
+    ensures { IfOk result (λ shown. shown ≡ shown_check form (option_copied flaw.entry) (option_copied target.entry) (readable_lines text.now) faults.now) }
 {
     match flaw {
         Some(flaw) => Ok(Text::from_string(shown_flaw(alloc, flaw, form)?)),
-        None => shown_faults(alloc, faults, text, form),
+        None => shown_faults(alloc, faults, target, text, form),
     }
 }
 
-/// What `shown_faults` shows of a text that is UTF-8. The lines are listed only if there are several faults: one is found without memory for each line.
-fn shown_in(alloc: Global, faults: &[Rejection], text: &str, form: Form) -> Result<String, Memory>
-    ensures { IfOk result (λ shown. string_bytes shown ≡ shown_faults form (text_lines text.now) faults.now) }
+/// What `shown_faults` shows of a text that is UTF-8. The lines are listed only if they are needed: one is found without memory for each line.
+fn shown_in(
+    alloc: Global,
+    faults: &[Rejection],
+    target: Option<&Text>,
+    text: &str,
+    form: Form,
+) -> Result<String, Memory>
+    ensures { IfOk result (λ shown. string_bytes shown ≡ shown_faults form (option_copied target.entry) (text_lines text.now) faults.now) }
 {
     match faults {
         [] => Ok(String::new(alloc)),
-        [fault] => shown_fault(alloc, fault, found_line(text, fault.line), form),
-        [_, _, ..] => {
+        [fault] if !needs_lines(&fault.reason) => shown_alone(alloc, fault, target, text, form),
+        [_, ..] => {
             let lines = lines_of(alloc, text)?;
-            shown_each(alloc, faults, &lines, form)
+            shown_each(alloc, faults, target, &lines, form)
         }
     }
+}
+
+/// What is shown of the one fault of a text.
+fn shown_alone(
+    alloc: Global,
+    fault: &Rejection,
+    target: Option<&Text>,
+    text: &str,
+    form: Form,
+) -> Result<String, Memory>
+    requires { needs_lines fault.now.reason ≡ false }
+    ensures { IfOk result (λ shown. string_bytes shown ≡ shown_fault form (option_copied target.entry) (text_lines text.now) fault.now) }
+{
+    let line = found_line(text, fault.line);
+    let meant = meant_by(alloc, target, &[], &fault.reason, line)?;
+    shown_with(alloc, fault, line, meant, form)
 }
 
 /// What is shown of faults, one after another, their lines being among these.
 fn shown_each(
     alloc: Global,
     faults: &[Rejection],
+    target: Option<&Text>,
     lines: &[&str],
     form: Form,
 ) -> Result<String, Memory>
-    ensures { IfOk result (λ shown. string_bytes shown ≡ shown_faults form (map (λ line. line.now) lines.now) faults.now) }
+    ensures { IfOk result (λ shown. string_bytes shown ≡ shown_faults form (option_copied target.entry) (map (λ line. line.now) lines.now) faults.now) }
 {
     let mut text = String::new(alloc);
     for fault in faults {
-        let shown = shown_fault(alloc, fault, listed_line(lines, fault.line), form)?;
+        let shown = shown_fault(alloc, fault, target, lines, form)?;
         text.push_str(shown.as_str())?;
     }
     Ok(text)
 }
 
-/// What is shown of a fault that is about this line.
-fn shown_fault(alloc: Global, fault: &Rejection, line: &str, form: Form) -> Result<String, Memory>
-    ensures { IfOk result (λ text. string_bytes text ≡ shown_with form fault.now line.now) }
+/// What is shown of a fault of a file with these lines.
+fn shown_fault(
+    alloc: Global,
+    fault: &Rejection,
+    target: Option<&Text>,
+    lines: &[&str],
+    form: Form,
+) -> Result<String, Memory>
+    ensures { IfOk result (λ text. string_bytes text ≡ shown_fault form (option_copied target.entry) (map (λ line. line.now) lines.now) fault.now) }
+{
+    let line = listed_line(lines, fault.line);
+    let meant = meant_by(alloc, target, lines, &fault.reason, line)?;
+    shown_with(alloc, fault, line, meant, form)
+}
+
+/// What is shown of a fault that is about this line, with the name that may have been meant.
+fn shown_with(
+    alloc: Global,
+    fault: &Rejection,
+    line: &str,
+    meant: Option<&str>,
+    form: Form,
+) -> Result<String, Memory>
+    ensures { IfOk result (λ text. string_bytes text ≡ shown_with form fault.now line.now (option_copied meant.entry)) }
 {
     match form {
-        Form::Plain => shown_plain(alloc, fault, line),
-        Form::Json => json_line(alloc, place_of(&fault.reason), fault, line),
+        Form::Plain => shown_plain(alloc, fault, line, meant),
+        Form::Json => json_line(alloc, place_of(&fault.reason), fault, line, meant),
     }
 }
 
 /// What is shown to a person of a fault that is about this line.
-fn shown_plain(alloc: Global, fault: &Rejection, line: &str) -> Result<String, Memory>
-    ensures { IfOk result (λ text. string_bytes text ≡ shown (place_of fault.now.reason) (record { reason = visible_reason fault.now.reason; line = fault.now.line }) (visible line.now)) }
+fn shown_plain(
+    alloc: Global,
+    fault: &Rejection,
+    line: &str,
+    meant: Option<&str>,
+) -> Result<String, Memory>
+    ensures { IfOk result (λ text. string_bytes text ≡ shown_with Plain fault.now line.now (option_copied meant.entry)) }
 {
     let line = visible(alloc, line)?;
     let reason = visible_reason(alloc, &fault.reason)?;
@@ -113,7 +170,14 @@ fn shown_plain(alloc: Global, fault: &Rejection, line: &str) -> Result<String, M
         reason,
         line: fault.line,
     };
-    shown(alloc, place_of(&fault.reason), &seen, line.as_str())
+    let place = place_of(&fault.reason);
+    match meant {
+        Some(name) => {
+            let name = visible(alloc, name)?;
+            shown(alloc, place, &seen, line.as_str(), Some(name.as_str()))
+        }
+        None => shown(alloc, place, &seen, line.as_str(), None),
+    }
 }
 
 /// A reason with its text as it is shown.

@@ -1,6 +1,6 @@
 -- What a solution says of what a bundle asks for, and what that answers.
 use Rattle.std.proofs.Common.{◌≡◌, ℕ, Bool, true, false, List, Option, Some, None, Result, Ok, Err, refl, sym, ap, ◌∙◌, subst, true≢false}
-use Rattle.std.specs.Prelude.{IfOk}
+use Rattle.std.specs.Prelude.{IfOk, is_ok}
 use Rattle.plain.specs.declared.fault.Fault.{Fault}
 use Rattle.plain.specs.declared.fault.Fault.TheVariants.{Because}
 use Rattle.expand.specs.declared.reason.Rejection.{Rejection}
@@ -29,7 +29,7 @@ use Rattle.build.specs.Meaning.{Asks, Tells}
 use Rattle.build.specs.Telling.{IsAsked, status_of, text_of}
 use Rattle.build.specs.declared.status.Status.TheVariants.{Refused}
 use Rattle.explains.specs.Explained.{Explains, IsLeftOutBy, ShowsFailure, ShowsMissed, shown_missed}
-use Rattle.explains.specs.PrivateFailure.{failure_in, IsDockerfileOf, IsFailureOf, IsMissedOf}
+use Rattle.explains.specs.PrivateFailure.{failure_in, IsAccepted, IsDockerfileOf, IsFailureOf, IsMissedOf}
 use Rattle.explains.specs.declared.explaining.Explained.{Explained}
 
 by_solution : (out : Out) (made : Evaluated) (config : Config) (found : Solution) → Tells out (Ok made) (status_of found) (text_of config found)
@@ -50,6 +50,12 @@ pub dockerfile_read : {E : Type 0} (bytes text : List ℕ) (bundle : Bundle Conf
     → text ≡ bundle.dockerfile → IfOk result (λ copied. copied ≡ text) → IfOk result (IsDockerfileOf bytes)
 dockerfile_read bytes text bundle (Ok copied) reads same is = (bundle, reads, is ∙ same)
 dockerfile_read bytes text bundle (Err memory) reads same is = is
+
+-- a bundle that isn't refused never is
+pub never_refused : ((bytes : List ℕ) (one other : Result Evaluated Rejection) → Asks bytes one → Asks bytes other → one ≡ other) → (bytes : List ℕ)
+    (fault : Fault Rejection) (refusal : Rejection) → fault ≡ Because refusal → IsAsked bytes (Err fault) → IsAccepted bytes → ⊥
+never_refused one bytes fault refusal because asked accepted =
+    true≢false (ap is_ok (one bytes (Ok accepted.0) (Err refusal) accepted.1 (subst (λ f. IsAsked bytes (Err f)) because asked)))
 
 -- the source that an instruction of a bundle misses
 pub missed_found : {E : Type 0} (bytes : List ℕ) (made : Evaluated) (rows : Rows) (line : ℕ) (cause : Cause) (result : Result (Option Missed) E)

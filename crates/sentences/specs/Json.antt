@@ -1,5 +1,5 @@
 -- A refusal as a program reads it (own): a line of compact JSON, the keys in the order of their bytes.
-use Rattle.std.specs.Prelude.{◌++◌, ◌==◌, ℕ, List, [], codes, if◌then◌else◌}
+use Rattle.std.specs.Prelude.{◌++◌, ◌==◌, ℕ, List, [], Option, codes, if◌then◌else◌}
 use Rattle.serde_json.specs.Data.{Data, number as numeral, unsigned, string, object, no_members, member}
 use Rattle.serde_json.specs.Written.{compact_text}
 use Rattle.plain.specs.Codes.{code_text}
@@ -8,7 +8,7 @@ use Rattle.expand.specs.declared.reason.Reason.{Reason}
 use Rattle.expand.specs.declared.reason.Reason.TheVariants.{Coded, Required}
 use Rattle.expand.specs.declared.reason.Rejection.{Rejection}
 use Rattle.sentences.specs.Subject.{subject_of}
-use Rattle.sentences.specs.Table.{sentence, remedy, required_sentence, required_remedy}
+use Rattle.sentences.specs.Table.{sentence, remedy, wrong_with, required_sentence, required_remedy}
 use Rattle.sentences.specs.declared.subject.Subject.{Subject}
 
 -- the line that a refusal is about, of the file's line of its number: none if the number is 0
@@ -20,10 +20,11 @@ abbrev pub code_of : Reason → List ℕ
 code_of (Coded code) = code_text code
 code_of (Required text) = codes "R21"
 
--- what is wrong with a line of this instruction: if a variable is required in it, with the text that it is refused with
-abbrev pub message_of : Reason → Subject → List ℕ
-message_of (Coded code) subject = sentence code subject
-message_of (Required text) subject = required_sentence ++ (codes ": " ++ text)
+-- what is wrong with a line of this instruction, and the name that may have been meant, if there is one; if a variable is required in it, the text
+-- that it is refused with
+abbrev pub message_of : Reason → Subject → Option (List ℕ) → List ℕ
+message_of (Coded code) subject meant = wrong_with (sentence code subject) meant
+message_of (Required text) subject meant = required_sentence ++ (codes ": " ++ text)
 
 -- what helps against it
 abbrev pub remedy_of : Reason → Subject → List ℕ
@@ -40,13 +41,13 @@ refusal_data code file line message helps text = object (member (codes "code") (
     (member (codes "text") (string text) no_members))))))
 
 -- a refusal of the file of this name that is about this text
-abbrev pub data_of : List ℕ → Rejection → List ℕ → Data
-data_of file refusal text =
-    refusal_data (code_of refusal.reason) file refusal.line (message_of refusal.reason (subject_of text)) (remedy_of refusal.reason (subject_of text)) text
+abbrev pub data_of : List ℕ → Rejection → List ℕ → Option (List ℕ) → Data
+data_of file refusal text meant =
+    refusal_data (code_of refusal.reason) file refusal.line (message_of refusal.reason (subject_of text) meant) (remedy_of refusal.reason (subject_of text)) text
 
 -- its line of JSON, with the LF that ends it, of the file's line of the refusal's number
-abbrev pub json_line : List ℕ → Rejection → List ℕ → List ℕ
-json_line file refusal line = compact_text (data_of file refusal (line_about refusal.line line)) ++ codes "\n"
+abbrev pub json_line : List ℕ → Rejection → List ℕ → Option (List ℕ) → List ℕ
+json_line file refusal line meant = compact_text (data_of file refusal (line_about refusal.line line) meant) ++ codes "\n"
 
 -- a refusal that is about no line but about a place in the file, by its parts
 unfoldable pub place_data : List ℕ → List ℕ → List ℕ → List ℕ → List ℕ → Data

@@ -1,5 +1,5 @@
 -- How a refusal is shown (own).
-use Rattle.std.specs.Prelude.{◌++◌, ◌==◌, ℕ, List, [], codes, length, if◌then◌else◌}
+use Rattle.std.specs.Prelude.{◌++◌, ◌==◌, ℕ, List, [], Option, codes, length, if◌then◌else◌}
 use Rattle.std.specs.Fmt.{decimal}
 use Rattle.std.specs.List.{repeat}
 use Rattle.plain.specs.Codes.{code_text}
@@ -8,7 +8,7 @@ use Rattle.expand.specs.declared.reason.Reason.{Reason}
 use Rattle.expand.specs.declared.reason.Reason.TheVariants.{Coded, Required}
 use Rattle.expand.specs.declared.reason.Rejection.{Rejection}
 use Rattle.sentences.specs.Subject.{subject_of}
-use Rattle.sentences.specs.Table.{sentence, remedy, required_sentence, required_remedy}
+use Rattle.sentences.specs.Table.{sentence, remedy, wrong_with, required_sentence, required_remedy}
 
 -- a line after its number, and what helps after a margin that is as wide
 abbrev pub cited : List ℕ → List ℕ → List ℕ → List ℕ
@@ -20,13 +20,14 @@ abbrev pub headed : List ℕ → Code → List ℕ → List ℕ → List ℕ
 headed place code wrong rest = place ++ (codes ": " ++ (code_text code ++ (codes ": " ++ (wrong ++ (codes "\n" ++ rest)))))
 
 -- a refusal of the file of this name, and the file's line of this number
-abbrev pub shown_line : List ℕ → Code → List ℕ → List ℕ → List ℕ
-shown_line file code number line =
-    headed (file ++ (codes ":" ++ number)) code (sentence code (subject_of line)) (cited number line (remedy code (subject_of line)))
+abbrev pub shown_line : List ℕ → Code → List ℕ → List ℕ → Option (List ℕ) → List ℕ
+shown_line file code number line meant =
+    headed (file ++ (codes ":" ++ number)) code (wrong_with (sentence code (subject_of line)) meant) (cited number line (remedy code (subject_of line)))
 
 -- a refusal of the file of this name that is about no line: no line stands between what is wrong and what helps
-abbrev pub shown_whole : List ℕ → Code → List ℕ
-shown_whole file code = headed file code (sentence code (subject_of [])) (codes "     | " ++ (remedy code (subject_of []) ++ codes "\n"))
+abbrev pub shown_whole : List ℕ → Code → Option (List ℕ) → List ℕ
+shown_whole file code meant =
+    headed file code (wrong_with (sentence code (subject_of [])) meant) (codes "     | " ++ (remedy code (subject_of []) ++ codes "\n"))
 
 -- a refusal of the file of this name that is about no line but about a place in the file: what is wrong ends with the place
 abbrev pub shown_place : List ℕ → Code → List ℕ → List ℕ
@@ -40,13 +41,13 @@ shown_required file text number line =
     file ++ (codes ":" ++ (number ++ (codes ": R21: " ++ (required_sentence ++ (codes ": " ++ (text ++ (codes "\n" ++ cited number line required_remedy)))))))
 
 -- what is shown of a refusal by a code alone: with the line of its number, which is given, but not if the number is 0
-abbrev pub shown_coded : List ℕ → Code → ℕ → List ℕ → List ℕ
-shown_coded file code number line = if number == 0 then shown_whole file code else shown_line file code (decimal number) line
+abbrev pub shown_coded : List ℕ → Code → ℕ → List ℕ → Option (List ℕ) → List ℕ
+shown_coded file code number line meant = if number == 0 then shown_whole file code meant else shown_line file code (decimal number) line meant
 
-abbrev pub shown_by : List ℕ → Reason → ℕ → List ℕ → List ℕ
-shown_by file (Coded code) number line = shown_coded file code number line
-shown_by file (Required text) number line = shown_required file text (decimal number) line
+abbrev pub shown_by : List ℕ → Reason → ℕ → List ℕ → Option (List ℕ) → List ℕ
+shown_by file (Coded code) number line meant = shown_coded file code number line meant
+shown_by file (Required text) number line meant = shown_required file text (decimal number) line
 
--- what is shown of a refusal
-abbrev pub shown : List ℕ → Rejection → List ℕ → List ℕ
-shown file refusal line = shown_by file refusal.reason refusal.line line
+-- what is shown of a refusal, and of the name that may have been meant, if there is one: by R21 none is shown
+abbrev pub shown : List ℕ → Rejection → List ℕ → Option (List ℕ) → List ℕ
+shown file refusal line meant = shown_by file refusal.reason refusal.line line meant

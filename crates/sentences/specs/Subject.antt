@@ -4,7 +4,7 @@ use Rattle.std.specs.List.{find}
 use Rattle.std.specs.Str.{str_eq_ignore_ascii_case}
 use Rattle.ascii.specs.Pieces.{first_piece}
 use Rattle.sentences.specs.declared.subject.Subject.{Subject}
-use Rattle.sentences.specs.declared.subject.Subject.TheVariants.{From, Arg, Env, Label, Expose, User, Workdir, StopSignal, Volume, Shell, Cmd, Entrypoint, Run, Copy, Other}
+use Rattle.sentences.specs.declared.subject.Subject.TheVariants.{From, Arg, Env, Label, Expose, User, Workdir, StopSignal, Volume, Shell, Cmd, Entrypoint, Run, Copy, Add, Onbuild, Healthcheck, Maintainer, Other}
 
 -- the name of an instruction in lower case (Dockerfile reference)
 abbrev pub name_of : Subject → List ℕ
@@ -22,11 +22,17 @@ name_of Cmd = codes "cmd"
 name_of Entrypoint = codes "entrypoint"
 name_of Run = codes "run"
 name_of Copy = codes "copy"
+name_of Add = codes "add"
+name_of Onbuild = codes "onbuild"
+name_of Healthcheck = codes "healthcheck"
+name_of Maintainer = codes "maintainer"
 name_of Other = []
 
--- the instructions that have a name
+-- the instructions that have a name; the last four are left out of the language on purpose (own)
 abbrev pub named : List Subject
-named = From ∷ Arg ∷ Env ∷ Label ∷ Expose ∷ User ∷ Workdir ∷ StopSignal ∷ Volume ∷ Shell ∷ Cmd ∷ Entrypoint ∷ Run ∷ Copy ∷ []
+named =
+    From ∷ Arg ∷ Env ∷ Label ∷ Expose ∷ User ∷ Workdir ∷ StopSignal ∷ Volume ∷ Shell ∷ Cmd ∷ Entrypoint ∷ Run ∷ Copy
+    ∷ Add ∷ Onbuild ∷ Healthcheck ∷ Maintainer ∷ []
 
 -- the instruction of this name, whatever the case of its letters (Dockerfile reference)
 unfoldable pub found : List ℕ → Option Subject

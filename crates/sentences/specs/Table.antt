@@ -1,10 +1,32 @@
 -- What is said of each refusal: one sentence for one cause, and one remedy (own). Where a code has several causes, the instruction of the line
 -- chooses among them, and the sentence says which are left.
-use Rattle.std.specs.Prelude.{ℕ, List, codes}
+use Rattle.std.specs.Prelude.{◌++◌, ℕ, List, Option, Some, None, codes}
 use Rattle.plain.specs.declared.refusal.Code.{Code}
 use Rattle.plain.specs.declared.refusal.Code.TheVariants.{R01, R02, R03, R04, R05, R06, R07, R08, R09, R10, R11, R12, R13, R14, R15, R16, R17, R18, R19, R20}
 use Rattle.sentences.specs.declared.subject.Subject.{Subject}
-use Rattle.sentences.specs.declared.subject.Subject.TheVariants.{From, Arg, Env, Label, Expose, User, Workdir, StopSignal, Volume, Shell, Cmd, Entrypoint, Run, Copy, Other}
+use Rattle.sentences.specs.declared.subject.Subject.TheVariants.{From, Arg, Env, Label, Expose, User, Workdir, StopSignal, Volume, Shell, Cmd, Entrypoint, Run, Copy, Add, Onbuild, Healthcheck, Maintainer, Other}
+
+-- the sentence for R04, by the line's instruction: some are left out of the language on purpose
+abbrev pub unknown_sentence : Subject → List ℕ
+unknown_sentence From = codes "there is no such instruction here"
+unknown_sentence Arg = codes "there is no such instruction here"
+unknown_sentence Env = codes "there is no such instruction here"
+unknown_sentence Label = codes "there is no such instruction here"
+unknown_sentence Expose = codes "there is no such instruction here"
+unknown_sentence User = codes "there is no such instruction here"
+unknown_sentence Workdir = codes "there is no such instruction here"
+unknown_sentence StopSignal = codes "there is no such instruction here"
+unknown_sentence Volume = codes "there is no such instruction here"
+unknown_sentence Shell = codes "there is no such instruction here"
+unknown_sentence Cmd = codes "there is no such instruction here"
+unknown_sentence Entrypoint = codes "there is no such instruction here"
+unknown_sentence Run = codes "there is no such instruction here"
+unknown_sentence Copy = codes "there is no such instruction here"
+unknown_sentence Add = codes "ADD is left out here on purpose"
+unknown_sentence Onbuild = codes "ONBUILD is left out here on purpose"
+unknown_sentence Healthcheck = codes "HEALTHCHECK is left out here on purpose: an OCI configuration has no place for it"
+unknown_sentence Maintainer = codes "MAINTAINER is left out here on purpose: it is deprecated"
+unknown_sentence Other = codes "there is no such instruction here"
 
 -- the sentence for R06, by the line's instruction
 abbrev pub arguments_sentence : Subject → List ℕ
@@ -22,6 +44,10 @@ arguments_sentence Cmd = codes "there is nothing to run"
 arguments_sentence Entrypoint = codes "there is nothing to run"
 arguments_sentence Run = codes "there is nothing to run, or an empty list or heredoc"
 arguments_sentence Copy = codes "COPY takes one source or more and a destination, none of them empty"
+arguments_sentence Add = codes "the number of arguments is wrong, or one is empty"
+arguments_sentence Onbuild = codes "the number of arguments is wrong, or one is empty"
+arguments_sentence Healthcheck = codes "the number of arguments is wrong, or one is empty"
+arguments_sentence Maintainer = codes "the number of arguments is wrong, or one is empty"
 arguments_sentence Other = codes "the number of arguments is wrong, or one is empty"
 
 -- the sentence for R07, by the line's instruction
@@ -40,6 +66,10 @@ flag_sentence Cmd = codes "a flag is unknown, stands twice, or has a wrong value
 flag_sentence Entrypoint = codes "a flag is unknown, stands twice, or has a wrong value"
 flag_sentence Run = codes "RUN takes the flag --mount alone, with a value"
 flag_sentence Copy = codes "a flag of COPY is unknown, stands twice, or has a wrong value"
+flag_sentence Add = codes "a flag is unknown, stands twice, or has a wrong value"
+flag_sentence Onbuild = codes "a flag is unknown, stands twice, or has a wrong value"
+flag_sentence Healthcheck = codes "a flag is unknown, stands twice, or has a wrong value"
+flag_sentence Maintainer = codes "a flag is unknown, stands twice, or has a wrong value"
 flag_sentence Other = codes "a flag is unknown, stands twice, or has a wrong value"
 
 -- the sentence for R08, by the line's instruction
@@ -58,6 +88,10 @@ heredoc_sentence Cmd = codes "a heredoc is not closed, or not allowed so"
 heredoc_sentence Entrypoint = codes "a heredoc is not closed, or not allowed so"
 heredoc_sentence Run = codes "a heredoc is not closed, or not allowed so"
 heredoc_sentence Copy = codes "a heredoc is not closed, or not allowed so"
+heredoc_sentence Add = codes "a heredoc is not closed, or not allowed so"
+heredoc_sentence Onbuild = codes "a heredoc is not closed, or not allowed so"
+heredoc_sentence Healthcheck = codes "a heredoc is not closed, or not allowed so"
+heredoc_sentence Maintainer = codes "a heredoc is not closed, or not allowed so"
 heredoc_sentence Other = codes "a heredoc is not closed, or not allowed so"
 
 -- the sentence for R10, by the line's instruction
@@ -76,6 +110,10 @@ name_sentence Cmd = codes "this is no name of a variable"
 name_sentence Entrypoint = codes "this is no name of a variable"
 name_sentence Run = codes "this is no name of a variable"
 name_sentence Copy = codes "this is no name of a variable"
+name_sentence Add = codes "this is no name of a variable"
+name_sentence Onbuild = codes "this is no name of a variable"
+name_sentence Healthcheck = codes "this is no name of a variable"
+name_sentence Maintainer = codes "this is no name of a variable"
 name_sentence Other = codes "this is no name of a variable"
 
 -- the sentence for R16, by the line's instruction
@@ -94,6 +132,10 @@ number_sentence Cmd = codes "the owner and the mode have to be numbers"
 number_sentence Entrypoint = codes "the owner and the mode have to be numbers"
 number_sentence Run = codes "the owner and the mode have to be numbers"
 number_sentence Copy = codes "the owner and the mode have to be numbers"
+number_sentence Add = codes "the owner and the mode have to be numbers"
+number_sentence Onbuild = codes "the owner and the mode have to be numbers"
+number_sentence Healthcheck = codes "the owner and the mode have to be numbers"
+number_sentence Maintainer = codes "the owner and the mode have to be numbers"
 number_sentence Other = codes "the owner and the mode have to be numbers"
 
 -- what is wrong, by the code and the instruction of the line (own)
@@ -101,7 +143,7 @@ abbrev pub sentence : Code → Subject → List ℕ
 sentence R01 subject = codes "the text is not UTF-8"
 sentence R02 subject = codes "this directive stands above already"
 sentence R03 subject = codes "the escape character has to be a backslash or a backtick"
-sentence R04 subject = codes "there is no such instruction here"
+sentence R04 subject = unknown_sentence subject
 sentence R05 subject = codes "the first instruction other than ARG has to be FROM"
 sentence R06 subject = arguments_sentence subject
 sentence R07 subject = flag_sentence subject
@@ -119,6 +161,33 @@ sentence R18 subject = codes "a limit is passed"
 sentence R19 subject = codes "a line of the ignore file is malformed"
 sentence R20 subject = codes "the input is no bundle"
 
+-- the remedy for R04, by the line's instruction
+abbrev pub unknown_remedy : Subject → List ℕ
+unknown_remedy From = codes "use FROM, ARG, ENV, LABEL, EXPOSE, USER, WORKDIR, STOPSIGNAL, VOLUME, SHELL, CMD, ENTRYPOINT, RUN or COPY"
+unknown_remedy Arg = codes "use FROM, ARG, ENV, LABEL, EXPOSE, USER, WORKDIR, STOPSIGNAL, VOLUME, SHELL, CMD, ENTRYPOINT, RUN or COPY"
+unknown_remedy Env = codes "use FROM, ARG, ENV, LABEL, EXPOSE, USER, WORKDIR, STOPSIGNAL, VOLUME, SHELL, CMD, ENTRYPOINT, RUN or COPY"
+unknown_remedy Label = codes "use FROM, ARG, ENV, LABEL, EXPOSE, USER, WORKDIR, STOPSIGNAL, VOLUME, SHELL, CMD, ENTRYPOINT, RUN or COPY"
+unknown_remedy Expose = codes "use FROM, ARG, ENV, LABEL, EXPOSE, USER, WORKDIR, STOPSIGNAL, VOLUME, SHELL, CMD, ENTRYPOINT, RUN or COPY"
+unknown_remedy User = codes "use FROM, ARG, ENV, LABEL, EXPOSE, USER, WORKDIR, STOPSIGNAL, VOLUME, SHELL, CMD, ENTRYPOINT, RUN or COPY"
+unknown_remedy Workdir = codes "use FROM, ARG, ENV, LABEL, EXPOSE, USER, WORKDIR, STOPSIGNAL, VOLUME, SHELL, CMD, ENTRYPOINT, RUN or COPY"
+unknown_remedy StopSignal = codes "use FROM, ARG, ENV, LABEL, EXPOSE, USER, WORKDIR, STOPSIGNAL, VOLUME, SHELL, CMD, ENTRYPOINT, RUN or COPY"
+unknown_remedy Volume = codes "use FROM, ARG, ENV, LABEL, EXPOSE, USER, WORKDIR, STOPSIGNAL, VOLUME, SHELL, CMD, ENTRYPOINT, RUN or COPY"
+unknown_remedy Shell = codes "use FROM, ARG, ENV, LABEL, EXPOSE, USER, WORKDIR, STOPSIGNAL, VOLUME, SHELL, CMD, ENTRYPOINT, RUN or COPY"
+unknown_remedy Cmd = codes "use FROM, ARG, ENV, LABEL, EXPOSE, USER, WORKDIR, STOPSIGNAL, VOLUME, SHELL, CMD, ENTRYPOINT, RUN or COPY"
+unknown_remedy Entrypoint = codes "use FROM, ARG, ENV, LABEL, EXPOSE, USER, WORKDIR, STOPSIGNAL, VOLUME, SHELL, CMD, ENTRYPOINT, RUN or COPY"
+unknown_remedy Run = codes "use FROM, ARG, ENV, LABEL, EXPOSE, USER, WORKDIR, STOPSIGNAL, VOLUME, SHELL, CMD, ENTRYPOINT, RUN or COPY"
+unknown_remedy Copy = codes "use FROM, ARG, ENV, LABEL, EXPOSE, USER, WORKDIR, STOPSIGNAL, VOLUME, SHELL, CMD, ENTRYPOINT, RUN or COPY"
+unknown_remedy Add = codes "use COPY for files, and let a RUN fetch what is on a network and unpack archives"
+unknown_remedy Onbuild = codes "write its instruction into each file that is built on this one"
+unknown_remedy Healthcheck = codes "drop the line, and give the check to what runs the image"
+unknown_remedy Maintainer = codes "write LABEL maintainer=name"
+unknown_remedy Other = codes "use FROM, ARG, ENV, LABEL, EXPOSE, USER, WORKDIR, STOPSIGNAL, VOLUME, SHELL, CMD, ENTRYPOINT, RUN or COPY"
+
+-- what is wrong, and after it the name that may have been meant, if there is one (own)
+abbrev pub wrong_with : List ℕ → Option (List ℕ) → List ℕ
+wrong_with wrong None = wrong
+wrong_with wrong (Some name) = wrong ++ (codes "; did you mean " ++ (name ++ codes "?"))
+
 -- the remedy for R06, by the line's instruction
 abbrev pub arguments_remedy : Subject → List ℕ
 arguments_remedy From = codes "write FROM image or FROM image AS name"
@@ -135,11 +204,15 @@ arguments_remedy Cmd = codes "write a command, or a list in JSON"
 arguments_remedy Entrypoint = codes "write a command, or a list in JSON"
 arguments_remedy Run = codes "write a command, a list in JSON with one text or more, or a heredoc with a line"
 arguments_remedy Copy = codes "write COPY source destination, and give each variable in it a value"
+arguments_remedy Add = codes "write as many as the instruction takes"
+arguments_remedy Onbuild = codes "write as many as the instruction takes"
+arguments_remedy Healthcheck = codes "write as many as the instruction takes"
+arguments_remedy Maintainer = codes "write as many as the instruction takes"
 arguments_remedy Other = codes "write as many as the instruction takes"
 
 -- the remedy for R07, by the line's instruction
 abbrev pub flag_remedy : Subject → List ℕ
-flag_remedy From = codes "drop the flag"
+flag_remedy From = codes "drop the flag (--platform is left out on purpose: an image comes with the bundle)"
 flag_remedy Arg = codes "drop the flag, or mend its value"
 flag_remedy Env = codes "drop the flag, or mend its value"
 flag_remedy Label = codes "drop the flag, or mend its value"
@@ -153,6 +226,10 @@ flag_remedy Cmd = codes "drop the flag, or mend its value"
 flag_remedy Entrypoint = codes "drop the flag, or mend its value"
 flag_remedy Run = codes "drop the flag, or write --mount=type=cache,target=/path"
 flag_remedy Copy = codes "write --from=name, --chown=1000:1000, --chmod=644 or --link, each once at most"
+flag_remedy Add = codes "drop the flag, or mend its value"
+flag_remedy Onbuild = codes "drop the flag, or mend its value"
+flag_remedy Healthcheck = codes "drop the flag, or mend its value"
+flag_remedy Maintainer = codes "drop the flag, or mend its value"
 flag_remedy Other = codes "drop the flag, or mend its value"
 
 -- the remedy for R08, by the line's instruction
@@ -171,6 +248,10 @@ heredoc_remedy Cmd = codes "close it by a line with its name alone"
 heredoc_remedy Entrypoint = codes "close it by a line with its name alone"
 heredoc_remedy Run = codes "close it by a line with its name alone; give RUN one heredoc with nothing beside it and without #! in it"
 heredoc_remedy Copy = codes "close it by a line with its name alone; let it be a source, a word of its own, and without --from"
+heredoc_remedy Add = codes "close it by a line with its name alone"
+heredoc_remedy Onbuild = codes "close it by a line with its name alone"
+heredoc_remedy Healthcheck = codes "close it by a line with its name alone"
+heredoc_remedy Maintainer = codes "close it by a line with its name alone"
 heredoc_remedy Other = codes "close it by a line with its name alone"
 
 -- the remedy for R10, by the line's instruction
@@ -189,6 +270,10 @@ name_remedy Cmd = codes "begin with a letter or _, and go on with letters, digit
 name_remedy Entrypoint = codes "begin with a letter or _, and go on with letters, digits and _"
 name_remedy Run = codes "begin with a letter or _, and go on with letters, digits and _"
 name_remedy Copy = codes "begin with a letter or _, and go on with letters, digits and _"
+name_remedy Add = codes "begin with a letter or _, and go on with letters, digits and _"
+name_remedy Onbuild = codes "begin with a letter or _, and go on with letters, digits and _"
+name_remedy Healthcheck = codes "begin with a letter or _, and go on with letters, digits and _"
+name_remedy Maintainer = codes "begin with a letter or _, and go on with letters, digits and _"
 name_remedy Other = codes "begin with a letter or _, and go on with letters, digits and _"
 
 -- the remedy for R16, by the line's instruction
@@ -207,6 +292,10 @@ number_remedy Cmd = codes "write --chown=1000:1000 and --chmod=644 (names would 
 number_remedy Entrypoint = codes "write --chown=1000:1000 and --chmod=644 (names would need the image's /etc/passwd)"
 number_remedy Run = codes "write --chown=1000:1000 and --chmod=644 (names would need the image's /etc/passwd)"
 number_remedy Copy = codes "write --chown=1000:1000 and --chmod=644 (names would need the image's /etc/passwd)"
+number_remedy Add = codes "write --chown=1000:1000 and --chmod=644 (names would need the image's /etc/passwd)"
+number_remedy Onbuild = codes "write --chown=1000:1000 and --chmod=644 (names would need the image's /etc/passwd)"
+number_remedy Healthcheck = codes "write --chown=1000:1000 and --chmod=644 (names would need the image's /etc/passwd)"
+number_remedy Maintainer = codes "write --chown=1000:1000 and --chmod=644 (names would need the image's /etc/passwd)"
 number_remedy Other = codes "write --chown=1000:1000 and --chmod=644 (names would need the image's /etc/passwd)"
 
 -- what helps, by the code and the instruction of the line (own)
@@ -214,7 +303,7 @@ abbrev pub remedy : Code → Subject → List ℕ
 remedy R01 subject = codes "save the file as UTF-8"
 remedy R02 subject = codes "drop one of the two"
 remedy R03 subject = codes "write # escape=\\ or # escape=`"
-remedy R04 subject = codes "use FROM, ARG, ENV, LABEL, EXPOSE, USER, WORKDIR, STOPSIGNAL, VOLUME, SHELL, CMD, ENTRYPOINT, RUN or COPY"
+remedy R04 subject = unknown_remedy subject
 remedy R05 subject = codes "begin with FROM and an image, or with FROM scratch"
 remedy R06 subject = arguments_remedy subject
 remedy R07 subject = flag_remedy subject
@@ -227,7 +316,7 @@ remedy R13 subject = codes "name a stage of the file, or count from 0"
 remedy R14 subject = codes "write / at the end of the destination"
 remedy R15 subject = codes "close each [, and write \\[ where the character [ is meant"
 remedy R16 subject = number_remedy subject
-remedy R17 subject = codes "write type=bind or type=cache, keys once each, and targets that are neither / nor within one another"
+remedy R17 subject = codes "write type=bind or type=cache (tmpfs, secret and ssh are left out on purpose), keys once each, and targets that are neither / nor within one another"
 remedy R18 subject = codes "split the file or the instruction, or shorten the value or the path"
 remedy R19 subject = codes "mend this line of .dockerignore"
 remedy R20 subject = codes "make it by dfsolve pack, or see what a bundle is in docs/FORMATS.md"

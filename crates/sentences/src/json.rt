@@ -1,4 +1,5 @@
 ghost use Rattle.std.specs.Prelude.{◌≡◌, [], IfOk};
+ghost use Rattle.std.specs.Option.{option_copied};
 ghost use Rattle.std.specs.String.{string_bytes};
 ghost use Rattle.serde_json.specs.View.{view};
 ghost use Rattle.plain.specs.Codes.{code_text};
@@ -6,7 +7,7 @@ ghost use Rattle.sentences.specs.Json.{code_of, data_of, json_line, line_about, 
 ghost use Rattle.sentences.specs.Subject.{subject_of};
 ghost use Rattle.sentences.specs.Table.{remedy, sentence};
 
-use crate::table::{required_remedy, required_sentence};
+use crate::table::{required_remedy, required_sentence, wrong_with};
 use crate::{Subject, remedy, sentence};
 use expand::{Reason, Rejection};
 use plain::{Code, Memory};
@@ -30,12 +31,17 @@ fn code_of(alloc: Global, reason: &Reason) -> Result<String, AllocError>
     }
 }
 
-/// What is wrong with a line of this instruction.
-fn message_of(alloc: Global, reason: &Reason, subject: Subject) -> Result<String, AllocError>
-    ensures { IfOk result (λ text. string_bytes text ≡ message_of reason.now subject) }
+/// What is wrong with a line of this instruction, and the name that may have been meant, if there is one.
+fn message_of(
+    alloc: Global,
+    reason: &Reason,
+    subject: Subject,
+    meant: Option<&str>,
+) -> Result<String, AllocError>
+    ensures { IfOk result (λ text. string_bytes text ≡ message_of reason.now subject (option_copied meant.entry)) }
 {
     match reason {
-        Reason::Coded(code) => String::from_str(alloc, sentence(*code, subject)),
+        Reason::Coded(code) => wrong_with(alloc, sentence(*code, subject), meant),
         Reason::Required(text) => {
             let (wrong, text) = (required_sentence(), text.as_str());
             format!(in alloc; "{wrong}: {text}")
@@ -71,19 +77,25 @@ fn refusal_value(
 }
 
 /// A refusal of the file of this name that is about this text, as JSON.
-fn value_of(alloc: Global, file: &str, refusal: &Rejection, text: &str) -> Result<Value, AllocError>
-    ensures { IfOk result (λ v. view v ≡ data_of file.now refusal.now text.now) }
+fn value_of(
+    alloc: Global,
+    file: &str,
+    refusal: &Rejection,
+    text: &str,
+    meant: Option<&str>,
+) -> Result<Value, AllocError>
+    ensures { IfOk result (λ v. view v ≡ data_of file.now refusal.now text.now (option_copied meant.entry)) }
 {
     let subject = Subject::of_line(text);
     let code = code_of(alloc, &refusal.reason)?;
-    let message = message_of(alloc, &refusal.reason, subject)?;
+    let message = message_of(alloc, &refusal.reason, subject, meant)?;
     let helps = remedy_of(&refusal.reason, subject);
     refusal_value(alloc, code, file, refusal.line, message, helps, text)
 }
 
 /// What a program reads of a refusal of the file of this name, where `line` is the file's line of the refusal's number: one line of compact
 /// JSON, with the LF that ends it. Its keys are `code`, `file`, `line`, `message`, `remedy` and `text`, which is the line. By R21 the message
-/// ends with the text that the line is refused with.
+/// ends with the text that the line is refused with, and by another code with the name that may have been `meant`, if there is one.
 ///
 /// The text is empty if the refusal is about no line, having number 0.
 pub fn json_line(
@@ -91,11 +103,12 @@ pub fn json_line(
     file: &str,
     refusal: &Rejection,
     line: &str,
+    meant: Option<&str>,
 ) -> Result<String, Memory>
-    ensures { IfOk result (λ text. string_bytes text ≡ json_line file.now refusal.now line.now) }
+    ensures { IfOk result (λ text. string_bytes text ≡ json_line file.now refusal.now line.now (option_copied meant.entry)) }
 {
     let text = line_about(refusal.line, line);
-    let value = value_of(alloc, file, refusal, text)?;
+    let value = value_of(alloc, file, refusal, text, meant)?;
     let written = value.to_string(alloc);
     drop(value);
     let mut written = written?;

@@ -1,8 +1,9 @@
 ghost use Rattle.std.specs.Prelude.{◌≡◌, IfOk};
+ghost use Rattle.std.specs.Option.{option_copied};
 ghost use Rattle.std.specs.String.{string_bytes};
 ghost use Rattle.sentences.specs.Showing.{cited, headed, shown_line, shown_whole, shown_place, shown_required, shown_coded, shown};
 
-use crate::table::{required_remedy, required_sentence};
+use crate::table::{required_remedy, required_sentence, wrong_with};
 use crate::{Subject, remedy, sentence};
 use expand::{Reason, Rejection};
 use plain::{Code, Memory};
@@ -30,28 +31,25 @@ fn shown_line(
     code: Code,
     number: &str,
     line: &str,
+    meant: Option<&str>,
 ) -> Result<String, Memory>
-    ensures { IfOk result (λ text. string_bytes text ≡ shown_line file.now code number.now line.now) }
+    ensures { IfOk result (λ text. string_bytes text ≡ shown_line file.now code number.now line.now (option_copied meant.entry)) }
 {
     let subject = Subject::of_line(line);
     let place = format!(in alloc; "{file}:{number}")?;
+    let wrong = wrong_with(alloc, sentence(code, subject), meant)?;
     let rest = cited(alloc, number, line, remedy(code, subject))?;
-    headed(
-        alloc,
-        place.as_str(),
-        code,
-        sentence(code, subject),
-        rest.as_str(),
-    )
+    headed(alloc, place.as_str(), code, wrong.as_str(), rest.as_str())
 }
 
 /// What is shown of a refusal that is about no line.
-fn shown_whole(alloc: Global, file: &str, code: Code) -> Result<String, Memory>
-    ensures { IfOk result (λ text. string_bytes text ≡ shown_whole file.now code) }
+fn shown_whole(alloc: Global, file: &str, code: Code, meant: Option<&str>) -> Result<String, Memory>
+    ensures { IfOk result (λ text. string_bytes text ≡ shown_whole file.now code (option_copied meant.entry)) }
 {
     let subject = Subject::of_line("");
+    let wrong = wrong_with(alloc, sentence(code, subject), meant)?;
     let rest = format!(in alloc; "     | {}\n", remedy(code, subject))?;
-    headed(alloc, file, code, sentence(code, subject), rest.as_str())
+    headed(alloc, file, code, wrong.as_str(), rest.as_str())
 }
 
 /// What is shown of a refusal of the file of this name that is about no line but about a place in the file: two lines, the file, the code
@@ -87,26 +85,33 @@ fn shown_coded(
     code: Code,
     number: u32,
     line: &str,
+    meant: Option<&str>,
 ) -> Result<String, Memory>
-    ensures { IfOk result (λ text. string_bytes text ≡ shown_coded file.now code number line.now) }
+    ensures { IfOk result (λ text. string_bytes text ≡ shown_coded file.now code number line.now (option_copied meant.entry)) }
 {
     if number == 0 {
-        return shown_whole(alloc, file, code);
+        return shown_whole(alloc, file, code, meant);
     }
     let number = format!(in alloc; "{number}")?;
-    shown_line(alloc, file, code, number.as_str(), line)
+    shown_line(alloc, file, code, number.as_str(), line, meant)
 }
 
 /// What is shown of a refusal of the file of this name, where `line` is the file's line of the refusal's number: three lines, with the place,
 /// the code and what is wrong; the line with its number; and what helps. By R21, what is wrong ends with the text that the line is refused
-/// with, as it stands.
+/// with, as it stands. By another code it ends with the name that may have been `meant`, if there is one.
 ///
 /// The second of them is left out if the refusal is about no line, having number 0.
-pub fn shown(alloc: Global, file: &str, refusal: &Rejection, line: &str) -> Result<String, Memory>
-    ensures { IfOk result (λ text. string_bytes text ≡ shown file.now refusal.now line.now) }
+pub fn shown(
+    alloc: Global,
+    file: &str,
+    refusal: &Rejection,
+    line: &str,
+    meant: Option<&str>,
+) -> Result<String, Memory>
+    ensures { IfOk result (λ text. string_bytes text ≡ shown file.now refusal.now line.now (option_copied meant.entry)) }
 {
     match &refusal.reason {
-        Reason::Coded(code) => shown_coded(alloc, file, *code, refusal.line, line),
+        Reason::Coded(code) => shown_coded(alloc, file, *code, refusal.line, line, meant),
         Reason::Required(text) => {
             let number = format!(in alloc; "{}", refusal.line)?;
             shown_required(alloc, file, text.as_str(), number.as_str(), line)

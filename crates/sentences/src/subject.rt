@@ -21,13 +21,18 @@ pub enum Subject {
     Entrypoint,
     Run,
     Copy,
+    /// Left out of the language on purpose, as the next three are.
+    Add,
+    Onbuild,
+    Healthcheck,
+    Maintainer,
     /// Another name, or no line at all.
     Other,
 }
 
 impl Subject {
     /// All that have a name.
-    const NAMED: [Subject; 14] = [
+    const NAMED: [Subject; 18] = [
         Subject::From,
         Subject::Arg,
         Subject::Env,
@@ -42,6 +47,10 @@ impl Subject {
         Subject::Entrypoint,
         Subject::Run,
         Subject::Copy,
+        Subject::Add,
+        Subject::Onbuild,
+        Subject::Healthcheck,
+        Subject::Maintainer,
     ];
 
     /// The name of the instruction, in lower case.
@@ -63,6 +72,10 @@ impl Subject {
             Subject::Entrypoint => "entrypoint",
             Subject::Run => "run",
             Subject::Copy => "copy",
+            Subject::Add => "add",
+            Subject::Onbuild => "onbuild",
+            Subject::Healthcheck => "healthcheck",
+            Subject::Maintainer => "maintainer",
             Subject::Other => "",
         }
     }

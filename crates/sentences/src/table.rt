@@ -1,9 +1,40 @@
 // The table: a sentence and a remedy for each cause.
-ghost use Rattle.std.specs.Prelude.{◌≡◌};
-ghost use Rattle.sentences.specs.Table.{arguments_sentence, flag_sentence, heredoc_sentence, name_sentence, number_sentence, arguments_remedy, flag_remedy, heredoc_remedy, name_remedy, number_remedy, sentence, remedy, required_sentence, required_remedy};
+ghost use Rattle.std.specs.Prelude.{◌≡◌, IfOk};
+ghost use Rattle.std.specs.Option.{option_copied};
+ghost use Rattle.std.specs.String.{string_bytes};
+ghost use Rattle.sentences.specs.Table.{unknown_sentence, unknown_remedy, wrong_with, arguments_sentence, flag_sentence, heredoc_sentence, name_sentence, number_sentence, arguments_remedy, flag_remedy, heredoc_remedy, name_remedy, number_remedy, sentence, remedy, required_sentence, required_remedy};
 
 use crate::Subject;
 use plain::Code;
+use std::alloc::{AllocError, Global};
+
+/// The sentence for R04, by the line's instruction: some are left out of the language on purpose.
+fn unknown_sentence(subject: Subject) -> &'static str
+    ensures { result.now ≡ unknown_sentence subject }
+{
+    match subject {
+        Subject::Add => "ADD is left out here on purpose",
+        Subject::Onbuild => "ONBUILD is left out here on purpose",
+        Subject::Healthcheck =>
+            "HEALTHCHECK is left out here on purpose: an OCI configuration has no place for it",
+        Subject::Maintainer => "MAINTAINER is left out here on purpose: it is deprecated",
+        Subject::From
+        | Subject::Arg
+        | Subject::Env
+        | Subject::Label
+        | Subject::Expose
+        | Subject::User
+        | Subject::Workdir
+        | Subject::StopSignal
+        | Subject::Volume
+        | Subject::Shell
+        | Subject::Cmd
+        | Subject::Entrypoint
+        | Subject::Run
+        | Subject::Copy
+        | Subject::Other => "there is no such instruction here",
+    }
+}
 
 /// The sentence for R06, by the line's instruction.
 fn arguments_sentence(subject: Subject) -> &'static str
@@ -22,7 +53,11 @@ fn arguments_sentence(subject: Subject) -> &'static str
         Subject::Cmd | Subject::Entrypoint => "there is nothing to run",
         Subject::Run => "there is nothing to run, or an empty list or heredoc",
         Subject::Copy => "COPY takes one source or more and a destination, none of them empty",
-        Subject::Other => "the number of arguments is wrong, or one is empty",
+        Subject::Add
+        | Subject::Onbuild
+        | Subject::Healthcheck
+        | Subject::Maintainer
+        | Subject::Other => "the number of arguments is wrong, or one is empty",
     }
 }
 
@@ -45,6 +80,10 @@ fn flag_sentence(subject: Subject) -> &'static str
         | Subject::Shell
         | Subject::Cmd
         | Subject::Entrypoint
+        | Subject::Add
+        | Subject::Onbuild
+        | Subject::Healthcheck
+        | Subject::Maintainer
         | Subject::Other => "a flag is unknown, stands twice, or has a wrong value",
     }
 }
@@ -68,6 +107,10 @@ fn heredoc_sentence(subject: Subject) -> &'static str
         | Subject::Shell
         | Subject::Cmd
         | Subject::Entrypoint
+        | Subject::Add
+        | Subject::Onbuild
+        | Subject::Healthcheck
+        | Subject::Maintainer
         | Subject::Other => "a heredoc is not closed, or not allowed so",
     }
 }
@@ -91,6 +134,10 @@ fn name_sentence(subject: Subject) -> &'static str
         | Subject::Entrypoint
         | Subject::Run
         | Subject::Copy
+        | Subject::Add
+        | Subject::Onbuild
+        | Subject::Healthcheck
+        | Subject::Maintainer
         | Subject::Other => "this is no name of a variable",
     }
 }
@@ -115,6 +162,10 @@ fn number_sentence(subject: Subject) -> &'static str
         | Subject::Entrypoint
         | Subject::Run
         | Subject::Copy
+        | Subject::Add
+        | Subject::Onbuild
+        | Subject::Healthcheck
+        | Subject::Maintainer
         | Subject::Other => "the owner and the mode have to be numbers",
     }
 }
@@ -128,7 +179,7 @@ pub fn sentence(code: Code, subject: Subject) -> &'static str
         Code::R01 => "the text is not UTF-8",
         Code::R02 => "this directive stands above already",
         Code::R03 => "the escape character has to be a backslash or a backtick",
-        Code::R04 => "there is no such instruction here",
+        Code::R04 => unknown_sentence(subject),
         Code::R05 => "the first instruction other than ARG has to be FROM",
         Code::R06 => arguments_sentence(subject),
         Code::R07 => flag_sentence(subject),
@@ -145,6 +196,49 @@ pub fn sentence(code: Code, subject: Subject) -> &'static str
         Code::R18 => "a limit is passed",
         Code::R19 => "a line of the ignore file is malformed",
         Code::R20 => "the input is no bundle",
+    }
+}
+
+/// The remedy for R04, by the line's instruction.
+fn unknown_remedy(subject: Subject) -> &'static str
+    ensures { result.now ≡ unknown_remedy subject }
+{
+    match subject {
+        Subject::Add =>
+            "use COPY for files, and let a RUN fetch what is on a network and unpack archives",
+        Subject::Onbuild => "write its instruction into each file that is built on this one",
+        Subject::Healthcheck => "drop the line, and give the check to what runs the image",
+        Subject::Maintainer => "write LABEL maintainer=name",
+        Subject::From
+        | Subject::Arg
+        | Subject::Env
+        | Subject::Label
+        | Subject::Expose
+        | Subject::User
+        | Subject::Workdir
+        | Subject::StopSignal
+        | Subject::Volume
+        | Subject::Shell
+        | Subject::Cmd
+        | Subject::Entrypoint
+        | Subject::Run
+        | Subject::Copy
+        | Subject::Other =>
+            "use FROM, ARG, ENV, LABEL, EXPOSE, USER, WORKDIR, STOPSIGNAL, VOLUME, SHELL, CMD, ENTRYPOINT, RUN or COPY",
+    }
+}
+
+/// What is wrong, and after it the name that may have been meant, if there is one.
+pub(crate) fn wrong_with(
+    alloc: Global,
+    wrong: &str,
+    meant: Option<&str>,
+) -> Result<String, AllocError>
+    ensures { IfOk result (λ text. string_bytes text ≡ wrong_with wrong.now (option_copied meant.entry)) }
+{
+    match meant {
+        None => String::from_str(alloc, wrong),
+        Some(name) => format!(in alloc; "{wrong}; did you mean {name}?"),
     }
 }
 
@@ -167,7 +261,11 @@ fn arguments_remedy(subject: Subject) -> &'static str
         Subject::Run =>
             "write a command, a list in JSON with one text or more, or a heredoc with a line",
         Subject::Copy => "write COPY source destination, and give each variable in it a value",
-        Subject::Other => "write as many as the instruction takes",
+        Subject::Add
+        | Subject::Onbuild
+        | Subject::Healthcheck
+        | Subject::Maintainer
+        | Subject::Other => "write as many as the instruction takes",
     }
 }
 
@@ -176,7 +274,8 @@ fn flag_remedy(subject: Subject) -> &'static str
     ensures { result.now ≡ flag_remedy subject }
 {
     match subject {
-        Subject::From => "drop the flag",
+        Subject::From =>
+            "drop the flag (--platform is left out on purpose: an image comes with the bundle)",
         Subject::Run => "drop the flag, or write --mount=type=cache,target=/path",
         Subject::Copy =>
             "write --from=name, --chown=1000:1000, --chmod=644 or --link, each once at most",
@@ -191,6 +290,10 @@ fn flag_remedy(subject: Subject) -> &'static str
         | Subject::Shell
         | Subject::Cmd
         | Subject::Entrypoint
+        | Subject::Add
+        | Subject::Onbuild
+        | Subject::Healthcheck
+        | Subject::Maintainer
         | Subject::Other => "drop the flag, or mend its value",
     }
 }
@@ -216,6 +319,10 @@ fn heredoc_remedy(subject: Subject) -> &'static str
         | Subject::Shell
         | Subject::Cmd
         | Subject::Entrypoint
+        | Subject::Add
+        | Subject::Onbuild
+        | Subject::Healthcheck
+        | Subject::Maintainer
         | Subject::Other => "close it by a line with its name alone",
     }
 }
@@ -240,6 +347,10 @@ fn name_remedy(subject: Subject) -> &'static str
         | Subject::Entrypoint
         | Subject::Run
         | Subject::Copy
+        | Subject::Add
+        | Subject::Onbuild
+        | Subject::Healthcheck
+        | Subject::Maintainer
         | Subject::Other => "begin with a letter or _, and go on with letters, digits and _",
     }
 }
@@ -263,6 +374,10 @@ fn number_remedy(subject: Subject) -> &'static str
         | Subject::Entrypoint
         | Subject::Run
         | Subject::Copy
+        | Subject::Add
+        | Subject::Onbuild
+        | Subject::Healthcheck
+        | Subject::Maintainer
         | Subject::Other =>
             "write --chown=1000:1000 and --chmod=644 (names would need the image's /etc/passwd)",
     }
@@ -276,8 +391,7 @@ pub fn remedy(code: Code, subject: Subject) -> &'static str
         Code::R01 => "save the file as UTF-8",
         Code::R02 => "drop one of the two",
         Code::R03 => "write # escape=\\ or # escape=`",
-        Code::R04 =>
-            "use FROM, ARG, ENV, LABEL, EXPOSE, USER, WORKDIR, STOPSIGNAL, VOLUME, SHELL, CMD, ENTRYPOINT, RUN or COPY",
+        Code::R04 => unknown_remedy(subject),
         Code::R05 => "begin with FROM and an image, or with FROM scratch",
         Code::R06 => arguments_remedy(subject),
         Code::R07 => flag_remedy(subject),
@@ -292,7 +406,7 @@ pub fn remedy(code: Code, subject: Subject) -> &'static str
         Code::R15 => "close each [, and write \\[ where the character [ is meant",
         Code::R16 => number_remedy(subject),
         Code::R17 =>
-            "write type=bind or type=cache, keys once each, and targets that are neither / nor within one another",
+            "write type=bind or type=cache (tmpfs, secret and ssh are left out on purpose), keys once each, and targets that are neither / nor within one another",
         Code::R18 => "split the file or the instruction, or shorten the value or the path",
         Code::R19 => "mend this line of .dockerignore",
         Code::R20 => "make it by dfsolve pack, or see what a bundle is in docs/FORMATS.md",

@@ -3,7 +3,7 @@ use Rattle.imageconfig.specs.Reading.{config_in}
 use Rattle.bundle.specs.Reading.{ReadsBundle}
 use Rattle.flaws.specs.Flaws.{flaw_in}
 use Rattle.checks.proofs.CheckFacts.{bundle_refused, bundle_checked}
-use Rattle.checks.proofs.TextFacts.{bundle_text, found_text, found_flaw}
+use Rattle.checks.proofs.TextFacts.{bundle_text, found_text, bundle_target, found_target, found_flaw}
 use Rattle.checks.proofs.checking.check_bundle.Goals as goal
 
 pub refused-requires : goal.refused-requires
@@ -15,6 +15,10 @@ returns-in-Ok-clause-faults g c = bundle_checked c.args.bytes.now c.in-Ok.bundle
 pub returns-in-Ok-clause-text : goal.returns-in-Ok-clause-text
 returns-in-Ok-clause-text g c =
     found_text c.check_whole.result c.in-Ok.bundle.dockerfile _ (bundle_text c.args.bytes.now c.in-Ok.bundle c.in-Ok.ensures) c.check_whole.ensures.text
+
+pub returns-in-Ok-clause-target : goal.returns-in-Ok-clause-target
+returns-in-Ok-clause-target g c =
+    found_target c.check_whole.result c.in-Ok.bundle.target _ (bundle_target c.args.bytes.now c.in-Ok.bundle c.in-Ok.ensures) c.check_whole.ensures.target
 
 pub returns-in-Ok-clause-flaw : goal.returns-in-Ok-clause-flaw
 returns-in-Ok-clause-flaw g c =

@@ -4,7 +4,7 @@ use Rattle.explains.proofs.explaining.show_missed.Goals as goal
 pub returns-in-None : goal.returns-in-None
 returns-in-None c = plain_shown c.args.bytes.now _ c.args.line c.args.cause c.args.missed c.shown_failure.result c.in-None.is c.shown_failure.ensures
 
-pub returns-in-Some : goal.returns-in-Some
-returns-in-Some c =
-    source_shown c.args.bytes.now _ c.args.line c.args.cause c.args.missed c.in-Some.missed c.as_str-source.result.now c.in_ok-left.left c.show_source.result
-    c.in-Some.is c.as_str-source.ensures.value c.in_ok-left.ensures c.show_source.ensures
+pub returns-in_ok-left-in-Some : goal.returns-in_ok-left-in-Some
+returns-in_ok-left-in-Some c =
+    source_shown c.args.bytes.now _ c.args.line c.args.cause c.args.missed c.in-Some.missed c.as_str-source.result.now c.in_ok-left-in-Some.left c.show_source.result
+    c.in-Some.is c.as_str-source.ensures c.in_ok-left-in-Some.ensures c.show_source.ensures

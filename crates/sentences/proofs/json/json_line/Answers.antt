@@ -1,4 +1,5 @@
 use Rattle.std.proofs.Common.{◌≡◌, ◌++◌, List, ℕ, false, codes, ap, ◌∙◌}
+use Rattle.std.specs.Option.{option_copied}
 use Rattle.serde_json.specs.View.{view}
 use Rattle.serde_json.specs.Written.{compact_text, has_float}
 use Rattle.sentences.specs.Json.{data_of, line_about}
@@ -8,7 +9,8 @@ use Rattle.sentences.proofs.json.json_line.Goals as goal
 pub returns : goal.returns
 returns c =
     let text = line_about c.args.refusal.now.line c.args.line.now in
-    let told : view c.in_ok-value.value ≡ data_of c.args.file.now c.args.refusal.now text =
-    c.in_ok-value.ensures ∙ ap (data_of c.args.file.now c.args.refusal.now) c.line_about-text.ensures in
-    let plain : has_float (view c.in_ok-value.value) ≡ false = ap has_float told ∙ refusal_is_plain c.args.file.now c.args.refusal.now text in
+    let meant = option_copied c.args.meant in
+    let told : view c.in_ok-value.value ≡ data_of c.args.file.now c.args.refusal.now text meant =
+    c.in_ok-value.ensures ∙ ap (λ (text : List ℕ). data_of c.args.file.now c.args.refusal.now text meant) c.line_about-text.ensures in
+    let plain : has_float (view c.in_ok-value.value) ≡ false = ap has_float told ∙ refusal_is_plain c.args.file.now c.args.refusal.now text meant in
     c.in_ok-push_str.ensures.bytes ∙ ap (λ (written : List ℕ). written ++ codes "\n") (c.in_ok-written.ensures.text plain ∙ ap compact_text told)
