@@ -66,11 +66,7 @@ fn better<'a>(
 /// The name that may have been meant by a word: of those names that are near to it the first that takes the fewest edits, whatever the case of ASCII
 /// letters. An edit puts a character in, takes it away, replaces it, or changes its place with that of the next one. A name is near if it
 /// isn't the word itself and takes at most one edit for each three bytes of the word. None if no name is near; a word or a name of more than 64 bytes never is.
-pub fn nearest<'a>(
-    alloc: Global,
-    word: &str,
-    names: &[&'a str],
-) -> Result<Option<&'a str>, Memory>
+pub fn nearest<'a>(alloc: Global, word: &str, names: &[&'a str]) -> Result<Option<&'a str>, Memory>
     ensures { IfOk result (λ found. option_copied found ≡ nearest word.now (map (λ it. it.now) names.now)) }
 {
     let mut best = None;
