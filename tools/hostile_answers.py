@@ -4,7 +4,7 @@ import json
 import re
 
 CAUSE = re.compile(r"F[1-5]|exit ([1-9]\d{0,2})")
-CODE = re.compile(r"R0[1-9]|R1\d|R20")
+CODE = re.compile(r"R0[1-9]|R1\d|R2[01]")
 MODE = re.compile(r"[0-7]{4}")
 HEX = re.compile(r"(?:[0-9a-f]{2})*")
 PORTION = re.compile(rb"n: (?:(?:Malformed|Unknown|Repeated|Clash) \d+|\d+ vertices, result \d+, (?:as it stood|in other words))\n")
@@ -100,7 +100,9 @@ def check_tree(tree):
 
 
 def check_refused(answer):
-    need(set(answer) == {"code", "line", "result"} and answer["result"] == "refused", "a refusal has other keys")
+    keys = {"code", "line", "result", "text"} if answer.get("code") == "R21" else {"code", "line", "result"}
+    need(set(answer) == keys and answer["result"] == "refused", "a refusal has other keys")
+    need(is_text(answer.get("text", "")), "the text of a refusal is none")
     need(is_text(answer["code"]) and CODE.fullmatch(answer["code"]), "the code is none")
     need(is_number(answer["line"], 1 << 26), "the line is no number")
     code, line = answer["code"], answer["line"]
