@@ -7,5 +7,6 @@ pub mod Claim
 pub mod Clearing
 pub mod Board
 pub mod PrivateClaim
+pub mod PrivateShelf
 pub mod PrivateNumbers
 pub mod PrivateFrontier

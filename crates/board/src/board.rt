@@ -9,14 +9,16 @@ ghost use Rattle.board.specs.Problem.{IsProblem};
 ghost use Rattle.board.specs.Play.{begun, claim_of, claimable, value_at, unsettled_count, IsReplay};
 ghost use Rattle.board.specs.Play.{Claim as Claiming, Settle as Settling, Abandon as Abandoning};
 ghost use Rattle.board.specs.Claim.{IsClaim, IsOut, IsResult, IsGivenBack};
-ghost use Rattle.board.specs.PrivateClaim.{AreInputs};
+ghost use Rattle.board.specs.PrivateShelf.{AreInputIds};
 ghost use Rattle.board.specs.Clearing.{IsCleared};
 ghost use Rattle.board.specs.Legal.{IsNextClaim};
 
 use crate::frontier::Frontier;
+use crate::shelf::Shelf;
 use crate::state::{self, NextClaim};
 use crate::{Claim, ClaimOut, Happened, Job, Refused};
 use cachemounts::{CacheStore, Content};
+use cells::Place;
 use executor::Executor;
 use llb::VertexId;
 use plain::{Items, Memory, copied_items, growth};
@@ -27,10 +29,10 @@ use trees::{Tree, TreeOrCause};
 /// Which vertices of a job are settled and with what, which claims are out, and what the job's caches hold. The type keeps that all of it is
 /// the replay of the history: so whatever calls were made, the history is legal, and each vertex that is settled has its value.
 #[derive(Drop)]
-pub struct Board<'a, E: Executor> {
+pub struct Board<'a, E: Executor, P: Place<TreeOrCause> = TreeOrCause> {
     job: Job<'a, E>,
     /// For each vertex its value, once it is settled.
-    settled: Vec<Option<TreeOrCause>>,
+    settled: Shelf<P>,
     /// The claims that are out, the oldest first: no worker twice, no vertex twice.
     claims: Vec<ClaimOut>,
     /// All that happened, in order. It has room for the end of each claim that is out, so that an abandon takes no memory.
@@ -43,7 +45,7 @@ pub struct Board<'a, E: Executor> {
     frontier: Frontier,
 }
 
-impl<'a, E: Executor> Model for Board<'a, E> {
+impl<'a, E: Executor, P: Place<TreeOrCause>> Model for Board<'a, E, P> {
     ghost use Rattle.std.specs.Prelude.{◌+◌, ◌≤◌, vec_len, vec_capacity};
     ghost use Rattle.board.specs.Board.{BoardValue, board_code, IsBoard};
     ghost use Rattle.board.specs.PrivateFrontier.{IsFrontier};
@@ -56,7 +58,7 @@ impl<'a, E: Executor> Model for Board<'a, E> {
       job = b.job;
       first = b.first.items;
       contents = b.caches.contents;
-      run = record { history = b.history.items; state = record { settled = b.settled.items; claims = b.claims.items; holds = b.caches.holds } };
+      run = record { history = b.history.items; state = record { settled = b.settled; claims = b.claims.items; holds = b.caches.holds } };
     } };
 
     ghost invariant = { λ b.
@@ -64,10 +66,10 @@ impl<'a, E: Executor> Model for Board<'a, E> {
           job = b.job;
           first = b.first.items;
           contents = b.caches.contents;
-          run = record { history = b.history.items; state = record { settled = b.settled.items; claims = b.claims.items; holds = b.caches.holds } };
+          run = record { history = b.history.items; state = record { settled = b.settled; claims = b.claims.items; holds = b.caches.holds } };
         })
         × (vec_len b.history + vec_len b.claims ≤ vec_capacity b.history)
-        × IsFrontier b.job.graph.vertices b.job.graph.places b.settled.items b.claims.items b.frontier };
+        × IsFrontier b.job.graph.vertices b.job.graph.places b.settled b.claims.items b.frontier };
 }
 
 /// The store, given back where there was no memory for its board.
@@ -75,14 +77,18 @@ pub struct NoBoard {
     pub caches: CacheStore,
 }
 
-impl<'a, E: Executor> Board<'a, E> {
+impl<'a, E: Executor, P: Place<TreeOrCause>> Board<'a, E, P> {
     /// A board on which nothing has happened, with a store of which nobody holds anything. `CacheStore::is_idle` tests that.
-    pub fn new(alloc: Global, job: Job<'a, E>, caches: CacheStore) -> Result<Board<'a, E>, NoBoard>
+    pub fn new(
+        alloc: Global,
+        job: Job<'a, E>,
+        caches: CacheStore,
+    ) -> Result<Board<'a, E, P>, NoBoard>
         requires idle { caches.holds ≡ [] }
         ensures ok { IfOk result (λ board. board ≡ record { job = job.entry; first = caches.contents; contents = caches.contents; run = begun (job_problem E.out job.entry) }) }
         ensures back { IfErr result (λ refused. refused.caches ≡ caches) }
     {
-        let Ok(settled) = state::none_settled(alloc, job.graph().len()) else {
+        let Ok(settled) = Shelf::new(alloc, job.graph().len()) else {
             return Err(NoBoard { caches });
         };
         let Ok(first) = caches.contents(alloc) else {
@@ -102,9 +108,9 @@ impl<'a, E: Executor> Board<'a, E> {
         })
     }
 
-    /// Claims the ready vertex of least id for a worker, with copies of its inputs' trees and the lease of its caches. It claims nothing where
+    /// Claims the ready vertex of least id for a worker, with the places of its inputs' trees and the lease of its caches. It claims nothing where
     /// no vertex is ready, or where the worker has a claim out. After `Memory` the board is as it was.
-    pub fn claim(&mut self, alloc: Global, worker: u32) -> Result<Option<Claim>, Memory>
+    pub fn claim(&mut self, alloc: Global, worker: u32) -> Result<Option<Claim<P>>, Memory>
         ensures next { IfOk result (λ claim. IsNextClaim (board_problem E.out self.old) self.old.run.history worker
             (option_map (λ c. c.vertex) claim)) }
         ensures worker { IfOk result (λ claim. IfSome claim (λ c. c.worker ≡ worker)) }
@@ -117,14 +123,13 @@ impl<'a, E: Executor> Board<'a, E> {
         ensures err { OnErr result (self.new ≡ self.old) }
     {
         let next = state::next_claim(
-            alloc,
             &self.job,
-            self.settled.as_slice(),
+            &self.settled,
             self.claims.as_slice(),
             &self.caches,
             &mut self.frontier,
             worker,
-        )?;
+        );
         match next {
             Some(next) => {
                 let claim = self.claim_vertex(alloc, worker, next)?;
@@ -140,16 +145,16 @@ impl<'a, E: Executor> Board<'a, E> {
     pub fn settle(
         &mut self,
         alloc: Global,
-        claim: Claim,
-        value: TreeOrCause,
+        claim: Claim<P>,
+        value: P,
         given: Vec<Tree>,
-    ) -> Result<(), Refused>
+    ) -> Result<(), Refused<P>>
         requires out { IsOut self.old.run.state claim }
         requires of { IsClaim (board_problem E.out self.old) claim }
-        requires value { IsResult (board_problem E.out self.old) claim value }
+        requires value { IsResult (board_problem E.out self.old) claim (P.stands value) }
         requires given { IsGivenBack (board_problem E.out self.old) claim given.items }
         ensures run { OnOk result (IsStep E.out (Settling claim.worker given.items) self.old self.new) }
-        ensures value { OnOk result (slice_get self.new.run.state.settled claim.vertex ≡ Some (Some value)) }
+        ensures value { OnOk result (slice_get self.new.run.state.settled claim.vertex ≡ Some (Some (P.stands value))) }
         ensures nearer { OnOk result (unsettled_count self.new.run.state.settled < unsettled_count self.old.run.state.settled) }
         ensures err { OnErr result (self.new ≡ self.old) }
         ensures back { IfErr result (λ refused. (refused.claim ≡ claim) × (refused.value ≡ value) × (refused.given.items ≡ given.items)) }
@@ -166,8 +171,8 @@ impl<'a, E: Executor> Board<'a, E> {
         let lease = claim.into_lease();
         state::drop_claim(&mut self.claims, worker);
         let line = self.job.graph().least_place(vertex);
-        self.frontier.settle(vertex, line, &value);
-        self.settled[vertex.index()] = Some(value);
+        self.frontier.settle(vertex, line, value.value());
+        self.settled.put(vertex, value);
         self.caches.give(lease, given);
         growth::add(
             &mut self.history,
@@ -182,7 +187,7 @@ impl<'a, E: Executor> Board<'a, E> {
 
     /// Gives a claim up: its vertex may be claimed again, and the contents of its caches stay as they are. A claim that isn't out any more is
     /// spent, and nothing else changes. It takes no memory.
-    pub fn abandon(&mut self, claim: Claim)
+    pub fn abandon(&mut self, claim: Claim<P>)
         ensures out { IsOut self.old.run.state claim → IsStep E.out (Abandoning claim.worker) self.old self.new }
         ensures ended { ¬ IsOut self.old.run.state claim → self.new ≡ self.old }
     {
@@ -212,7 +217,7 @@ impl<'a, E: Executor> Board<'a, E> {
     pub fn value(&self, vertex: VertexId) -> Option<&TreeOrCause>
         ensures { option_map (λ value. value.now) result ≡ value_at self.now.run.state.settled vertex }
     {
-        self.settled.get(vertex.index())?.as_ref()
+        self.settled.get(vertex)
     }
 
     /// What has happened, in order. What the board holds is the replay of it, and the contents of its caches are those that it left of the
@@ -227,7 +232,7 @@ impl<'a, E: Executor> Board<'a, E> {
     }
 
     /// Whether a claim is out.
-    pub fn is_out(&self, claim: &Claim) -> bool
+    pub fn is_out(&self, claim: &Claim<P>) -> bool
         ensures { IsTrue result ↔ IsOut self.now.run.state claim.now }
     {
         state::is_out(
@@ -287,11 +292,44 @@ impl<'a, E: Executor> Board<'a, E> {
         caches
     }
 
+    /// The same board with each value in a place of its own. If there is no memory for that, it comes back as it was.
+    pub fn at_home(self, alloc: Global) -> Result<Board<'a, E>, Board<'a, E, P>>
+        ensures ok { IfOk result (λ board. board ≡ self.entry) }
+        ensures back { IfErr result (λ board. board ≡ self.entry) }
+    {
+        let Ok(values) = self.settled.copied(alloc) else {
+            return Err(self);
+        };
+        let Board {
+            job,
+            settled: _,
+            claims,
+            history,
+            first,
+            caches,
+            frontier,
+        } = self;
+        Ok(Board {
+            job,
+            settled: values,
+            claims,
+            history,
+            first,
+            caches,
+            frontier,
+        })
+    }
+
     /// Claims a vertex for the worker that may claim it next. After `Memory` the board is as it was.
-    fn claim_vertex(&mut self, alloc: Global, worker: u32, next: NextClaim) -> Result<Claim, Memory>
+    fn claim_vertex(
+        &mut self,
+        alloc: Global,
+        worker: u32,
+        next: NextClaim,
+    ) -> Result<Claim<P>, Memory>
         requires next { claimable (board_problem E.out self.old) self.old.run.state worker ≡ Some next.vertex }
-        requires inputs { AreInputs self.old.job.graph.vertices self.old.run.state.settled next.vertex next.inputs.items }
-        ensures vertex { IfOk result (λ claim. claim.vertex ≡ next.vertex) }
+        requires inputs { AreInputIds self.old.job.graph.vertices self.old.run.state.settled next.vertex next.inputs.now }
+        ensures vertex { IfOk result (λ claim. claim.vertex ≡ next.entry.vertex) }
         ensures worker { IfOk result (λ claim. claim.worker ≡ worker) }
         ensures of { IfOk result (IsClaim (board_problem E.out self.new)) }
         ensures out { IfOk result (IsOut self.new.run.state) }
@@ -301,6 +339,7 @@ impl<'a, E: Executor> Board<'a, E> {
         ensures err { OnErr result (self.new ≡ self.old) }
     {
         let NextClaim { vertex, inputs } = next;
+        let inputs = self.settled.again(alloc, inputs)?;
         growth::room(&mut self.claims, 1)?;
         // One event for this claim, one for its end, and one for the end of each that is out already.
         growth::room(&mut self.history, self.claims.len() + 2)?;

@@ -1,22 +1,24 @@
-ghost use Rattle.std.specs.Prelude.{◌≡◌, ◌<◌, Some, length, slice_get};
+ghost use Rattle.std.specs.Prelude.{◌≡◌, ◌<◌, Ok, Some, length, slice_get};
+ghost use Rattle.std.specs.Option.{option_map};
 
+use crate::inputs::Inputs;
 use cachemounts::Lease;
+use cells::Place;
 use llb::VertexId;
-use plain::Items;
 use std::marker::Model;
 use trees::{Tree, TreeOrCause};
 
 /// The claim of a vertex by a worker, with the trees of the vertex's inputs and the lease of its caches. It ends by `Board::settle` or
 /// `Board::abandon`.
-pub struct Claim {
+pub struct Claim<P: Place<TreeOrCause> = TreeOrCause> {
     worker: u32,
     vertex: VertexId,
     at: usize,
-    inputs: Items<Tree>,
+    inputs: Inputs<P>,
     lease: Lease,
 }
 
-impl Model for Claim {
+impl<P: Place<TreeOrCause>> Model for Claim<P> {
     ghost use Rattle.std.specs.Prelude.{◌≡◌};
     ghost use Rattle.board.specs.Claim.{ClaimValue, claim_code};
 
@@ -29,23 +31,23 @@ impl Model for Claim {
     ghost invariant = { λ c. c.lease.holder ≡ c.worker };
 }
 
-impl Claim {
+impl<P: Place<TreeOrCause>> Claim<P> {
     /// A claim of a worker, made by the board alone.
     pub(crate) fn new(
         worker: u32,
         vertex: VertexId,
         at: usize,
-        inputs: Vec<Tree>,
+        inputs: Inputs<P>,
         lease: Lease,
-    ) -> Claim
+    ) -> Claim<P>
         requires { lease.holder ≡ worker }
-        ensures { result ≡ record { worker = worker; vertex = vertex; at = at; inputs = inputs.items; caches = lease.trees } }
+        ensures { result ≡ record { worker = worker; vertex = vertex; at = at; inputs = inputs; caches = lease.trees } }
     {
         Claim {
             worker,
             vertex,
             at,
-            inputs: Items::from_vec(inputs),
+            inputs,
             lease,
         }
     }
@@ -83,7 +85,15 @@ impl Claim {
         requires { at < length self.now.inputs }
         ensures { slice_get self.now.inputs at ≡ Some result.now }
     {
-        &self.inputs.as_slice()[at]
+        self.inputs.tree(at)
+    }
+
+    /// The place in which the tree of an input of its vertex stands, by the input's position.
+    pub fn place(&self, at: usize) -> &P
+        requires { at < length self.now.inputs }
+        ensures { option_map Ok (slice_get self.now.inputs at) ≡ Some (P.stands result.now) }
+    {
+        self.inputs.place(at)
     }
 
     /// Copies of the trees that were in the caches of its vertex, in the order of the vertex's uses.
@@ -114,9 +124,9 @@ impl Claim {
 }
 
 /// All that a settle took for which there was no memory, given back.
-pub struct Refused {
-    pub claim: Claim,
-    pub value: TreeOrCause,
+pub struct Refused<P: Place<TreeOrCause> = TreeOrCause> {
+    pub claim: Claim<P>,
+    pub value: P,
     pub given: Vec<Tree>,
 }
 

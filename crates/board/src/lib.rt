@@ -1,6 +1,6 @@
 // The board of a job: which vertices are settled, and which workers have which claims out.
 //
-// Workers take turns on it, each under its number. `claim` gives the ready vertex of least id, with copies of its inputs' trees and the lease of its caches;
+// Workers take turns on it, each under its number. `claim` gives the ready vertex of least id, with the places of its inputs' trees and the lease of its caches;
 // `settle` brings the vertex's value and the trees that go back to its caches; `abandon` gives the vertex up. It runs nothing itself, starts no
 // thread and waits for nobody: who has a claim runs its vertex (`solver::run`), and locks the board as it likes.
 //
@@ -23,9 +23,11 @@ mod board;
 mod claim;
 mod event;
 mod frontier;
+mod inputs;
 mod job;
 pub mod laws;
 mod number_set;
+mod shelf;
 mod state;
 
 pub use board::{Board, NoBoard};

@@ -7,16 +7,21 @@ ghost use Rattle.board.specs.Problem.{IsProblem};
 
 use crate::Gate;
 use board::{Claim, Job};
+use cells::Place;
 use executor::Executor;
 use llb::{Op, Vertex, VertexId};
 use plain::Memory;
 use std::alloc::Global;
-use trees::Tree;
+use trees::{Tree, TreeOrCause};
 use vertexrun::{Ran, vertex_result};
 
 /// The result of a claim of a job: the value of its vertex, and the trees that go back to the vertex's caches, which the executor leaves of the
 /// copies in the claim. `Board::settle` takes just these. It needs no board, so any number of claims may be run at once.
-pub fn run<E: Executor>(alloc: Global, job: &Job<E>, claim: &Claim) -> Result<Ran, Memory>
+pub fn run<E: Executor, P: Place<TreeOrCause>>(
+    alloc: Global,
+    job: &Job<E>,
+    claim: &Claim<P>,
+) -> Result<Ran, Memory>
     requires { IsClaim (job_problem E.out job.now) claim.now }
     ensures value { IfOk result (λ ran. IsResult (job_problem E.out job.now) claim.now ran.value) }
     ensures given { IfOk result (λ ran. IsGivenBack (job_problem E.out job.now) claim.now ran.given.items) }
@@ -36,11 +41,11 @@ pub fn run<E: Executor>(alloc: Global, job: &Job<E>, claim: &Claim) -> Result<Ra
 }
 
 /// The result of a claim as `run` gives it, with a gate asked before and after where the vertex of the claim is a command.
-pub fn run_gated<E: Executor, G: Gate>(
+pub fn run_gated<E: Executor, G: Gate, P: Place<TreeOrCause>>(
     alloc: Global,
     job: &Job<E>,
     gate: &G,
-    claim: &Claim,
+    claim: &Claim<P>,
 ) -> Result<Ran, Memory>
     requires { IsClaim (job_problem E.out job.now) claim.now }
     ensures value { IfOk result (λ ran. IsResult (job_problem E.out job.now) claim.now ran.value) }
@@ -72,7 +77,7 @@ fn vertex_at<'a, E: Executor>(job: &Job<'a, E>, id: VertexId) -> &'a Vertex
 }
 
 /// The trees of the inputs of a claim's vertex, in their order.
-fn inputs_of(alloc: Global, claim: &Claim) -> Result<Vec<&Tree>, Memory>
+fn inputs_of<P: Place<TreeOrCause>>(alloc: Global, claim: &Claim<P>) -> Result<Vec<&Tree>, Memory>
     ensures { IfOk result (λ inputs. map (λ tree. tree.now) inputs.items ≡ claim.now.inputs) }
 {
     let mut inputs = Vec::with_capacity(alloc, claim.input_count())?;

@@ -1,15 +1,17 @@
-ghost use Rattle.std.specs.Prelude.{◌≡◌, []};
+ghost use Rattle.std.specs.Prelude.{◌≡◌, [], length};
 ghost use Rattle.board.specs.Board.{board_problem};
+ghost use Rattle.board.specs.Claim.{IsClaim};
 ghost use Rattle.board.specs.Job.{job_problem};
+ghost use Rattle.sites.specs.Seats.{IsMine};
 
-use board::{Board, Job, NoBoard, Refused};
+use board::{Board, Claim, Job, NoBoard, Refused};
 use cachemounts::CacheStore;
 use executor::{Executor, Fixture};
 use plain::Memory;
 use plans::Plan;
 use rolls::{Opened, Room};
 use samples::{Row, plan_of_rows};
-use sites::{Case, Desk, Seat, Site};
+use sites::{Case, Desk, Known, Results, Seat, Site};
 use solver::run;
 use std::alloc::Global;
 use std::marker::Brand;
@@ -52,17 +54,35 @@ fn turn<E: Executor, J: Case + Room, R: Wait>(
     requires { job_problem E.out tools.now.job.now ≡ J.problem }
 {
     let claimed = desk.lock(rt).claim(tools.alloc, seat);
-    let Ok(Some(claim)) = claimed else {
-        thread::yield_now();
-        return;
-    };
+    match claimed {
+        Ok(Some(claim)) => settle_run(rt, desk, tools, seat, claim),
+        _ => thread::yield_now(),
+    }
+}
+
+/// Runs the vertex of a claim, and settles it. For want of memory the claim is given up.
+pub fn settle_run<'a, E: Executor, J: Case + Room, R: Wait>(
+    rt: &R,
+    desk: &Desk<'a, E, J>,
+    tools: &Tools<E>,
+    seat: &mut Seat<J>,
+    claim: Claim<Known<'a, J>>,
+)
+    requires job { job_problem E.out tools.now.job.now ≡ J.problem }
+    requires mine { IsMine seat.old claim }
+    requires of { IsClaim J.problem claim }
+{
     let Ok(ran) = run(tools.alloc, tools.job, &claim) else {
         desk.lock(rt).abandon(seat, claim);
         return;
     };
     let Ran { value, given } = ran;
+    let Ok(Some(known)) = desk.keep(tools.alloc, tools.job, &claim, value) else {
+        desk.lock(rt).abandon(seat, claim);
+        return;
+    };
     let mut held = desk.lock(rt);
-    if let Err(refused) = held.settle(tools.alloc, seat, claim, value, given) {
+    if let Err(refused) = held.settle(tools.alloc, seat, claim, known, given) {
         let Refused {
             claim,
             value: _,
@@ -92,22 +112,24 @@ fn work_all<E: Executor, J: Case + Room + Send + Sync, R: Threads + Wait + Sync>
 }
 
 /// The tallies of two workers of a board, one after the other; none for want of memory.
-fn tallies_of_two<E: Executor, J: Case + Room + Send + Sync, R: Threads + Wait + Sync>(
+fn tallies_of_two<'a, E: Executor, J: Case + Room + Send + Sync, R: Threads + Wait + Sync>(
     rt: &R,
     tools: &Tools<E>,
-    board: Board<E>,
+    board: Board<'a, E, Known<'a, J>>,
+    results: &'a Results<J>,
     opened: Opened,
 ) -> Result<Vec<u32>, Memory>
     requires job { job_problem E.out tools.now.job.now ≡ J.problem }
     requires problem { board_problem E.out board ≡ J.problem }
+    requires long { results.now ≡ length J.problem.vertices }
     requires first { board.first ≡ J.first }
     requires room { opened.table.shared.table_id ≡ J.table }
     requires begun { board.run.history ≡ [] }
 {
-    let mut site = Site::<E, J>::new(board, opened);
+    let mut site = Site::<E, J>::new(board, results, opened);
     let mut seats = [site.seat(tools.alloc), site.seat(tools.alloc)];
     work_all(rt, site.desk(), tools, &mut seats);
-    drop(site.close(&mut seats));
+    drop(site.close(&mut seats).into_caches());
     let tallies = tallies_of(tools.alloc, &seats);
     drop(seats);
     tallies
@@ -124,7 +146,30 @@ fn tallies_of<J: Room>(alloc: Global, seats: &[Seat<J>]) -> Result<Vec<u32>, Mem
     Ok(tallies)
 }
 
-/// The same, on a new board of a plan.
+/// The same, on a new board of a job.
+fn tallies_of_job<E: Executor, J: Case + Room + Send + Sync, R: Threads + Wait + Sync>(
+    rt: &R,
+    tools: &Tools<E>,
+    job: Job<E>,
+    opened: Opened,
+) -> Result<Vec<u32>, Memory>
+    requires job { job_problem E.out tools.now.job.now ≡ J.problem }
+    requires problem { job_problem E.out job ≡ J.problem }
+    requires first { J.first ≡ [] }
+    requires room { opened.table.shared.table_id ≡ J.table }
+{
+    let results = Results::<J>::new(tools.alloc, job.graph().len())?;
+    match Board::new(tools.alloc, job, CacheStore::new(tools.alloc)) {
+        Ok(board) => tallies_of_two(rt, tools, board, &results, opened),
+        Err(NoBoard { caches }) => {
+            drop(caches);
+            drop(opened);
+            Err(Memory)
+        }
+    }
+}
+
+/// The same, of a plan.
 fn solve_by_two<E: Executor, R: Threads + Wait + Sync>(
     rt: &R,
     alloc: Global,
@@ -132,18 +177,9 @@ fn solve_by_two<E: Executor, R: Threads + Wait + Sync>(
     executor: &E,
 ) -> Result<Vec<u32>, Memory> {
     let opened = Opened::new(alloc)?;
-    match Board::new(alloc, Job::new(plan, executor), CacheStore::new(alloc)) {
-        Ok(board) => {
-            let job = Job::new(plan, executor);
-            let tools = Tools { alloc, job: &job };
-            tallies_of_two::<E, Brand, R>(rt, &tools, board, opened)
-        }
-        Err(NoBoard { caches }) => {
-            drop(caches);
-            drop(opened);
-            Err(Memory)
-        }
-    }
+    let job = Job::new(plan, executor);
+    let tools = Tools { alloc, job: &job };
+    tallies_of_job::<E, Brand, R>(rt, &tools, Job::new(plan, executor), opened)
 }
 
 /// A plan whose target, the last of five vertices, needs them all.

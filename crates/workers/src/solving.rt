@@ -1,4 +1,4 @@
-ghost use Rattle.std.specs.Prelude.{◌≡◌, ◌<◌, ◌≤◌, [], IfOk};
+ghost use Rattle.std.specs.Prelude.{◌≡◌, ◌<◌, ◌≤◌, [], IfOk, length};
 ghost use Rattle.plain.specs.Limits.{most_workers};
 ghost use Rattle.plans.specs.Plan.{problem_of};
 ghost use Rattle.board.specs.Board.{board_problem, AreLeft};
@@ -8,17 +8,19 @@ ghost use Rattle.solver.specs.Solution.{IsSolution};
 use crate::working::{Tools, work_all};
 use board::{Board, Job, NoBoard};
 use cachemounts::CacheStore;
+use cells::Place;
 use executor::Executor;
 use plain::{Memory, growth};
 use plans::Plan;
 use rolls::{Opened, Room};
-use sites::{Case, Site};
+use sites::{Case, Known, Results, Site};
 use solver::{Gate, Solution, finish};
 use std::alloc::Global;
 use std::marker::Brand;
 use std::mem;
 use std::sync::{Condvar, Wait};
 use std::thread::Threads;
+use trees::TreeOrCause;
 
 /// The solution of a plan's problem under an executor, by this many workers, with a store of caches of which nobody holds anything
 /// (`CacheStore::is_idle` tests that). The gate is asked around the run of each command: by the workers from 0 on, and by the caller's thread, which
@@ -42,14 +44,6 @@ pub fn solve<C, E: Executor, G: Gate, R: Threads + Wait + Sync>(
 {
     let opened = Opened::new(alloc)?;
     let lent = mem::replace(caches, CacheStore::new(alloc));
-    let board = match Board::new(alloc, Job::new(plan, executor), lent) {
-        Ok(board) => board,
-        Err(refused) => {
-            let NoBoard { caches: back } = refused;
-            *caches = back;
-            return Err(Memory);
-        }
-    };
     let job = Job::new(plan, executor);
     let tools = Tools {
         alloc,
@@ -57,22 +51,105 @@ pub fn solve<C, E: Executor, G: Gate, R: Threads + Wait + Sync>(
         gate,
         bell: Condvar::new(),
     };
-    let mut board = worked::<E, G, Brand, R>(rt, &tools, workers, board, opened);
-    let solution = finish(alloc, gate, &mut board);
-    *caches = board.into_caches();
+    let outcome = solved::<E, G, Brand, R>(
+        rt,
+        &tools,
+        workers,
+        Job::new(plan, executor),
+        lent,
+        opened,
+    );
+    let Ended {
+        solution,
+        caches: left,
+    } = outcome;
+    *caches = left;
     solution
+}
+
+/// What became of a board: its solution, and the store that it leaves.
+#[derive(Drop)]
+struct Ended {
+    solution: Result<Solution, Memory>,
+    caches: CacheStore,
+}
+
+/// The solution of a job by so many workers, whose results stand in cells, and then by the caller's thread. If there is no memory for cells or board, nobody works.
+fn solved<E: Executor, G: Gate, J: Case + Room + Send + Sync, R: Threads + Wait + Sync>(
+    rt: &R,
+    tools: &Tools<E, G>,
+    workers: u32,
+    job: Job<E>,
+    caches: CacheStore,
+    opened: Opened,
+) -> Ended
+    requires tools { job_problem E.out tools.now.job.now ≡ J.problem }
+    requires problem { job_problem E.out job ≡ J.problem }
+    requires first { caches.contents ≡ J.first }
+    requires idle { caches.holds ≡ [] }
+    requires room { opened.table.shared.table_id ≡ J.table }
+    requires workers { workers ≤ most_workers }
+    ensures solution { IfOk result.solution (IsSolution J.problem) }
+    ensures idle { result.caches.holds ≡ [] }
+    ensures left { AreLeft J.problem J.first result.caches.contents }
+{
+    let Ok(results) = Results::<J>::new(tools.alloc, job.graph().len()) else {
+        return Ended {
+            solution: Err(Memory),
+            caches,
+        };
+    };
+    let board = match Board::new(tools.alloc, job, caches) {
+        Ok(board) => board,
+        Err(refused) => {
+            let NoBoard { caches } = refused;
+            return Ended {
+                solution: Err(Memory),
+                caches,
+            };
+        }
+    };
+    finished(tools, worked(rt, tools, workers, board, &results, opened))
+}
+
+/// What becomes of a board on which no claim is out: the caller's thread does what is left, on the same board with each result in a place of its own.
+/// If there is no memory for these, it does nothing.
+fn finished<E: Executor, G: Gate, P: Place<TreeOrCause>>(
+    tools: &Tools<E, G>,
+    board: Board<E, P>,
+) -> Ended
+    requires { board.run.state.claims ≡ [] }
+    ensures solution { IfOk result.solution (IsSolution (board_problem E.out board.entry)) }
+    ensures idle { result.caches.holds ≡ [] }
+    ensures left { AreLeft (board_problem E.out board.entry) board.entry.first result.caches.contents }
+{
+    match board.at_home(tools.alloc) {
+        Ok(mut board) => {
+            let solution = finish(tools.alloc, tools.gate, &mut board);
+            Ended {
+                solution,
+                caches: board.into_caches(),
+            }
+        }
+        Err(board) => Ended {
+            solution: Err(Memory),
+            caches: board.into_caches(),
+        },
+    }
 }
 
 /// A new board after the work of so many workers, with no claim out. Where there is no memory for their seats, nobody works.
 fn worked<'a, E: Executor, G: Gate, J: Case + Room + Send + Sync, R: Threads + Wait + Sync>(
     rt: &R,
-    tools: &Tools<'a, E, G>,
+    tools: &Tools<E, G>,
     workers: u32,
-    board: Board<'a, E>,
+    board: Board<'a, E, Known<'a, J>>,
+    results: &'a Results<J>,
     opened: Opened,
-) -> Board<'a, E>
+) -> Board<'a, E, Known<'a, J>>
     requires job { job_problem E.out tools.now.job.now ≡ J.problem }
     requires problem { board_problem E.out board ≡ J.problem }
+    requires long { results.now ≡ length J.problem.vertices }
     requires first { board.first ≡ J.first }
     requires room { opened.table.shared.table_id ≡ J.table }
     requires begun { board.run.history ≡ [] }
@@ -85,7 +162,7 @@ fn worked<'a, E: Executor, G: Gate, J: Case + Room + Send + Sync, R: Threads + W
     let Ok(mut seats) = Vec::with_capacity(tools.alloc, workers as usize) else {
         return board;
     };
-    let mut site = Site::<E, J>::new(board, opened);
+    let mut site = Site::<E, J>::new(board, results, opened);
     for _ in 0..workers {
         growth::add(&mut seats, site.seat(tools.alloc));
     }

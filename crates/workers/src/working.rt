@@ -8,12 +8,13 @@ use executor::Executor;
 use plain::Memory;
 use plain::limits::MOST_WORKERS;
 use rolls::Room;
-use sites::{Case, Desk, Held, Seat};
+use sites::{Case, Desk, Held, Known, Seat};
 use solver::{Gate, run_gated};
 use std::alloc::Global;
 use std::sync::{Condvar, Wait};
 use std::thread;
 use std::thread::Threads;
+use trees::Tree;
 use vertexrun::Ran;
 
 /// What the workers of a site share beside its desk.
@@ -45,7 +46,8 @@ pub(crate) fn work_all<
     );
 }
 
-/// The work of one seat: claim, run, settle, until nothing is left to claim or memory is wanting.
+/// The work of one seat: claim, run, settle, until nothing is left to claim or memory is wanting. What a run gave stands in the vertex's cell before the lock is
+/// taken, and what wasn't settled is let go after the lock, so that no tree is copied or let go under it.
 ///
 /// A vertex gets ready by the end of a claim. Whoever settles one looks for the next itself; having found it, it wakes one sleeper, who looks for another
 /// and does the same. Whoever leaves wakes all, since it may leave something behind. So no ready vertex waits for a sleeper, and an end wakes no crowd.
@@ -63,11 +65,12 @@ fn work<E: Executor, G: Gate, J: Case + Room, R: Wait>(
         };
         tools.bell.notify_one();
         let ran = run_gated(tools.alloc, tools.job, tools.gate, &claim);
-        let settled = {
+        let kept = keep(tools, desk, &claim, ran);
+        let ended = {
             let mut held = desk.lock(rt);
-            end(tools.alloc, &mut *held, seat, claim, ran)
+            end(tools.alloc, &mut *held, seat, claim, kept)
         };
-        if !settled {
+        if ended.is_err() {
             break;
         }
     }
@@ -76,58 +79,104 @@ fn work<E: Executor, G: Gate, J: Case + Room, R: Wait>(
 
 /// A claim for a seat, as soon as there is one: none where no claim is out and none is to be had, or where memory is wanting. It sleeps while others
 /// have claims out, until it is woken.
-fn draw<E: Executor, G, J: Case + Room, R: Wait>(
+fn draw<'a, E: Executor, G, J: Case + Room, R: Wait>(
     rt: &R,
-    desk: &Desk<E, J>,
+    desk: &Desk<'a, E, J>,
     tools: &Tools<E, G>,
     seat: &mut Seat<J>,
-) -> Option<Claim>
+) -> Option<Claim<Known<'a, J>>>
     ensures mine { IfSome result (IsMine seat.new) }
     ensures of { IfSome result (IsClaim J.problem) }
 {
     let mut held = desk.lock(rt);
     for _ in rt.forever() {
-        match held.claim(tools.alloc, seat) {
-            Ok(Some(claim)) => return Some(claim),
-            Ok(None) => {
-                if held.is_idle() {
-                    return None;
-                }
-            }
-            Err(Memory) => return None,
+        if let Some(drawn) = draw_now(tools.alloc, &mut *held, seat) {
+            return drawn;
         }
         held = tools.bell.wait(rt, held);
     }
     unreachable!()
 }
 
-/// Settles the claim that a seat has out with what its run gave, or gives it up where memory is wanting. It answers whether it was settled.
-fn end<E: Executor, J: Case + Room>(
+/// What a seat draws from the board as it is: a claim, or, as `draw` says, that there is none for it. None while it may come from a claim that is out.
+fn draw_now<'a, E: Executor, J: Case + Room>(
     alloc: Global,
-    held: &mut Held<E, J>,
+    held: &mut Held<'a, E, J>,
     seat: &mut Seat<J>,
-    claim: Claim,
+) -> Option<Option<Claim<Known<'a, J>>>>
+    ensures mine { IfSome result (λ drawn. IfSome drawn (IsMine seat.new)) }
+    ensures of { IfSome result (λ drawn. IfSome drawn (IsClaim J.problem)) }
+{
+    match held.claim(alloc, seat) {
+        Ok(Some(claim)) => Some(Some(claim)),
+        Ok(None) => {
+            if held.is_idle() {
+                return Some(None);
+            }
+            None
+        }
+        Err(Memory) => Some(None),
+    }
+}
+
+/// What a run gave, its value in the cell of its vertex.
+#[derive(Drop)]
+struct Kept<'a, J: Case> {
+    known: Known<'a, J>,
+    given: Vec<Tree>,
+}
+
+/// Puts what a run gave into the cell of its vertex, without the lock. None if memory is wanting, or if the value of another vertex stands there.
+fn keep<'a, E: Executor, G, J: Case + Room>(
+    tools: &Tools<E, G>,
+    desk: &Desk<'a, E, J>,
+    claim: &Claim<Known<'a, J>>,
     ran: Result<Ran, Memory>,
-) -> bool
-    requires mine { IsMine seat.old claim }
-    requires of { IsClaim J.problem claim }
-    requires value { IfOk ran (λ ran. IsResult J.problem claim ran.value) }
-    requires given { IfOk ran (λ ran. IsGivenBack J.problem claim ran.given.items) }
+) -> Option<Kept<'a, J>>
+    requires job { job_problem E.out tools.now.job.now ≡ J.problem }
+    requires of { IsClaim J.problem claim.now }
+    requires value { IfOk ran (λ ran. IsResult J.problem claim.now ran.value) }
+    requires given { IfOk ran (λ ran. IsGivenBack J.problem claim.now ran.given.items) }
+    ensures value { IfSome result (λ kept. IsResult J.problem claim.now kept.known.value) }
+    ensures given { IfSome result (λ kept. IsGivenBack J.problem claim.now kept.given.items) }
 {
     let Ok(Ran { value, given }) = ran else {
-        held.abandon(seat, claim);
-        return false;
+        return None;
     };
-    match held.settle(alloc, seat, claim, value, given) {
-        Ok(()) => true,
+    match desk.keep(tools.alloc, tools.job, claim, value) {
+        Ok(Some(known)) => Some(Kept { known, given }),
+        _ => None,
+    }
+}
+
+/// Settles the claim that a seat has out with what stands in its vertex's cell, or gives it up if nothing does. If it wasn't settled, the trees
+/// that its run gave back come back.
+fn end<'a, E: Executor, J: Case + Room>(
+    alloc: Global,
+    held: &mut Held<'a, E, J>,
+    seat: &mut Seat<J>,
+    claim: Claim<Known<'a, J>>,
+    kept: Option<Kept<'a, J>>,
+) -> Result<(), Vec<Tree>>
+    requires mine { IsMine seat.old claim }
+    requires of { IsClaim J.problem claim }
+    requires value { IfSome kept (λ kept. IsResult J.problem claim kept.known.value) }
+    requires given { IfSome kept (λ kept. IsGivenBack J.problem claim kept.given.items) }
+{
+    let Some(Kept { known, given }) = kept else {
+        held.abandon(seat, claim);
+        return Err(Vec::new(alloc));
+    };
+    match held.settle(alloc, seat, claim, known, given) {
+        Ok(()) => Ok(()),
         Err(refused) => {
             let Refused {
                 claim,
                 value: _,
-                given: _,
+                given,
             } = refused;
             held.abandon(seat, claim);
-            false
+            Err(given)
         }
     }
 }

@@ -1,4 +1,4 @@
-use Rattle.std.proofs.Common.{◌≡◌, ◌∙◌, ◌&&◌, ℕ, Bool, true, false, Some, None, is_some, length, map, ap, subst, arith, rules}
+use Rattle.std.proofs.Common.{◌≡◌, ◌∙◌, ◌&&◌, ℕ, Bool, true, false, Some, None, is_some, length, ap, subst, arith, rules}
 use Rattle.std.specs.Prelude.{slice_get, slice_index_or}
 use Rattle.std.proofs.lemmas.Option.{slice_get-get_or}
 use Rattle.cachemounts.specs.Holds.{can_take}
@@ -32,17 +32,6 @@ bounds-vertices-index g c =
     let within = least-within (λ k. has c.args.frontier.now.available k && (can_take c.args.caches.now.holds (uses_in graph.vertices k) && comes_before (line_in graph.places k) c.args.frontier.now.failed)) (length graph.vertices) c.in-Some.vertex c.in-Some.ensures.which in
     omega (arith, within, c.index.ensures, ap length c.vertices-vertices.ensures.value)
 
-pub copies-requires : goal.copies-requires
-copies-requires g c =
-    let takes : ℕ → Bool = λ k. (can_take c.args.caches.now.holds (uses_in c.args.job.now.graph.vertices k) && comes_before (line_in c.args.job.now.graph.places k) c.args.frontier.now.failed) in
-    let here : c.vertices-vertices.result.now ≡ c.args.job.now.graph.vertices = c.vertices-vertices.ensures.value ∙ ap (λ graph. graph.vertices) c.graph-graph.ensures.value in
-    let found : Some c.in-Some.vertex ≡ least (λ k. has c.args.frontier.now.available k && takes k) (length c.args.job.now.graph.vertices) =
-    subst (λ graph. Some c.in-Some.vertex ≡ least (λ k. has c.args.frontier.now.available k && (can_take c.args.caches.now.holds (uses_in graph.vertices k) && comes_before (line_in graph.places k) c.args.frontier.now.failed)) (length graph.vertices)) c.graph-graph.ensures.value c.in-Some.ensures.which in
-    let within = least-within (λ k. has c.args.frontier.now.available k && takes k) (length c.args.job.now.graph.vertices) c.in-Some.vertex found in
-    let v : Vertex = slice_index_or c.vertices-vertices.result.now c.index.result c.index-vertices-index.result in
-    let there : slice_get c.vertices-vertices.result.now c.in-Some.vertex ≡ Some v = subst (λ n. slice_get c.vertices-vertices.result.now n ≡ Some v) c.index.ensures (slice_get-get_or c.vertices-vertices.result.now c.index.result c.index-vertices-index.result (omega (arith, within, ap length here, c.index.ensures))) in
-    rw c.as_slice.ensures (available-trees c.args.job.now.graph.vertices c.args.job.now.graph.places c.args.settled.now c.args.claims.now c.args.frontier.now takes c.in-Some.vertex v c.requires.frontier found (subst (λ vertices. slice_get vertices c.in-Some.vertex ≡ Some v) here there))
-
 pub returns-clause-which : goal.returns-clause-which
 returns-clause-which g c =
     let state : State = record { settled = c.args.settled.now; claims = c.args.claims.now; holds = c.args.caches.now.holds } in
@@ -54,10 +43,12 @@ returns-clause-which g c =
 
 pub returns-clause-inputs : goal.returns-clause-inputs
 returns-clause-inputs g c =
+    let takes : ℕ → Bool = λ k. (can_take c.args.caches.now.holds (uses_in c.args.job.now.graph.vertices k) && comes_before (line_in c.args.job.now.graph.places k) c.args.frontier.now.failed) in
     let here : c.vertices-vertices.result.now ≡ c.args.job.now.graph.vertices = c.vertices-vertices.ensures.value ∙ ap (λ graph. graph.vertices) c.graph-graph.ensures.value in
-    let found : Some c.in-Some.vertex ≡ least (λ k. has c.args.frontier.now.available k && (can_take c.args.caches.now.holds (uses_in c.args.job.now.graph.vertices k) && comes_before (line_in c.args.job.now.graph.places k) c.args.frontier.now.failed)) (length c.args.job.now.graph.vertices) =
+    let found : Some c.in-Some.vertex ≡ least (λ k. has c.args.frontier.now.available k && takes k) (length c.args.job.now.graph.vertices) =
     subst (λ graph. Some c.in-Some.vertex ≡ least (λ k. has c.args.frontier.now.available k && (can_take c.args.caches.now.holds (uses_in graph.vertices k) && comes_before (line_in graph.places k) c.args.frontier.now.failed)) (length graph.vertices)) c.graph-graph.ensures.value c.in-Some.ensures.which in
-    let within = least-within (λ k. has c.args.frontier.now.available k && (can_take c.args.caches.now.holds (uses_in c.args.job.now.graph.vertices k) && comes_before (line_in c.args.job.now.graph.places k) c.args.frontier.now.failed)) (length c.args.job.now.graph.vertices) c.in-Some.vertex found in
+    let within = least-within (λ k. has c.args.frontier.now.available k && takes k) (length c.args.job.now.graph.vertices) c.in-Some.vertex found in
     let v : Vertex = slice_index_or c.vertices-vertices.result.now c.index.result c.index-vertices-index.result in
     let there : slice_get c.vertices-vertices.result.now c.in-Some.vertex ≡ Some v = subst (λ n. slice_get c.vertices-vertices.result.now n ≡ Some v) c.index.ensures (slice_get-get_or c.vertices-vertices.result.now c.index.result c.index-vertices-index.result (omega (arith, within, ap length here, c.index.ensures))) in
-    record { v = v; there = subst (λ vertices. slice_get vertices c.in-Some.vertex ≡ Some v) here there; settled_so = c.in_ok-inputs.ensures ∙ ap (map (value_at c.args.settled.now)) c.as_slice.ensures }
+    let at : slice_get c.args.job.now.graph.vertices c.in-Some.vertex ≡ Some v = subst (λ vertices. slice_get vertices c.in-Some.vertex ≡ Some v) here there in
+    record { v = v; there = at; ids_are = c.as_slice-inputs.ensures; trees = rw c.as_slice-inputs.ensures (available-trees c.args.job.now.graph.vertices c.args.job.now.graph.places c.args.settled.now c.args.claims.now c.args.frontier.now takes c.in-Some.vertex v c.requires.frontier found at) }

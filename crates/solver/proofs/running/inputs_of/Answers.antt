@@ -5,7 +5,7 @@ use Rattle.board.proofs.CacheLemmas.{map_push}
 use Rattle.solver.proofs.running.inputs_of.Goals as goal
 
 pub loop-at-preserved : goal.loop-at-preserved
-loop-at-preserved c =
+loop-at-preserved g c =
     let trees = c.args.claim.now.inputs in
     let at = c.loop-at.at in
     let here = get_or_from_slice_get trees at c.input.result.now c.input.result.now c.input.ensures in

@@ -1,10 +1,10 @@
-use Rattle.board.specs.Board.{board_problem}
+use Rattle.board.specs.Job.{job_problem}
 use Rattle.workers.proofs.solving.solve.Given as goal
 
 -- the site's problem is that of the board which is given to it, and so are the contents at the start
-abbrev pub ghosts-worked-J-Case : goal.ghosts-worked-J-Case
-ghosts-worked-J-Case g a = record { problem = board_problem g.E.Executor.out a.board; first = a.board.first }
+abbrev pub ghosts-solved-J-Case : goal.ghosts-solved-J-Case
+ghosts-solved-J-Case g a = record { problem = job_problem g.E.Executor.out a.job; first = a.caches.contents }
 
 -- its roll is on the table that was opened for it
-abbrev pub ghosts-worked-J-Room : goal.ghosts-worked-J-Room
-ghosts-worked-J-Room g a = record { table = a.opened.table.shared.table_id }
+abbrev pub ghosts-solved-J-Room : goal.ghosts-solved-J-Room
+ghosts-solved-J-Room g a = record { table = a.opened.table.shared.table_id }
