@@ -27,13 +27,13 @@ use Rattle.lines.specs.declared.state.FileState.{FileState}
 
 -- what was read of some lines, between blocks
 abbrev pub base : character.Escape → ℕ → List Line → List Refusal → FileState
-base escape count found faults = record { escape = escape; count = count; position = Between; lines = found; faults = faults }
+base escape count found faults = record { escape = escape; count = count; position = Between; room = most_lines; lines = found; faults = faults }
 
 -- the same with so many more lines counted
-abbrev on : FileState → ℕ → FileState
+abbrev pub on : FileState → ℕ → FileState
 on r k = record r { count = r.count + k; position = Between }
 
-on_by : (r : FileState) (j k : ℕ) → j ≡ k → record r { count = j; position = Between } ≡ record r { count = k; position = Between }
+pub on_by : (r : FileState) (j k : ℕ) → j ≡ k → record r { count = j; position = Between } ≡ record r { count = k; position = Between }
 on_by r j k e = ap (λ n. record r { count = n; position = Between }) e
 
 -- a line of a logical line
@@ -49,7 +49,7 @@ within_on_by r p line false (Some part) h e g =
     ∙ ap (join_part (count_line r) p.number p.text line) e
 within_on_by r p line false None h e g = absurd (true≢false (sym g))
 
-within_on : (r : FileState) (p : Pending) (line : List ℕ) → goes_on (byte_of r.escape) line ≡ true
+pub within_on : (r : FileState) (p : Pending) (line : List ℕ) → goes_on (byte_of r.escape) line ≡ true
     → read_line (at_position r (Within p)) line ≡ at_position (count_line r) (Within (record { number = p.number; text = p.text ++ part_of (byte_of r.escape) line }))
 within_on r p line g = within_on_by r p line (is_skipped line) (continued_part (byte_of r.escape) line) refl refl g
 
@@ -62,18 +62,18 @@ within_off_by r p line false None h e g =
     ap (λ b. if b then at_position (count_line r) (Within p) else join_line (count_line r) p.number p.text line) h
     ∙ ap (join_part (count_line r) p.number p.text line) e
 
-within_off : (r : FileState) (p : Pending) (line : List ℕ) → goes_on (byte_of r.escape) line ≡ false
+pub within_off : (r : FileState) (p : Pending) (line : List ℕ) → goes_on (byte_of r.escape) line ≡ false
     → read_line (at_position r (Within p)) line ≡ close_line (count_line r) p.number (trimmed (p.text ++ part_of (byte_of r.escape) line))
 within_off r p line g = within_off_by r p line (is_skipped line) (continued_part (byte_of r.escape) line) refl refl g
 
-between_kept : (r : FileState) (line : List ℕ) → is_skipped line ≡ false
+pub between_kept : (r : FileState) (line : List ℕ) → is_skipped line ≡ false
     → read_line (at_position r Between) line ≡ read_line (at_position r (Within (record { number = r.count + 1; text = [] }))) line
 unfolding read_line
 between_kept r line h =
     ap (λ b. if b then at_position (count_line r) Between else join_line (count_line r) (r.count + 1) [] line) h
     ∙ sym (ap (λ b. if b then at_position (count_line r) (Within (record { number = r.count + 1; text = [] })) else join_line (count_line r) (r.count + 1) [] line) h)
 
-between_dropped : (r : FileState) (line : List ℕ) → is_skipped line ≡ true → read_line (at_position r Between) line ≡ at_position (count_line r) Between
+pub between_dropped : (r : FileState) (line : List ℕ) → is_skipped line ≡ true → read_line (at_position r Between) line ≡ at_position (count_line r) Between
 unfolding read_line
 between_dropped r line h = ap (λ b. if b then at_position (count_line r) Between else join_line (count_line r) (r.count + 1) [] line) h
 
@@ -85,9 +85,9 @@ opened_position r position n text true (m ∷ ms) = refl
 opened_position r position n text false [] = refl
 opened_position r position n text false (m ∷ ms) = refl
 
-closed_position : (r : FileState) (position : Position) (n : ℕ) (text : List ℕ) → close_line (at_position r position) n text ≡ close_line r n text
+pub closed_position : (r : FileState) (position : Position) (n : ℕ) (text : List ℕ) → close_line (at_position r position) n text ≡ close_line r n text
 closed_position r position n [] = refl
-closed_position r position n (c ∷ cs) = opened_position r position n (c ∷ cs) (length r.lines == most_lines) (marks_of (c ∷ cs))
+closed_position r position n (c ∷ cs) = opened_position r position n (c ∷ cs) (length r.lines == r.room) (marks_of (c ∷ cs))
 
 stopped_opened : (r : FileState) (n : ℕ) (text : List ℕ) (marks : List Mark) → end_continuation (open_heredocs r n text marks) (open_heredocs r n text marks).position ≡ open_heredocs r n text marks
 stopped_opened r n text [] = refl
@@ -146,10 +146,10 @@ closing_by : (r : FileState) (u : Unclosed) (line : List ℕ) → closes u.mark 
 unfolding read_line
 closing_by r u line h = ap (λ b. if b then close_heredoc (count_line r) u else grow_body (count_line r) u (body_line u.mark line)) h
 
-abbrev body_text : Mark → List (List ℕ) → List ℕ
+abbrev pub body_text : Mark → List (List ℕ) → List ℕ
 body_text mark lines = (heredoc_of mark lines).body
 
-inside_walk : (body : List (List ℕ)) (r : FileState) (u : Unclosed) (more : List (List ℕ)) → AreInside u.mark body
+pub inside_walk : (body : List (List ℕ)) (r : FileState) (u : Unclosed) (more : List (List ℕ)) → AreInside u.mark body
     → after_lines (at_position r (Bodies u)) (body ++ more) ≡ after_lines (at_position (on r (length body)) (Bodies (record u { body = u.body ++ body_text u.mark body }))) more
 inside_walk [] r u more h =
     ap₂ (λ (n : ℕ) (t : List ℕ). after_lines (record r { count = n; position = Bodies (record u { body = t }) }) more) (omega arith) (sym (append-nil u.body))
@@ -160,7 +160,7 @@ inside_walk (line ∷ body) r u more h =
     ∙ ap₂ (λ (n : ℕ) (t : List ℕ). after_lines (record r { count = n; position = Bodies (record u { body = t }) }) more) (omega arith) (append_assoc u.body own (body_text u.mark body))
 
 -- the heredocs of a logical line, of which some are closed and the next one begins
-abbrev begun : ℕ → List ℕ → List Mark → List Heredoc → Mark → Unclosed
+abbrev pub begun : ℕ → List ℕ → List Mark → List Heredoc → Mark → Unclosed
 begun n text marks done mark = record { number = n; text = text; marks = marks; heredocs = done; mark = mark; body = [] }
 
 next_begun : (r : FileState) (n : ℕ) (text : List ℕ) (marks : List Mark) (done : List Heredoc) (mark : Mark) (body : List ℕ) (heredocs : List Heredoc) (o : Option Mark)
@@ -168,7 +168,7 @@ next_begun : (r : FileState) (n : ℕ) (text : List ℕ) (marks : List Mark) (do
 next_begun r n text marks done mark body heredocs None = refl
 next_begun r n text marks done mark body heredocs (Some m) = refl
 
-one_walk : (r : FileState) (n : ℕ) (text : List ℕ) (marks : List Mark) (done : List Heredoc) (mark : Mark) (body : List (List ℕ)) (closing : List ℕ) (more : List (List ℕ)) (o : Option Mark)
+pub one_walk : (r : FileState) (n : ℕ) (text : List ℕ) (marks : List Mark) (done : List Heredoc) (mark : Mark) (body : List (List ℕ)) (closing : List ℕ) (more : List (List ℕ)) (o : Option Mark)
     → AreInside mark body → closes mark closing ≡ true → slice_get marks (length done + 1) ≡ o
     → after_lines (at_position r (Bodies (begun n text marks done mark))) (body ++ closing ∷ more)
     ≡ after_lines (next_heredoc (on r (length (body ++ closing ∷ []))) (begun n text marks done mark) (done ++ heredoc_of mark body ∷ []) o) more
@@ -186,13 +186,13 @@ next_of zero (m ∷ ms) mark more h = let e : ms ≡ more = cc in (ap (λ (x : L
 next_of (suc k) [] mark more h = absurd (cc)
 next_of (suc k) (m ∷ ms) mark more h = next_of k ms mark more h
 
-next_mark : (done : List Heredoc) (marks : List Mark) (mark : Mark) (more : List Mark) → drop (length done) marks ≡ mark ∷ more → slice_get marks (length done + 1) ≡ slice_get more 0
+pub next_mark : (done : List Heredoc) (marks : List Mark) (mark : Mark) (more : List Mark) → drop (length done) marks ≡ mark ∷ more → slice_get marks (length done + 1) ≡ slice_get more 0
 next_mark done marks mark more h = let e : length done + 1 ≡ suc (length done) = omega arith in ap (slice_get marks) e ∙ (next_of (length done) marks mark more h).0
 
-next_left : (done : List Heredoc) (heredoc : Heredoc) (marks : List Mark) (mark : Mark) (more : List Mark) → drop (length done) marks ≡ mark ∷ more → drop (length (done ++ heredoc ∷ [])) marks ≡ more
+pub next_left : (done : List Heredoc) (heredoc : Heredoc) (marks : List Mark) (mark : Mark) (more : List Mark) → drop (length done) marks ≡ mark ∷ more → drop (length (done ++ heredoc ∷ [])) marks ≡ more
 next_left done heredoc marks mark more h = let e : length (done ++ heredoc ∷ []) ≡ suc (length done) = omega (arith, length-append done (heredoc ∷ [])) in ap (λ n. drop n marks) e ∙ (next_of (length done) marks mark more h).1
 
-bodies_walk : (more_marks : List Mark) (r : FileState) (n : ℕ) (text : List ℕ) (marks : List Mark) (done : List Heredoc) (mark : Mark) (lines more : List (List ℕ)) (heredocs : List Heredoc)
+pub bodies_walk : (more_marks : List Mark) (r : FileState) (n : ℕ) (text : List ℕ) (marks : List Mark) (done : List Heredoc) (mark : Mark) (lines more : List (List ℕ)) (heredocs : List Heredoc)
     → drop (length done) marks ≡ mark ∷ more_marks → AreBodies (mark ∷ more_marks) lines heredocs
     → after_lines (at_position r (Bodies (begun n text marks done mark))) (lines ++ more) ≡ after_lines (complete_line (on r (length lines)) n text (done ++ heredocs)) more
 bodies_walk more_marks r n text marks done mark lines more [] left h = absurd h
@@ -249,7 +249,7 @@ unclosed_walk (second ∷ closed) more_marks r n text marks done mark next bodie
     (unclosed_walk closed more_marks (on r (length (are.0 ++ are.1 ∷ []))) n text marks done_more second next are.2 rest heredocs (next_left done (heredoc_of mark are.0) marks mark (second ∷ closed ++ next ∷ more_marks) left) are.7 inside)
 
 -- the limit of logical lines, where so many stand above
-abbrev limit_faults : ℕ → ℕ → List Refusal
+abbrev pub limit_faults : ℕ → ℕ → List Refusal
 limit_faults count n = if count == most_lines then refusal R18 n ∷ [] else []
 
 abbrev pub limits_from : ℕ → List ℕ → List Refusal
@@ -272,7 +272,7 @@ limits_at (suc left) count (n ∷ ns) h =
     let no : (count == most_lines) ≡ false = grind (arith, nat_tests) in
     ap (λ b. (if b then refusal R18 n ∷ [] else []) ++ limits_from (count + 1) ns) no ∙ limits_at left (count + 1) ns (omega arith)
 
-limited_is : (escape : character.Escape) (count : ℕ) (found : List Line) (faults : List Refusal) (n : ℕ) → refuse_past_limit (base escape count found faults) n ≡ base escape count found (faults ++ limit_faults (length found) n)
+pub limited_is : (escape : character.Escape) (count : ℕ) (found : List Line) (faults : List Refusal) (n : ℕ) → refuse_past_limit (base escape count found faults) n ≡ base escape count found (faults ++ limit_faults (length found) n)
 limited_is escape count found faults n = by (length found == most_lines)
   where
     by : (b : Bool) → (if b then with_fault (base escape count found faults) R18 n else base escape count found faults) ≡ base escape count found (faults ++ (if b then refusal R18 n ∷ [] else []))
@@ -361,7 +361,7 @@ unclosed_end marks escape count above faults n text lines u =
       wrong = end.1 ∙ append_assoc faults limit (refusal R08 n ∷ []) ∙ ap (λ (x : List Refusal). faults ++ (x ++ refusal R08 n ∷ [])) (sym (append-nil limit));
     }
 
-no_marks_left : (closed : List Mark) (mark : Mark) (more : List Mark) → [] ≡ closed ++ mark ∷ more → ⊥
+pub no_marks_left : (closed : List Mark) (mark : Mark) (more : List Mark) → [] ≡ closed ++ mark ∷ more → ⊥
 no_marks_left [] mark more h = cc
 no_marks_left (m ∷ ms) mark more h = cc
 

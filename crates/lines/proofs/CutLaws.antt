@@ -51,12 +51,12 @@ body_cut mark [] = inr tt
 body_cut mark (line ∷ lines) = body_cut_by mark line lines (closes mark line) refl (body_cut mark lines)
 
 -- all bodies are cut off
-record AreBodiesCut (marks : List Mark) (lines : List (List ℕ)) : Type 0 where
-  bodies : List (List ℕ)
-  rest : List (List ℕ)
-  heredocs : List Heredoc
-  is : lines ≡ bodies ++ rest
-  are : AreBodies marks bodies heredocs
+pub record AreBodiesCut (marks : List Mark) (lines : List (List ℕ)) : Type 0 where
+  pub bodies : List (List ℕ)
+  pub rest : List (List ℕ)
+  pub heredocs : List Heredoc
+  pub is : lines ≡ bodies ++ rest
+  pub are : AreBodies marks bodies heredocs
 
 bodies_cut_more : (mark : Mark) (marks : List Mark) (lines : List (List ℕ)) (c : IsBodyCut mark lines) → AreBodiesCut marks c.rest ⊎ AreUnclosed marks c.rest → AreBodiesCut (mark ∷ marks) lines ⊎ AreUnclosed (mark ∷ marks) lines
 bodies_cut_more mark marks lines c (inl d) = inl (record {
@@ -84,7 +84,7 @@ bodies_cut_by mark marks lines (inl c) more = bodies_cut_more mark marks lines c
 bodies_cut_by mark marks lines (inr i) more =
     inr (record { closed = []; mark = mark; more = marks; bodies = []; rest = lines; heredocs = []; order = refl; cut = refl; are = refl; inside = i })
 
-bodies_cut : (marks : List Mark) (lines : List (List ℕ)) → AreBodiesCut marks lines ⊎ AreUnclosed marks lines
+pub bodies_cut : (marks : List Mark) (lines : List (List ℕ)) → AreBodiesCut marks lines ⊎ AreUnclosed marks lines
 bodies_cut [] lines = inl (record { bodies = []; rest = lines; heredocs = []; is = refl; are = refl })
 bodies_cut (mark ∷ marks) lines = bodies_cut_by mark marks lines (body_cut mark lines) (bodies_cut marks)
 
@@ -129,19 +129,19 @@ blocks_cut escape zero above (line ∷ lines) h = absurd (omega arith)
 blocks_cut escape (suc k) above (line ∷ lines) h = block_cut escape k above line lines (is_skipped line) refl (omega arith) (blocks_cut escape k)
 
 -- the directives are cut off
-record IsTopCut (lines : List (List ℕ)) : Type 0 where
-  top : List (List ℕ)
-  rest : List (List ℕ)
-  directives : List Directive
-  cut : lines ≡ top ++ rest
-  read : AreDirectives top directives
-  ended : BeginsBelowDirectives rest
+pub record IsTopCut (lines : List (List ℕ)) : Type 0 where
+  pub top : List (List ℕ)
+  pub rest : List (List ℕ)
+  pub directives : List Directive
+  pub cut : lines ≡ top ++ rest
+  pub read : AreDirectives top directives
+  pub ended : BeginsBelowDirectives rest
 
 top_cut_by : (line : List ℕ) (lines : List (List ℕ)) (o : Option Directive) → directive_of line ≡ o → IsTopCut lines → IsTopCut (line ∷ lines)
 top_cut_by line lines None h c = record { top = []; rest = line ∷ lines; directives = []; cut = refl; read = refl; ended = h }
 top_cut_by line lines (Some d) h c = record { top = line ∷ c.top; rest = c.rest; directives = d ∷ c.directives; cut = ap (λ x. line ∷ x) c.cut; read = ap₂ (λ x y. x ∷ y) h c.read; ended = c.ended }
 
-top_cut : (lines : List (List ℕ)) → IsTopCut lines
+pub top_cut : (lines : List (List ℕ)) → IsTopCut lines
 top_cut [] = record { top = []; rest = []; directives = []; cut = refl; read = refl; ended = tt }
 top_cut (line ∷ lines) = top_cut_by line lines (directive_of line) refl (top_cut lines)
 

@@ -27,11 +27,11 @@ use Rattle.lines.proofs.BlockLaws.{base, limits_at, blocks_given}
 -- the directives at the top
 
 -- the keys of these directives have stood
-abbrev seen_of : List Directive → Seen
+abbrev pub seen_of : List Directive → Seen
 seen_of above = record { escape = list_any (have_one_key (Escape None)) above; syntax = list_any (have_one_key Syntax) above; check = list_any (have_one_key Check) above }
 
-abbrev at_top : character.Escape → List Directive → List Refusal → FileState
-at_top escape above faults = record { escape = escape; count = length above; position = Top (seen_of above); lines = []; faults = faults }
+abbrev pub at_top : character.Escape → List Directive → List Refusal → FileState
+at_top escape above faults = record { escape = escape; count = length above; position = Top (seen_of above); room = most_lines; lines = []; faults = faults }
 
 or_false : (b : Bool) → (b || false) ≡ b
 or_false true = refl
@@ -74,11 +74,11 @@ value_is r Syntax = ap (λ (x : List Refusal). record r { faults = x }) (sym (ap
 value_is r Check = ap (λ (x : List Refusal). record r { faults = x }) (sym (append-nil r.faults))
 
 directed_is : (r : FileState) (above : List Directive) (d : Directive) → r.count ≡ length above + 1
-    → read_directive r (seen_of above) d ≡ record { escape = escape_below r.escape (d ∷ []); count = r.count; position = Top (seen_of (above ++ d ∷ [])); lines = r.lines; faults = (r.faults ++ twice_faults above d r.count) ++ value_faults d r.count }
+    → read_directive r (seen_of above) d ≡ record { escape = escape_below r.escape (d ∷ []); count = r.count; position = Top (seen_of (above ++ d ∷ [])); room = r.room; lines = r.lines; faults = (r.faults ++ twice_faults above d r.count) ++ value_faults d r.count }
 directed_is r above d h =
     ap (λ (s : FileState). at_position (take_value s d) (Top (with_seen (seen_of above) d))) (told_is r (seen_of above) d (list_any (have_one_key d) above) (stood_is above d))
     ∙ ap (λ (s : FileState). at_position s (Top (with_seen (seen_of above) d))) (value_is (record r { faults = r.faults ++ twice_faults above d r.count }) d)
-    ∙ ap (λ (seen : Seen). record { escape = escape_below r.escape (d ∷ []); count = r.count; position = Top seen; lines = r.lines; faults = (r.faults ++ twice_faults above d r.count) ++ value_faults d r.count }) (seen_more above d)
+    ∙ ap (λ (seen : Seen). record { escape = escape_below r.escape (d ∷ []); count = r.count; position = Top seen; room = r.room; lines = r.lines; faults = (r.faults ++ twice_faults above d r.count) ++ value_faults d r.count }) (seen_more above d)
 
 directive_line : (escape : character.Escape) (above : List Directive) (faults : List Refusal) (line : List ℕ) (d : Directive) → directive_of line ≡ Some d
     → read_line (at_top escape above faults) line ≡ read_directive (count_line (at_top escape above faults)) (seen_of above) d
@@ -91,7 +91,7 @@ directive_walk : (escape : character.Escape) (above : List Directive) (faults : 
 directive_walk escape above faults line d h =
     directive_line escape above faults line d h
     ∙ directed_is (count_line (at_top escape above faults)) above d refl
-    ∙ ap (λ n. record { escape = escape_below escape (d ∷ []); count = n; position = Top (seen_of (above ++ d ∷ [])); lines = []; faults = (faults ++ twice_faults above d (length above + 1)) ++ value_faults d (length above + 1) })
+    ∙ ap (λ n. record { escape = escape_below escape (d ∷ []); count = n; position = Top (seen_of (above ++ d ∷ [])); room = most_lines; lines = []; faults = (faults ++ twice_faults above d (length above + 1)) ++ value_faults d (length above + 1) })
     (sym (length-append above (d ∷ [])))
 
 escape_more : (escape : character.Escape) (d : Directive) (ds : List Directive) → escape_below (escape_below escape (d ∷ [])) ds ≡ escape_below escape (d ∷ ds)
@@ -100,7 +100,7 @@ escape_more escape (Escape None) ds = refl
 escape_more escape Syntax ds = refl
 escape_more escape Check ds = refl
 
-top_walk : (directives : List Directive) (escape : character.Escape) (above : List Directive) (faults : List Refusal) (top rest : List (List ℕ)) → AreDirectives top directives
+pub top_walk : (directives : List Directive) (escape : character.Escape) (above : List Directive) (faults : List Refusal) (top rest : List (List ℕ)) → AreDirectives top directives
     → after_lines (at_top escape above faults) (top ++ rest) ≡ after_lines (at_top (escape_below escape directives) (above ++ directives) (faults ++ directive_faults above directives)) rest
 top_walk [] escape above faults [] rest h =
     ap₂ (λ (ds : List Directive) (fs : List Refusal). after_lines (at_top escape ds fs) rest) (sym (append-nil above)) (sym (append-nil faults))
@@ -120,13 +120,13 @@ top_walk (d ∷ ds) escape above faults (line ∷ top) rest h =
 
 -- below the directives
 
-plain_line : (escape : character.Escape) (above : List Directive) (faults : List Refusal) (line : List ℕ) → directive_of line ≡ None
+pub plain_line : (escape : character.Escape) (above : List Directive) (faults : List Refusal) (line : List ℕ) → directive_of line ≡ None
     → read_line (at_top escape above faults) line ≡ read_line (base escape (length above) [] faults) line
 unfolding read_line
 plain_line escape above faults line h = ap (read_at_top_as (count_line (at_top escape above faults)) (seen_of above) line) h
 
 -- two readings have the same lines and faults
-abbrev GiveOne : FileState → FileState → Type 0
+abbrev pub GiveOne : FileState → FileState → Type 0
 GiveOne a b = (a.lines ≡ b.lines) × (a.faults ≡ b.faults)
 
 top_end : (escape : character.Escape) (above : List Directive) (faults : List Refusal) (rest : List (List ℕ)) → BeginsBelowDirectives rest
@@ -136,7 +136,7 @@ top_end escape above faults (line ∷ rest) h =
     let e : end_file (after_lines (at_top escape above faults) (line ∷ rest)) ≡ end_file (after_lines (base escape (length above) [] faults) (line ∷ rest)) = ap (λ (s : FileState). end_file (after_lines s rest)) (plain_line escape above faults line h) in
     (ap (λ (s : FileState). s.lines) e, ap (λ (s : FileState). s.faults) e)
 
-top_length : (top : List (List ℕ)) (ds : List Directive) → AreDirectives top ds → length top ≡ length ds
+pub top_length : (top : List (List ℕ)) (ds : List Directive) → AreDirectives top ds → length top ≡ length ds
 top_length [] [] h = refl
 top_length [] (d ∷ ds) h = absurd (cc)
 top_length (line ∷ top) [] h = absurd (cc)

@@ -7,7 +7,6 @@ use Rattle.lines.specs.Blanks.{continued_part, is_skipped}
 use Rattle.lines.specs.Escape.{byte_of}
 use Rattle.lines.specs.Directives.{directive_of}
 use Rattle.lines.specs.Marks.{marks_of, closes, body_line}
-use Rattle.plain.specs.Limits.{most_lines}
 use Rattle.lines.specs.PrivateSteps.{at_position, count_line, with_fault, is_repeated, take_value, refuse_repeated, read_directive, refuse_past_limit, open_heredocs, close_line, join_part, join_line, next_heredoc, close_heredoc, grow_body, read_between, read_at_top_as, read_within, read_body_line, read_at, read_line}
 use Rattle.lines.specs.declared.line.Mark.{Mark}
 use Rattle.lines.specs.declared.line.Heredoc.{Heredoc}
@@ -26,7 +25,7 @@ either_count n a b true h i = h
 either_count n a b false h i = i
 
 refuse_past_limit-count : (r : FileState) (n : ℕ) → (refuse_past_limit r n).count ≡ r.count
-refuse_past_limit-count r n = either_count r.count (with_fault r R18 n) r (length r.lines == most_lines) refl refl
+refuse_past_limit-count r n = either_count r.count (with_fault r R18 n) r (length r.lines == r.room) refl refl
 
 open_heredocs-count : (r : FileState) (n : ℕ) (text : List ℕ) (ms : List Mark) → (open_heredocs r n text ms).count ≡ r.count
 open_heredocs-count r n text [] = refl

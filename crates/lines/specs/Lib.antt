@@ -6,6 +6,9 @@ pub mod Faults
 pub mod File
 pub mod Marks
 pub mod PrivateMarks
+pub mod PrivateRead
+pub mod PrivateScan
 pub mod PrivateSteps
 pub mod Reader
 pub mod Text
+pub mod Ready

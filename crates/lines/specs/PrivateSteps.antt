@@ -1,7 +1,7 @@
 -- What reading a file line by line makes of its state, one line after the other: only private functions are stated by it (own, but
 -- where a definition names its source). `File` says what a file is with no order of reading, and that reading it line by line gives
 -- that is proved in proofs/FileLaws.antt.
-use Rattle.std.specs.Prelude.{◌≡◌, ℕ, ◌+◌, Bool, true, false, List, [], ◌∷◌, ◌++◌, ◌==◌, if◌then◌else◌, length, slice_get, Option, Some, None}
+use Rattle.std.specs.Prelude.{ℕ, ◌+◌, Bool, true, false, List, [], ◌∷◌, ◌++◌, ◌==◌, if◌then◌else◌, length, slice_get, Option, Some, None}
 use Rattle.plain.specs.declared.refusal.Code.{Code}
 use Rattle.plain.specs.declared.refusal.Code.TheVariants.{R02, R03, R08, R18}
 use Rattle.ascii.specs.Blanks.{trimmed}
@@ -19,16 +19,12 @@ use Rattle.lines.specs.declared.state.Position.{Position}
 use Rattle.lines.specs.declared.state.Position.TheVariants.{Top, Between, Within, Bodies}
 use Rattle.lines.specs.declared.state.FileState.{FileState}
 use Rattle.plain.specs.Limits.{most_lines}
-use Rattle.lines.specs.File.{IsFile}
-use Rattle.lines.specs.Faults.{IsLeast}
-use Rattle.plain.specs.declared.refusal.Refusal.{Refusal}
-use Rattle.lines.specs.declared.line.Line.{Line}
 use Rattle.lines.specs.Directives.{directive_of}
 use Rattle.lines.specs.declared.state.Pending.{Pending}
 
 -- before the first line: the escape character is a backslash (Dockerfile reference, `escape`)
 abbrev pub initial_state : FileState
-initial_state = record { escape = Backslash; count = 0; position = Top (record { escape = false; syntax = false; check = false }); lines = []; faults = [] }
+initial_state = record { escape = Backslash; count = 0; position = Top (record { escape = false; syntax = false; check = false }); room = most_lines; lines = []; faults = [] }
 
 -- the same with the next line at another position
 abbrev pub at_position : FileState → Position → FileState
@@ -71,7 +67,7 @@ read_directive state seen directive = at_position (take_value (refuse_repeated s
 
 -- a logical line behind 4,096 others is refused, the first such one (own)
 abbrev pub refuse_past_limit : FileState → ℕ → FileState
-refuse_past_limit state number = if length state.lines == most_lines then with_fault state R18 number else state
+refuse_past_limit state number = if length state.lines == state.room then with_fault state R18 number else state
 
 -- a logical line is complete
 abbrev pub complete_line : FileState → ℕ → List ℕ → List Heredoc → FileState
@@ -164,9 +160,3 @@ read_line state line = read_at (count_line state) state.position line
 abbrev pub after_lines : FileState → List (List ℕ) → FileState
 after_lines state [] = state
 after_lines state (line ∷ lines) = after_lines (read_line state line) lines
-
--- the state says of these lines of a file what the file's structure says: its logical lines, where nothing is wrong with it, and
--- else the least fault
-abbrev pub Reads : List (List ℕ) → FileState → Type 0
-Reads lines state = (state.faults ≡ [] → IsFile lines state.lines [])
-    × ((least : Refusal) → IsLeast state.faults least → (found : List Line) × (faults : List Refusal) × IsFile lines found faults × IsLeast faults least)

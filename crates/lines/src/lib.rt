@@ -17,14 +17,18 @@
 #![tactic(auto)]
 
 mod blanks;
+mod blocks;
 mod directives;
 mod escape;
 mod fault;
 mod faults;
+mod kept;
 pub mod laws;
 mod line;
 mod marks;
+mod pieces;
 mod reader;
+mod scan;
 mod state;
 mod steps;
 mod text;

@@ -1,28 +1,36 @@
-ghost use Rattle.std.specs.Prelude.{◌≤◌, length};
-ghost use Rattle.plain.specs.Limits.{most_dockerfile_bytes};
-
-use crate::text::lines_of;
+use crate::kept::{Kept, nothing};
 use crate::{Line, LineFault};
-use plain::limits::MOST_DOCKERFILE_BYTES;
-use plain::{Code, Fault, Memory, Refusal};
+use plain::Memory;
 use std::alloc::Global;
+use std::marker::Model;
 
 /// Reads a Dockerfile's text, which is fed in pieces, and gives its logical lines. However the text was cut, the
 /// lines are the same.
 ///
+/// Of the text it keeps the logical lines that are complete, and the bytes of the one in progress, with the heredocs' lines so far.
+///
 /// Contracts say of a reader which text it holds: all pieces that it was fed, one after the other.
 #[derive(Debug, Drop)]
 pub struct Reader {
-    /// The text so far, and nothing once it is too long.
-    text: Vec<u8>,
-    /// Whether more was fed than a Dockerfile may have.
-    is_too_long: bool,
-    ghost within: { length text.items ≤ most_dockerfile_bytes },
+    kept: Kept,
+}
+
+impl Model for Reader {
+    ghost use Rattle.std.specs.Prelude.{ℕ, List};
+    ghost use Rattle.lines.specs.Reader.{Holds};
+    ghost use Rattle.lines.specs.declared.kept.Kept.{Kept as KeptValue};
+
+    ghost Value = { KeptValue };
+
+    ghost view = { λ r. r.kept };
+
+    ghost invariant = { λ r. (text : List ℕ) × Holds r.kept text };
 }
 
 impl Reader {
     ghost use Rattle.std.specs.Prelude.{◌++◌, ℕ, List, [], OnOk, OnErr};
     ghost use Rattle.lines.specs.Reader.{Holds};
+    ghost use Rattle.lines.specs.Ready.{AreReady};
     ghost use Rattle.lines.specs.Text.{ReadsText};
 
     /// A reader that was fed nothing. It takes no memory.
@@ -30,27 +38,25 @@ impl Reader {
         ensures { Holds result [] }
     {
         Reader {
-            text: Vec::new(alloc),
-            is_too_long: false,
+            kept: nothing(alloc),
         }
     }
 
     /// Takes a piece of the text. After `Memory` the reader still holds the same text.
-    #[tactic(auto, unfolding(plain::specs::Limits::most_dockerfile_bytes))]
     pub fn feed(&mut self, alloc: Global, piece: &[u8]) -> Result<(), Memory>
         ensures ok { OnOk result ((text : List ℕ) → Holds self.old text → Holds self.new (text ++ piece.now)) }
         ensures err { OnErr result ((text : List ℕ) → Holds self.old text → Holds self.new text) }
     {
-        if self.is_too_long {
-            return Ok(());
-        }
-        if piece.len() > MOST_DOCKERFILE_BYTES.saturating_sub(self.text.len()) {
-            self.text = Vec::new(alloc);
-            self.is_too_long = true;
-            return Ok(());
-        }
-        self.text.extend_from_slice(piece)?;
-        Ok(())
+        self.kept.feed(alloc, piece)
+    }
+
+    /// The logical lines of the text so far that are complete, closing lines of heredocs included, each of them by an LF. There are
+    /// none once a byte of the text is at fault, for which a character that is only begun doesn't count, or something is wrong with
+    /// its complete lines, for which an open heredoc doesn't count. It takes no memory.
+    pub fn ready(&self) -> &[Line]
+        ensures { (text : List ℕ) → Holds self.now text → AreReady text result.now }
+    {
+        self.kept.ready()
     }
 
     /// The logical lines of the whole text, or why it is refused: R18 at line 0 where it has more than 1,048,576 bytes; else R01 at
@@ -60,12 +66,7 @@ impl Reader {
     pub fn finish(self, alloc: Global) -> Result<Vec<Line>, LineFault>
         ensures { (text : List ℕ) → Holds self text → ReadsText text result }
     {
-        if self.is_too_long {
-            return Err(Fault::Because(Refusal {
-                code: Code::R18,
-                line: 0,
-            }));
-        }
-        lines_of(alloc, self.text.as_slice())
+        let Reader { kept } = self;
+        kept.finish(alloc)
     }
 }

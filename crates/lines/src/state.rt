@@ -52,6 +52,8 @@ pub struct FileState {
     /// How many lines were read.
     pub count: u32,
     pub position: Position,
+    /// How many logical lines `lines` may have.
+    pub room: usize,
     /// The logical lines that are complete.
     pub lines: Items<Line>,
     /// All that is wrong with the lines, in the order in which it was found.

@@ -29,6 +29,7 @@ pub fn initial_state(alloc: Global) -> FileState
         escape: Escape::Backslash,
         count: 0,
         position: Position::Top(seen),
+        room: MOST_LINES,
         lines: Items::new(alloc),
         faults: Items::new(alloc),
     }
@@ -123,7 +124,7 @@ fn read_directive(state: FileState, seen: Seen, directive: Directive) -> Result<
 fn refuse_past_limit(state: FileState, number: u32) -> Result<FileState, Memory>
     ensures { IfOk result (λ r. r ≡ refuse_past_limit state number) }
 {
-    if state.lines.len() == MOST_LINES {
+    if state.lines.len() == state.room {
         return with_fault(state, Code::R18, number);
     }
     Ok(state)
@@ -245,7 +246,7 @@ fn body_line<'a>(mark: &Mark, line: &'a str) -> &'a str
 }
 
 /// Whether a line closes the heredoc of this mark.
-fn closes(mark: &Mark, line: &str) -> bool
+pub fn closes(mark: &Mark, line: &str) -> bool
     ensures { result ≡ closes mark.now line.now }
 {
     body_line(mark, line) == mark.name.as_str()
@@ -423,6 +424,7 @@ pub fn read_line(alloc: Global, state: FileState, line: &str) -> Result<FileStat
         escape,
         count,
         position,
+        room,
         lines,
         faults,
     } = state;
@@ -430,6 +432,7 @@ pub fn read_line(alloc: Global, state: FileState, line: &str) -> Result<FileStat
         escape,
         count: count + 1,
         position: Position::Between,
+        room,
         lines,
         faults,
     };

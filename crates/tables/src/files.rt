@@ -2,6 +2,9 @@
 // rules of docs/FORMATS.md. `⏎` is a line feed, `␍` a carriage return, `⇥` a tab and `⊙` a byte order mark; a line is shown as
 // `NUMBER:TEXT`, each heredoc as `<NAME|BODY>`, with `-` where its tabs are dropped and `'` where its name is in quotes. A text is fed in
 // pieces of three bytes.
+//
+// `pieces`: texts that are fed in the pieces between `¦`, in which `⟨FF⟩` is a byte. Behind `»` stand the lines that are ready after each
+// piece, each time with `¦` behind them, and then what the text gives.
 
 use lines::{Heredoc, Line, LineFault, Reader};
 use plain::{Fault, Memory};
@@ -12,6 +15,48 @@ pub fn answer(alloc: Global, case: &str) -> Result<String, Memory> {
     let shown = shown(alloc, unmasked(alloc, text)?.as_str())?;
     let shown = masked(alloc, shown.as_str())?;
     Ok(format!(in alloc; "{text}»{shown}")?)
+}
+
+pub fn answer_in_pieces(alloc: Global, case: &str) -> Result<String, Memory> {
+    let text = case.strip_suffix('»').unwrap_or(case);
+    let mut reader = Reader::new(alloc);
+    match shown_in_pieces(alloc, &mut reader, text) {
+        Ok(ready) => {
+            let shown = shown_answer(alloc, reader.finish(alloc))?;
+            let shown = masked(alloc, shown.as_str())?;
+            Ok(format!(in alloc; "{text}»{ready}{shown}")?)
+        }
+        Err(memory) => {
+            drop(reader);
+            Err(memory)
+        }
+    }
+}
+
+/// What is ready after each of the pieces that a case shows.
+fn shown_in_pieces(alloc: Global, reader: &mut Reader, text: &str) -> Result<String, Memory> {
+    let mut shown = String::new(alloc);
+    for piece in text.split('¦') {
+        let bytes = piece_bytes(alloc, piece)?;
+        reader.feed(alloc, bytes.as_slice())?;
+        let ready = shown_lines(alloc, reader.ready())?;
+        shown.push_str(masked(alloc, ready.as_str())?.as_str())?;
+        shown.push_str("¦")?;
+    }
+    Ok(shown)
+}
+
+/// The bytes of a piece that a case shows.
+fn piece_bytes(alloc: Global, piece: &str) -> Result<Vec<u8>, Memory> {
+    let mut bytes = Vec::new(alloc);
+    for part in piece.split('⟩') {
+        let (text, byte) = part.split_once('⟨').unwrap_or((part, ""));
+        bytes.extend_from_slice(unmasked(alloc, text)?.as_bytes())?;
+        if let Ok(byte) = u8::from_str_radix(byte, 16) {
+            bytes.push(byte)?;
+        }
+    }
+    Ok(bytes)
 }
 
 /// The text that a case shows.
@@ -32,7 +77,11 @@ fn masked(alloc: Global, text: &str) -> Result<String, Memory> {
 
 /// What a text gives, as the cases show it.
 fn shown(alloc: Global, text: &str) -> Result<String, Memory> {
-    match lines_in_pieces(alloc, text.as_bytes()) {
+    shown_answer(alloc, lines_in_pieces(alloc, text.as_bytes()))
+}
+
+fn shown_answer(alloc: Global, answer: Result<Vec<Line>, LineFault>) -> Result<String, Memory> {
+    match answer {
         Ok(lines) => {
             let shown = shown_lines(alloc, &lines);
             drop(lines);

@@ -39,6 +39,7 @@ use std::thread::Threads;
 enum Table {
     Commands,
     Files,
+    Pieces,
     Language,
     Patterns,
     IgnoreFiles,
@@ -85,6 +86,7 @@ fn table_of(name: &str) -> Table {
     match name {
         "commands" => Table::Commands,
         "files" => Table::Files,
+        "pieces" => Table::Pieces,
         "language" => Table::Language,
         "patterns" => Table::Patterns,
         "ignore files" => Table::IgnoreFiles,
@@ -109,6 +111,7 @@ fn answer<F: Files + AllocGlobal + Clone + Drop>(
     match table {
         Table::Commands => commands::answer(alloc, case),
         Table::Files => files::answer(alloc, case),
+        Table::Pieces => files::answer_in_pieces(alloc, case),
         Table::Language => language::answer(alloc, case),
         Table::Patterns => patterns::answer_of_pattern(alloc, case),
         Table::IgnoreFiles => patterns::answer_of_ignore_file(alloc, case),
