@@ -1,0 +1,36 @@
+// What earlier runs gave, kept from one build to the next.
+//
+// It knows one executor, and of it operations with the trees that they were given and the tree that they gave. Sources and failures aren't kept. It runs
+// nothing, and doesn't know plans or builds.
+//
+// The central definition is `IsLawful` (`specs/Memo.antt`): an operation gives this tree on these trees under the executor, whatever the sources of a build
+// are. The type of `Memo` keeps it of all that it holds, so what is found serves every plan. Equality of the operation and of the trees decides what is found;
+// a hash of the operation narrows the search.
+//
+// To compare trees is to walk them. So the trees that a memo keeps have numbers: who knows the number of a tree hands it in, and then the numbers are
+// compared.
+//
+// ```
+// let mut memo = Memo::new(alloc, &executor);
+// memo.add(alloc, &vertex.op, &[&root], &tree)?;
+// match memo.find(&vertex.op, &[&root]) {        // the tree, also in a later build
+//     Some(tree) => ..,
+//     None => ..,
+// }
+// memo.forget(alloc);                            // what was added before the last such call goes
+// ```
+#![tactic(auto)]
+
+mod content;
+mod generation;
+mod hit;
+mod index;
+mod key;
+mod memo;
+mod number;
+mod step;
+mod written;
+
+pub use hit::Hit;
+pub use memo::Memo;
+pub use number::{Age, TreeNumber};

@@ -1,0 +1,176 @@
+ghost use Rattle.std.specs.Prelude.{◌≡◌, ◌↔◌, ◌<◌, ℕ, Some, length, map, get_or, slice_get, IsTrue, IfOk, IfSome, IfNone};
+ghost use Rattle.memo.specs.declared.step.Step.{Step as StepValue};
+ghost use Rattle.memo.specs.Memo.{Has};
+ghost use Rattle.memo.specs.PrivateGeneration.{tree_at, trees_at, entries_at, AreAt, AreBelow, IsPlaced, ArePlaced, IsFor, Stands, Tells};
+
+use crate::Hit;
+use crate::number::{Age, TreeNumber, known_at};
+use llb::Op;
+use plain::{Exact, Items, Memory};
+use std::alloc::Global;
+use trees::Tree;
+
+/// An entry, with the numbers of its trees in place of these.
+#[derive(Drop)]
+pub(crate) struct Step {
+    pub op: Op,
+    pub inputs: Items<usize>,
+    pub tree: usize,
+}
+
+impl Step {
+    /// The step of a copy of the operation.
+    pub(crate) fn of(
+        alloc: Global,
+        op: &Op,
+        inputs: Items<usize>,
+        tree: usize,
+    ) -> Result<Step, Memory>
+        ensures { IfOk result (λ step. step ≡ record { op = op.now; inputs = inputs; tree = tree }) }
+    {
+        match op.copy(alloc) {
+            Ok(op) => Ok(Step { op, inputs, tree }),
+            Err(memory) => {
+                drop(inputs);
+                Err(memory)
+            }
+        }
+    }
+}
+
+/// What is kept for an operation on these trees, among the steps of these numbers.
+///
+/// A tree whose number is known is compared by its number. Another one is compared by all that it has if `walks`, and else it counts as another tree: so
+/// who finds nothing without a walk may look for it once more.
+pub(crate) fn find_hit<'a>(
+    kept: &'a [Tree],
+    steps: &'a [Step],
+    numbers: &[usize],
+    op: &Op,
+    inputs: &[&Tree],
+    known: &[Option<TreeNumber>],
+    age: Age,
+    walks: bool,
+) -> Option<Hit<'a>>
+    requires placed { ArePlaced (length kept.now) steps.now }
+    requires known { Tells age kept.now known.now (map (λ lent. lent.now) inputs.now) }
+    ensures found { IfSome result (λ hit. Has (entries_at kept.now steps.now) op.now (map (λ lent. lent.now) inputs.now) hit.tree.now) }
+    ensures age { IfSome result (λ hit. hit.age ≡ age) }
+    ensures number { IfSome result (λ hit. slice_get kept.now hit.number ≡ Some hit.tree.now) }
+    ensures inputs { IfSome result (λ hit. AreAt kept.now hit.inputs.now (map (λ lent. lent.now) inputs.now)) }
+    ensures none { IsTrue walks → IfNone result ((k : ℕ) (step : StepValue) → k < length numbers.now → slice_get steps.now (get_or numbers.now k 0) ≡ Some step
+        → ¬ IsFor kept.now op.now (map (λ lent. lent.now) inputs.now) step) }
+{
+    match find_step(kept, steps, numbers, op, inputs, known, age, walks) {
+        None => None,
+        Some(step) => Some(hit_of(kept, step, age)),
+    }
+}
+
+/// What a step is kept for, with its tree.
+fn hit_of<'a>(kept: &'a [Tree], step: &'a Step, age: Age) -> Hit<'a>
+    requires { IsPlaced (length kept.now) step.now }
+    ensures tree { slice_get kept.now result.number ≡ Some result.tree.now }
+    ensures number { result.number ≡ step.now.tree }
+    ensures inputs { result.inputs.now ≡ step.now.inputs }
+    ensures age { result.age ≡ age }
+{
+    Hit {
+        tree: &kept[step.tree],
+        age,
+        number: step.tree,
+        inputs: step.inputs.as_slice(),
+    }
+}
+
+/// The step that is kept for an operation on these trees, among those of these numbers. If it doesn't walk, it may miss one.
+fn find_step<'a>(
+    kept: &[Tree],
+    steps: &'a [Step],
+    numbers: &[usize],
+    op: &Op,
+    inputs: &[&Tree],
+    known: &[Option<TreeNumber>],
+    age: Age,
+    walks: bool,
+) -> Option<&'a Step>
+    requires placed { ArePlaced (length kept.now) steps.now }
+    requires known { Tells age kept.now known.now (map (λ lent. lent.now) inputs.now) }
+    ensures stands { IfSome result (λ step. Stands steps.now step.now) }
+    ensures found { IfSome result (λ step. IsFor kept.now op.now (map (λ lent. lent.now) inputs.now) step.now) }
+    ensures none { IsTrue walks → IfNone result ((k : ℕ) (step : StepValue) → k < length numbers.now → slice_get steps.now (get_or numbers.now k 0) ≡ Some step
+        → ¬ IsFor kept.now op.now (map (λ lent. lent.now) inputs.now) step) }
+{
+    for number in numbers {
+        if let Some(step) = steps.get(*number) {
+            if is_for(kept, step, op, inputs, known, age, walks) {
+                return Some(step);
+            }
+        }
+    }
+    None
+}
+
+/// Whether a step is kept for an operation on these trees.
+fn is_for(
+    kept: &[Tree],
+    step: &Step,
+    op: &Op,
+    inputs: &[&Tree],
+    known: &[Option<TreeNumber>],
+    age: Age,
+    walks: bool,
+) -> bool
+    requires placed { IsPlaced (length kept.now) step.now }
+    requires known { Tells age kept.now known.now (map (λ lent. lent.now) inputs.now) }
+    ensures is { IsTrue result → IsFor kept.now op.now (map (λ lent. lent.now) inputs.now) step.now }
+    ensures is_not { IsTrue walks → IsFor kept.now op.now (map (λ lent. lent.now) inputs.now) step.now → IsTrue result }
+{
+    step.op.same(op) && are_at(kept, step.inputs.as_slice(), inputs, known, age, walks)
+}
+
+/// Whether the trees of these numbers are those that are lent one by one.
+fn are_at(
+    kept: &[Tree],
+    numbers: &[usize],
+    trees: &[&Tree],
+    known: &[Option<TreeNumber>],
+    age: Age,
+    walks: bool,
+) -> bool
+    requires below { AreBelow (length kept.now) numbers.now }
+    requires known { Tells age kept.now known.now (map (λ lent. lent.now) trees.now) }
+    ensures are { IsTrue result → trees_at kept.now numbers.now ≡ map (λ lent. lent.now) trees.now }
+    ensures are_not { IsTrue walks → trees_at kept.now numbers.now ≡ map (λ lent. lent.now) trees.now → IsTrue result }
+{
+    if numbers.len() != trees.len() {
+        return false;
+    }
+    for (place, number) in numbers.iter().enumerate() {
+        if !is_at(
+            kept,
+            *number,
+            trees[place],
+            known_at(known, place, age),
+            walks,
+        ) {
+            return false;
+        }
+    }
+    true
+}
+
+/// Whether the tree of a number is this one, whose number may be known.
+fn is_at(kept: &[Tree], number: usize, tree: &Tree, known: Option<usize>, walks: bool) -> bool
+    requires below { number < length kept.now }
+    requires known { known ≡ Some number → slice_get kept.now number ≡ Some tree.now }
+    ensures is { IsTrue result → tree_at kept.now number ≡ tree.now }
+    ensures is_not { IsTrue walks → tree_at kept.now number ≡ tree.now → IsTrue result }
+{
+    if let Some(known) = known {
+        if known == number {
+            return true;
+        }
+    }
+    walks && kept[number].same(tree)
+}
