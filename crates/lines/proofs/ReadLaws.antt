@@ -20,7 +20,7 @@ use Rattle.lines.proofs.FitLaws.{block_fit, inside_line, closing_line}
 use Rattle.lines.proofs.StepLaws.{read_line-count}
 use Rattle.lines.proofs.ShiftLaws.{after_lines_below, end_file_below}
 use Rattle.lines.proofs.TextLemmas.{after_lines-append, after_lines-split}
-use Rattle.lines.proofs.WholeLemmas.{IsOneLine, first_line, block_more, whole_more, lines_append, text_lines_append}
+use Rattle.lines.proofs.WholeLemmas.{IsOneLine, one_line, first_line, block_more, whole_more, lines_append, text_lines_append}
 
 -- the state below what was found above and then below what was found above that
 pub below_below : (ls ks : List Line) (s : FileState) → below ls (below ks s) ≡ below (ls ++ ks) s
@@ -109,6 +109,13 @@ block_line place room first stage own line w b n plain =
 pub no_lines : (first : Bool) → block_lines first [] ≡ []
 no_lines true = refl
 no_lines false = refl
+
+-- a line between blocks that is dropped is a block of its own, after which the next one begins at another place
+pub dropped_block : (place next : Place) (room : ℕ) (own line : List ℕ) → own ≡ [] → HasNoLf line → read_line (state_at place room) (strip_carriage_return line) ≡ state_at next room
+    → state_at next room ≡ after_lines (state_at place room) (block_lines false (own ++ (line ++ 10 ∷ [])))
+dropped_block place next room own line b plain e =
+    let s : FileState = state_at place room in
+    sym (ap (λ (o : List ℕ). after_lines s (block_lines false (o ++ (line ++ 10 ∷ [])))) b ∙ ap (after_lines s) (one_line line plain) ∙ e)
 
 -- so a block that isn't complete has given no line yet, also behind its next line
 pub block_inside : (marks : List Mark) (progress : Progress) (stage : Stage) (own line : List ℕ) → IsWhole own → IsBehind stage own → HasNoLf line

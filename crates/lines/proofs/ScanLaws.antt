@@ -1,20 +1,23 @@
 -- A line that doesn't end its block leaves what is known of the block as it is.
-use Rattle.std.specs.Prelude.{◌≡◌, ◌≢◌, ℕ, ◌+◌, ◌==◌, ◌||◌, ◌&&◌, not, Bool, true, false, MatchBool, List, [], ◌∷◌, ◌++◌, Option, Some, None, length, slice_get, if◌then◌else◌, refl}
+use Rattle.std.specs.Prelude.{◌≡◌, ◌≢◌, ℕ, ◌+◌, ◌==◌, ◌||◌, ◌&&◌, not, Bool, true, false, MatchBool, List, [], is_some, ◌∷◌, ◌++◌, Option, Some, None, length, slice_get, if◌then◌else◌, refl}
 use Rattle.std.proofs.Common.{◌∙◌, sym, ap, ap₂, subst, arith}
+use Rattle.std.proofs.lemmas.Bool.{true≢false}
 use Rattle.std.proofs.lemmas.Bool.Decides.{nat_tests}
 use Rattle.std.proofs.lemmas.List.{length-append}
 use Rattle.plain.specs.declared.refusal.Code.TheVariants.{R18}
 use Rattle.plain.specs.declared.refusal.Refusal.{Refusal}
 use Rattle.ascii.specs.Blanks.{trimmed}
-use Rattle.lines.specs.Blanks.{is_blank_line}
+use Rattle.lines.specs.Blanks.{is_blank_line, is_skipped}
+use Rattle.lines.specs.Directives.{directive_of}
 use Rattle.lines.specs.Escape.{byte_of}
 use Rattle.lines.specs.File.{goes_on, part_of}
 use Rattle.lines.specs.Marks.{marks_of, closes, body_line}
-use Rattle.lines.specs.PrivateSteps.{at_position, count_line, with_fault, refuse_past_limit, open_heredocs, close_line, next_heredoc, close_heredoc, grow_body, read_line, end_continuation}
+use Rattle.lines.specs.PrivateSteps.{at_position, count_line, with_fault, refuse_past_limit, open_heredocs, close_line, next_heredoc, close_heredoc, grow_body, join_line, read_at_top_as, read_line, end_continuation}
 use Rattle.lines.specs.PrivateScan.{state_at, position_of, IsOwn, IsClosing, IsInStage}
 use Rattle.lines.specs.declared.escape.Escape as character
 use Rattle.lines.specs.declared.line.Mark.{Mark}
 use Rattle.lines.specs.declared.line.Heredoc.{Heredoc}
+use Rattle.lines.specs.declared.scan.Place.{Place}
 use Rattle.lines.specs.declared.scan.Progress.{Progress}
 use Rattle.lines.specs.declared.scan.Stage.{Stage}
 use Rattle.lines.specs.declared.scan.Stage.TheVariants.{Fresh, Own, Closing}
@@ -22,7 +25,7 @@ use Rattle.lines.specs.declared.state.Pending.{Pending}
 use Rattle.lines.specs.declared.state.Seen.{Seen}
 use Rattle.lines.specs.declared.state.Unclosed.{Unclosed}
 use Rattle.lines.specs.declared.state.Position.{Position}
-use Rattle.lines.specs.declared.state.Position.TheVariants.{Within, Bodies}
+use Rattle.lines.specs.declared.state.Position.TheVariants.{Between, Within, Bodies}
 use Rattle.lines.specs.declared.state.FileState.{FileState}
 use Rattle.lines.proofs.BlockLaws.{within_on}
 use Rattle.lines.proofs.SaysLemmas.{says_more, blank_trimmed, says_trimmed}
@@ -144,3 +147,19 @@ held_back marks progress Fresh s e h fresh =
     }
 held_back marks progress Own s e h fresh = record { lines = h.2; past = past_own progress s h }
 held_back marks progress (Closing n) s e h fresh = record { lines = h.0; past = past_closing marks progress n s h }
+
+nothing_there : {A : Type 0} (o : Option A) → is_some o ≡ false → o ≡ None
+nothing_there None e = refl
+nothing_there (Some x) e = absurd (true≢false e)
+
+-- a line between blocks that is dropped, and is no directive
+pub dropped_at : (place : Place) (room : ℕ) (seen : Option Seen) (line : List ℕ) → is_skipped line ≡ true → (is_some seen && is_some (directive_of line)) ≡ false
+    → read_line (state_at (record place { seen = seen }) room) line ≡ state_at (record place { count = place.count + 1; seen = None }) room
+unfolding read_line
+dropped_at place room None line skipped other =
+    let s : FileState = count_line (state_at (record place { seen = None }) room) in
+    ap (λ b. if b then at_position s Between else join_line s s.count [] line) skipped
+dropped_at place room (Some seen) line skipped other =
+    let s : FileState = count_line (state_at (record place { seen = Some seen }) room) in
+    ap (read_at_top_as s seen line) (nothing_there (directive_of line) other)
+    ∙ ap (λ b. if b then at_position s Between else join_line s s.count [] line) skipped

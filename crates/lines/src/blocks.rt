@@ -1,7 +1,8 @@
-ghost use Rattle.std.specs.Prelude.{◌≡◌, ◌≢◌, ◌≤◌, ◌+◌, ◌==◌, ◌||◌, ◌&&◌, not, ◌++◌, ◌∷◌, [], ℕ, List, IfOk, IfErr, IfSome, IsUtf8, length};
+ghost use Rattle.std.specs.Prelude.{◌≡◌, ◌≢◌, ◌≤◌, ◌+◌, ◌==◌, ◌||◌, ◌&&◌, not, false, is_some, ◌++◌, ◌∷◌, [], ℕ, List, IfOk, IfErr, IfSome, IsUtf8, length};
 ghost use Rattle.std.specs.Str.Lines.{lines, strip_carriage_return};
 ghost use Rattle.plain.specs.Limits.{most_dockerfile_bytes};
 ghost use Rattle.lines.specs.Blanks.{is_blank_line};
+ghost use Rattle.lines.specs.Directives.{directive_of};
 ghost use Rattle.lines.specs.Escape.{byte_of};
 ghost use Rattle.lines.specs.File.{goes_on, part_of};
 ghost use Rattle.lines.specs.PrivateScan.{state_at, block_lines, Fits, IsInside, StageIs, IsBehind, IsLater, IsMovedTo, Settles, StopsBy, Stops, marks_in};
@@ -13,9 +14,10 @@ ghost use Rattle.lines.specs.declared.scan.Stage.TheVariants.{Fresh, Own, Closin
 ghost use Rattle.lines.specs.declared.state.FileState.{FileState};
 
 use crate::blanks::{continued_part, ends_with, is_blank_line, is_skipped};
+use crate::directives::directive_of;
 use crate::faults::least;
 use crate::scan::{Place, Progress, Scan, Stage, Stop};
-use crate::state::{FileState, Position, Unclosed};
+use crate::state::{FileState, Position, Seen, Unclosed};
 use crate::steps::{closes, read_line};
 use crate::text::without_byte_order_mark;
 use crate::{Escape, Line, Mark};
@@ -341,6 +343,46 @@ fn take_block(alloc: Global, scan: Scan, block: &[u8]) -> Result<Scan, Stop>
     }
 }
 
+/// Whether a line is one more directive, at a place that only directives stand above if `seen` is some.
+fn is_directive(seen: Option<Seen>, line: &str) -> bool
+    ensures { result ≡ (is_some seen && is_some (directive_of line.now)) }
+{
+    seen.is_some() && directive_of(line).is_some()
+}
+
+/// Where the next block begins after a line between blocks that is dropped, and none if it isn't such a line. The first line may have
+/// a byte order mark, and is left to the block.
+#[tactic(auto, unfolding(plain::specs::Limits::most_dockerfile_bytes))]
+fn after_dropped(progress: &Progress, line: &str) -> Option<Place>
+    requires { progress.now.place.count ≤ most_dockerfile_bytes }
+    ensures fresh { IfSome result (λ place. (progress.now.stage ≡ Fresh) × (progress.now.is_first ≡ false)) }
+    ensures state { IfSome result (λ place. read_line (state_at progress.now.place progress.now.room) line.now ≡ state_at place progress.now.room) }
+{
+    let Stage::Fresh = progress.stage else {
+        return None;
+    };
+    if progress.is_first || !is_skipped(line) || is_directive(progress.place.seen, line) {
+        return None;
+    }
+    Some(Place {
+        escape: progress.place.escape,
+        count: progress.place.count + 1,
+        seen: None,
+    })
+}
+
+/// What a scan is after a line of so many bytes that is dropped, after which the next block begins at this place.
+#[tactic(auto, unfolding(plain::specs::Limits::most_dockerfile_bytes))]
+fn moved_over(scan: Scan, place: Place, size: usize) -> Scan
+    requires { scan.start + size ≤ most_dockerfile_bytes }
+    ensures { result ≡ record scan { progress = record scan.progress { place = place }; start = scan.start + size } }
+{
+    let mut scan = scan;
+    scan.progress.place = place;
+    scan.start += size;
+    scan
+}
+
 /// Takes the next line of a text, with which `block` ends.
 pub fn take_line(
     alloc: Global,
@@ -364,7 +406,11 @@ pub fn take_line(
         Ok(text) => text,
         Err(_) => unreachable!(),
     };
-    match progress_behind(&scan, kept, without_carriage_return(text)) {
+    let text = without_carriage_return(text);
+    if let Some(place) = after_dropped(&scan.progress, text) {
+        return Ok(moved_over(scan, place, block.len()));
+    }
+    match progress_behind(&scan, kept, text) {
         Some(progress) => {
             let mut scan = scan;
             scan.progress = progress;

@@ -1,4 +1,4 @@
-ghost use Rattle.std.specs.Prelude.{◌≡◌, ◌<◌, ◌≤◌, ◌+◌, ◌-◌, ◌==◌, ◌++◌, [], ℕ, Bool, List, Some, IfOk, IfErr, IsUtf8, length, take, drop, count_by};
+ghost use Rattle.std.specs.Prelude.{◌≡◌, ◌<◌, ◌≤◌, ◌+◌, ◌-◌, ◌==◌, ◌++◌, [], ℕ, Bool, List, Some, IfOk, IfErr, IsUtf8, length, take, drop, count_by, get_or};
 ghost use Rattle.std.specs.Str.{IsValidUpTo};
 ghost use Rattle.std.specs.Str.Lossy.{utf8_error_len};
 ghost use Rattle.plain.specs.Limits.{most_dockerfile_bytes};
@@ -40,32 +40,27 @@ pub fn whole_characters(bytes: &[u8], valid: usize) -> Result<usize, usize>
     }
 }
 
-/// Takes the byte at `end`: if it is an LF, the line that it ends, which begins at `at`. Also gives where the next line begins.
+/// Takes the line that the LF at `end` ends, which begins at `at`.
 #[tactic(auto, unfolding(plain::specs::Limits::most_dockerfile_bytes))]
-fn take_byte(
+fn take_ended(
     alloc: Global,
     scan: Scan,
     kept: &[Mark],
     bytes: &[u8],
     at: usize,
     end: usize,
-) -> Result<(Scan, usize), Stop>
+) -> Result<Scan, Stop>
     requires utf8 { IsUtf8 bytes.now }
     requires within { end < length bytes.now }
+    requires ends { get_or bytes.now end 0 ≡ 10 }
     requires known { (from : FileState) × (begins : Bool) × (from.count + length bytes.now ≤ most_dockerfile_bytes) × IsAt from begins kept.now scan bytes.now at end }
     ensures ok { IfOk result (λ next. (from : FileState) (begins : Bool) → IsAt from begins kept.now scan bytes.now at end
-        → IsAt from begins kept.now next.0 bytes.now next.1 (end + 1)) }
+        → IsAt from begins kept.now next bytes.now (end + 1) (end + 1)) }
     ensures err { IfErr result (λ stop. (from : FileState) (begins : Bool) → IsAt from begins kept.now scan bytes.now at end → StopsAt from begins bytes.now stop) }
 {
-    if bytes[end] != b'\n' {
-        return Ok((scan, at));
-    }
     let block = &bytes[scan.start..end + 1];
     let line = &bytes[at..end];
-    match take_line(alloc, scan, kept, block, line) {
-        Ok(next) => Ok((next, end + 1)),
-        Err(stop) => Err(stop),
-    }
+    take_line(alloc, scan, kept, block, line)
 }
 
 /// Takes the complete lines of these bytes, which begin where the block in progress does. Of them `looked` bytes are lines that were
@@ -94,12 +89,14 @@ pub fn take_lines(
     };
     let mut at = looked;
     for end in from..bytes.len() {
-        match take_byte(alloc, scan, kept, bytes, at, end) {
-            Ok((next, taken)) => {
-                scan = next;
-                at = taken;
+        if bytes[end] == b'\n' {
+            match take_ended(alloc, scan, kept, bytes, at, end) {
+                Ok(next) => {
+                    scan = next;
+                    at = end + 1;
+                }
+                Err(stop) => return Err(stop),
             }
-            Err(stop) => return Err(stop),
         }
     }
     Ok((scan, at))
