@@ -11,6 +11,10 @@ use Rattle.sentences.specs.Subject.{subject_of}
 use Rattle.sentences.specs.Table.{sentence, remedy, wrong_with, required_sentence, required_remedy}
 use Rattle.sentences.specs.declared.subject.Subject.{Subject}
 
+-- a value as a line: its compact JSON, with the LF that ends it
+abbrev pub written_line : Data → List ℕ
+written_line value = compact_text value ++ codes "\n"
+
 -- the line that a refusal is about, of the file's line of its number: none if the number is 0
 abbrev pub line_about : ℕ → List ℕ → List ℕ
 line_about number line = if number == 0 then [] else line
@@ -45,9 +49,9 @@ abbrev pub data_of : List ℕ → Rejection → List ℕ → Option (List ℕ) �
 data_of file refusal text meant =
     refusal_data (code_of refusal.reason) file refusal.line (message_of refusal.reason (subject_of text) meant) (remedy_of refusal.reason (subject_of text)) text
 
--- its line of JSON, with the LF that ends it, of the file's line of the refusal's number
+-- its line of JSON, of the file's line of the refusal's number
 abbrev pub json_line : List ℕ → Rejection → List ℕ → Option (List ℕ) → List ℕ
-json_line file refusal line meant = compact_text (data_of file refusal (line_about refusal.line line) meant) ++ codes "\n"
+json_line file refusal line meant = written_line (data_of file refusal (line_about refusal.line line) meant)
 
 -- a refusal that is about no line but about a place in the file, by its parts
 unfoldable pub place_data : List ℕ → List ℕ → List ℕ → List ℕ → List ℕ → Data
@@ -59,7 +63,7 @@ place_data code file message place helps = object (member (codes "code") (string
     (member (codes "remedy") (string helps)
     (member (codes "text") (string []) no_members)))))))
 
--- its line of JSON, with the LF that ends it: that of the file of this name, and one key more
+-- its line of JSON: that of the file of this name, and one key more
 abbrev pub place_line : List ℕ → Code → List ℕ → List ℕ
 place_line file code place =
-    compact_text (place_data (code_text code) file (sentence code (subject_of [])) place (remedy code (subject_of []))) ++ codes "\n"
+    written_line (place_data (code_text code) file (sentence code (subject_of [])) place (remedy code (subject_of [])))

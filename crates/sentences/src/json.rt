@@ -1,9 +1,10 @@
-ghost use Rattle.std.specs.Prelude.{◌≡◌, [], IfOk};
+ghost use Rattle.std.specs.Prelude.{◌≡◌, [], false, IfOk};
 ghost use Rattle.std.specs.Option.{option_copied};
 ghost use Rattle.std.specs.String.{string_bytes};
 ghost use Rattle.serde_json.specs.View.{view};
+ghost use Rattle.serde_json.specs.Written.{has_float};
 ghost use Rattle.plain.specs.Codes.{code_text};
-ghost use Rattle.sentences.specs.Json.{code_of, data_of, json_line, line_about, message_of, place_data, place_line, refusal_data, remedy_of};
+ghost use Rattle.sentences.specs.Json.{code_of, data_of, json_line, line_about, message_of, place_data, place_line, refusal_data, remedy_of, written_line};
 ghost use Rattle.sentences.specs.Subject.{subject_of};
 ghost use Rattle.sentences.specs.Table.{remedy, sentence};
 
@@ -93,6 +94,17 @@ fn value_of(
     refusal_value(alloc, code, file, refusal.line, message, helps, text)
 }
 
+/// A value as a line of compact JSON, with the LF that ends it.
+fn written_line(alloc: Global, value: Value) -> Result<String, Memory>
+    ensures { IfOk result (λ text. has_float (view value) ≡ false → string_bytes text ≡ written_line (view value)) }
+{
+    let written = value.to_string(alloc);
+    drop(value);
+    let mut written = written?;
+    written.push_str("\n")?;
+    Ok(written)
+}
+
 /// What a program reads of a refusal of the file of this name, where `line` is the file's line of the refusal's number: one line of compact
 /// JSON, with the LF that ends it. Its keys are `code`, `file`, `line`, `message`, `remedy` and `text`, which is the line. By R21 the message
 /// ends with the text that the line is refused with, and by another code with the name that may have been `meant`, if there is one.
@@ -109,11 +121,7 @@ pub fn json_line(
 {
     let text = line_about(refusal.line, line);
     let value = value_of(alloc, file, refusal, text, meant)?;
-    let written = value.to_string(alloc);
-    drop(value);
-    let mut written = written?;
-    written.push_str("\n")?;
-    Ok(written)
+    written_line(alloc, value)
 }
 
 /// A refusal that is about a place in a file, as JSON, by its parts.
@@ -153,9 +161,5 @@ pub fn place_line(alloc: Global, file: &str, code: Code, place: &str) -> Result<
     ensures { IfOk result (λ text. string_bytes text ≡ place_line file.now code place.now) }
 {
     let value = value_at(alloc, file, code, place)?;
-    let written = value.to_string(alloc);
-    drop(value);
-    let mut written = written?;
-    written.push_str("\n")?;
-    Ok(written)
+    written_line(alloc, value)
 }

@@ -2,7 +2,7 @@
 ghost use Rattle.std.specs.Prelude.{◌≡◌, IfOk};
 ghost use Rattle.std.specs.Option.{option_copied};
 ghost use Rattle.std.specs.String.{string_bytes};
-ghost use Rattle.sentences.specs.Table.{unknown_sentence, unknown_remedy, wrong_with, arguments_sentence, flag_sentence, heredoc_sentence, name_sentence, number_sentence, arguments_remedy, flag_remedy, heredoc_remedy, name_remedy, number_remedy, sentence, remedy, required_sentence, required_remedy};
+ghost use Rattle.sentences.specs.Table.{unknown_sentence, unknown_remedy, wrong_with, arguments_sentence, flag_sentence, name_sentence, number_sentence, arguments_remedy, flag_remedy, heredoc_remedy, name_remedy, number_remedy, sentence, remedy, required_sentence, required_remedy};
 
 use crate::Subject;
 use plain::Code;
@@ -18,21 +18,7 @@ fn unknown_sentence(subject: Subject) -> &'static str
         Subject::Healthcheck =>
             "HEALTHCHECK is left out here on purpose: an OCI configuration has no place for it",
         Subject::Maintainer => "MAINTAINER is left out here on purpose: it is deprecated",
-        Subject::From
-        | Subject::Arg
-        | Subject::Env
-        | Subject::Label
-        | Subject::Expose
-        | Subject::User
-        | Subject::Workdir
-        | Subject::StopSignal
-        | Subject::Volume
-        | Subject::Shell
-        | Subject::Cmd
-        | Subject::Entrypoint
-        | Subject::Run
-        | Subject::Copy
-        | Subject::Other => "there is no such instruction here",
+        _ => "there is no such instruction here",
     }
 }
 
@@ -53,11 +39,7 @@ fn arguments_sentence(subject: Subject) -> &'static str
         Subject::Cmd | Subject::Entrypoint => "there is nothing to run",
         Subject::Run => "there is nothing to run, or an empty list or heredoc",
         Subject::Copy => "COPY takes one source or more and a destination, none of them empty",
-        Subject::Add
-        | Subject::Onbuild
-        | Subject::Healthcheck
-        | Subject::Maintainer
-        | Subject::Other => "the number of arguments is wrong, or one is empty",
+        _ => "the number of arguments is wrong, or one is empty",
     }
 }
 
@@ -69,49 +51,7 @@ fn flag_sentence(subject: Subject) -> &'static str
         Subject::From => "FROM takes no flag here",
         Subject::Run => "RUN takes the flag --mount alone, with a value",
         Subject::Copy => "a flag of COPY is unknown, stands twice, or has a wrong value",
-        Subject::Arg
-        | Subject::Env
-        | Subject::Label
-        | Subject::Expose
-        | Subject::User
-        | Subject::Workdir
-        | Subject::StopSignal
-        | Subject::Volume
-        | Subject::Shell
-        | Subject::Cmd
-        | Subject::Entrypoint
-        | Subject::Add
-        | Subject::Onbuild
-        | Subject::Healthcheck
-        | Subject::Maintainer
-        | Subject::Other => "a flag is unknown, stands twice, or has a wrong value",
-    }
-}
-
-/// The sentence for R08, by the line's instruction.
-fn heredoc_sentence(subject: Subject) -> &'static str
-    ensures { result.now ≡ heredoc_sentence subject }
-{
-    match subject {
-        Subject::Run => "a heredoc is not closed, or not allowed so",
-        Subject::Copy => "a heredoc is not closed, or not allowed so",
-        Subject::From
-        | Subject::Arg
-        | Subject::Env
-        | Subject::Label
-        | Subject::Expose
-        | Subject::User
-        | Subject::Workdir
-        | Subject::StopSignal
-        | Subject::Volume
-        | Subject::Shell
-        | Subject::Cmd
-        | Subject::Entrypoint
-        | Subject::Add
-        | Subject::Onbuild
-        | Subject::Healthcheck
-        | Subject::Maintainer
-        | Subject::Other => "a heredoc is not closed, or not allowed so",
+        _ => "a flag is unknown, stands twice, or has a wrong value",
     }
 }
 
@@ -122,23 +62,7 @@ fn name_sentence(subject: Subject) -> &'static str
     match subject {
         Subject::From => "this is no name of a stage",
         Subject::Label => "the key of a label is empty",
-        Subject::Arg
-        | Subject::Env
-        | Subject::Expose
-        | Subject::User
-        | Subject::Workdir
-        | Subject::StopSignal
-        | Subject::Volume
-        | Subject::Shell
-        | Subject::Cmd
-        | Subject::Entrypoint
-        | Subject::Run
-        | Subject::Copy
-        | Subject::Add
-        | Subject::Onbuild
-        | Subject::Healthcheck
-        | Subject::Maintainer
-        | Subject::Other => "this is no name of a variable",
+        _ => "this is no name of a variable",
     }
 }
 
@@ -149,24 +73,7 @@ fn number_sentence(subject: Subject) -> &'static str
     match subject {
         Subject::Expose =>
             "a port has to be a number from 1 to 65535, with /tcp or /udp after it at most",
-        Subject::From
-        | Subject::Arg
-        | Subject::Env
-        | Subject::Label
-        | Subject::User
-        | Subject::Workdir
-        | Subject::StopSignal
-        | Subject::Volume
-        | Subject::Shell
-        | Subject::Cmd
-        | Subject::Entrypoint
-        | Subject::Run
-        | Subject::Copy
-        | Subject::Add
-        | Subject::Onbuild
-        | Subject::Healthcheck
-        | Subject::Maintainer
-        | Subject::Other => "the owner and the mode have to be numbers",
+        _ => "the owner and the mode have to be numbers",
     }
 }
 
@@ -183,7 +90,7 @@ pub fn sentence(code: Code, subject: Subject) -> &'static str
         Code::R05 => "the first instruction other than ARG has to be FROM",
         Code::R06 => arguments_sentence(subject),
         Code::R07 => flag_sentence(subject),
-        Code::R08 => heredoc_sentence(subject),
+        Code::R08 => "a heredoc is not closed, or not allowed so",
         Code::R09 => "a quote is open, or a substitution is malformed",
         Code::R10 => name_sentence(subject),
         Code::R11 => "a stage above has this name already, whatever the case of its letters",
@@ -209,21 +116,7 @@ fn unknown_remedy(subject: Subject) -> &'static str
         Subject::Onbuild => "write its instruction into each file that is built on this one",
         Subject::Healthcheck => "drop the line, and give the check to what runs the image",
         Subject::Maintainer => "write LABEL maintainer=name",
-        Subject::From
-        | Subject::Arg
-        | Subject::Env
-        | Subject::Label
-        | Subject::Expose
-        | Subject::User
-        | Subject::Workdir
-        | Subject::StopSignal
-        | Subject::Volume
-        | Subject::Shell
-        | Subject::Cmd
-        | Subject::Entrypoint
-        | Subject::Run
-        | Subject::Copy
-        | Subject::Other =>
+        _ =>
             "use FROM, ARG, ENV, LABEL, EXPOSE, USER, WORKDIR, STOPSIGNAL, VOLUME, SHELL, CMD, ENTRYPOINT, RUN or COPY",
     }
 }
@@ -261,11 +154,7 @@ fn arguments_remedy(subject: Subject) -> &'static str
         Subject::Run =>
             "write a command, a list in JSON with one text or more, or a heredoc with a line",
         Subject::Copy => "write COPY source destination, and give each variable in it a value",
-        Subject::Add
-        | Subject::Onbuild
-        | Subject::Healthcheck
-        | Subject::Maintainer
-        | Subject::Other => "write as many as the instruction takes",
+        _ => "write as many as the instruction takes",
     }
 }
 
@@ -279,22 +168,7 @@ fn flag_remedy(subject: Subject) -> &'static str
         Subject::Run => "drop the flag, or write --mount=type=cache,target=/path",
         Subject::Copy =>
             "write --from=name, --chown=1000:1000, --chmod=644 or --link, each once at most",
-        Subject::Arg
-        | Subject::Env
-        | Subject::Label
-        | Subject::Expose
-        | Subject::User
-        | Subject::Workdir
-        | Subject::StopSignal
-        | Subject::Volume
-        | Subject::Shell
-        | Subject::Cmd
-        | Subject::Entrypoint
-        | Subject::Add
-        | Subject::Onbuild
-        | Subject::Healthcheck
-        | Subject::Maintainer
-        | Subject::Other => "drop the flag, or mend its value",
+        _ => "drop the flag, or mend its value",
     }
 }
 
@@ -307,23 +181,7 @@ fn heredoc_remedy(subject: Subject) -> &'static str
             "close it by a line with its name alone; give RUN one heredoc with nothing beside it and without #! in it",
         Subject::Copy =>
             "close it by a line with its name alone; let it be a source, a word of its own, and without --from",
-        Subject::From
-        | Subject::Arg
-        | Subject::Env
-        | Subject::Label
-        | Subject::Expose
-        | Subject::User
-        | Subject::Workdir
-        | Subject::StopSignal
-        | Subject::Volume
-        | Subject::Shell
-        | Subject::Cmd
-        | Subject::Entrypoint
-        | Subject::Add
-        | Subject::Onbuild
-        | Subject::Healthcheck
-        | Subject::Maintainer
-        | Subject::Other => "close it by a line with its name alone",
+        _ => "close it by a line with its name alone",
     }
 }
 
@@ -335,23 +193,7 @@ fn name_remedy(subject: Subject) -> &'static str
         Subject::From =>
             "begin with a letter, go on with letters, digits, -, _ and ., and take another name than scratch",
         Subject::Label => "give each variable in the key a value, or write the key out",
-        Subject::Arg
-        | Subject::Env
-        | Subject::Expose
-        | Subject::User
-        | Subject::Workdir
-        | Subject::StopSignal
-        | Subject::Volume
-        | Subject::Shell
-        | Subject::Cmd
-        | Subject::Entrypoint
-        | Subject::Run
-        | Subject::Copy
-        | Subject::Add
-        | Subject::Onbuild
-        | Subject::Healthcheck
-        | Subject::Maintainer
-        | Subject::Other => "begin with a letter or _, and go on with letters, digits and _",
+        _ => "begin with a letter or _, and go on with letters, digits and _",
     }
 }
 
@@ -361,24 +203,7 @@ fn number_remedy(subject: Subject) -> &'static str
 {
     match subject {
         Subject::Expose => "write EXPOSE 80 or EXPOSE 80/udp, without leading zeros",
-        Subject::From
-        | Subject::Arg
-        | Subject::Env
-        | Subject::Label
-        | Subject::User
-        | Subject::Workdir
-        | Subject::StopSignal
-        | Subject::Volume
-        | Subject::Shell
-        | Subject::Cmd
-        | Subject::Entrypoint
-        | Subject::Run
-        | Subject::Copy
-        | Subject::Add
-        | Subject::Onbuild
-        | Subject::Healthcheck
-        | Subject::Maintainer
-        | Subject::Other =>
+        _ =>
             "write --chown=1000:1000 and --chmod=644 (names would need the image's /etc/passwd)",
     }
 }

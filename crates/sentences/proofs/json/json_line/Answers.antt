@@ -1,8 +1,8 @@
-use Rattle.std.proofs.Common.{◌≡◌, ◌++◌, List, ℕ, false, codes, ap, ◌∙◌}
+use Rattle.std.proofs.Common.{◌≡◌, List, ℕ, false, ap, ◌∙◌}
 use Rattle.std.specs.Option.{option_copied}
 use Rattle.serde_json.specs.View.{view}
-use Rattle.serde_json.specs.Written.{compact_text, has_float}
-use Rattle.sentences.specs.Json.{data_of, line_about}
+use Rattle.serde_json.specs.Written.{has_float}
+use Rattle.sentences.specs.Json.{data_of, line_about, written_line}
 use Rattle.sentences.proofs.JsonFacts.{refusal_is_plain}
 use Rattle.sentences.proofs.json.json_line.Goals as goal
 
@@ -13,4 +13,4 @@ returns c =
     let told : view c.in_ok-value.value ≡ data_of c.args.file.now c.args.refusal.now text meant =
     c.in_ok-value.ensures ∙ ap (λ (text : List ℕ). data_of c.args.file.now c.args.refusal.now text meant) c.line_about-text.ensures in
     let plain : has_float (view c.in_ok-value.value) ≡ false = ap has_float told ∙ refusal_is_plain c.args.file.now c.args.refusal.now text meant in
-    c.in_ok-push_str.ensures.bytes ∙ ap (λ (written : List ℕ). written ++ codes "\n") (c.in_ok-written.ensures.text plain ∙ ap compact_text told)
+    c.written_line.ensures plain ∙ ap written_line told

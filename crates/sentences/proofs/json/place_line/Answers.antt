@@ -1,8 +1,8 @@
-use Rattle.std.proofs.Common.{◌≡◌, ◌++◌, [], List, ℕ, false, codes, ap, ◌∙◌}
+use Rattle.std.proofs.Common.{◌≡◌, [], false, ap, ◌∙◌}
 use Rattle.serde_json.specs.View.{view}
-use Rattle.serde_json.specs.Written.{compact_text, has_float}
+use Rattle.serde_json.specs.Written.{has_float}
 use Rattle.plain.specs.Codes.{code_text}
-use Rattle.sentences.specs.Json.{place_data}
+use Rattle.sentences.specs.Json.{place_data, written_line}
 use Rattle.sentences.specs.Subject.{subject_of}
 use Rattle.sentences.specs.Table.{remedy, sentence}
 use Rattle.sentences.proofs.JsonFacts.{place_is_plain}
@@ -15,4 +15,4 @@ returns c =
     c.in_ok-value.ensures in
     let plain : has_float (view c.in_ok-value.value) ≡ false =
     ap has_float told ∙ place_is_plain (code_text code) c.args.file.now (sentence code (subject_of [])) c.args.place.now (remedy code (subject_of [])) in
-    c.in_ok-push_str.ensures.bytes ∙ ap (λ (written : List ℕ). written ++ codes "\n") (c.in_ok-written.ensures.text plain ∙ ap compact_text told)
+    c.written_line.ensures plain ∙ ap written_line told
