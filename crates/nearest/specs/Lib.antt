@@ -1,1 +1,2 @@
 pub mod Nearness
+pub mod PrivateNearness

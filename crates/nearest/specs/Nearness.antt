@@ -1,6 +1,7 @@
 -- Which name may have been meant by a word that is none (own).
-use Rattle.std.specs.Prelude.{◌/◌, ◌&&◌, ℕ, Bool, true, List, [], ◌∷◌, Option, Some, None, chars, length, nat_eq, nat_le, nat_lt, not, if◌then◌else◌}
+use Rattle.std.specs.Prelude.{◌≡◌, ◌≤◌, ◌<◌, ◌/◌, ◌&&◌, ◌||◌, ◌++◌, ℕ, Bool, true, List, ◌∷◌, Option, chars, length, nat_eq, nat_le, not}
 use Rattle.std.specs.Cmp.Lexicographic.{pointwise}
+use Rattle.std.specs.List.{All, find, list_all}
 use Rattle.std.specs.Str.{str_to_ascii_lowercase}
 use Rattle.strsim.specs.Edits.{osa_table}
 
@@ -21,20 +22,23 @@ is_compared text = nat_le (length text) 64
 unfoldable pub is_near : List ℕ → List ℕ → Bool
 is_near word name = not (pointwise nat_eq word name) && is_compared word && is_compared name && nat_le (edits word name) (length word / 3)
 
--- of two names, the second if it takes fewer edits, or if there is no first
-abbrev pub fewer : List ℕ → Option (List ℕ) → List ℕ → Bool
-fewer word None name = true
-fewer word (Some best) name = nat_lt (edits word name) (edits word best)
+-- a name takes no more edits than another one, or that one isn't near
+abbrev pub is_as_near : List ℕ → List ℕ → List ℕ → Bool
+is_as_near word name other = not (is_near word other) || nat_le (edits word name) (edits word other)
 
--- the better of a name so far, if there is one, and the next one
-abbrev pub better : List ℕ → Option (List ℕ) → List ℕ → Option (List ℕ)
-better word best name = if is_near word name && fewer word best name then Some name else best
+-- a name is near, and none of these that is near takes fewer edits
+unfoldable pub is_nearest : List ℕ → List (List ℕ) → List ℕ → Bool
+is_nearest word names name = is_near word name && list_all (λ other. is_as_near word name other) names
 
--- the best of a name so far and of those after it
-unfoldable pub best_of : List ℕ → Option (List ℕ) → List (List ℕ) → Option (List ℕ)
-best_of word best [] = best
-best_of word best (name ∷ names) = best_of word (better word best name) names
+-- the name that may have been meant by a word: the first of those that are near to it and take the fewest edits; none if no name is near
+unfoldable pub nearest : List ℕ → List (List ℕ) → Option (List ℕ)
+nearest word names = find (λ name. is_nearest word names name) names
 
--- the name that may have been meant by a word: of those that are near to it one that takes the fewest edits, the first of several; none if no name is near
-abbrev pub nearest : List ℕ → List (List ℕ) → Option (List ℕ)
-nearest word names = best_of word None names
+-- of some names this is the first of those that are near to a word and take the fewest edits
+pub record IsFirstNearest (word : List ℕ) (names : List (List ℕ)) (name : List ℕ) : Type 0 where
+  pub front : List (List ℕ)
+  pub back : List (List ℕ)
+  pub is : names ≡ front ++ name ∷ back
+  pub near : is_near word name ≡ true
+  pub fewest : All (λ other. is_near word other ≡ true → edits word name ≤ edits word other) names
+  pub first : All (λ other. is_near word other ≡ true → edits word name < edits word other) front

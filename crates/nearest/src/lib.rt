@@ -10,6 +10,7 @@
 // ```
 #![tactic(auto)]
 
+pub mod laws;
 mod nearness;
 
 pub use nearness::nearest;

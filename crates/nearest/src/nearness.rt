@@ -1,6 +1,7 @@
 ghost use Rattle.std.specs.Prelude.{◌≡◌, map, IfOk};
 ghost use Rattle.std.specs.Option.{option_copied};
-ghost use Rattle.nearest.specs.Nearness.{edits, is_compared, is_near, fewer, better, nearest};
+ghost use Rattle.nearest.specs.Nearness.{edits, is_compared, is_near, nearest};
+ghost use Rattle.nearest.specs.PrivateNearness.{fewer, better};
 
 use plain::Memory;
 use std::alloc::Global;

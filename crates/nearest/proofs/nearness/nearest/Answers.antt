@@ -1,21 +1,18 @@
-use Rattle.std.proofs.Common.{◌≡◌, ◌∙◌, sym, ap, map, drop, ◌+◌}
-use Rattle.std.proofs.lemmas.List.{at_drop_all, at_drop_more}
+use Rattle.std.proofs.Common.{List, ℕ, ap, map, subst, sym}
+use Rattle.std.proofs.lemmas.List.{take_all}
 use Rattle.std.specs.Option.{option_copied}
-use Rattle.nearest.specs.Nearness.{best_of}
+use Rattle.nearest.specs.PrivateNearness.{IsBest}
+use Rattle.nearest.proofs.NearestLaws.{IsBest-next, nearest-is}
 use Rattle.nearest.proofs.nearness.nearest.Goals as goal
 
 pub loop-name-preserved : goal.loop-name-preserved
-unfolding best_of
 loop-name-preserved c =
-    let word = c.args.word.now in
-    let names = c.args.names.now in
-    let at = c.loop-name.name-index in
-    ap (λ best. best_of word best (map (λ it. it.now) (drop (at + 1) names))) c.in_ok-best.ensures
-    ∙ sym (at_drop_more (λ rest. best_of word (option_copied c.loop-name.best) (map (λ it. it.now) rest)) names at _ c.loop-name-test.true)
-    ∙ c.loop-name.invariant
+    IsBest-next c.args.word.now (λ it. it.now) c.args.names.now c.loop-name.name-index _ (option_copied c.loop-name.best) (option_copied c.in_ok-best.best)
+    c.loop-name-test.true c.in_ok-best.ensures c.loop-name.invariant
 
 pub returns : goal.returns
-unfolding best_of
 returns c =
-    sym (at_drop_all (λ rest. best_of c.args.word.now (option_copied c.loop-name.best) (map (λ it. it.now) rest)) c.args.names.now c.loop-name.name-index c.loop-name-test.false)
-    ∙ c.loop-name.invariant
+    let names = c.args.names.now in
+    let whole = ap (map (λ it. it.now)) (take_all c.loop-name.name-index names c.loop-name-test.false) in
+    sym (nearest-is c.args.word.now (map (λ it. it.now) names) (option_copied c.loop-name.best)
+    (subst (λ (all : List (List ℕ)). IsBest c.args.word.now all (option_copied c.loop-name.best)) whole c.loop-name.invariant))
