@@ -103,7 +103,7 @@ unclosed_walk (second ∷ closed) more_marks r n text marks done mark next bodie
     subst (λ (s : FileState). IsOpenEnd r n s) (sym walk)
     (unclosed_walk closed more_marks (on r (length (are.0 ++ are.1 ∷ []))) n text marks done_more second next are.2 rest heredocs (next_left done (heredoc_of mark are.0) marks mark (second ∷ closed ++ next ∷ more_marks) left) are.7 inside)
 
--- what blocks give behind lines and faults that were found above them
+-- what blocks give after lines and faults that were found above them
 pub record AreGiven (above : List Line) (faults : List Refusal) (found : List Line) (unclosed : Option ℕ) (end : FileState) : Type 0 where
   pub lines : end.lines ≡ above ++ found
   pub wrong : faults_so_far end ≡ faults ++ limits_from (length above) (numbers_of found unclosed)

@@ -279,7 +279,7 @@ limited_is escape count found faults n = by (length found == most_lines)
     by true = refl
     by false = ap (base escape count found) (sym (append-nil faults))
 
--- what blocks give behind lines and faults that were found above them
+-- what blocks give after lines and faults that were found above them
 pub record AreGiven (above : List Line) (faults : List Refusal) (found : List Line) (unclosed : Option ℕ) (end : FileState) : Type 0 where
   pub lines : end.lines ≡ above ++ found
   pub wrong : end.faults ≡ faults ++ (limits_from (length above) (numbers_of found unclosed) ++ refused_at R08 unclosed)

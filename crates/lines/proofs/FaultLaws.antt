@@ -60,7 +60,7 @@ at_one f g (x ∷ xs) h i = elim i [ inl e ↦ subst (IsNotBehind f) (sym e) h.0
 pub IsLeast-same : (fs : List Refusal) (f g : Refusal) → IsLeast fs f → IsLeast fs g → f ≡ g
 IsLeast-same fs f g h i = behind_same f g (at_one f g fs h.1 i.0) (at_one g f fs i.1 h.0)
 
--- of two, one isn't behind the other
+-- of two, one doesn't come after the other
 
 behind_self : (f : Refusal) → IsNotBehind f f
 behind_self f = inr (refl, omega arith)

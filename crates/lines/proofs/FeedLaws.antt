@@ -115,7 +115,7 @@ long_more text piece h = λ s. h (omega (arith, length-append text piece))
 pub long_kept : (kept : Kept) (text piece : List ℕ) → IsKeptAs kept text TooLong → IsKeptAs kept (text ++ piece) TooLong
 long_kept kept text piece h = (long_more text piece h.0, h.1)
 
--- further bytes behind a bad one
+-- further bytes after a bad one
 pub bad_more : (line : ℕ) (old new : Kept) (text piece : List ℕ) → new.lines.items ≡ old.lines.items → IsBadAt line old text → IsBadAt line new (text ++ piece)
 bad_more line old new text piece e k = record {
   front = k.front;
@@ -178,7 +178,7 @@ feed_looked old new text piece h n short size k =
 pub feed_refused : (old new : Kept) (text : List ℕ) → IsUnchanged old new → Holds old text → Holds new text
 feed_refused old new text u h = subst (IsKeptAs new text) (sym u.1) (kept_same old.known old new text u h)
 
--- so some text is held behind it, in any case
+-- so some text is held after it, in any case
 pub feed_holds : {T E : Type 0} (answer : Result T E) (old new : Kept) (text piece : List ℕ) → Holds old text → OnOk answer ((text : List ℕ) → Holds old text → Holds new (text ++ piece))
     → OnErr answer ((text : List ℕ) → Holds old text → Holds new text) → (text : List ℕ) × Holds new text
 feed_holds (Ok x) old new text piece h o e = (text ++ piece, o text h)

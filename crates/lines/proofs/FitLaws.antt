@@ -49,7 +49,7 @@ either_step : (r a b : FileState) (t : Bool) → IsStep r a → IsStep r b → I
 either_step r a b true h i = h
 either_step r a b false h i = i
 
--- no list with an element behind it is empty
+-- no list with an element after it is empty
 pub not_nil : (fs : List Refusal) (f : Refusal) → fs ++ f ∷ [] ≡ [] → ⊥
 not_nil [] f e = cc
 not_nil (g ∷ fs) f e = cc

@@ -112,7 +112,7 @@ restarted from begins found progress marks front own h = record {
   reached = h.reached;
 }
 
--- what the lines of a piece gave, behind what was given above them
+-- what the lines of a piece gave, after what was given above them
 
 pub read_on : (kept new : Kept) (gone own front more line bytes : List ℕ) (found : List Line) (start : ℕ)
     → IsReadFrom initial_state true kept.lines.items kept.progress kept.marks gone own

@@ -1,4 +1,4 @@
--- The loop over the bytes of a piece: what is known of the bytes before one of them, and that byte, say what is known behind it.
+-- The loop over the bytes of a piece: what is known of the bytes before one of them, and that byte, say what is known after it.
 use Rattle.std.specs.Prelude.{◌≡◌, ◌<◌, ◌≤◌, ◌⊎◌, ℕ, suc, ◌+◌, ◌-◌, ◌==◌, Bool, true, false, List, [], ◌∷◌, ◌++◌, Option, None, length, take, drop, bytes_eq, if◌then◌else◌, IsUtf8}
 use Rattle.std.specs.List.{onto_first}
 use Rattle.std.specs.Str.Lines.{lines, strip_carriage_return}
@@ -25,7 +25,7 @@ use Rattle.lines.proofs.StepLaws.{read_line-count}
 use Rattle.lines.proofs.Utf8Lemmas.{utf8_above, utf8_below, utf8_line}
 use Rattle.lines.proofs.WholeLemmas.{parts, lines_whole, unmarked_whole, whole_more}
 
--- a byte behind a list without an LF
+-- a byte after a list without an LF
 
 no_lf : HasNoLf []
 no_lf = λ k d l. absurd (omega arith)

@@ -98,7 +98,7 @@ behind_own Fresh own h n = absurd (n refl)
 behind_own Own own h n = h
 behind_own (Closing k) own h n = h
 
--- the state behind one more line of a block
+-- the state after one more line of a block
 pub block_line : (place : Place) (room : ℕ) (first : Bool) (stage : Stage) (own line : List ℕ) → IsWhole own → IsBehind stage own → stage ≢ Fresh → HasNoLf line
     → after_lines (state_at place room) (block_lines first (own ++ (line ++ 10 ∷ []))) ≡ read_line (after_lines (state_at place room) (block_lines first own)) (strip_carriage_return line)
 block_line place room first stage own line w b n plain =
@@ -117,7 +117,7 @@ dropped_block place next room own line b plain e =
     let s : FileState = state_at place room in
     sym (ap (λ (o : List ℕ). after_lines s (block_lines false (o ++ (line ++ 10 ∷ [])))) b ∙ ap (after_lines s) (one_line line plain) ∙ e)
 
--- so a block that isn't complete has given no line yet, also behind its next line
+-- so a block that isn't complete has given no line yet, also after its next line
 pub block_inside : (marks : List Mark) (progress : Progress) (stage : Stage) (own line : List ℕ) → IsWhole own → IsBehind stage own → HasNoLf line
     → IsInStage marks progress stage (after_lines (state_at progress.place progress.room) (block_lines progress.is_first own))
     → IsInside (after_lines (state_at progress.place progress.room) (block_lines progress.is_first (own ++ (line ++ 10 ∷ []))))
@@ -169,7 +169,7 @@ first_composed begins false false front more (inr n) i = inr (λ e. n (front_emp
     front_empty [] b e = refl
     front_empty (c ∷ a) b e = let l = ap length e in absurd (omega (arith, l))
 
--- what a piece gave behind what was given above it: the step from a text to the text with one more piece
+-- what a piece gave after what was given above it: the step from a text to the text with one more piece
 pub piece_read : (from : FileState) (begins : Bool) (found more : List Line) (progress next : Progress) (marks kept : List Mark) (front own behind rest : List ℕ)
     → IsReadFrom from begins found progress marks front own
     → IsReadFrom (state_at progress.place progress.room) progress.is_first more next kept behind rest

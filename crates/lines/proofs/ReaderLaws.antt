@@ -75,7 +75,7 @@ tail_plain tail (inr h) = begun_plain tail h.1
 plain_append : (a b : List ℕ) → HasNoLf a → HasNoLf b → HasNoLf (a ++ b)
 plain_append a b h i = All-append (λ c. (c == 10) ≡ false) a b h i
 
--- a text is cut behind its last LF
+-- a text is cut after its last LF
 
 record IsLastCut (text : List ℕ) : Type 0 where
   whole : List ℕ

@@ -67,7 +67,7 @@ stays_inside marks progress s n mark line h m c =
     ap (λ (r : FileState). read_line r line) (here s (Bodies u) h.2.1) ∙ body_line_is s u line false no in
     subst (IsClosing marks progress n) (sym walk) (h.0, h.1, (record u { body = u.body ++ (body_line u.mark line ++ 10 ∷ []) }, refl, h.2.2, h.2.3, h.2.4))
 
--- the line that closes a heredoc behind which another one stands
+-- the line that closes a heredoc after which another one stands
 pub goes_to_next : (marks : List Mark) (progress : Progress) (s : FileState) (n : ℕ) (mark next : Mark) (line : List ℕ) → IsClosing marks progress n s → slice_get marks n ≡ Some mark
     → closes mark line ≡ true → slice_get marks (n + 1) ≡ Some next → IsClosing marks progress (n + 1) (read_line s line)
 goes_to_next marks progress s n mark next line h m c more =
@@ -80,7 +80,7 @@ goes_to_next marks progress s n mark next line h m c more =
     let size : length hs ≡ n + 1 = length-append u.heredocs ((record { mark = u.mark; body = u.body }) ∷ []) ∙ ap (λ k. k + 1) h.2.3 in
     subst (IsClosing marks progress (n + 1)) (sym walk) (h.0, h.1, (record u { heredocs = hs; mark = next; body = [] }, refl, h.2.2, size, more))
 
--- what is wrong with the complete lines of a text, if it ended behind them, but for an open heredoc
+-- what is wrong with the complete lines of a text, if it ended after them, but for an open heredoc
 
 abbrev pub faults_so_far : FileState → List Refusal
 faults_so_far s = (end_continuation s s.position).faults

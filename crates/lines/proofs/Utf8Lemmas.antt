@@ -269,7 +269,7 @@ module _ (t : List ℕ) (n : ℕ) (v : IsValidUpTo t n) where
     four = λ l h. stops 4 (omega arith) (of_four t n (omega arith) h.0 h.1 h.2 h.3 (h.4, h.5));
   }
 
-  -- and none begins there with more bytes behind it
+  -- and none begins there with more bytes after it
   module _ (more : List ℕ) (k : ℕ) (e : utf8_error_len (drop n t) ≡ Some k) where
     same : (i : ℕ) → i < length t → get_or (t ++ more) i 0 ≡ get_or t i 0
     same i l = get_or_append_left t more 0 i l
@@ -325,14 +325,14 @@ module _ (t : List ℕ) (n : ℕ) (v : IsValidUpTo t n) where
         faulty_begun (length (t ++ more) - n) (get_or t n 0) (get_or (t ++ more) (n + 1) 0) (get_or (t ++ more) (n + 2) 0) (omega (arith, length-append t more))
         (faulty_grows (length t - n) (length (t ++ more) - n) (get_or t n 0) (get_or (t ++ more) (n + 1) 0) (get_or (t ++ more) (n + 2) 0) (omega (arith, length-append t more)) them.0) b
 
--- what stands behind a text is a text where both together are one
+-- what stands after a text is a text where both together are one
 pub utf8_behind : (a b : List ℕ) → IsUtf8 a → IsUtf8 (a ++ b) → IsUtf8 b
 utf8_behind a b u v =
     let front : IsUtf8 (take (length a) (a ++ b)) = subst IsUtf8 (sym (take-append_seam a b)) u in
     let fits : length a ≤ length (a ++ b) = omega (arith, length-append a b) in
     subst IsUtf8 (drop-append_seam a b) (IsUtf8-drop (a ++ b) (length a) v (IsCharBoundary-from_take (a ++ b) (length a) v fits front))
 
--- a text that is cut behind an LF is cut between characters
+-- a text that is cut after an LF is cut between characters
 cut_by : (f b : List ℕ) → IsUtf8 ((f ++ 10 ∷ []) ++ b) → IsUtf8 (f ++ 10 ∷ [])
 cut_by f b u =
     let bs = (f ++ 10 ∷ []) ++ b in
@@ -378,7 +378,7 @@ pub fault_below : (a b : List ℕ) (k j : ℕ) → IsUtf8 a → IsValidUpTo b k 
 fault_below a b k j u v e more =
     fault_stays (a ++ b) (length a + k) (valid_below a b k u v) more j (ap utf8_error_len (drop-append-add a b k) ∙ e)
 
--- bytes behind those that are UTF-8
+-- bytes after those that are UTF-8
 pub valid_behind : (b : List ℕ) (k : ℕ) → IsValidUpTo b k → IsValidUpTo (drop k b) 0
 valid_behind b k v =
     let short = v.short in

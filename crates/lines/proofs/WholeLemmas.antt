@@ -1,4 +1,4 @@
--- The lines of a text that is cut behind an LF are those of its two parts.
+-- The lines of a text that is cut after an LF are those of its two parts.
 use Rattle.std.specs.Prelude.{◌≡◌, ◌≢◌, ℕ, suc, ◌==◌, slice_index, Bool, true, false, List, [], ◌∷◌, ◌++◌, length, take, map, bytes_eq, if◌then◌else◌, refl}
 use Rattle.std.specs.List.{slice_split, onto_first}
 use Rattle.std.specs.Str.Lines.{lines, lines_of_parts, strip_carriage_return}
@@ -162,7 +162,7 @@ first_line true (x ∷ y ∷ z ∷ f) h = marked_line x y z f (bytes_eq (x ∷ y
 pub whole_more : (own line : List ℕ) → IsWhole (own ++ (line ++ 10 ∷ []))
 whole_more own line = subst IsWhole (append_assoc own line (10 ∷ [])) (ended (own ++ line))
 
--- a text is cut behind its last LF in one way
+-- a text is cut after its last LF in one way
 
 last_of : List (List ℕ) → List ℕ
 last_of [] = []

@@ -15,17 +15,17 @@ directive_named key (c ∷ cs) = if str_eq_ignore_ascii_case key (codes "escape"
     else (if str_eq_ignore_ascii_case key (codes "syntax") then Some Syntax
     else (if str_eq_ignore_ascii_case key (codes "check") then Some Check else None))
 
--- the directive of what stands behind a line's `#`: it is cut at its first `=` (Dockerfile reference, parser directives)
+-- the directive of what stands after a line's `#`: it is cut at its first `=` (Dockerfile reference, parser directives)
 abbrev pub directive_in : List ℕ → Option Directive
 directive_in rest = if position_or_len (λ b. b == 61) rest == length rest then None
     else directive_named (trimmed (before_first (λ b. b == 61) rest)) (trimmed (after_first (λ b. b == 61) rest))
 
--- what stands behind the `#` with which a line begins
+-- what stands after the `#` with which a line begins
 abbrev pub after_sharp : List ℕ → Option (List ℕ)
 after_sharp [] = None
 after_sharp (c ∷ cs) = if c == 35 then Some cs else None
 
--- the directive of what stands behind a line's `#`, if the line has one there
+-- the directive of what stands after a line's `#`, if the line has one there
 abbrev pub directive_after : Option (List ℕ) → Option Directive
 directive_after None = None
 directive_after (Some rest) = directive_in rest

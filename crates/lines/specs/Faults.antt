@@ -13,11 +13,11 @@ abbrev pub IsAmong : Refusal → List Refusal → Type 0
 IsAmong f [] = ⊥
 IsAmong f (g ∷ gs) = (f ≡ g) ⊎ IsAmong f gs
 
--- f isn't behind g: by line, then by number
+-- f doesn't come after g: by line, then by number
 abbrev pub IsNotBehind : Refusal → Refusal → Type 0
 IsNotBehind f g = (f.line < g.line) ⊎ ((f.line ≡ g.line) × (number_of f.code ≤ number_of g.code))
 
--- f is behind none of these
+-- f comes after none of these
 abbrev pub IsBehindNone : Refusal → List Refusal → Type 0
 IsBehindNone f [] = Unit {0}
 IsBehindNone f (g ∷ gs) = IsNotBehind f g × IsBehindNone f gs

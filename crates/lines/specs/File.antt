@@ -73,7 +73,7 @@ directive_faults above (directive ∷ more) = twice_faults above directive (leng
 
 -- Logical lines.
 
--- whether a logical line goes on behind this line of it: comments and blank lines may stand between its lines, and any other line
+-- whether a logical line goes on after this line of it: comments and blank lines may stand between its lines, and any other line
 -- has to continue (Dockerfile reference, comments and `escape`)
 abbrev pub goes_on : ℕ → List ℕ → Bool
 goes_on e line = is_skipped line || is_some (continued_part e line)
@@ -87,7 +87,7 @@ abbrev pub BeginsKept : List (List ℕ) → Type 0
 BeginsKept [] = ⊥
 BeginsKept (line ∷ lines) = IsKept line
 
--- these are all lines of one logical line, and `rest` stands below them: behind each but the last one it goes on, and behind that
+-- these are all lines of one logical line, and `rest` stands below them: after each but the last one it goes on, and after that
 -- one it doesn't, or the text ends (that the end of the text ends a continuation is of BuildKit's parser)
 abbrev pub AreJoined : ℕ → List (List ℕ) → List (List ℕ) → Type 0
 AreJoined e [] rest = ⊥
@@ -189,7 +189,7 @@ pub record IsFile (lines : List (List ℕ)) (found : List Line) (faults : List R
   pub ended : BeginsBelowDirectives rest
   -- the escape character is a backslash where no directive sets it (Dockerfile reference, `escape`)
   pub blocks : AreBlocks (escape_below Backslash directives) (length top) rest found unclosed
-  -- R02 and R03 are those of the directives; the logical line behind 4,096 others is R18 (own), and one whose heredocs the text
+  -- R02 and R03 are those of the directives; the logical line after 4,096 others is R18 (own), and one whose heredocs the text
   -- leaves unclosed is R08 (own; BuildKit refuses it too)
   pub wrong : faults ≡ directive_faults [] directives
       ++ (refused_at R18 (slice_get (numbers_of found unclosed) most_lines) ++ refused_at R08 unclosed)

@@ -15,22 +15,22 @@ is_quoted_by quote text = (nat_le 2 (length text) && starts_with quote text) && 
 abbrev pub named : Bool → Bool → List ℕ → Option Mark
 named strips quoted name = if is_name name then Some (record { name = name; quoted = quoted; strips = strips }) else None
 
--- the mark of what stands behind `<<` or `<<-`: a name, bare or in a pair of single or double quotes (Dockerfile reference,
+-- the mark of what stands after `<<` or `<<-`: a name, bare or in a pair of single or double quotes (Dockerfile reference,
 -- here-documents)
 abbrev pub mark_from : Bool → List ℕ → Option Mark
 mark_from strips text = if is_quoted_by 34 text || is_quoted_by 39 text then named strips true (take (length text - 2) (drop 1 text)) else named strips false text
 
--- the mark of what stands behind `<<`: with a `-` there leading tabs are dropped (Dockerfile reference, here-documents)
+-- the mark of what stands after `<<`: with a `-` there leading tabs are dropped (Dockerfile reference, here-documents)
 abbrev pub mark_dashed : List ℕ → Option Mark
 mark_dashed rest = if starts_with 45 rest then mark_from true (drop 1 rest) else mark_from false rest
 
--- what stands behind the `<<` with which a text begins (Dockerfile reference, here-documents)
+-- what stands after the `<<` with which a text begins (Dockerfile reference, here-documents)
 abbrev pub after_two : List ℕ → Option (List ℕ)
 after_two [] = None
 after_two (character ∷ []) = None
 after_two (character ∷ next ∷ rest) = if (character == 60) && (next == 60) then Some rest else None
 
--- the mark of what stands behind the `<<` with which a piece begins, if it begins so
+-- the mark of what stands after the `<<` with which a piece begins, if it begins so
 abbrev pub mark_after : Option (List ℕ) → Option Mark
 mark_after None = None
 mark_after (Some rest) = mark_dashed rest
@@ -50,12 +50,12 @@ is_flag [] = false
 is_flag (character ∷ []) = false
 is_flag (character ∷ next ∷ rest) = (character == 45) && (next == 45)
 
--- the pieces behind the leading flags
+-- the pieces after the leading flags
 abbrev pub after_flags : List (List ℕ) → List (List ℕ)
 after_flags [] = []
 after_flags (piece ∷ more) = if is_flag piece then after_flags more else piece ∷ more
 
--- the marks among the pieces behind the flags: none where they begin with `[`, as a list in JSON does (own)
+-- the marks among the pieces after the flags: none where they begin with `[`, as a list in JSON does (own)
 abbrev pub marks_among : List (List ℕ) → List Mark
 marks_among [] = []
 marks_among (piece ∷ more) = if starts_with 91 piece then [] else filter_map mark_of (piece ∷ more)

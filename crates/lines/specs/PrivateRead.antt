@@ -26,7 +26,7 @@ abbrev pub IsFirst : Bool → List ℕ → Bool → Type 0
 IsFirst begins front first = MatchBool first ((begins ≡ true) × (front ≡ [])) ((begins ≡ false) ⊎ (front ≢ []))
 
 -- from a state on, at which a block begins (the first one of its text or not), `front` are the bytes of the blocks that are complete,
--- which gave these lines and nothing wrong, and `own` those of the complete lines behind them, whose block isn't complete
+-- which gave these lines and nothing wrong, and `own` those of the complete lines after them, whose block isn't complete
 pub record IsReadFrom (from : FileState) (begins : Bool) (found : List Line) (progress : Progress) (marks : List Mark) (front own : List ℕ) : Type 0 where
   pub above : IsWhole front
   pub whole : IsWhole own
@@ -48,7 +48,7 @@ pub record IsAt (from : FileState) (begins : Bool) (kept : List Mark) (scan : Sc
   pub plain : HasNoLf line
   pub read : IsReadFrom from begins scan.lines scan.progress (marks_in scan.marks kept) front own
 
--- the bytes behind the last whole character: none, or a character that is only begun
+-- the bytes after the last whole character: none, or a character that is only begun
 abbrev pub IsTail : List ℕ → Type 0
 IsTail tail = (tail ≡ []) ⊎ (IsValidUpTo tail 0 × (utf8_error_len tail ≡ None))
 

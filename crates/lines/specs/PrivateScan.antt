@@ -39,7 +39,7 @@ block_lines true bytes = lines (without_byte_order_mark bytes)
 block_lines false bytes = lines bytes
 
 -- what holds of each state that reading reaches: there are no more lines than there may be, if nothing is wrong, and fewer inside the
--- heredocs of one; the heredoc that is read there is that of the mark behind those of the closed ones
+-- heredocs of one; the heredoc that is read there is that of the mark after those of the closed ones
 abbrev pub FitsAt : FileState → Position → Type 0
 FitsAt s (Top seen) = Unit {0}
 FitsAt s Between = Unit {0}
@@ -69,7 +69,7 @@ abbrev pub IsClosing : List Mark → Progress → ℕ → FileState → Type 0
 IsClosing marks progress n s = (s.lines ≡ []) × MatchBool progress.is_past (s.faults ≢ []) (s.faults ≡ [])
     × ((u : Unclosed) × (s.position ≡ Bodies u) × (u.marks ≡ marks) × (length u.heredocs ≡ n) × (slice_get marks n ≡ Some u.mark))
 
--- the state behind the complete lines of a block that isn't complete
+-- the state after the complete lines of a block that isn't complete
 abbrev pub IsInStage : List Mark → Progress → Stage → FileState → Type 0
 IsInStage marks progress Fresh s = progress.is_past ≡ false
 IsInStage marks progress Own s = IsOwn progress s
@@ -78,7 +78,7 @@ IsInStage marks progress (Closing n) s = IsClosing marks progress n s
 abbrev pub StageIs : List Mark → Progress → FileState → Type 0
 StageIs marks progress s = IsInStage marks progress progress.stage s
 
--- a stage before any line of a block, or behind some
+-- a stage before any line of a block, or after some
 abbrev pub IsBehind : Stage → List ℕ → Type 0
 IsBehind Fresh own = own ≡ []
 IsBehind Own own = own ≢ []
@@ -102,7 +102,7 @@ abbrev pub IsMovedTo : Scan → Place → ℕ → List Line → ℕ → Scan →
 IsMovedTo scan place room found size next = (next.progress.place ≡ place) × (next.start ≡ scan.start + size) × (next.progress.is_first ≡ false)
     × (next.progress.stage ≡ Fresh) × (next.progress.is_past ≡ false) × (next.progress.room + length found ≡ room) × (next.lines ≡ scan.lines ++ found)
 
--- a block was completed by these bytes: what it gave stands behind what was given above
+-- a block was completed by these bytes: what it gave stands after what was given above
 abbrev pub HasMoved : Scan → FileState → ℕ → Scan → Type 0
 HasMoved scan state size next = (next.progress.stage ≡ Fresh) × (next.progress.is_past ≡ false) × (next.start ≡ scan.start + size) × (next.progress.is_first ≡ false)
     × (below next.lines (state_at next.progress.place next.progress.room) ≡ below scan.lines state)

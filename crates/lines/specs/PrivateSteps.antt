@@ -65,7 +65,7 @@ refuse_repeated state seen directive = if is_repeated seen directive then with_f
 abbrev pub read_directive : FileState → Seen → Directive → FileState
 read_directive state seen directive = at_position (take_value (refuse_repeated state seen directive) directive) (Top (with_seen seen directive))
 
--- a logical line behind 4,096 others is refused, the first such one (own)
+-- a logical line after 4,096 others is refused, the first such one (own)
 abbrev pub refuse_past_limit : FileState → ℕ → FileState
 refuse_past_limit state number = if length state.lines == state.room then with_fault state R18 number else state
 

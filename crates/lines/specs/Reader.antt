@@ -13,7 +13,7 @@ use Rattle.lines.specs.declared.kept.Kept.{Kept}
 use Rattle.lines.specs.declared.kept.Known.{Known}
 use Rattle.lines.specs.declared.kept.Known.TheVariants.{Fine, Refused, Bad, TooLong}
 
--- a text is cut behind its last whole character, and what is kept begins behind `gone`; `piece` are bytes that were added since
+-- a text is cut after its last whole character, and what is kept begins after `gone`; `piece` are bytes that were added since
 pub record IsCut (kept : Kept) (text piece gone whole tail : List ℕ) : Type 0 where
   pub is : text ≡ (gone ++ whole) ++ tail
   pub bytes : kept.bytes.items ≡ whole ++ (tail ++ piece)
@@ -58,7 +58,7 @@ pub record IsBadAt (line : ℕ) (kept : Kept) (text : List ℕ) : Type 0 where
   pub line_is : line ≡ count_by (λ b. b == 10) (take at front) + 1
   pub none : kept.lines.items ≡ []
 
--- the complete lines of these bytes, which begin where the block in progress did, behind `gone`, were taken: `start` bytes of them are
+-- the complete lines of these bytes, which begin where the block in progress did, after `gone`, were taken: `start` bytes of them are
 -- those of complete blocks
 pub record IsReadTo (kept : Kept) (gone bytes : List ℕ) (start : ℕ) : Type 0 where
   pub front : List ℕ
@@ -94,7 +94,7 @@ abbrev pub IsUnchanged : Kept → Kept → Type 0
 IsUnchanged old new = (new.size ≡ old.size) × (new.known ≡ old.known) × (new.count ≡ old.count) × (new.bytes.items ≡ old.bytes.items) × (new.looked ≡ old.looked)
     × (new.valid ≡ old.valid) × (new.progress ≡ old.progress) × (new.marks ≡ old.marks) × (new.lines.items ≡ old.lines.items)
 
--- what is known of a text, with a piece behind it that wasn't looked at
+-- what is known of a text, with a piece after it that wasn't looked at
 abbrev pub Knows : Kept → List ℕ → List ℕ → Known → Type 0
 Knows kept text piece Fine = IsFine kept text piece
 Knows kept text piece (Refused f) = IsRefusedBy f kept text piece
@@ -108,7 +108,7 @@ IsKeptAs kept text (Refused f) = IsShort text × (kept.size ≡ length text) × 
 IsKeptAs kept text (Bad line) = IsShort text × (kept.size ≡ length text) × IsBadAt line kept text
 IsKeptAs kept text TooLong = (¬ (IsShort text)) × (kept.lines.items ≡ [])
 
--- a reader holds the text that it was fed: it has the logical lines of its complete blocks, and the bytes behind them, or knows why the
+-- a reader holds the text that it was fed: it has the logical lines of its complete blocks, and the bytes after them, or knows why the
 -- text is refused
 abbrev pub Holds : Kept → List ℕ → Type 0
 Holds kept text = IsKeptAs kept text kept.known

@@ -36,13 +36,13 @@ BeginsUtf8 text = utf8_error_len (drop (utf8_valid_len text) text) ≡ None
 
 -- Logical lines.
 
--- these are all lines of one logical line, whatever follows: behind each but the last one it goes on, and behind that one it doesn't
+-- these are all lines of one logical line, whatever follows: after each but the last one it goes on, and after that one it doesn't
 abbrev pub AreEnded : ℕ → List (List ℕ) → Type 0
 AreEnded e [] = ⊥
 AreEnded e (line ∷ []) = goes_on e line ≡ false
 AreEnded e (line ∷ next ∷ more) = (goes_on e line ≡ true) × AreEnded e (next ∷ more)
 
--- a logical line goes on behind each of these lines
+-- a logical line goes on after each of these lines
 abbrev pub AllGoOn : ℕ → List (List ℕ) → Type 0
 AllGoOn e [] = Unit {0}
 AllGoOn e (line ∷ more) = (goes_on e line ≡ true) × AllGoOn e more
@@ -54,7 +54,7 @@ number_if_text number (c ∷ cs) = Some number
 
 -- Blocks.
 
--- these lines, below so many others, are blocks, of which the last one may go on behind them: `found` are the logical lines of those
+-- these lines, below so many others, are blocks, of which the last one may go on after them: `found` are the logical lines of those
 -- that don't, and `begun` is the number of the logical line that isn't complete, if there is one with text so far
 pub data AreBegun (escape : character.Escape) : ℕ → List (List ℕ) → List Line → Option ℕ → Type 0 where
   -- no line is left

@@ -79,7 +79,7 @@ fn without_carriage_return(line: &str) -> &str
     &line[..line.len() - 1]
 }
 
-/// Whether a logical line goes on behind this line of it.
+/// Whether a logical line goes on after this line of it.
 fn goes_on(escape: Escape, line: &str) -> bool
     ensures { result ≡ goes_on (byte_of escape) line.now }
 {
@@ -187,7 +187,7 @@ pub fn joined(one: Items<Line>, other: Items<Line>) -> Result<Items<Line>, Memor
     }
 }
 
-/// What a scan is behind a block that is complete and gave these lines.
+/// What a scan is after a block that is complete and gave these lines.
 #[tactic(auto, unfolding(plain::specs::Limits::most_dockerfile_bytes))]
 fn moved(
     scan: Scan,
@@ -257,7 +257,7 @@ fn rested(
     }
 }
 
-/// What a scan is behind a block's bytes that give this state.
+/// What a scan is after a block's bytes that give this state.
 fn settle(scan: Scan, state: FileState, size: usize) -> Result<Scan, Stop>
     requires size { scan.start + size ≤ most_dockerfile_bytes }
     requires fits { Fits state }

@@ -64,7 +64,7 @@ fn take_ended(
 }
 
 /// Takes the complete lines of these bytes, which begin where the block in progress does. Of them `looked` bytes are lines that were
-/// taken, and no LF stands behind them before `from`. Also gives how many bytes are taken now.
+/// taken, and no LF stands after them before `from`. Also gives how many bytes are taken now.
 #[tactic(auto, unfolding(plain::specs::Limits::most_dockerfile_bytes))]
 pub fn take_lines(
     alloc: Global,

@@ -59,7 +59,7 @@ pub record Stands (steps : List Step) (step : Step) : Type 0 where
 abbrev pub Tells : Age → List TreeMap → List (Option TreeNumber) → List TreeMap → Type 0
 Tells age kept known trees = (k number : ℕ) → known_in age (slice_get known k) ≡ Some number → slice_get kept number ≡ slice_get trees k
 
--- trees are others with more behind them
+-- trees are others with more after them
 pub record IsMore (old new : List TreeMap) : Type 0 where
   pub more : List TreeMap
   pub is : new ≡ old ++ more

@@ -2,7 +2,7 @@ use Rattle.std.proofs.Common.{◌≡◌, length, map, take}
 use Rattle.memo.specs.PrivateGeneration.{trees_at, AreBelow, IsMore}
 use Rattle.memo.proofs.generation.keep_all.Given as goal
 
--- the trees so far are kept, behind those that were there, and the numbers are theirs
+-- the trees so far are kept, after those that were there, and the numbers are theirs
 abbrev pub invariant-loop-tree : goal.invariant-loop-tree
 invariant-loop-tree l =
     IsMore l.fn.trees.items l.trees.items
