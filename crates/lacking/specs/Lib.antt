@@ -1,1 +1,2 @@
+pub mod Missed
 pub mod Missing

@@ -10,6 +10,7 @@
 // ```
 #![tactic(auto)]
 
+pub mod laws;
 mod missing;
 
 pub use missing::{Missed, missed_source};
