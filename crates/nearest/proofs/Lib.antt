@@ -1,1 +1,1 @@
-pub mod NearestLaws
+mod NearestLaws
