@@ -5,22 +5,22 @@ use Rattle.std.specs.Str.{str_eq_ignore_ascii_case}
 use Rattle.instructions.specs.declared.keyword.Keyword.{Keyword}
 use Rattle.instructions.specs.declared.keyword.Keyword.TheVariants.{From, Arg, Env, Label, Expose, User, Workdir, StopSignal, Volume, Shell, Cmd, Entrypoint, Run, Copy}
 
--- the name of an instruction in lower case (Dockerfile reference)
+-- the name of an instruction, as it is shown (Dockerfile reference)
 abbrev pub name_of : Keyword → List ℕ
-name_of From = codes "from"
-name_of Arg = codes "arg"
-name_of Env = codes "env"
-name_of Label = codes "label"
-name_of Expose = codes "expose"
-name_of User = codes "user"
-name_of Workdir = codes "workdir"
-name_of StopSignal = codes "stopsignal"
-name_of Volume = codes "volume"
-name_of Shell = codes "shell"
-name_of Cmd = codes "cmd"
-name_of Entrypoint = codes "entrypoint"
-name_of Run = codes "run"
-name_of Copy = codes "copy"
+name_of From = codes "FROM"
+name_of Arg = codes "ARG"
+name_of Env = codes "ENV"
+name_of Label = codes "LABEL"
+name_of Expose = codes "EXPOSE"
+name_of User = codes "USER"
+name_of Workdir = codes "WORKDIR"
+name_of StopSignal = codes "STOPSIGNAL"
+name_of Volume = codes "VOLUME"
+name_of Shell = codes "SHELL"
+name_of Cmd = codes "CMD"
+name_of Entrypoint = codes "ENTRYPOINT"
+name_of Run = codes "RUN"
+name_of Copy = codes "COPY"
 
 -- the instructions that are known (ADD, HEALTHCHECK, MAINTAINER and ONBUILD are left out: own)
 abbrev pub keywords : List Keyword

@@ -1,5 +1,5 @@
-ghost use Rattle.std.specs.Prelude.{◌≡◌};
-ghost use Rattle.instructions.specs.Keyword.{name_of, keyword_of};
+ghost use Rattle.std.specs.Prelude.{◌≡◌, map};
+ghost use Rattle.instructions.specs.Keyword.{name_of, keyword_of, keywords};
 
 use crate::names::is_same_name;
 
@@ -41,27 +41,34 @@ impl Keyword {
         Keyword::Copy,
     ];
 
-    /// The name as it is written in lower case.
+    /// The name, as it is shown.
     fn name(self) -> &'static str
         ensures { result.now ≡ name_of self }
     {
         match self {
-            Keyword::From => "from",
-            Keyword::Arg => "arg",
-            Keyword::Env => "env",
-            Keyword::Label => "label",
-            Keyword::Expose => "expose",
-            Keyword::User => "user",
-            Keyword::Workdir => "workdir",
-            Keyword::StopSignal => "stopsignal",
-            Keyword::Volume => "volume",
-            Keyword::Shell => "shell",
-            Keyword::Cmd => "cmd",
-            Keyword::Entrypoint => "entrypoint",
-            Keyword::Run => "run",
-            Keyword::Copy => "copy",
+            Keyword::From => "FROM",
+            Keyword::Arg => "ARG",
+            Keyword::Env => "ENV",
+            Keyword::Label => "LABEL",
+            Keyword::Expose => "EXPOSE",
+            Keyword::User => "USER",
+            Keyword::Workdir => "WORKDIR",
+            Keyword::StopSignal => "STOPSIGNAL",
+            Keyword::Volume => "VOLUME",
+            Keyword::Shell => "SHELL",
+            Keyword::Cmd => "CMD",
+            Keyword::Entrypoint => "ENTRYPOINT",
+            Keyword::Run => "RUN",
+            Keyword::Copy => "COPY",
         }
     }
+}
+
+/// The names of the instructions that are known, as they are shown.
+pub fn keywords() -> [&'static str; 14]
+    ensures { map (λ name. name.now) result ≡ map name_of keywords }
+{
+    Keyword::ALL.map(Keyword::name)
 }
 
 /// The instruction of a name, in any case of letters.

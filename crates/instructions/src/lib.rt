@@ -38,5 +38,6 @@ mod volume;
 pub use instruction::{
     Argument, Assignment, Body, Command, Instruction, InstructionKind, Label, Source,
 };
+pub use keyword::keywords;
 pub use options::{CopyFlags, Mount, MountKind};
 pub use parsing::parse;
