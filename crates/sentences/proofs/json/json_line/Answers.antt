@@ -1,5 +1,5 @@
 use Rattle.std.proofs.Common.{◌≡◌, List, ℕ, false, ap, ◌∙◌}
-use Rattle.core.proofs.result.Match.{if_ok_then}
+use Rattle.std.proofs.lemmas.Result.{IfOk-weaker}
 use Rattle.std.specs.Option.{option_copied}
 use Rattle.serde_json.specs.View.{view}
 use Rattle.serde_json.specs.Written.{has_float}
@@ -14,4 +14,4 @@ returns c =
     let told : view c.in_ok-value.value ≡ data_of c.args.file.now c.args.refusal.now text meant =
     c.in_ok-value.ensures ∙ ap (λ (text : List ℕ). data_of c.args.file.now c.args.refusal.now text meant) c.line_about-text.ensures in
     let plain : has_float (view c.in_ok-value.value) ≡ false = ap has_float told ∙ refusal_is_plain c.args.file.now c.args.refusal.now text meant in
-    if_ok_then c.written_line.result _ _ (λ text written. written plain ∙ ap written_line told) c.written_line.ensures
+    IfOk-weaker c.written_line.result _ _ (λ text written. written plain ∙ ap written_line told) c.written_line.ensures

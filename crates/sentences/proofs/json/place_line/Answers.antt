@@ -1,5 +1,5 @@
 use Rattle.std.proofs.Common.{◌≡◌, [], false, ap, ◌∙◌}
-use Rattle.core.proofs.result.Match.{if_ok_then}
+use Rattle.std.proofs.lemmas.Result.{IfOk-weaker}
 use Rattle.serde_json.specs.View.{view}
 use Rattle.serde_json.specs.Written.{has_float}
 use Rattle.plain.specs.Codes.{code_text}
@@ -16,4 +16,4 @@ returns c =
     c.in_ok-value.ensures in
     let plain : has_float (view c.in_ok-value.value) ≡ false =
     ap has_float told ∙ place_is_plain (code_text code) c.args.file.now (sentence code (subject_of [])) c.args.place.now (remedy code (subject_of [])) in
-    if_ok_then c.written_line.result _ _ (λ text written. written plain ∙ ap written_line told) c.written_line.ensures
+    IfOk-weaker c.written_line.result _ _ (λ text written. written plain ∙ ap written_line told) c.written_line.ensures
