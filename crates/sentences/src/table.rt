@@ -203,8 +203,7 @@ fn number_remedy(subject: Subject) -> &'static str
 {
     match subject {
         Subject::Expose => "write EXPOSE 80 or EXPOSE 80/udp, without leading zeros",
-        _ =>
-            "write --chown=1000:1000 and --chmod=644 (names would need the image's /etc/passwd)",
+        _ => "write --chown=1000:1000 and --chmod=644 (names would need the image's /etc/passwd)",
     }
 }
 
