@@ -4,32 +4,16 @@ ghost use Rattle.plain.specs.declared.refusal.Code.TheVariants.{R13};
 ghost use Rattle.expand.specs.declared.reason.Reason.TheVariants.{Coded};
 ghost use Rattle.ascii.specs.Pieces.{first_piece};
 ghost use Rattle.nearest.specs.Nearness.{nearest};
-ghost use Rattle.checks.specs.Meant.{keywords, stage_in, stages_in, meant_by};
+ghost use Rattle.instructions.specs.Keyword.{keywords, name_of};
+ghost use Rattle.checks.specs.Meant.{stage_in, stages_in, meant_by};
 ghost use Rattle.checks.specs.PrivateMeant.{needs_lines};
 
 use ascii::first_piece;
 use expand::Reason;
+use instructions::keywords;
 use nearest::nearest;
 use plain::{Code, Memory, Text};
 use std::alloc::Global;
-
-/// The names of the instructions.
-const KEYWORDS: [&str; 14] = [
-    "FROM",
-    "ARG",
-    "ENV",
-    "LABEL",
-    "EXPOSE",
-    "USER",
-    "WORKDIR",
-    "STOPSIGNAL",
-    "VOLUME",
-    "SHELL",
-    "CMD",
-    "ENTRYPOINT",
-    "RUN",
-    "COPY",
-];
 
 /// The name that a line gives to a stage, if it is `FROM image AS name`.
 fn stage_in(line: &str) -> Option<&str>
@@ -76,10 +60,10 @@ fn meant_stage<'a>(
 
 /// The instruction that may have been meant by the first word of a line that spells none.
 fn meant_keyword(alloc: Global, line: &str) -> Result<Option<&'static str>, Memory>
-    ensures { IfOk result (λ name. option_map (λ it. it.now) name ≡ nearest (first_piece line.now) keywords) }
+    ensures { IfOk result (λ name. option_map (λ it. it.now) name ≡ nearest (first_piece line.now) (map name_of keywords)) }
 {
     let (word, _) = first_piece(line);
-    nearest(alloc, word, &KEYWORDS)
+    nearest(alloc, word, &keywords())
 }
 
 /// Whether the lines of the file are looked at for the name that may have been meant.
@@ -103,6 +87,7 @@ pub(crate) fn meant_by<'a>(
     ensures { IfOk result (λ name. option_map (λ it. it.now) name ≡ meant_by (option_copied target.entry) (map (λ line. line.now) lines.now) reason.now line.now) }
 {
     match reason {
+        // A name of an instruction lives longer than 'a, and only a match of its own gives it that lifetime.
         Reason::Coded(Code::R04) => match meant_keyword(alloc, line)? {
             Some(name) => Ok(Some(name)),
             None => Ok(None),
