@@ -1,5 +1,5 @@
 -- Which source a COPY misses that fails because one isn't there, as far as that is known without the trees of stages (own).
-use Rattle.std.specs.Prelude.{◌==◌, ℕ, Bool, true, false, Option, Some, None, Result, Ok, Err, List, [], ◌∷◌, if◌then◌else◌}
+use Rattle.std.specs.Prelude.{◌==◌, ℕ, Bool, true, false, Option, Some, None, Ok, Err, List, [], ◌∷◌, if◌then◌else◌}
 use Rattle.std.specs.Str.{chars}
 use Rattle.std.specs.Option.{option_or}
 use Rattle.globs.specs.Grammar.{is_spelled_out}
