@@ -18,6 +18,7 @@ pub mod FitLaws
 pub mod ReadLaws
 pub mod BegunLaws
 pub mod ReadyLaws
+pub mod GrowLaws
 pub mod Utf8Lemmas
 pub mod DecidedLaws
 pub mod PieceLaws

@@ -77,12 +77,12 @@ plain_append a b h i = All-append (λ c. (c == 10) ≡ false) a b h i
 
 -- a text is cut after its last LF
 
-record IsLastCut (text : List ℕ) : Type 0 where
-  whole : List ℕ
-  rest : List ℕ
-  is : text ≡ whole ++ rest
-  ends : IsWhole whole
-  plain : HasNoLf rest
+pub record IsLastCut (text : List ℕ) : Type 0 where
+  pub whole : List ℕ
+  pub rest : List ℕ
+  pub is : text ≡ whole ++ rest
+  pub ends : IsWhole whole
+  pub plain : HasNoLf rest
 
 cons_plain : (c : ℕ) (rest : List ℕ) → (c == 10) ≡ false → HasNoLf rest → HasNoLf (c ∷ rest)
 cons_plain c rest e h = plain_append (c ∷ []) rest (λ k d l. one k d l) h
@@ -95,7 +95,7 @@ last_by c _ rest true e empty h = record { whole = c ∷ []; rest = rest; is = r
 last_by c _ rest false e empty h = record { whole = []; rest = c ∷ rest; is = refl; ends = empty; plain = cons_plain c rest e h }
 last_by c _ rest b e (ended f) h = record { whole = c ∷ (f ++ 10 ∷ []); rest = rest; is = refl; ends = ended (c ∷ f); plain = h }
 
-last_cut : (text : List ℕ) → IsLastCut text
+pub last_cut : (text : List ℕ) → IsLastCut text
 last_cut [] = record { whole = []; rest = []; is = refl; ends = empty; plain = λ k d l. absurd (omega arith) }
 last_cut (c ∷ text) =
     let t = last_cut text in

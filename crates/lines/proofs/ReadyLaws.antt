@@ -12,7 +12,7 @@ use Rattle.lines.specs.Marks.{marks_of}
 use Rattle.lines.specs.PrivateSteps.{initial_state, after_lines}
 use Rattle.lines.specs.Text.{IsShort, text_lines}
 use Rattle.lines.proofs.WholeLemmas.{whole_same}
-use Rattle.lines.specs.Ready.{AreWhole, BeginsUtf8, AreReady, AreEnded, AllGoOn, number_if_text, AreBegun, nothing, skips, ends, continues, remains, IsBegun}
+use Rattle.lines.specs.Ready.{AreWhole, BeginsUtf8, AreComplete, AreReady, AreEnded, AllGoOn, number_if_text, AreBegun, nothing, skips, ends, continues, remains, IsBegun}
 use Rattle.lines.specs.declared.escape.Escape as character
 use Rattle.lines.specs.declared.escape.Escape.TheVariants.{Backslash}
 use Rattle.lines.specs.declared.directives.Directive.{Directive}
@@ -151,13 +151,16 @@ pub ready_lines : (text whole : List ℕ) → IsShort text → BeginsUtf8 text �
 ready_lines text whole short begins cut fine =
     inl (short, begins, (whole, cut, subst (λ (fs : List Refusal). IsBegun (text_lines whole) (after_lines initial_state (text_lines whole)).lines fs) fine (begun_is (text_lines whole))))
 
+same_whole : (text whole other : List ℕ) → AreWhole text whole → AreWhole text other → whole ≡ other
+same_whole text whole other h i = whole_same whole h.0 other i.0 h.2 h.3 i.2 i.3 (sym h.1 ∙ i.1)
+
 pub ready_nothing : (text whole : List ℕ) → AreWhole text whole → faults_so_far (after_lines initial_state (text_lines whole)) ≢ [] → AreReady text []
 ready_nothing text whole cut wrong =
     inr (
       refl,
       λ others c.
           let other = c.2.0 in
-          let same : whole ≡ other = whole_same whole cut.0 other c.2.1.0 cut.2 cut.3 c.2.1.2 c.2.1.3 (sym cut.1 ∙ c.2.1.1) in
+          let same : whole ≡ other = same_whole text whole other cut c.2.1 in
           let only = begun_only (text_lines other) others [] c.2.2 in
           wrong (ap (λ (t : List ℕ). faults_so_far (after_lines initial_state (text_lines t))) same ∙ sym only.1),
     )
@@ -167,3 +170,16 @@ ready_bad text bad = inr (refl, λ others c. bad c.1)
 
 pub ready_long : (text : List ℕ) → ¬ (IsShort text) → AreReady text []
 ready_long text long = inr (refl, λ others c. long c.0)
+
+-- a text has one list of lines that are ready at most
+
+complete_same : (text : List ℕ) (found others : List Line) → AreComplete text found → AreComplete text others → found ≡ others
+complete_same text found others c d =
+    let same : d.2.0 ≡ c.2.0 = same_whole text d.2.0 c.2.0 d.2.1 c.2.1 in
+    (begun_same (text_lines c.2.0) found others [] [] c.2.2 (subst (λ (whole : List ℕ). IsBegun (text_lines whole) others []) same d.2.2)).0
+
+pub ready_same : (text : List ℕ) (found others : List Line) → AreReady text found → AreReady text others → found ≡ others
+ready_same text found others (inl c) (inl d) = complete_same text found others c d
+ready_same text found others (inl c) (inr n) = absurd (n.1 found c)
+ready_same text found others (inr n) (inl d) = absurd (n.1 others d)
+ready_same text found others (inr n) (inr m) = n.0 ∙ sym m.0

@@ -44,7 +44,7 @@ never_both text a f h (inr (inr i)) = none_among i.2.1 f (IsFile-same (text_line
 
 -- and one of the two it is
 
-le_or_not : (n m : ℕ) (b : Bool) → nat_le n m ≡ b → (n ≤ m) ⊎ (¬ (n ≤ m))
+pub le_or_not : (n m : ℕ) (b : Bool) → nat_le n m ≡ b → (n ≤ m) ⊎ (¬ (n ≤ m))
 le_or_not n m true e = inl (grind (arith, nat_tests))
 le_or_not n m false e = inr (λ h. absurd (true≢false (grind (arith, nat_tests))))
 

@@ -19,7 +19,7 @@ use crate::faults::least;
 use crate::scan::{Place, Progress, Scan, Stage, Stop};
 use crate::state::{FileState, Position, Seen, Unclosed};
 use crate::steps::{closes, read_line};
-use crate::text::without_byte_order_mark;
+use crate::text::{text_of, without_byte_order_mark};
 use crate::{Escape, Line, Mark};
 use plain::{Items, Memory, Refusal};
 use std::alloc::Global;
@@ -330,11 +330,7 @@ fn take_block(alloc: Global, scan: Scan, block: &[u8]) -> Result<Scan, Stop>
     ensures err { IfErr result (λ stop. Stops
         (after_lines (state_at scan.progress.place scan.progress.room) (block_lines scan.progress.is_first block.now)) stop) }
 {
-    let text = match str::from_utf8(block) {
-        Ok(text) => text,
-        Err(_) => unreachable!(),
-    };
-    match read_block(alloc, scan.progress, text) {
+    match read_block(alloc, scan.progress, text_of(block)) {
         Ok(state) => settle(scan, state, block.len()),
         Err(_) => {
             drop(scan);
@@ -402,11 +398,7 @@ pub fn take_line(
     ensures err { IfErr result (λ stop. Stops
         (after_lines (state_at scan.progress.place scan.progress.room) (block_lines scan.progress.is_first block.now)) stop) }
 {
-    let text = match str::from_utf8(line) {
-        Ok(text) => text,
-        Err(_) => unreachable!(),
-    };
-    let text = without_carriage_return(text);
+    let text = without_carriage_return(text_of(line));
     if let Some(place) = after_dropped(&scan.progress, text) {
         return Ok(moved_over(scan, place, block.len()));
     }

@@ -19,6 +19,7 @@ use crate::pieces::{line_feeds, take_lines, whole_characters};
 use crate::scan::{Place, Progress, Scan, Stage, Stop};
 use crate::state::{FileState, Seen};
 use crate::steps::end_file;
+use crate::text::text_of;
 use crate::{Escape, Line, LineFault, Mark};
 use plain::limits::{MOST_DOCKERFILE_BYTES, MOST_LINES};
 use plain::{Code, Fault, Items, Memory, Refusal};
@@ -299,11 +300,7 @@ fn read_last(alloc: Global, progress: Progress, bytes: &[u8]) -> Result<FileStat
     requires count { progress.place.count ≤ most_dockerfile_bytes }
     ensures { IfOk result (λ state. state ≡ end_file (after_lines (state_at progress.place progress.room) (block_lines progress.is_first bytes.now))) }
 {
-    let text = match str::from_utf8(bytes) {
-        Ok(text) => text,
-        Err(_) => unreachable!(),
-    };
-    let state = read_block(alloc, progress, text)?;
+    let state = read_block(alloc, progress, text_of(bytes))?;
     end_file(alloc, state)
 }
 

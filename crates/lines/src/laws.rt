@@ -10,6 +10,7 @@ ghost use Rattle.lines.specs.Continued.{AreContinued, plain_line};
 ghost use Rattle.lines.specs.Escape.{byte_of};
 ghost use Rattle.lines.specs.File.{AreDirectives, escape_below, directive_faults, IsKept, IsFile};
 ghost use Rattle.lines.specs.Marks.{marks_of};
+ghost use Rattle.lines.specs.Ready.{AreReady};
 ghost use Rattle.lines.specs.Text.{AreLines, IsRefused};
 ghost use Rattle.lines.specs.declared.escape.Escape.{Escape};
 ghost use Rattle.lines.specs.declared.escape.Escape.TheVariants.{Backslash};
@@ -33,6 +34,18 @@ pub fn answers_are_unique()
     ensures lines { (text : List ℕ) (found others : List Line) → AreLines text found → AreLines text others → found ≡ others }
     ensures refusals { (text : List ℕ) (one other : Refusal) → IsRefused text one → IsRefused text other → one ≡ other }
     ensures apart { (text : List ℕ) (found : List Line) (refusal : Refusal) → AreLines text found → IsRefused text refusal → ⊥ }
+{}
+
+/// Each text has one list of lines that are ready.
+pub fn ready_lines_are_unique()
+    ensures some { (text : List ℕ) → (found : List Line) × AreReady text found }
+    ensures one { (text : List ℕ) (found others : List Line) → AreReady text found → AreReady text others → found ≡ others }
+{}
+
+/// The lines that are ready of a text's front are the first of the text's logical lines, unless the text is refused.
+pub fn ready_lines_stay()
+    ensures { (front rest : List ℕ) (ready found : List Line) → AreReady front ready → AreLines (front ++ rest) found
+        → (more : List Line) × (found ≡ ready ++ more) }
 {}
 
 /// Each logical line of a text has a number from 1 to 1,048,576, which is the most bytes of a text, and the numbers ascend.

@@ -5,6 +5,7 @@ ghost use Rattle.lines.specs.PrivateMarks.{mark_written};
 
 use crate::Mark;
 use crate::blanks::{ends_with, starts_with};
+use crate::text::text_of;
 use crate::written_mark::WrittenMark;
 use ascii::{is_name, split_at_blanks};
 use plain::{Items, Memory, Text};
@@ -85,17 +86,12 @@ pub fn is_mark(word: &str) -> bool
 fn copy_mark(alloc: Global, written: WrittenMark<'_>) -> Result<Mark, Memory>
     ensures { IfOk result (λ mark. mark ≡ mark_written written.entry) }
 {
-    match str::from_utf8(written.name) {
-        Ok(name) => {
-            let name = Text::from_str(alloc, name)?;
-            Ok(Mark {
-                name,
-                quoted: written.quoted,
-                strips: written.strips,
-            })
-        }
-        Err(_) => unreachable!(),
-    }
+    let name = Text::from_str(alloc, text_of(written.name))?;
+    Ok(Mark {
+        name,
+        quoted: written.quoted,
+        strips: written.strips,
+    })
 }
 
 /// Whether a text begins with two dashes, as a flag does (Dockerfile reference, as `RUN --mount`; that `--` alone is one: own).

@@ -8,9 +8,9 @@ use Rattle.lines.proofs.blocks.take_block.Goals as goal
 pub settle-requires-clause-fits : goal.settle-requires-clause-fits
 settle-requires-clause-fits c =
     let p = c.args.scan.progress in
-    subst Fits (sym c.in-Ok-read_block.ensures) (block_fit p.place p.room (block_lines p.is_first c.in-Ok.text.now))
+    subst Fits (sym c.in-Ok.ensures) (block_fit p.place p.room (block_lines p.is_first c.text_of.result.now))
 
 pub settle-requires-clause-room : goal.settle-requires-clause-room
 settle-requires-clause-room c =
     let p = c.args.scan.progress in
-    ap (λ (s : FileState). s.room) c.in-Ok-read_block.ensures ∙ after_lines-room (state_at p.place p.room) (block_lines p.is_first c.in-Ok.text.now)
+    ap (λ (s : FileState). s.room) c.in-Ok.ensures ∙ after_lines-room (state_at p.place p.room) (block_lines p.is_first c.text_of.result.now)

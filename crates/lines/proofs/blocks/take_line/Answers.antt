@@ -21,7 +21,7 @@ returns-in-Some-progress_behind-clause-ok c =
     let p = scan.progress in
     let own = c.requires.cut.0 in
     let prev = after_lines (state_at p.place p.room) (block_lines p.is_first own) in
-    let line : c.without_carriage_return-text.result.now ≡ strip_carriage_return c.args.line.now = c.without_carriage_return-text.ensures ∙ ap strip_carriage_return c.in-Ok.ensures.cases.0 in
+    let line : c.without_carriage_return-text.result.now ≡ strip_carriage_return c.args.line.now = c.without_carriage_return-text.ensures ∙ ap strip_carriage_return c.text_of.ensures in
     let walk : after_lines (state_at p.place p.room) (block_lines p.is_first c.args.block.now) ≡ read_line prev c.without_carriage_return-text.result.now =
     ap (λ (b : List ℕ). after_lines (state_at p.place p.room) (block_lines p.is_first b)) c.requires.cut.1
     ∙ block_line p.place p.room p.is_first p.stage own c.args.line.now c.requires.cut.2 c.requires.cut.4 c.in-Some-progress_behind.ensures.other c.requires.cut.3
@@ -40,7 +40,7 @@ returns-in-Some-clause-ok c =
     let place = c.in-Some.place in
     let own = c.requires.cut.0 in
     let fresh = c.in-Some.ensures.fresh in
-    let line : c.without_carriage_return-text.result.now ≡ strip_carriage_return c.args.line.now = c.without_carriage_return-text.ensures ∙ ap strip_carriage_return c.in-Ok.ensures.cases.0 in
+    let line : c.without_carriage_return-text.result.now ≡ strip_carriage_return c.args.line.now = c.without_carriage_return-text.ensures ∙ ap strip_carriage_return c.text_of.ensures in
     let none : own ≡ [] = subst (λ (s : Stage). IsBehind s own) fresh.0 c.requires.cut.4 in
     let past : p.is_past ≡ false =
     subst (λ (s : Stage). IsInStage (marks_in scan.marks c.args.kept.now) p s (after_lines (state_at p.place p.room) (block_lines p.is_first own))) fresh.0 c.requires.cut.5 in
