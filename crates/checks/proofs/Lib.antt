@@ -1,4 +1,5 @@
 mod CheckFacts
+mod ImageFacts
 mod LineFacts
 mod ListFacts
 mod TextFacts

@@ -18,10 +18,13 @@ use Rattle.flaws.specs.Flaws.{flaw_in}
 use Rattle.flaws.specs.declared.flaw.Flaw.{Flaw}
 use Rattle.checks.specs.Checks.{AreFaultsOf}
 use Rattle.checks.specs.Checked.{faulty_part, faulty_text_in, faulty_text, target_part, target_in, asked_target, IsCheckOf}
+use Rattle.checks.specs.Images.{image_names}
+use Rattle.checks.specs.PrivateImages.{AreShownAlike}
 use Rattle.checks.specs.Shown.{readable_lines, shown_check}
 use Rattle.checks.specs.declared.checked.Checked.{Checked}
 use Rattle.checks.specs.declared.checking.Findings.{Findings}
 use Rattle.checks.specs.declared.form.Form.{Form}
+use Rattle.checks.proofs.ImageFacts.{check-alike}
 
 -- the bytes of an ignore file, none where there is no bundle
 abbrev ignored : Option (Parts Config) → List ℕ
@@ -76,12 +79,15 @@ found_flaw (Ok found) flaw none is = is ∙ sym none
 found_flaw (Err memory) flaw none is = tt
 
 -- what is found and shown is what a check gives
-pub checked : (bytes : List ℕ) (form : Form) (found : Findings) (made : Checked) → AreFaultsOf bytes found.faults → found.text ≡ faulty_text bytes
-    → found.target ≡ asked_target bytes → found.flaw ≡ flaw_in config_in bytes → made.text ≡ shown_check form found.flaw found.target (readable_lines found.text) found.faults → made.is_sound ≡ (length found.faults == 0) → IsCheckOf bytes form made
-checked bytes form found made are text target flaw shown sound = record {
+pub checked : (bytes : List ℕ) (form : Form) (found : Findings) (images : List (List ℕ)) (made : Checked) → AreFaultsOf bytes found.faults
+    → found.text ≡ faulty_text bytes → found.target ≡ asked_target bytes → found.flaw ≡ flaw_in config_in bytes → AreShownAlike images (image_names bytes) found.faults
+    → made.text ≡ shown_check form found.flaw found.target images (readable_lines found.text) found.faults → made.is_sound ≡ (length found.faults == 0)
+    → IsCheckOf bytes form made
+checked bytes form found images made are text target flaw alike shown sound = record {
   faults = found.faults;
   are = are;
-  text = shown ∙ (λ i. shown_check form (flaw i) (target i) (readable_lines (text i)) found.faults);
+  text = shown ∙ check-alike form found.flaw found.target images (image_names bytes) (readable_lines found.text) found.faults alike
+      ∙ (λ i. shown_check form (flaw i) (target i) (image_names bytes) (readable_lines (text i)) found.faults);
   is_sound = sound;
 }
 
@@ -95,7 +101,7 @@ HaveOneList = (bytes : List ℕ) (faults others : List Rejection) → AreFaultsO
 pub some_check : HaveFaults → (bytes : List ℕ) (form : Form) → (made : Checked) × IsCheckOf bytes form made
 some_check some bytes form =
     let found = some bytes in (
-      record { text = shown_check form (flaw_in config_in bytes) (asked_target bytes) (readable_lines (faulty_text bytes)) found.0; is_sound = length found.0 == 0 },
+      record { text = shown_check form (flaw_in config_in bytes) (asked_target bytes) (image_names bytes) (readable_lines (faulty_text bytes)) found.0; is_sound = length found.0 == 0 },
       record { faults = found.0; are = found.1; text = refl; is_sound = refl },
     )
 
@@ -112,5 +118,5 @@ pub one_check : HaveOneList → (bytes : List ℕ) (form : Form) (one other : Ch
 one_check unique bytes form one other these those =
     let same = unique bytes these.faults those.faults these.are those.are in
     same_checked one other
-    (these.text ∙ ap (shown_check form (flaw_in config_in bytes) (asked_target bytes) (readable_lines (faulty_text bytes))) same ∙ sym those.text)
+    (these.text ∙ ap (shown_check form (flaw_in config_in bytes) (asked_target bytes) (image_names bytes) (readable_lines (faulty_text bytes))) same ∙ sym those.text)
     (one_sound unique bytes form form one other these those)

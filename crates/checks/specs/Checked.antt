@@ -10,6 +10,7 @@ use Rattle.bundle.specs.Reading.{ignore_bytes}
 use Rattle.bundle.specs.declared.parts.Parts.{Parts}
 use Rattle.flaws.specs.Flaws.{flaw_in}
 use Rattle.checks.specs.Checks.{AreFaultsOf}
+use Rattle.checks.specs.Images.{image_names}
 use Rattle.checks.specs.Shown.{readable_lines, shown_check}
 use Rattle.checks.specs.declared.checked.Checked.{Checked}
 use Rattle.checks.specs.declared.form.Form.{Form}
@@ -45,5 +46,5 @@ asked_target bytes = target_in (parts_of config_in bytes)
 pub record IsCheckOf (bytes : List ℕ) (form : Form) (checked : Checked) : Type 0 where
   pub faults : List Rejection
   pub are : AreFaultsOf bytes faults
-  pub text : checked.text ≡ shown_check form (flaw_in config_in bytes) (asked_target bytes) (readable_lines (faulty_text bytes)) faults
+  pub text : checked.text ≡ shown_check form (flaw_in config_in bytes) (asked_target bytes) (image_names bytes) (readable_lines (faulty_text bytes)) faults
   pub is_sound : checked.is_sound ≡ (length faults == 0)

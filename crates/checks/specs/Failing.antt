@@ -3,7 +3,8 @@ use Rattle.std.specs.Prelude.{ℕ, List, codes}
 use Rattle.std.specs.Str.Lossy.{utf8_lossy}
 use Rattle.trees.specs.declared.cause.Cause.{Cause}
 use Rattle.sentences.specs.Failing.{shown_cause, shown_missing as shown_without, shown_left_out as shown_ignored}
-use Rattle.checks.specs.Shown.{line_at, visible}
+use Rattle.checks.specs.Shown.{line_at}
+use Rattle.checks.specs.Visible.{visible}
 
 -- what is shown of an instruction of a Dockerfile with these lines that failed with this cause, by the number of its line
 abbrev pub shown_failure : List (List ℕ) → ℕ → Cause → List ℕ

@@ -1,29 +1,34 @@
 -- Which name may have been meant by one that there isn't (own).
-use Rattle.std.specs.Prelude.{◌&&◌, ℕ, List, Option, Some, None, codes, map, if◌then◌else◌}
-use Rattle.std.specs.List.{filter_map}
+use Rattle.std.specs.Prelude.{◌&&◌, ◌++◌, ℕ, Bool, List, Option, None, length, map, nat_le, take, if◌then◌else◌}
+use Rattle.std.specs.List.{find}
 use Rattle.std.specs.Option.{option_and_then}
-use Rattle.std.specs.Str.{str_eq_ignore_ascii_case}
-use Rattle.plain.specs.declared.refusal.Code.TheVariants.{R04, R13}
-use Rattle.ascii.specs.Pieces.{first_piece, behind_piece}
+use Rattle.plain.specs.declared.refusal.Code.TheVariants.{R04, R12, R13}
+use Rattle.ascii.specs.Pieces.{first_piece}
 use Rattle.nearest.specs.Nearness.{nearest}
 use Rattle.instructions.specs.Keyword.{keywords, name_of}
 use Rattle.expand.specs.declared.reason.Reason.{Reason}
 use Rattle.expand.specs.declared.reason.Reason.TheVariants.{Coded, Required}
+use Rattle.checks.specs.Begun.{stages_in, ended_stages}
+use Rattle.checks.specs.Sources.{sources_in, is_astray}
 
--- the name that a line gives to a stage: that of `FROM image AS name`, in any case of FROM and AS (Dockerfile reference, FROM)
-abbrev pub stage_in : List ℕ → Option (List ℕ)
-stage_in line =
-    if str_eq_ignore_ascii_case (first_piece line) (codes "from") && str_eq_ignore_ascii_case (first_piece (behind_piece (behind_piece line))) (codes "as")
-    then Some (first_piece (behind_piece (behind_piece (behind_piece line)))) else None
+-- the stage or the image that may have been meant on a line after these stages: by the first name on it that leads to none of them
+abbrev pub meant_after : List (List ℕ) → List (List ℕ) → List ℕ → Option (List ℕ)
+meant_after stages images line = option_and_then (λ name. nearest name (stages ++ images)) (find (is_astray stages images) (sources_in line))
 
--- the names that the lines of a file give to stages
-abbrev pub stages_in : List (List ℕ) → List (List ℕ)
-stages_in lines = filter_map stage_in lines
+-- so few images and lines that a name on each line may be compared with all others: 64 and 512 at most
+abbrev pub are_few : ℕ → ℕ → Bool
+are_few images lines = nat_le images 64 && nat_le lines 512
 
--- the name that may have been meant in a line that is refused, of a file with these lines: of an instruction that isn't known, one that is; of a target
--- that isn't a stage, one of the stages. Of all else none is said (own)
-abbrev pub meant_by : Option (List ℕ) → List (List ℕ) → Reason → List ℕ → Option (List ℕ)
-meant_by target lines (Coded R04) line = nearest (first_piece line) (map name_of keywords)
-meant_by target lines (Coded R13) line = option_and_then (λ name. nearest name (stages_in lines)) target
-meant_by target lines (Coded code) line = None
-meant_by target lines (Required text) line = None
+-- the stage or the image that may have been meant on the line of this number of a file: one of the stages that end above it, or one of these images
+unfoldable pub meant_source : List (List ℕ) → List (List ℕ) → ℕ → List ℕ → Option (List ℕ)
+meant_source images lines number line =
+    if are_few (length images) (length lines) then meant_after (ended_stages (take number lines)) images line else None
+
+-- the name that may have been meant in a line that is refused, of a file with these lines: of an instruction that isn't known, one that is; of a stage
+-- or an image that isn't there, one that is; of a target that isn't a stage, one of the stages. Of all else none is said
+abbrev pub meant_by : Option (List ℕ) → List (List ℕ) → List (List ℕ) → Reason → ℕ → List ℕ → Option (List ℕ)
+meant_by target images lines (Coded R04) number line = nearest (first_piece line) (map name_of keywords)
+meant_by target images lines (Coded R12) number line = meant_source images lines number line
+meant_by target images lines (Coded R13) number line = option_and_then (λ name. nearest name (stages_in lines)) target
+meant_by target images lines (Coded code) number line = None
+meant_by target images lines (Required text) number line = None

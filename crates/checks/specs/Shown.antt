@@ -1,7 +1,5 @@
 -- What a person or a program reads of faults, with the lines that they are about (own).
-use Rattle.std.specs.Prelude.{◌++◌, ◌-◌, ◌/◌, ◌%◌, ◌==◌, ◌&&◌, not, ℕ, Bool, false, Option, Some, None, List, [], ◌∷◌, chars, codes, encode_utf8, slice_get, unwrap_or, if◌then◌else◌}
-use Rattle.std.specs.Char.{is_control}
-use Rattle.std.specs.Fmt.{digit_glyph}
+use Rattle.std.specs.Prelude.{◌-◌, ℕ, Option, Some, None, List, [], codes, slice_get, unwrap_or}
 use Rattle.std.specs.List.{flat_map}
 use Rattle.std.specs.Option.{option_map}
 use Rattle.std.specs.Str.Lossy.{utf8_lossy}
@@ -11,9 +9,12 @@ use Rattle.expand.specs.declared.reason.Reason.TheVariants.{Coded, Required}
 use Rattle.expand.specs.declared.reason.Rejection.{Rejection}
 use Rattle.lines.specs.Text.{text_lines}
 use Rattle.sentences.specs.Json.{json_line, place_line}
-use Rattle.sentences.specs.Showing.{shown, shown_place}
+use Rattle.sentences.specs.Showing.{Pointer, shown, shown_place}
+use Rattle.pointed.specs.Spot.{Spot}
 use Rattle.flaws.specs.Places.{place_text}
+use Rattle.checks.specs.Mark.{marked, named, spot_by}
 use Rattle.checks.specs.Meant.{meant_by}
+use Rattle.checks.specs.Visible.{visible}
 use Rattle.flaws.specs.declared.flaw.Flaw.{Flaw}
 use Rattle.checks.specs.declared.form.Form.{Form}
 use Rattle.checks.specs.declared.form.Form.TheVariants.{Plain, Json}
@@ -33,46 +34,35 @@ readable_lines text = text_lines (utf8_lossy text)
 abbrev pub line_at : List (List ℕ) → ℕ → List ℕ
 line_at lines number = unwrap_or (slice_get lines (number - 1)) []
 
--- a character that a terminal may obey: a control character, which is one below U+0020 or from U+007F to U+009F (Unicode, general category
--- Cc); but a tab is none
-abbrev pub is_obeyed : ℕ → Bool
-is_obeyed c = is_control c && not (c == 9)
-
--- the number of a character below U+0100, with two hexadecimal digits, as `\x1b`
-abbrev pub escaped : ℕ → List ℕ
-escaped c = codes "\\x" ++ (digit_glyph false (c / 16) ∷ (digit_glyph false (c % 16) ∷ []))
-
--- what is shown of a character: its number if a terminal may obey it, and else the character
-abbrev pub visible_char : ℕ → List ℕ
-visible_char c = if is_obeyed c then escaped c else encode_utf8 c
-
--- A line as it is shown, so that no text can give orders to a terminal. It is UTF-8 here, so of its bytes above 127 only the two of a character
--- from U+0080 to U+009F are such orders. All others are shown as they are: a name or a comment in another script than English stays readable,
--- also beside characters that have no width or turn the order of writing, which no terminal takes for an order. What is shown can't always be
--- read back, as a line may hold `\x1b` itself.
-abbrev pub visible : List ℕ → List ℕ
-visible line = flat_map visible_char (chars line)
-
 -- a reason whose text a terminal doesn't obey
 abbrev pub visible_reason : Reason → Reason
 visible_reason (Coded code) = Coded code
 visible_reason (Required text) = Required (visible text)
 
--- what is shown of a fault that is about this line, with the name that may have been meant: a person gets all texts as a terminal may have them, and a
--- program as they stand
-abbrev pub shown_with : Form → Rejection → List ℕ → Option (List ℕ) → List ℕ
-shown_with Plain refusal line meant =
-    shown (place_of refusal.reason) (record { reason = visible_reason refusal.reason; line = refusal.line }) (visible line) (option_map visible meant)
-shown_with Json refusal line meant = json_line (place_of refusal.reason) refusal line meant
+-- what is shown to a person of a fault that is about this line, which is shown as a terminal may have it, with the name that may have been meant, as it is
+-- shown, and the mark under the word that it is about
+abbrev pub shown_seen : Rejection → List ℕ → Option (List ℕ) → Option Pointer → List ℕ
+shown_seen refusal line meant marked =
+    shown (place_of refusal.reason) (record { reason = visible_reason refusal.reason; line = refusal.line }) (visible line) meant marked
 
--- what is shown of a fault of a build of this target, in a text with these lines
-abbrev pub shown_fault : Form → Option (List ℕ) → List (List ℕ) → Rejection → List ℕ
-shown_fault form target lines refusal =
-    shown_with form refusal (line_at lines refusal.line) (meant_by target lines refusal.reason (line_at lines refusal.line))
+-- what is shown of a fault that is about this line, with the name that may have been meant and the word that it is about: a person gets all texts as a
+-- terminal may have them, with a mark under the word, and a program as they stand
+abbrev pub shown_word : Form → Rejection → List ℕ → Option (List ℕ) → Option Spot → List ℕ
+shown_word Plain refusal line meant word = shown_seen refusal line (option_map visible meant) (option_map marked word)
+shown_word Json refusal line meant word = json_line (place_of refusal.reason) refusal line meant (option_map named word)
+
+-- the same, where the line tells which of its words the fault is about
+abbrev pub shown_with : Form → Rejection → List ℕ → Option (List ℕ) → List ℕ
+shown_with form refusal line meant = shown_word form refusal line meant (spot_by refusal.reason line)
+
+-- what is shown of a fault of a build of this target with these images, in a text with these lines
+abbrev pub shown_fault : Form → Option (List ℕ) → List (List ℕ) → List (List ℕ) → Rejection → List ℕ
+shown_fault form target images lines refusal =
+    shown_with form refusal (line_at lines refusal.line) (meant_by target images lines refusal.reason refusal.line (line_at lines refusal.line))
 
 -- what is shown of faults, one after another
-abbrev pub shown_faults : Form → Option (List ℕ) → List (List ℕ) → List Rejection → List ℕ
-shown_faults form target lines faults = flat_map (shown_fault form target lines) faults
+abbrev pub shown_faults : Form → Option (List ℕ) → List (List ℕ) → List (List ℕ) → List Rejection → List ℕ
+shown_faults form target images lines faults = flat_map (shown_fault form target images lines) faults
 
 -- what is shown of bytes that are no bundle, being wrong in this place, which is written as `flaws` writes it
 abbrev pub shown_flaw : Form → List ℕ → List ℕ
@@ -80,6 +70,6 @@ shown_flaw Plain place = shown_place (codes "bundle") R20 (visible place)
 shown_flaw Json place = place_line (codes "bundle") R20 place
 
 -- what is shown of a bundle's faults: bytes that are no bundle are shown with where they are wrong
-abbrev pub shown_check : Form → Option Flaw → Option (List ℕ) → List (List ℕ) → List Rejection → List ℕ
-shown_check form None target lines faults = shown_faults form target lines faults
-shown_check form (Some flaw) target lines faults = shown_flaw form (place_text flaw)
+abbrev pub shown_check : Form → Option Flaw → Option (List ℕ) → List (List ℕ) → List (List ℕ) → List Rejection → List ℕ
+shown_check form None target images lines faults = shown_faults form target images lines faults
+shown_check form (Some flaw) target images lines faults = shown_flaw form (place_text flaw)

@@ -3,6 +3,7 @@ ghost use Rattle.checks.specs.Checked.{IsCheckOf};
 
 use crate::Form;
 use crate::checking::{Findings, check_bundle};
+use crate::images::images_for;
 use crate::showing::shown_check;
 use plain::{Memory, Text};
 use std::alloc::Global;
@@ -34,10 +35,12 @@ pub fn check(
         target,
         flaw,
     } = check_bundle(alloc, rt, bytes)?;
+    let images = images_for(alloc, bytes, faults.as_slice())?;
     let text = shown_check(
         alloc,
         flaw.as_ref(),
         target.as_ref(),
+        images.as_slice(),
         faults.as_slice(),
         text.as_slice(),
         form,

@@ -4,7 +4,8 @@ ghost use Rattle.std.specs.String.{string_bytes};
 ghost use Rattle.lines.specs.Text.{text_lines};
 ghost use Rattle.std.specs.Str.Lossy.{utf8_lossy};
 ghost use Rattle.checks.specs.Failing.{shown_failure, shown_left_out, shown_left_out_in, shown_missing};
-ghost use Rattle.checks.specs.Shown.{readable_lines, visible};
+ghost use Rattle.checks.specs.Shown.{readable_lines};
+ghost use Rattle.checks.specs.Visible.{visible};
 
 use crate::showing::found_line;
 use crate::visible::visible;

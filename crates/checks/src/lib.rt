@@ -8,7 +8,9 @@
 // fault is shown in one walk through the text. Where there are several, the lines are listed first, so each is found at once. `check` does both,
 // and shows bytes that are no bundle with where they are wrong, which `flaws` finds.
 //
-// Of an instruction that isn't known, and of a target that is no stage, the name is shown that may have been meant, which `nearest` finds.
+// Of an instruction that isn't known, of a stage or an image that isn't there, and of a target that is no stage, the name is shown that may have been
+// meant, which `nearest` finds. A name that a line takes a stage or an image by is looked for on the line as it stands.
+// If the line tells which of its words a fault is about, which `pointed` finds, the word's column is shown, and for a person a mark under it.
 //
 // `shown_failure` shows an instruction that a build failed at in the same form. Of a COPY that misses a source `shown_missing` names it, and
 // `shown_left_out` the line of the ignore file that leaves it out.
@@ -18,19 +20,24 @@
 //
 // ```
 // let checked = check(alloc, &rt, bytes, Form::Plain)?; // of a bundle with the Dockerfile FROM scratch\nRUNN make
-// // Dockerfile:2: R04: there is no such instruction here; did you mean RUN?
+// // Dockerfile:2:1: R04: there is no such instruction here; did you mean RUN?
 // //     2 | RUNN make
+// //       | ^^^^
 // //       | use FROM, ARG, ENV, ..
 // ```
 #![tactic(auto)]
 
+mod begun;
 mod checked;
 mod checking;
 mod failing;
 mod form;
+mod images;
 pub mod laws;
+mod mark;
 mod meant;
 mod showing;
+mod sources;
 mod visible;
 
 pub use checked::{Checked, check};

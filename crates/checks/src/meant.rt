@@ -1,13 +1,15 @@
-ghost use Rattle.std.specs.Prelude.{◌≡◌, [], map, option_map, IfOk};
+ghost use Rattle.std.specs.Prelude.{◌≡◌, ◌++◌, [], map, option_map, IfOk};
 ghost use Rattle.std.specs.Option.{option_copied};
 ghost use Rattle.plain.specs.declared.refusal.Code.TheVariants.{R13};
 ghost use Rattle.expand.specs.declared.reason.Reason.TheVariants.{Coded};
 ghost use Rattle.ascii.specs.Pieces.{first_piece};
 ghost use Rattle.nearest.specs.Nearness.{nearest};
 ghost use Rattle.instructions.specs.Keyword.{keywords, name_of};
-ghost use Rattle.checks.specs.Meant.{stage_in, stages_in, meant_by};
+ghost use Rattle.checks.specs.Meant.{are_few, meant_after, meant_source, meant_by};
 ghost use Rattle.checks.specs.PrivateMeant.{needs_lines};
 
+use crate::begun::{ended_stages, lines_until, stages_in};
+use crate::sources::{first_astray, sources_in};
 use ascii::first_piece;
 use expand::Reason;
 use instructions::keywords;
@@ -15,33 +17,11 @@ use nearest::nearest;
 use plain::{Code, Memory, Text};
 use std::alloc::Global;
 
-/// The name that a line gives to a stage, if it is `FROM image AS name`.
-fn stage_in(line: &str) -> Option<&str>
-    ensures { option_map (λ name. name.now) result ≡ stage_in line.now }
-{
-    let (from, behind) = first_piece(line);
-    let (_, behind) = first_piece(behind);
-    let (word, behind) = first_piece(behind);
-    let (name, _) = first_piece(behind);
-    if from.eq_ignore_ascii_case("from") && word.eq_ignore_ascii_case("as") {
-        Some(name)
-    } else {
-        None
-    }
-}
+/// The most images with which a name on a line is compared.
+const MOST_IMAGES: usize = 64;
 
-/// The names that lines give to stages.
-fn stages_in<'a>(alloc: Global, lines: &[&'a str]) -> Result<Vec<&'a str>, Memory>
-    ensures { IfOk result (λ names. map (λ name. name.now) names.items ≡ stages_in (map (λ line. line.now) lines.now)) }
-{
-    let mut names = Vec::new(alloc);
-    for line in lines {
-        if let Some(name) = stage_in(*line) {
-            names.push(name)?;
-        }
-    }
-    Ok(names)
-}
+/// The most lines of a file on which names of stages and images are compared with others.
+const MOST_LINES: usize = 512;
 
 /// The stage that may have been meant by a target that is none.
 fn meant_stage<'a>(
@@ -49,7 +29,7 @@ fn meant_stage<'a>(
     target: Option<&Text>,
     lines: &[&'a str],
 ) -> Result<Option<&'a str>, Memory>
-    ensures { IfOk result (λ name. option_map (λ it. it.now) name ≡ meant_by (option_copied target.entry) (map (λ line. line.now) lines.now) (Coded R13) []) }
+    ensures { IfOk result (λ name. option_map (λ it. it.now) name ≡ meant_by (option_copied target.entry) [] (map (λ line. line.now) lines.now) (Coded R13) 0 []) }
 {
     let Some(target) = target else {
         return Ok(None);
@@ -66,25 +46,81 @@ fn meant_keyword(alloc: Global, line: &str) -> Result<Option<&'static str>, Memo
     nearest(alloc, word, &keywords())
 }
 
+/// The names of stages and after them those of images.
+fn with_images<'a>(stages: Vec<&'a str>, images: &'a [Text]) -> Result<Vec<&'a str>, Memory>
+    ensures { IfOk result (λ names. map (λ name. name.now) names.items ≡ map (λ stage. stage.now) stages.entry.items ++ images.now) }
+{
+    let mut names = stages;
+    for image in images {
+        names.push(image.as_str())?;
+    }
+    Ok(names)
+}
+
+/// The stage or the image that may have been meant on a line after these stages.
+fn meant_after<'a>(
+    alloc: Global,
+    stages: Vec<&'a str>,
+    images: &'a [Text],
+    line: &str,
+) -> Result<Option<&'a str>, Memory>
+    ensures { IfOk result (λ name. option_map (λ it. it.now) name ≡ meant_after (map (λ stage. stage.now) stages.entry.items) images.now line.now) }
+{
+    let sources = sources_in(alloc, line)?;
+    let Some(source) = first_astray(stages.as_slice(), images, sources.as_slice()) else {
+        return Ok(None);
+    };
+    let names = with_images(stages, images)?;
+    nearest(alloc, source, names.as_slice())
+}
+
+/// Whether there are so few images and lines that a name on each line may be compared with all others.
+fn are_few(images: usize, lines: usize) -> bool
+    ensures { result ≡ are_few images lines }
+{
+    images <= MOST_IMAGES && lines <= MOST_LINES
+}
+
+/// The stage or the image that may have been meant on the line of this number of a file.
+#[tactic(auto, unfolding(crate::specs::Meant::meant_source))]
+fn meant_source<'a>(
+    alloc: Global,
+    images: &'a [Text],
+    lines: &[&'a str],
+    number: u32,
+    line: &str,
+) -> Result<Option<&'a str>, Memory>
+    ensures { IfOk result (λ name. option_map (λ it. it.now) name ≡ meant_source images.now (map (λ line. line.now) lines.now) number line.now) }
+{
+    if !are_few(images.len(), lines.len()) {
+        return Ok(None);
+    }
+    let stages = ended_stages(alloc, lines_until(lines, number))?;
+    meant_after(alloc, stages, images, line)
+}
+
 /// Whether the lines of the file are looked at for the name that may have been meant.
 pub(crate) fn needs_lines(reason: &Reason) -> bool
     ensures { result ≡ needs_lines reason.now }
 {
     match reason {
-        Reason::Coded(Code::R13) => true,
+        Reason::Coded(Code::R12) | Reason::Coded(Code::R13) => true,
         Reason::Coded(_) | Reason::Required(_) => false,
     }
 }
 
-/// The name that may have been meant in a line that is refused for this reason, in a file with these lines.
+/// The name that may have been meant in a line that is refused for this reason, in a build of this target with these images, of a file with these
+/// lines. It is the line of this number.
 pub(crate) fn meant_by<'a>(
     alloc: Global,
     target: Option<&Text>,
+    images: &'a [Text],
     lines: &[&'a str],
     reason: &Reason,
+    number: u32,
     line: &str,
 ) -> Result<Option<&'a str>, Memory>
-    ensures { IfOk result (λ name. option_map (λ it. it.now) name ≡ meant_by (option_copied target.entry) (map (λ line. line.now) lines.now) reason.now line.now) }
+    ensures { IfOk result (λ name. option_map (λ it. it.now) name ≡ meant_by (option_copied target.entry) images.now (map (λ line. line.now) lines.now) reason.now number line.now) }
 {
     match reason {
         // A name of an instruction lives longer than 'a, and only a match of its own gives it that lifetime.
@@ -92,6 +128,7 @@ pub(crate) fn meant_by<'a>(
             Some(name) => Ok(Some(name)),
             None => Ok(None),
         },
+        Reason::Coded(Code::R12) => meant_source(alloc, images, lines, number, line),
         Reason::Coded(Code::R13) => meant_stage(alloc, target, lines),
         Reason::Coded(_) | Reason::Required(_) => Ok(None),
     }

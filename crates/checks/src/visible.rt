@@ -1,7 +1,7 @@
 ghost use Rattle.std.specs.Prelude.{◌≡◌, ◌<◌, ◌++◌, false, IfOk, OnOk};
 ghost use Rattle.std.specs.Fmt.{digit_glyph};
 ghost use Rattle.std.specs.String.{string_bytes};
-ghost use Rattle.checks.specs.Shown.{is_obeyed, escaped, visible_char, visible};
+ghost use Rattle.checks.specs.Visible.{is_obeyed, escaped, visible_char, visible};
 
 use plain::Memory;
 use std::alloc::{AllocError, Global};

@@ -30,4 +30,5 @@ mod writing;
 pub use config::Config;
 pub use environment::Environment;
 pub use names::Names;
+pub use ports::names_port;
 pub use rows::Rows;

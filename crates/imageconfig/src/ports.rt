@@ -1,4 +1,4 @@
-ghost use Rattle.std.specs.Prelude.{◌≡◌, ◌++◌, ◌∷◌, option_map, IfOk};
+ghost use Rattle.std.specs.Prelude.{◌≡◌, ◌++◌, ◌∷◌, is_some, option_map, IfOk};
 ghost use Rattle.std.specs.List.{list_any, filter_map};
 ghost use Rattle.imageconfig.specs.Lines.{is_bad_port};
 ghost use Rattle.imageconfig.specs.Ports.{has_zero, is_port, protocol_of, port_key};
@@ -65,6 +65,13 @@ fn cut<'a>(text: &'a str) -> Option<(&'a str, &'static str)>
             }
         }
     }
+}
+
+/// Whether a text is a port, as EXPOSE takes it: `port` or `port/protocol`.
+pub fn names_port(text: &str) -> bool
+    ensures { result ≡ is_some (port_key text.now) }
+{
+    cut(text).is_some()
 }
 
 /// The key that a port has, where the text is one.

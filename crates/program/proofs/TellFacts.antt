@@ -14,6 +14,7 @@ use Rattle.bundle.specs.Parts.{parts_within}
 use Rattle.flaws.specs.Flaws.{flaw_in}
 use Rattle.flaws.specs.declared.flaw.Flaw.TheVariants.{TooLong}
 use Rattle.flaws.proofs.WholeFacts.{flaw-long}
+use Rattle.checks.specs.Images.{image_names, image_names_within}
 use Rattle.build.specs.declared.status.Status.{Status}
 use Rattle.build.specs.declared.status.BuildFault.{BuildFault}
 use Rattle.build.specs.declared.status.BuildFault.TheVariants as end
@@ -32,6 +33,10 @@ long : (most : ℕ) (bytes : List ℕ) → most < length bytes → parts_within 
 unfolding parts_within
 long most bytes more = rw (lt-leb (length bytes) most more)
 
+nameless : (most : ℕ) (bytes : List ℕ) → most < length bytes → image_names_within most bytes ≡ []
+unfolding image_names_within
+nameless most bytes more = rw (lt-leb (length bytes) most more)
+
 -- what is the same of all bytes past a limit is the same of bytes that are cut past it
 cut_by : {A : Type 0} (f : List ℕ → A) (none : A) (most limit : ℕ) → ((bytes : List ℕ) → most < length bytes → f bytes ≡ none)
     → (all : List ℕ) (b : Bool) → limit ≡ most + 1 → nat_le (length all) most ≡ b → f (take limit all) ≡ f all
@@ -46,11 +51,12 @@ cut : (limit : ℕ) (all : List ℕ) → limit ≡ most_bundle_bytes + 1 → Hol
 cut limit all is = record {
   parts = cut_by held None most_bundle_bytes limit (long most_bundle_bytes) all (nat_le (length all) most_bundle_bytes) is refl;
   flaw = cut_by (flaw_in config_in) (Some TooLong) most_bundle_bytes limit (flaw-long config_in most_bundle_bytes) all (nat_le (length all) most_bundle_bytes) is refl;
+  names = cut_by image_names [] most_bundle_bytes limit (nameless most_bundle_bytes) all (nat_le (length all) most_bundle_bytes) is refl;
 }
 
 pub read_of : (limit : ℕ) (left rest : Option (List ℕ)) (bytes items : List ℕ) → limit ≡ most_bundle_bytes + 1 → bytes ≡ items
     → ReadsFirst limit left rest items → IsReadOf left bytes
-read_of limit None rest bytes items is same reads = record { bundle = bytes; is = tt; same = record { parts = refl; flaw = refl } }
+read_of limit None rest bytes items is same reads = record { bundle = bytes; is = tt; same = record { parts = refl; flaw = refl; names = refl } }
 read_of limit (Some all) rest bytes items is same reads =
     record { bundle = all; is = refl; same = subst (λ given. HoldsSame given all) (sym (same ∙ reads.0)) (cut limit all is) }
 

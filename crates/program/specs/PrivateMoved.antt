@@ -15,6 +15,7 @@ use Rattle.flaws.specs.declared.flaw.Flaw.{Flaw}
 use Rattle.reasons.specs.declared.leaving.LeavingLine.{LeavingLine}
 use Rattle.checks.specs.Checks.{AreFaultsOf}
 use Rattle.checks.specs.Checked.{IsCheckOf, faulty_text_in, target_in}
+use Rattle.checks.specs.Images.{image_names}
 use Rattle.checks.specs.Shown.{readable_lines, shown_check}
 use Rattle.checks.specs.declared.checked.Checked.{Checked}
 use Rattle.checks.specs.declared.form.Form.{Form}
@@ -54,8 +55,9 @@ checked_moved : (bytes others : List ℕ) (form : Form) (checked : Checked) → 
 checked_moved bytes others form checked same is = record {
   faults = is.faults;
   are = faults_moved bytes others is.faults same.parts is.are;
-  text = is.text ∙ (ap (λ (flaw : Option Flaw). shown_check form flaw (target_in (held bytes)) (readable_lines (faulty_text_in (held bytes))) is.faults) same.flaw
-      ∙ ap (λ parts. shown_check form (flaw_in config_in others) (target_in parts) (readable_lines (faulty_text_in parts)) is.faults) same.parts);
+  text = is.text ∙ (ap (λ (flaw : Option Flaw). shown_check form flaw (target_in (held bytes)) (image_names bytes) (readable_lines (faulty_text_in (held bytes))) is.faults) same.flaw
+      ∙ ap (λ parts. shown_check form (flaw_in config_in others) (target_in parts) (image_names bytes) (readable_lines (faulty_text_in parts)) is.faults) same.parts
+      ∙ ap (λ (names : List (List ℕ)). shown_check form (flaw_in config_in others) (target_in (held others)) names (readable_lines (faulty_text_in (held others))) is.faults) same.names);
   is_sound = is.is_sound;
 }
 

@@ -5,6 +5,7 @@ use Rattle.imageconfig.specs.declared.config.Config.{Config}
 use Rattle.bundle.specs.Parts.{parts_of}
 use Rattle.bundle.specs.declared.parts.Parts.{Parts}
 use Rattle.flaws.specs.Flaws.{flaw_in}
+use Rattle.checks.specs.Images.{image_names}
 use Rattle.build.specs.declared.status.Status.{Status}
 use Rattle.build.specs.declared.status.BuildFault.{BuildFault}
 use Rattle.build.specs.declared.status.BuildFault.TheVariants.{Memory, Device, Clash, Unspeakable}
@@ -16,10 +17,11 @@ use Rattle.program.specs.Telling.{Stops}
 abbrev pub held : List ℕ → Option (Parts Config)
 held bytes = parts_of config_in bytes
 
--- bytes hold the same as others: the same bundle, or they are wrong at the same place
+-- bytes hold the same as others: the same bundle with the same names of images, or they are wrong at the same place
 pub record HoldsSame (bytes others : List ℕ) : Type 0 where
   pub parts : held bytes ≡ held others
   pub flaw : flaw_in config_in bytes ≡ flaw_in config_in others
+  pub names : image_names bytes ≡ image_names others
 
 -- what is told of bytes is told of all that hold the same
 abbrev pub Moves : Answering → Type 0

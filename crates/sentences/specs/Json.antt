@@ -1,5 +1,5 @@
 -- A refusal as a program reads it (own): a line of compact JSON, the keys in the order of their bytes.
-use Rattle.std.specs.Prelude.{◌++◌, ◌==◌, ℕ, List, [], Option, codes, if◌then◌else◌}
+use Rattle.std.specs.Prelude.{◌++◌, ◌==◌, ℕ, List, [], Option, Some, None, codes, if◌then◌else◌}
 use Rattle.serde_json.specs.Data.{Data, number as numeral, unsigned, string, object, no_members, member}
 use Rattle.serde_json.specs.Written.{compact_text}
 use Rattle.plain.specs.Codes.{code_text}
@@ -7,6 +7,7 @@ use Rattle.plain.specs.declared.refusal.Code.{Code}
 use Rattle.expand.specs.declared.reason.Reason.{Reason}
 use Rattle.expand.specs.declared.reason.Reason.TheVariants.{Coded, Required}
 use Rattle.expand.specs.declared.reason.Rejection.{Rejection}
+use Rattle.sentences.specs.Showing.{Pointer}
 use Rattle.sentences.specs.Subject.{subject_of}
 use Rattle.sentences.specs.Table.{sentence, remedy, wrong_with, required_sentence, required_remedy}
 use Rattle.sentences.specs.declared.subject.Subject.{Subject}
@@ -44,14 +45,30 @@ refusal_data code file line message helps text = object (member (codes "code") (
     (member (codes "remedy") (string helps)
     (member (codes "text") (string text) no_members))))))
 
+-- the same of a refusal that is about a word of its line, which has the number of the word's first byte in the line and the word
+unfoldable pub pointed_data : Pointer → List ℕ → List ℕ → ℕ → List ℕ → List ℕ → List ℕ → Data
+pointed_data pointed code file line message helps text = object (member (codes "code") (string code)
+    (member (codes "column") (numeral (unsigned pointed.0))
+    (member (codes "file") (string file)
+    (member (codes "line") (numeral (unsigned line))
+    (member (codes "message") (string message)
+    (member (codes "remedy") (string helps)
+    (member (codes "text") (string text)
+    (member (codes "word") (string pointed.1) no_members))))))))
+
+-- a refusal by its parts, with the word that it is about, if there is one
+abbrev pub data_with : Option Pointer → List ℕ → List ℕ → ℕ → List ℕ → List ℕ → List ℕ → Data
+data_with None code file line message helps text = refusal_data code file line message helps text
+data_with (Some pointed) code file line message helps text = pointed_data pointed code file line message helps text
+
 -- a refusal of the file of this name that is about this text
-abbrev pub data_of : List ℕ → Rejection → List ℕ → Option (List ℕ) → Data
-data_of file refusal text meant =
-    refusal_data (code_of refusal.reason) file refusal.line (message_of refusal.reason (subject_of text) meant) (remedy_of refusal.reason (subject_of text)) text
+abbrev pub data_of : List ℕ → Rejection → List ℕ → Option (List ℕ) → Option Pointer → Data
+data_of file refusal text meant pointed =
+    data_with pointed (code_of refusal.reason) file refusal.line (message_of refusal.reason (subject_of text) meant) (remedy_of refusal.reason (subject_of text)) text
 
 -- its line of JSON, of the file's line of the refusal's number
-abbrev pub json_line : List ℕ → Rejection → List ℕ → Option (List ℕ) → List ℕ
-json_line file refusal line meant = written_line (data_of file refusal (line_about refusal.line line) meant)
+abbrev pub json_line : List ℕ → Rejection → List ℕ → Option (List ℕ) → Option Pointer → List ℕ
+json_line file refusal line meant pointed = written_line (data_of file refusal (line_about refusal.line line) meant pointed)
 
 -- a refusal that is about no line but about a place in the file, by its parts
 unfoldable pub place_data : List ℕ → List ℕ → List ℕ → List ℕ → List ℕ → Data

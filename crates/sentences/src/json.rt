@@ -4,7 +4,8 @@ ghost use Rattle.std.specs.String.{string_bytes};
 ghost use Rattle.serde_json.specs.View.{view};
 ghost use Rattle.serde_json.specs.Written.{has_float};
 ghost use Rattle.plain.specs.Codes.{code_text};
-ghost use Rattle.sentences.specs.Json.{code_of, data_of, json_line, line_about, message_of, place_data, place_line, refusal_data, remedy_of, written_line};
+ghost use Rattle.sentences.specs.Json.{code_of, data_of, json_line, line_about, message_of, place_data, place_line, pointed_data, refusal_data, remedy_of, data_with, written_line};
+ghost use Rattle.sentences.specs.Showing.{lent};
 ghost use Rattle.sentences.specs.Subject.{subject_of};
 ghost use Rattle.sentences.specs.Table.{remedy, sentence};
 
@@ -77,6 +78,47 @@ fn refusal_value(
     json!(in alloc; {"code": code, "file": file, "line": line, "message": message, "remedy": helps, "text": text})
 }
 
+/// The same of a refusal that is about a word of its line, which begins in this column.
+#[tactic(auto, unfolding(crate::specs::Json::pointed_data))]
+fn pointed_value(
+    alloc: Global,
+    column: usize,
+    word: &str,
+    code: String,
+    file: &str,
+    line: u32,
+    message: String,
+    helps: &str,
+    text: &str,
+) -> Result<Value, AllocError>
+    ensures { IfOk result (λ v. view v ≡ pointed_data (column, word.now) (string_bytes code) file.now line (string_bytes message) helps.now text.now) }
+{
+    let line = u64::from(line);
+    let column = column as u64;
+    json!(in alloc; {"code": code, "column": column, "file": file, "line": line, "message": message, "remedy": helps, "text": text, "word": word})
+}
+
+/// A refusal as JSON, by its parts, with the word that it is about, if there is one.
+fn value_with(
+    alloc: Global,
+    pointed: Option<(usize, &str)>,
+    code: String,
+    file: &str,
+    line: u32,
+    message: String,
+    helps: &str,
+    text: &str,
+) -> Result<Value, AllocError>
+    ensures { IfOk result (λ v. view v ≡ data_with (lent pointed.entry) (string_bytes code) file.now line (string_bytes message) helps.now text.now) }
+{
+    match pointed {
+        None => refusal_value(alloc, code, file, line, message, helps, text),
+        Some((column, word)) => pointed_value(
+            alloc, column, word, code, file, line, message, helps, text,
+        ),
+    }
+}
+
 /// A refusal of the file of this name that is about this text, as JSON.
 fn value_of(
     alloc: Global,
@@ -84,14 +126,24 @@ fn value_of(
     refusal: &Rejection,
     text: &str,
     meant: Option<&str>,
+    pointed: Option<(usize, &str)>,
 ) -> Result<Value, AllocError>
-    ensures { IfOk result (λ v. view v ≡ data_of file.now refusal.now text.now (option_copied meant.entry)) }
+    ensures { IfOk result (λ v. view v ≡ data_of file.now refusal.now text.now (option_copied meant.entry) (lent pointed.entry)) }
 {
     let subject = Subject::of_line(text);
     let code = code_of(alloc, &refusal.reason)?;
     let message = message_of(alloc, &refusal.reason, subject, meant)?;
     let helps = remedy_of(&refusal.reason, subject);
-    refusal_value(alloc, code, file, refusal.line, message, helps, text)
+    value_with(
+        alloc,
+        pointed,
+        code,
+        file,
+        refusal.line,
+        message,
+        helps,
+        text,
+    )
 }
 
 /// A value as a line of compact JSON, with the LF that ends it.
@@ -107,7 +159,8 @@ fn written_line(alloc: Global, value: Value) -> Result<String, Memory>
 
 /// What a program reads of a refusal of the file of this name, where `line` is the file's line of the refusal's number: one line of compact
 /// JSON, with the LF that ends it. Its keys are `code`, `file`, `line`, `message`, `remedy` and `text`, which is the line. By R21 the message
-/// ends with the text that the line is refused with, and by another code with the name that may have been `meant`, if there is one.
+/// ends with the text that the line is refused with, and by another code with the name that may have been `meant`, if there is one. If a word of the line
+/// is `pointed` at, which is given after its column, there are the keys `column` and `word` too.
 ///
 /// The text is empty if the refusal is about no line, having number 0.
 pub fn json_line(
@@ -116,11 +169,12 @@ pub fn json_line(
     refusal: &Rejection,
     line: &str,
     meant: Option<&str>,
+    pointed: Option<(usize, &str)>,
 ) -> Result<String, Memory>
-    ensures { IfOk result (λ text. string_bytes text ≡ json_line file.now refusal.now line.now (option_copied meant.entry)) }
+    ensures { IfOk result (λ text. string_bytes text ≡ json_line file.now refusal.now line.now (option_copied meant.entry) (lent pointed.entry)) }
 {
     let text = line_about(refusal.line, line);
-    let value = value_of(alloc, file, refusal, text, meant)?;
+    let value = value_of(alloc, file, refusal, text, meant, pointed)?;
     written_line(alloc, value)
 }
 

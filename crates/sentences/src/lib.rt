@@ -9,9 +9,11 @@
 // `shown_missing` names it, and `shown_left_out` the line of the ignore file that leaves it out.
 //
 // ```
-// shown(alloc, "Dockerfile", &Rejection::of(Refusal { code: Code::R16, line: 9 }), "COPY --chown=node:node a b")?
-// // Dockerfile:9: R16: the owner and the mode have to be numbers
+// let refusal = Rejection::of(Refusal { code: Code::R16, line: 9 });
+// shown(alloc, "Dockerfile", &refusal, "COPY --chown=node:node a b", None, Some((6, "     ^^^^^^^^^^^^^^^^^")))?
+// // Dockerfile:9:6: R16: the owner and the mode have to be numbers
 // //     9 | COPY --chown=node:node a b
+// //       |      ^^^^^^^^^^^^^^^^^
 // //       | write --chown=1000:1000 and --chmod=644 (names would need the image's /etc/passwd)
 // ```
 #![tactic(auto)]

@@ -3,7 +3,7 @@ use Rattle.std.specs.List.{flat_map}
 use Rattle.std.proofs.lemmas.Iterator.{YieldsList-from_chars}
 use Rattle.std.proofs.lemmas.Iterator.Consumers.{YieldsList-end}
 use Rattle.std.proofs.lemmas.List.{flat_map_more}
-use Rattle.checks.specs.Shown.{visible_char}
+use Rattle.checks.specs.Visible.{visible_char}
 use Rattle.checks.proofs.visible.visible.Goals as goal
 
 pub loop-character-preserved : goal.loop-character-preserved

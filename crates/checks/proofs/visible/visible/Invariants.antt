@@ -1,6 +1,6 @@
 use Rattle.std.proofs.Common.{◌≡◌, string_bytes}
 use Rattle.std.specs.List.{flat_map}
-use Rattle.checks.specs.Shown.{visible_char}
+use Rattle.checks.specs.Visible.{visible_char}
 use Rattle.checks.proofs.visible.visible.Given as goal
 
 -- the characters so far are shown

@@ -1,6 +1,6 @@
 use Rattle.std.proofs.Common.{◌≡◌, ◌++◌, drop, map}
-use Rattle.checks.specs.Meant.{stages_in}
-use Rattle.checks.proofs.meant.stages_in.Given as goal
+use Rattle.checks.specs.Begun.{stages_in}
+use Rattle.checks.proofs.begun.stages_in.Given as goal
 
 abbrev pub invariant-loop-line : goal.invariant-loop-line
 invariant-loop-line l =

@@ -1,0 +1,8 @@
+use Rattle.std.proofs.Common.{◌≡◌, string_bytes}
+use Rattle.std.specs.List.{flat_map}
+use Rattle.checks.specs.Mark.{caret_under}
+use Rattle.checks.proofs.mark.carets_under.Given as goal
+
+-- what stands under the characters so far
+abbrev pub invariant-loop-character : goal.invariant-loop-character
+invariant-loop-character l = string_bytes l.mark ≡ flat_map caret_under l.yielded

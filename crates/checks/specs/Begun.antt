@@ -1,0 +1,24 @@
+-- The stages that the lines of a file begin, by the lines as they stand (Dockerfile reference, FROM).
+use Rattle.std.specs.Prelude.{◌&&◌, ℕ, Bool, List, [], ◌∷◌, Option, Some, None, codes, if◌then◌else◌}
+use Rattle.std.specs.List.{cons_option, filter_map, list_any}
+use Rattle.std.specs.Str.{str_eq_ignore_ascii_case}
+use Rattle.ascii.specs.Pieces.{first_piece, behind_piece}
+
+-- a line begins a stage: its first word is FROM, in any case
+abbrev pub begins_stage : List ℕ → Bool
+begins_stage line = str_eq_ignore_ascii_case (first_piece line) (codes "from")
+
+-- the name that a line gives to a stage: that of `FROM image AS name`, in any case of FROM and AS
+abbrev pub stage_in : List ℕ → Option (List ℕ)
+stage_in line =
+    if str_eq_ignore_ascii_case (first_piece line) (codes "from") && str_eq_ignore_ascii_case (first_piece (behind_piece (behind_piece line))) (codes "as")
+    then Some (first_piece (behind_piece (behind_piece (behind_piece line)))) else None
+
+-- the names that the lines of a file give to stages
+abbrev pub stages_in : List (List ℕ) → List (List ℕ)
+stages_in lines = filter_map stage_in lines
+
+-- the names of those stages that end on these lines: another one begins on a later of them
+abbrev pub ended_stages : List (List ℕ) → List (List ℕ)
+ended_stages [] = []
+ended_stages (line ∷ lines) = if list_any begins_stage lines then cons_option (stage_in line) (ended_stages lines) else []

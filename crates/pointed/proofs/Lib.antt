@@ -1,0 +1,5 @@
+mod FirstFacts
+mod FlagLaws
+mod PointedLaws
+mod SpotFacts
+mod WordFacts

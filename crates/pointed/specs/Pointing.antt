@@ -1,0 +1,38 @@
+-- Which word of a line a fault is about, as far as the line alone tells: it is the first one of its instruction (own).
+use Rattle.std.specs.Prelude.{◌||◌, ℕ, Bool, true, false, List, Option, option_and_then, if◌then◌else◌}
+use Rattle.plain.specs.declared.refusal.Code.{Code}
+use Rattle.plain.specs.declared.refusal.Code.TheVariants.{R04, R07}
+use Rattle.ascii.specs.Blanks.{after_blanks}
+use Rattle.ascii.specs.Pieces.{behind_piece, pieces}
+use Rattle.words.specs.Flag.{behind_pieces}
+use Rattle.sentences.specs.Subject.{subject_of}
+use Rattle.sentences.specs.declared.subject.Subject.{Subject}
+use Rattle.sentences.specs.declared.subject.Subject.TheVariants.{Run, Copy}
+use Rattle.pointed.specs.Flag.{flag_number}
+use Rattle.pointed.specs.Spot.{Spot, spot_at}
+use Rattle.pointed.specs.Word.{word_number}
+
+-- R07 is about a flag
+abbrev pub is_of_flag : Code → Bool
+is_of_flag R07 = true
+is_of_flag code = false
+
+-- of COPY and RUN each code that is about a word is about a flag
+abbrev pub has_flags : Subject → Bool
+has_flags Copy = true
+has_flags Run = true
+has_flags subject = false
+
+-- the number of the word that a code is about, among those of the text after an instruction's name
+abbrev pub number_of : Code → Subject → List ℕ → Option ℕ
+number_of code subject text =
+    if is_of_flag code || has_flags subject then flag_number code subject text else word_number code subject (pieces text)
+
+-- the word of this number among those after the name of a line's instruction
+abbrev pub spot_after : List ℕ → ℕ → Option Spot
+spot_after line number = spot_at line (behind_pieces number (behind_piece line))
+
+-- The word of a line that a refusal by this code is about. By R04 it is the name of the instruction.
+unfoldable pub pointed : Code → List ℕ → Option Spot
+pointed R04 line = spot_at line (after_blanks line)
+pointed code line = option_and_then (spot_after line) (number_of code (subject_of line) (behind_piece line))

@@ -1,0 +1,6 @@
+-- What is left of a line.
+use Rattle.std.specs.Prelude.{◌≡◌, ◌++◌, ℕ, List}
+
+-- a line ends with this
+abbrev pub IsLeft : List ℕ → List ℕ → Type 0
+IsLeft line left = (front : List ℕ) × (line ≡ front ++ left)

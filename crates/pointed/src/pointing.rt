@@ -1,0 +1,100 @@
+ghost use Rattle.std.specs.Prelude.{◌≡◌, option_map, option_and_then, IfOk};
+ghost use Rattle.ascii.specs.Blanks.{after_blanks};
+ghost use Rattle.pointed.specs.Pointing.{is_of_flag, has_flags, number_of, spot_after, pointed};
+ghost use Rattle.pointed.specs.Spot.{spot, spot_at};
+
+use crate::flag::flag_number;
+use crate::spot::{Pointed, after_pieces, spot_at};
+use crate::word::word_number;
+use ascii::{after_blanks, first_piece, split_at_blanks};
+use plain::{Code, Memory};
+use sentences::Subject;
+use std::alloc::Global;
+
+/// Whether a code is about a flag.
+fn is_of_flag(code: Code) -> bool
+    ensures { result ≡ is_of_flag code }
+{
+    match code {
+        Code::R07 => true,
+        _ => false,
+    }
+}
+
+/// Whether the codes that are about words of an instruction are about flags.
+fn has_flags(subject: Subject) -> bool
+    ensures { result ≡ has_flags subject }
+{
+    match subject {
+        Subject::Copy => true,
+        Subject::Run => true,
+        _ => false,
+    }
+}
+
+/// The number of the word that a code is about, among those of the text after an instruction's name.
+fn number_of(
+    alloc: Global,
+    code: Code,
+    subject: Subject,
+    text: &str,
+) -> Result<Option<usize>, Memory>
+    ensures { IfOk result (λ number. number ≡ number_of code subject text.now) }
+{
+    if is_of_flag(code) || has_flags(subject) {
+        return flag_number(alloc, code, subject, text);
+    }
+    let pieces = split_at_blanks(alloc, text)?;
+    Ok(word_number(code, subject, pieces.as_slice()))
+}
+
+/// The word of this number among those after the name of a line's instruction.
+fn spot_after(line: &str, number: usize) -> Option<Pointed<'_>>
+    ensures { option_map spot result ≡ spot_after line.now number }
+{
+    let (_, text) = first_piece(line);
+    spot_at(line, after_pieces(text, number))
+}
+
+/// The same, if there is such a number.
+fn spot_if(line: &str, number: Option<usize>) -> Option<Pointed<'_>>
+    ensures { option_map spot result ≡ option_and_then (spot_after line.now) number }
+{
+    match number {
+        Some(number) => spot_after(line, number),
+        None => None,
+    }
+}
+
+/// The name of a line's instruction.
+fn name_of(line: &str) -> Option<Pointed<'_>>
+    ensures { option_map spot result ≡ spot_at line.now (after_blanks line.now) }
+{
+    spot_at(line, after_blanks(line))
+}
+
+/// The word of a line that a refusal by this code is about, where the line is the first one of its instruction.
+///
+/// By R04 it is the first word. By R07 it is the first flag that the instruction doesn't take, or that stands there for the second time. By R10 and R11 it
+/// is the name after AS of a FROM, and the first bad name of an ARG or an ENV. By R12 it is the image of a FROM, the flag `--from` of a COPY, and the flag
+/// of a RUN that has one alone. By R16 it is the first flag of a COPY whose owner or mode is none, and the first word of an EXPOSE without a `$` that is no
+/// port, or the only one. By R17 it is the first flag of a RUN that is no mount.
+///
+/// None is if there is no such word on the line, if it may go on in the next line, or if it stands after a quote or an escape character and is no flag.
+#[tactic(auto, unfolding(crate::specs::Pointing::pointed))]
+pub fn pointed<'a>(
+    alloc: Global,
+    code: Code,
+    line: &'a str,
+) -> Result<Option<Pointed<'a>>, Memory>
+    ensures { IfOk result (λ found. option_map spot found ≡ pointed code line.now) }
+{
+    match code {
+        Code::R04 => Ok(name_of(line)),
+        _ => {
+            let (_, text) = first_piece(line);
+            let number = number_of(alloc, code, Subject::of_line(line), text)?;
+            Ok(spot_if(line, number))
+        }
+    }
+}
