@@ -17,7 +17,7 @@ use Rattle.expand.specs.declared.reason.Rejection.{Rejection}
 use Rattle.flaws.specs.Looks.{keys_of}
 use Rattle.flaws.specs.declared.flaw.Flaw.{Flaw}
 use Rattle.checks.specs.Images.{names_of, names_in, bytes_names}
-use Rattle.checks.specs.Meant.{meant_by}
+use Rattle.meant.specs.Meant.{meant_by}
 use Rattle.checks.specs.PrivateImages.{unread, needs_images, AreShownAlike}
 use Rattle.checks.specs.Shown.{line_at, shown_with, shown_fault, shown_faults, shown_check}
 use Rattle.checks.specs.declared.form.Form.{Form}

@@ -13,7 +13,7 @@ use Rattle.sentences.specs.Showing.{Pointer, shown, shown_place}
 use Rattle.pointed.specs.Spot.{Spot}
 use Rattle.flaws.specs.Places.{place_text}
 use Rattle.checks.specs.Mark.{marked, named, spot_by}
-use Rattle.checks.specs.Meant.{meant_by}
+use Rattle.meant.specs.Meant.{meant_by}
 use Rattle.checks.specs.Visible.{visible}
 use Rattle.flaws.specs.declared.flaw.Flaw.{Flaw}
 use Rattle.checks.specs.declared.form.Form.{Form}

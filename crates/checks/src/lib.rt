@@ -9,7 +9,7 @@
 // and shows bytes that are no bundle with where they are wrong, which `flaws` finds.
 //
 // Of an instruction that isn't known, of a stage or an image that isn't there, and of a target that is no stage, the name is shown that may have been
-// meant, which `nearest` finds. A name that a line takes a stage or an image by is looked for on the line as it stands.
+// meant, which `meant` finds.
 // If the line tells which of its words a fault is about, which `pointed` finds, the word's column is shown, and for a person a mark under it.
 //
 // `shown_failure` shows an instruction that a build failed at in the same form. Of a COPY that misses a source `shown_missing` names it, and
@@ -27,7 +27,6 @@
 // ```
 #![tactic(auto)]
 
-mod begun;
 mod checked;
 mod checking;
 mod failing;
@@ -35,9 +34,7 @@ mod form;
 mod images;
 pub mod laws;
 mod mark;
-mod meant;
 mod showing;
-mod sources;
 mod visible;
 
 pub use checked::{Checked, check};

@@ -1,7 +1,0 @@
-use Rattle.std.proofs.Common.{◌≡◌, drop, map}
-use Rattle.checks.specs.Sources.{is_stage}
-use Rattle.checks.proofs.sources.is_stage.Given as goal
-
--- the stages that are left decide
-abbrev pub invariant-loop-stage : goal.invariant-loop-stage
-invariant-loop-stage l = is_stage (map (λ stage. stage.now) (drop l.stage-index l.stages)) l.name ≡ is_stage (map (λ stage. stage.now) l.stages) l.name

@@ -1,0 +1,50 @@
+-- Which name may have been meant by one that there isn't (own).
+use Rattle.std.specs.Prelude.{◌&&◌, ◌++◌, ◌==◌, ℕ, Bool, true, false, List, Option, None, length, map, nat_le, take, if◌then◌else◌}
+use Rattle.std.specs.List.{before_first, find}
+use Rattle.std.specs.Option.{option_and_then}
+use Rattle.plain.specs.declared.refusal.Code.TheVariants.{R04, R12, R13}
+use Rattle.ascii.specs.Pieces.{first_piece}
+use Rattle.nearest.specs.Nearness.{nearest}
+use Rattle.instructions.specs.Keyword.{keywords, name_of}
+use Rattle.expand.specs.declared.reason.Reason.{Reason}
+use Rattle.expand.specs.declared.reason.Reason.TheVariants.{Coded, Required}
+use Rattle.meant.specs.Begun.{stages_in, ended_stages}
+use Rattle.meant.specs.Sources.{sources_in, is_astray}
+
+-- the stage or the image that may have been meant on a line after these stages: by the first name on it that leads to none of them
+abbrev pub meant_after : List (List ℕ) → List (List ℕ) → List ℕ → Option (List ℕ)
+meant_after stages images line = option_and_then (λ name. nearest name (stages ++ images)) (find (is_astray stages images) (sources_in line))
+
+-- so few images and lines that a name on each line may be compared with all others: 64 and 512 at most
+abbrev pub are_few : ℕ → ℕ → Bool
+are_few images lines = nat_le images 64 && nat_le lines 512
+
+-- the stage or the image that may have been meant on the line of this number of a file: one of the stages that end above it, or one of these images
+unfoldable pub meant_source : List (List ℕ) → List (List ℕ) → ℕ → List ℕ → Option (List ℕ)
+meant_source images lines number line =
+    if are_few (length images) (length lines) then meant_after (ended_stages (take number lines)) images line else None
+
+-- a word up to a backslash or a backtick, of which one may be the file's escape character: by that the word goes on in the next line (Dockerfile
+-- reference, `escape`)
+abbrev pub before_escape : List ℕ → List ℕ
+before_escape word = before_first (λ c. c == 96) (before_first (λ c. c == 92) word)
+
+-- the instruction that may have been meant on a line: by its first word, as far as that stands on it
+abbrev pub meant_keyword : List ℕ → Option (List ℕ)
+meant_keyword line = nearest (before_escape (first_piece line)) (map name_of keywords)
+
+-- the name that may have been meant in a line that is refused, of a file with these lines: of an instruction that isn't known, one that is; of a stage
+-- or an image that isn't there, one that is; of a target that isn't a stage, one of the stages. Of all else none is said
+abbrev pub meant_by : Option (List ℕ) → List (List ℕ) → List (List ℕ) → Reason → ℕ → List ℕ → Option (List ℕ)
+meant_by target images lines (Coded R04) number line = meant_keyword line
+meant_by target images lines (Coded R12) number line = meant_source images lines number line
+meant_by target images lines (Coded R13) number line = option_and_then (λ name. nearest name (stages_in lines)) target
+meant_by target images lines (Coded code) number line = None
+meant_by target images lines (Required text) number line = None
+
+-- the lines of the file are looked at for it
+abbrev pub needs_lines : Reason → Bool
+needs_lines (Coded R12) = true
+needs_lines (Coded R13) = true
+needs_lines (Coded code) = false
+needs_lines (Required text) = false
