@@ -1,5 +1,5 @@
 -- What rows and names are, once one more is put.
-use Rattle.std.specs.Prelude.{◌≡◌, ◌||◌, ℕ, Bool, true, false, cond, not, List, [], ◌∷◌, ◌++◌, map, bytes_eq, Option, None}
+use Rattle.std.specs.Prelude.{◌≡◌, ◌||◌, ℕ, Bool, true, false, cond, not, List, [], ◌∷◌, ◌++◌, bytes_eq, Option, None}
 use Rattle.std.proofs.Common.{sym, ap, refl, ◌∙◌, true≢false, Result, Ok, Err, OnOk}
 use Rattle.std.specs.List.{list_any}
 use Rattle.plain.specs.declared.memory.Memory.{Memory}

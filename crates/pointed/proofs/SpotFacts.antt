@@ -1,5 +1,5 @@
 -- What is left of a line after some pieces.
-use Rattle.std.proofs.Common.{◌≡◌, ◌<◌, ◌-◌, ◌+◌, ◌++◌, ◌∙◌, ℕ, zero, suc, Bool, true, false, List, [], ◌∷◌, length, refl, sym, ap, subst, arith, append_assoc, if◌then◌else◌}
+use Rattle.std.proofs.Common.{◌≡◌, ◌<◌, ◌-◌, ◌++◌, ◌∙◌, ℕ, zero, suc, Bool, true, false, List, [], ◌∷◌, length, refl, sym, ap, arith, append_assoc, if◌then◌else◌}
 use Rattle.ascii.specs.Blanks.{is_blank, after_blanks}
 use Rattle.ascii.specs.Pieces.{from_blank, first_piece, behind_piece, is_filled}
 use Rattle.words.specs.Flag.{behind_pieces}

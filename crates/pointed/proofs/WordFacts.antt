@@ -1,5 +1,5 @@
 -- The pieces of a text that are words, up to the first one that may be a part of a word.
-use Rattle.std.proofs.Common.{◌≡◌, ◌<◌, ◌≤◌, ◌+◌, ◌++◌, ◌∙◌, ℕ, Bool, true, false, List, [], ◌∷◌, cond, length, get_or, take, drop, refl, sym, ap, append-nil, append_assoc}
+use Rattle.std.proofs.Common.{◌≡◌, ◌<◌, ◌≤◌, ◌+◌, ◌++◌, ◌∙◌, ℕ, Bool, true, false, List, [], ◌∷◌, cond, length, get_or, take, drop, sym, ap, append-nil, append_assoc}
 use Rattle.std.specs.List.{take_while}
 use Rattle.std.proofs.lemmas.List.{at_drop_more, at_drop_all, take_more}
 use Rattle.std.proofs.lemmas.List.Sums.{take_while-cons}

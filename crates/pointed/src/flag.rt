@@ -85,12 +85,7 @@ fn only_flag(flags: &[Flag], rest: &str) -> Option<usize>
 }
 
 /// The number of the flag of a RUN that a code is about.
-fn run_flag(
-    alloc: Global,
-    code: Code,
-    flags: &[Flag],
-    rest: &str,
-) -> Result<Option<usize>, Memory>
+fn run_flag(alloc: Global, code: Code, flags: &[Flag], rest: &str) -> Result<Option<usize>, Memory>
     ensures { IfOk result (λ number. number ≡ run_flag code flags.now rest.now) }
 {
     match code {

@@ -80,13 +80,9 @@ fn name_of(line: &str) -> Option<Pointed<'_>>
 /// of a RUN that has one alone. By R16 it is the first flag of a COPY whose owner or mode is none, and the first word of an EXPOSE without a `$` that is no
 /// port, or the only one. By R17 it is the first flag of a RUN that is no mount.
 ///
-/// None is if there is no such word on the line, if it may go on in the next line, or if it stands after a quote or an escape character and is no flag.
+/// There is none if the line has no such word, if the word may go on in the next line, or if it stands after a quote or an escape character and is no flag.
 #[tactic(auto, unfolding(crate::specs::Pointing::pointed))]
-pub fn pointed<'a>(
-    alloc: Global,
-    code: Code,
-    line: &'a str,
-) -> Result<Option<Pointed<'a>>, Memory>
+pub fn pointed<'a>(alloc: Global, code: Code, line: &'a str) -> Result<Option<Pointed<'a>>, Memory>
     ensures { IfOk result (λ found. option_map spot found ≡ pointed code line.now) }
 {
     match code {

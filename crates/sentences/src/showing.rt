@@ -136,15 +136,7 @@ fn shown_coded(
         return shown_whole(alloc, file, code, meant);
     }
     let number = format!(in alloc; "{number}")?;
-    shown_line(
-        alloc,
-        file,
-        code,
-        number.as_str(),
-        line,
-        meant,
-        pointed,
-    )
+    shown_line(alloc, file, code, number.as_str(), line, meant, pointed)
 }
 
 /// What is shown of a refusal of the file of this name, where `line` is the file's line of the refusal's number: three lines, with the place,

@@ -1,4 +1,4 @@
-use Rattle.std.proofs.Common.{◌≡◌, ◌<◌, ◌∙◌, ◌+◌, ◌-◌, ℕ, Bool, true, false, List, [], ◌∷◌, None, length, get_or, take, drop, sym, ap, arith}
+use Rattle.std.proofs.Common.{◌≡◌, ◌<◌, ◌∙◌, ◌+◌, ◌-◌, ℕ, Bool, true, false, List, [], ◌∷◌, None, length, get_or, take, drop, sym, ap}
 use Rattle.plain.specs.declared.refusal.Code.{Code}
 use Rattle.words.specs.declared.flag.Flag.{Flag}
 use Rattle.sentences.specs.declared.subject.Subject.{Subject}

@@ -1,5 +1,4 @@
-use Rattle.std.proofs.Common.{◌≡◌, ◌∙◌, List, ℕ, sym, ap, subst}
-use Rattle.ascii.specs.Pieces.{behind_piece}
+use Rattle.std.proofs.Common.{◌∙◌, List, ℕ, sym, ap, subst}
 use Rattle.words.specs.Flag.{behind_pieces}
 use Rattle.pointed.specs.PrivateSpot.{IsLeft}
 use Rattle.pointed.proofs.SpotFacts.{named-left}

@@ -1,4 +1,4 @@
-use Rattle.std.proofs.Common.{◌≡◌, ◌<◌, ◌≤◌, ◌-◌, ◌∙◌, ℕ, true, false, List, [], Bor, length, get_or, map, take, sym, ap, arith}
+use Rattle.std.proofs.Common.{◌≡◌, ◌<◌, ◌≤◌, ◌∙◌, ℕ, true, false, List, [], Bor, length, get_or, map, take, sym, ap, arith}
 use Rattle.std.proofs.lemmas.List.{get_or-map, length-map, take-map, take_all}
 use Rattle.pointed.specs.Word.{is_plain, plain_words}
 use Rattle.pointed.proofs.WordFacts.{IsFront, front-more, front-ends, front-all}
