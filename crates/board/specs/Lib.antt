@@ -6,6 +6,7 @@ pub mod Legal
 pub mod Claim
 pub mod Clearing
 pub mod Board
+pub mod Leaving
 pub mod PrivateClaim
 pub mod PrivateShelf
 pub mod PrivateNumbers

@@ -11,6 +11,7 @@ ghost use Rattle.board.specs.Play.{Claim as Claiming, Settle as Settling, Abando
 ghost use Rattle.board.specs.Claim.{IsClaim, IsOut, IsResult, IsGivenBack};
 ghost use Rattle.board.specs.PrivateShelf.{AreInputIds};
 ghost use Rattle.board.specs.Clearing.{IsCleared};
+ghost use Rattle.board.specs.Leaving.{IsLent, IsLeftFor, GivesBackWhatIsLeft, AreLeftByRuns};
 ghost use Rattle.board.specs.Legal.{IsNextClaim};
 
 use crate::frontier::Frontier;
@@ -27,7 +28,8 @@ use std::marker::Model;
 use trees::{Tree, TreeOrCause};
 
 /// Which vertices of a job are settled and with what, which claims are out, and what the job's caches hold. The type keeps that all of it is
-/// the replay of the history: so whatever calls were made, the history is legal, and each vertex that is settled has its value.
+/// the replay of the history, and that each settle of it gave back what a run left: so whatever calls were made, the history is legal, each vertex that is settled
+/// has its value, and in each cache stands what was left in it.
 #[derive(Drop)]
 pub struct Board<'a, E: Executor, P: Place<TreeOrCause> = TreeOrCause> {
     job: Job<'a, E>,
@@ -48,6 +50,8 @@ pub struct Board<'a, E: Executor, P: Place<TreeOrCause> = TreeOrCause> {
 impl<'a, E: Executor, P: Place<TreeOrCause>> Model for Board<'a, E, P> {
     ghost use Rattle.std.specs.Prelude.{◌+◌, ◌≤◌, vec_len, vec_capacity};
     ghost use Rattle.board.specs.Board.{BoardValue, board_code, IsBoard};
+    ghost use Rattle.board.specs.Job.{job_problem};
+    ghost use Rattle.board.specs.Leaving.{GivesBackWhatIsLeft};
     ghost use Rattle.board.specs.PrivateFrontier.{IsFrontier};
 
     ghost Value = { BoardValue E };
@@ -69,7 +73,8 @@ impl<'a, E: Executor, P: Place<TreeOrCause>> Model for Board<'a, E, P> {
           run = record { history = b.history.items; state = record { settled = b.settled; claims = b.claims.items; holds = b.caches.holds } };
         })
         × (vec_len b.history + vec_len b.claims ≤ vec_capacity b.history)
-        × IsFrontier b.job.graph.vertices b.job.graph.places b.settled b.claims.items b.frontier };
+        × IsFrontier b.job.graph.vertices b.job.graph.places b.settled b.claims.items b.frontier
+        × GivesBackWhatIsLeft (E.leaves b.job.executor) (job_problem E.out b.job) b.first.items b.history.items };
 }
 
 /// The store, given back where there was no memory for its board.
@@ -118,6 +123,7 @@ impl<'a, E: Executor, P: Place<TreeOrCause>> Board<'a, E, P> {
         ensures out { IfOk result (λ claim. IfSome claim (IsOut self.new.run.state)) }
         ensures caches { IfOk result (λ claim. IfSome claim (λ c. c.caches
             ≡ map (tree_held self.old.contents) (new_holds worker self.old.run.state.holds (uses_at (board_problem E.out self.old) c.vertex)))) }
+        ensures lent { IfOk result (λ claim. IfSome claim (IsLent (board_problem E.out self.new) self.new.first self.new.run.history)) }
         ensures run { OnOk result (IsStep E.out (Claiming worker) self.old self.new) }
         ensures none { IfOk result (λ claim. IfNone claim (self.new ≡ self.old)) }
         ensures err { OnErr result (self.new ≡ self.old) }
@@ -140,8 +146,9 @@ impl<'a, E: Executor, P: Place<TreeOrCause>> Board<'a, E, P> {
     }
 
     /// Settles the vertex of a claim with its value, and gives trees back to the caches that the vertex uses, in the order of its uses. The claim
-    /// has to be out (`is_out` tests that), the value has to be the result of its vertex's operation on its inputs, and the trees have to be as
-    /// many as the vertex has uses: a run answers such (`solver::run`). After want of memory all three come back, and the board is as it was.
+    /// has to be out (`is_out` tests that), with the trees that it was lent, as `claim` gives it; the value has to be the result of its vertex's
+    /// operation on its inputs; and the trees have to be those that the vertex's run left of what the claim was lent, one for each use: a run
+    /// answers such (`solver::run`). After want of memory all three come back, and the board is as it was.
     pub fn settle(
         &mut self,
         alloc: Global,
@@ -153,6 +160,8 @@ impl<'a, E: Executor, P: Place<TreeOrCause>> Board<'a, E, P> {
         requires of { IsClaim (board_problem E.out self.old) claim }
         requires value { IsResult (board_problem E.out self.old) claim (P.stands value) }
         requires given { IsGivenBack (board_problem E.out self.old) claim given.items }
+        requires lent { IsLent (board_problem E.out self.old) self.old.first self.old.run.history claim }
+        requires left { IsLeftFor (E.leaves self.old.job.executor) (board_problem E.out self.old) claim given.items }
         ensures run { OnOk result (IsStep E.out (Settling claim.worker given.items) self.old self.new) }
         ensures value { OnOk result (slice_get self.new.run.state.settled claim.vertex ≡ Some (Some (P.stands value))) }
         ensures nearer { OnOk result (unsettled_count self.new.run.state.settled < unsettled_count self.old.run.state.settled) }
@@ -221,12 +230,13 @@ impl<'a, E: Executor, P: Place<TreeOrCause>> Board<'a, E, P> {
     }
 
     /// What has happened, in order. What the board holds is the replay of it, and the contents of its caches are those that it left of the
-    /// contents at the start.
+    /// contents at the start. Each of its settles gave back what the run of its vertex left of what it was lent.
     pub fn history(&self) -> &[Happened]
         ensures value { result.now ≡ self.now.run.history }
         ensures replay { IsReplay (board_problem E.out self.now) self.now.run }
         ensures problem { IsProblem (board_problem E.out self.now) }
         ensures contents { AreContents (board_problem E.out self.now) self.now.run.history self.now.first self.now.contents }
+        ensures given { GivesBackWhatIsLeft (E.leaves self.now.job.executor) (board_problem E.out self.now) self.now.first self.now.run.history }
     {
         self.history.as_slice()
     }
@@ -259,7 +269,8 @@ impl<'a, E: Executor, P: Place<TreeOrCause>> Board<'a, E, P> {
 
     /// Ends the board, and gives its history.
     pub fn into_history(self) -> Vec<Happened>
-        ensures { result.items ≡ self.entry.run.history }
+        ensures value { result.items ≡ self.entry.run.history }
+        ensures given { GivesBackWhatIsLeft (E.leaves self.entry.job.executor) (board_problem E.out self.entry) self.entry.first result.items }
     {
         let Board {
             job: _,
@@ -273,12 +284,14 @@ impl<'a, E: Executor, P: Place<TreeOrCause>> Board<'a, E, P> {
         history
     }
 
-    /// Ends the board, and gives its store: the contents are those that the history left. Where no claim is out, no lease is.
+    /// Ends the board, and gives its store: the contents are those that the history left, so those that runs left. Where no claim is out, no
+    /// lease is.
     pub fn into_caches(self) -> CacheStore
         ensures value { result ≡ record { contents = self.entry.contents; holds = self.entry.run.state.holds } }
         ensures idle { self.entry.run.state.claims ≡ [] → result.holds ≡ [] }
         ensures contents { AreContents (board_problem E.out self.entry) self.entry.run.history self.entry.first self.entry.contents }
         ensures left { AreLeft (board_problem E.out self.entry) self.entry.first result.contents }
+        ensures runs { AreLeftByRuns (E.leaves self.entry.job.executor) (board_problem E.out self.entry) self.entry.first result.contents }
     {
         let Board {
             job: _,
@@ -335,6 +348,7 @@ impl<'a, E: Executor, P: Place<TreeOrCause>> Board<'a, E, P> {
         ensures out { IfOk result (IsOut self.new.run.state) }
         ensures caches { IfOk result (λ claim. claim.caches
             ≡ map (tree_held self.old.contents) (new_holds worker self.old.run.state.holds (uses_at (board_problem E.out self.old) claim.vertex))) }
+        ensures lent { IfOk result (IsLent (board_problem E.out self.new) self.new.first self.new.run.history) }
         ensures run { OnOk result (IsStep E.out (Claiming worker) self.old self.new) }
         ensures err { OnErr result (self.new ≡ self.old) }
     {

@@ -1,7 +1,9 @@
 // What holds of every board, for all lists of events: laws about the definitions alone, each the contract of one function with an empty body. A board is
 // a problem and what has happened on it, and `IsReplay` is what `Board`'s type keeps of the two.
-ghost use Rattle.std.specs.Prelude.{◌≡◌, ◌≢◌, ◌<◌, ◌≤◌, ℕ, true, List, [], length, Some, None, map};
+ghost use Rattle.std.specs.Prelude.{◌≡◌, ◌≢◌, ◌⊎◌, ◌<◌, ◌≤◌, ℕ, true, List, [], length, Option, Some, None, map};
 ghost use Rattle.cachemounts.specs.Holds.{is_lawful};
+ghost use Rattle.cachemounts.specs.Content.{tree_in};
+ghost use Rattle.cachemounts.specs.declared.content.Content.{Content};
 ghost use Rattle.plans.specs.Plan.{Problem, IsValue, NeedsAll, line_at, HasLinesInOrder};
 ghost use Rattle.board.specs.Problem.{IsProblem};
 ghost use Rattle.trees.specs.Cause.{TreeOrCause};
@@ -9,7 +11,10 @@ ghost use Rattle.board.specs.Play.{Run, Step, worker_of, go, play, value_at, cla
 ghost use Rattle.board.specs.Claim.{ClaimValue, IsOut, IsStateOf};
 ghost use Rattle.board.specs.declared.event.Event.{Event};
 ghost use Rattle.board.specs.declared.event.Happened.{Happened};
+ghost use Rattle.board.specs.Leaving.{AreLeftByRuns, IsLeftIn};
 ghost use Rattle.board.specs.Legal.{without_trees, vertex_out, IsSettled, HasTree, HasCause, IsReady, IsNextClaim, IsLegal, Plays, StepsOn, IsSettledOnce};
+
+use executor::Executor;
 
 /// In every board the history is legal: each event was possible after those before it.
 pub fn history_is_legal()
@@ -28,6 +33,13 @@ pub fn state_is_the_history()
 pub fn no_two_caches_clash()
     ensures { (problem : Problem) (run : Run) → IsProblem problem → IsReplay problem run
         → is_lawful run.state.holds ≡ true }
+{}
+
+/// What a run left in a cache is what stands in it: each content that some legal history leaves, whose settles give back what runs left, is what it was
+/// at the start, or what the run of a vertex that uses this very cache left in it.
+pub fn a_cache_holds_what_a_run_left_in_it<E: Executor>()
+    ensures { (executor : E) (problem : Problem) (first contents : List Content) → IsProblem problem → AreLeftByRuns (E.leaves executor) problem first contents
+        → (id : List ℕ) (slot : Option ℕ) → (tree_in contents id slot ≡ tree_in first id slot) ⊎ IsLeftIn (E.leaves executor) problem id (tree_in contents id slot) }
 {}
 
 /// A claim that has ended is out no more, whatever happens: also where its worker claims its vertex again.

@@ -6,7 +6,7 @@
 //
 // What may happen is said over histories alone (`specs/Legal.antt`, `Possible`), and the type of `Board` keeps that what it holds is the replay of its
 // history (`IsReplay`, `specs/Play.antt`). From these two the laws follow (`src/laws.rt`), for every list of events of any number of
-// workers: each settled value is the vertex's value, no vertex is settled twice, no two holds of caches clash, and a board is never stuck. If the target needs
+// workers: each settled value is the vertex's value, no vertex is settled twice, no two holds of caches clash, what stands in a cache is what a run left in it, and a board is never stuck. If the target needs
 // every vertex and lines are in order, a board on which nothing is left to do has the target's tree or the first failure. For that, a failure stops only the
 // vertices of its own line and of later ones.
 //

@@ -2,9 +2,11 @@
 use Rattle.std.specs.Prelude.{◌≡◌, ℕ, List, [], ◌∷◌, ◌++◌, map, Some, ◌⊎◌, slice_get}
 use Rattle.std.specs.List.{remove}
 use Rattle.plans.specs.Plan.{Problem}
+use Rattle.cachemounts.specs.declared.content.Content.{Content}
 use Rattle.board.specs.Claim.{ClaimValue, IsClaim, claim_out}
 use Rattle.board.specs.PrivateClaim.{AreApart}
 use Rattle.board.specs.Legal.{Possible, event_of}
+use Rattle.board.specs.Leaving.{IsLent}
 use Rattle.board.specs.declared.event.Event.{Event}
 use Rattle.board.specs.declared.event.Event.TheVariants as event
 use Rattle.board.specs.Play.{Step, Claim, Settle, Abandon}
@@ -21,6 +23,11 @@ pub record AreOut (problem : Problem) (claims : List ClaimOut) (out : List Claim
   pub all : claims ≡ map claim_out out
   pub each : AreClaims problem out
   pub apart : AreApart claims
+
+-- each of these claims has the trees that its worker was lent with it (own)
+abbrev pub AreLent : Problem → List Content → List Happened → List ClaimValue → Type 0
+AreLent problem first history [] = Unit {0}
+AreLent problem first history (claim ∷ claims) = IsLent problem first history claim × AreLent problem first history claims
 
 -- a worker's claim is at a position of a list (own)
 pub record IsAt (claims : List ClaimValue) (worker at : ℕ) : Type 0 where

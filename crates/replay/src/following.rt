@@ -2,10 +2,11 @@ ghost use Rattle.std.specs.Prelude.{◌≡◌, [], None, map, IfOk, IfSome, IfNo
 ghost use Rattle.plans.specs.Plan.{problem_of};
 ghost use Rattle.board.specs.Board.{board_problem};
 ghost use Rattle.board.specs.Claim.{claim_out};
+ghost use Rattle.board.specs.Leaving.{GivesBackWhatIsLeft};
 ghost use Rattle.board.specs.Legal.{Plays};
 ghost use Rattle.board.specs.Play.{claim_of};
 ghost use Rattle.board.specs.declared.event.Event.TheVariants.{Claim as Claiming, Settle as Settling, Abandon as Abandoning};
-ghost use Rattle.replay.specs.PrivateFollowing.{AreOut, IsAt, IsTaken, Applies};
+ghost use Rattle.replay.specs.PrivateFollowing.{AreOut, AreLent, IsAt, IsTaken, Applies};
 
 use board::{Board, Claim, Event, Happened, Job, NoBoard, Refused};
 use cachemounts::CacheStore;
@@ -17,14 +18,15 @@ use std::alloc::Global;
 use vertexrun::Ran;
 
 /// The history that a list of events leaves on a new board with an empty store: an event that isn't possible when its turn comes is skipped. A
-/// settle brings what the run of its claim gives.
+/// settle brings what the run of its claim gives, and gives back what it leaves of what the caches held when its vertex was claimed.
 pub fn follow<C, E: Executor>(
     alloc: Global,
     plan: &Plan<C>,
     executor: &E,
     events: &[Event],
 ) -> Result<Items<Happened>, Memory>
-    ensures { IfOk result (Plays (problem_of (E.out executor.now) plan.now) events.now) }
+    ensures plays { IfOk result (Plays (problem_of (E.out executor.now) plan.now) events.now) }
+    ensures given { IfOk result (GivesBackWhatIsLeft (E.leaves executor.now) (problem_of (E.out executor.now) plan.now) []) }
 {
     let job = Job::new(plan, executor);
     let mut board = match Board::new(alloc, job, CacheStore::new(alloc)) {
@@ -52,10 +54,13 @@ fn apply<E: Executor>(
     out: &mut Vec<Claim>,
     event: Event,
 ) -> Result<(), Memory>
-    requires { AreOut (board_problem E.out board.old) board.old.run.state.claims out.old.items }
+    requires out { AreOut (board_problem E.out board.old) board.old.run.state.claims out.old.items }
+    requires lent { AreLent (board_problem E.out board.old) board.old.first board.old.run.history out.old.items }
     ensures job { OnOk result (board.new.job ≡ board.old.job) }
+    ensures first { OnOk result (board.new.first ≡ board.old.first) }
     ensures applies { OnOk result (Applies (board_problem E.out board.old) event board.old.run.history board.new.run.history) }
     ensures out { OnOk result (AreOut (board_problem E.out board.old) board.new.run.state.claims out.new.items) }
+    ensures lent { OnOk result (AreLent (board_problem E.out board.old) board.new.first board.new.run.history out.new.items) }
 {
     match event {
         Event::Claim(worker) => claim_next(alloc, board, out, worker),
@@ -74,10 +79,13 @@ fn claim_next<E: Executor>(
     out: &mut Vec<Claim>,
     worker: u32,
 ) -> Result<(), Memory>
-    requires { AreOut (board_problem E.out board.old) board.old.run.state.claims out.old.items }
+    requires out { AreOut (board_problem E.out board.old) board.old.run.state.claims out.old.items }
+    requires lent { AreLent (board_problem E.out board.old) board.old.first board.old.run.history out.old.items }
     ensures job { OnOk result (board.new.job ≡ board.old.job) }
+    ensures first { OnOk result (board.new.first ≡ board.old.first) }
     ensures applies { OnOk result (Applies (board_problem E.out board.old) (Claiming worker) board.old.run.history board.new.run.history) }
     ensures out { OnOk result (AreOut (board_problem E.out board.old) board.new.run.state.claims out.new.items) }
+    ensures lent { OnOk result (AreLent (board_problem E.out board.old) board.new.first board.new.run.history out.new.items) }
 {
     growth::room(out, 1)?;
     let _known = board.history();
@@ -96,10 +104,13 @@ fn settle_claim<E: Executor>(
     out: &mut Vec<Claim>,
     worker: u32,
 ) -> Result<(), Memory>
-    requires { AreOut (board_problem E.out board.old) board.old.run.state.claims out.old.items }
+    requires out { AreOut (board_problem E.out board.old) board.old.run.state.claims out.old.items }
+    requires lent { AreLent (board_problem E.out board.old) board.old.first board.old.run.history out.old.items }
     ensures job { OnOk result (board.new.job ≡ board.old.job) }
+    ensures first { OnOk result (board.new.first ≡ board.old.first) }
     ensures applies { OnOk result (Applies (board_problem E.out board.old) (Settling worker) board.old.run.history board.new.run.history) }
     ensures out { OnOk result (AreOut (board_problem E.out board.old) board.new.run.state.claims out.new.items) }
+    ensures lent { OnOk result (AreLent (board_problem E.out board.old) board.new.first board.new.run.history out.new.items) }
 {
     let _known = board.history();
     let Some(claim) = take_claim(out, worker) else {
@@ -128,10 +139,13 @@ fn settle_claim<E: Executor>(
 
 /// An abandon by a worker, where it is possible.
 fn abandon_claim<E: Executor>(board: &mut Board<E>, out: &mut Vec<Claim>, worker: u32)
-    requires { AreOut (board_problem E.out board.old) board.old.run.state.claims out.old.items }
+    requires out { AreOut (board_problem E.out board.old) board.old.run.state.claims out.old.items }
+    requires lent { AreLent (board_problem E.out board.old) board.old.first board.old.run.history out.old.items }
     ensures job { board.new.job ≡ board.old.job }
+    ensures first { board.new.first ≡ board.old.first }
     ensures applies { Applies (board_problem E.out board.old) (Abandoning worker) board.old.run.history board.new.run.history }
     ensures out { AreOut (board_problem E.out board.old) board.new.run.state.claims out.new.items }
+    ensures lent { AreLent (board_problem E.out board.old) board.new.first board.new.run.history out.new.items }
 {
     let _known = board.history();
     let Some(claim) = take_claim(out, worker) else {

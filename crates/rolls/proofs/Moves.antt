@@ -6,7 +6,9 @@ use mathlib.Core.Option.{none, some, some-ne-none, some-injective}
 use lib.ListN.{get_elem?}
 use Rattle.atomic_table.specs.Table.{Me, step, keeps, Allows, Splits, Joins}
 use Rattle.atomic_table.proofs.Lists.{at_set, set_else}
+use Rattle.trees.specs.TreeMap.{TreeMap}
 use Rattle.rolls.specs.declared.note.Note.{Note}
+use Rattle.rolls.specs.declared.note.Told.{Told}
 use Rattle.rolls.specs.declared.rule.View.{View}
 use Rattle.rolls.proofs.RollLemmas.{of_worker-here, of_worker-other}
 use Rattle.rolls.specs.Rolls.{of_worker, nobody, opener, knower, giver, sitter, with_sitter, with_giver, Fits, Keeps, noted, Wrote, Learnt}
@@ -28,7 +30,7 @@ at_below [] b j e = absurd (some-ne-none b (sym e))
 at_below (x ∷ xs) b zero e = omega arith
 at_below (x ∷ xs) b (suc j) e = (let l = at_below xs b j e in omega arith)
 
-module _ (roll : List (ℕ × Note)) (keeper giving : ℕ) (place : ℕ → ℕ) (given : ℕ) where
+module _ (roll : List (ℕ × Told)) (keeper giving : ℕ) (place : ℕ → ℕ) (given : ℕ) where
   fits_nobody : (by : ℕ) → Fits roll keeper giving place given by nobody
   fits_nobody by = record { keeps = λ e. off e; gives = λ e. off e; sits = λ e. off e }
 
@@ -114,7 +116,7 @@ spares by v s k at = record {
 }
 
 -- the giver goes apart from the keeper
-pub parts : (by : ℕ) (all : List (ℕ × Note)) (given : ℕ) → Splits {S = Note} (λ s. Keeps s.views) by (handing all given) (knower all) (giver given)
+pub parts : (by : ℕ) (all : List (ℕ × Told)) (given : ℕ) → Splits {S = Note} (λ s. Keeps s.views) by (handing all given) (knower all) (giver given)
 parts by all given s k at =
     let mine = k.fits by (handing all given) at in record {
       roll = k.roll;
@@ -156,7 +158,7 @@ seats by given s k at =
     }
 
 -- a slip goes apart from the keeper
-pub cuts : (by : ℕ) (all : List (ℕ × Note)) (worker : ℕ) (mine : List Note) → Splits {S = Note} (λ s. Keeps s.views) by (seated all worker mine) (knower all) (sitter worker mine)
+pub cuts : (by : ℕ) (all : List (ℕ × Told)) (worker : ℕ) (mine : List Told) → Splits {S = Note} (λ s. Keeps s.views) by (seated all worker mine) (knower all) (sitter worker mine)
 cuts by all worker mine s k at =
     let known = k.fits by (seated all worker mine) at in
     let sits = known.sits refl in
@@ -182,7 +184,7 @@ cuts by all worker mine s k at =
     }
 
 -- a slip comes to the keeper
-pub joins : (by other : ℕ) (all : List (ℕ × Note)) (worker : ℕ) (mine : List Note) → Joins {S = Note} (λ s. Keeps s.views) by (knower all) other (sitter worker mine) (seated all worker mine) nobody
+pub joins : (by other : ℕ) (all : List (ℕ × Told)) (worker : ℕ) (mine : List Told) → Joins {S = Note} (λ s. Keeps s.views) by (knower all) other (sitter worker mine) (seated all worker mine) nobody
 joins by other all worker mine s k at apart there =
     let known = k.fits by (knower all) at in
     let beside = k.fits other (sitter worker mine) (sym (set_else s.views by other (seated all worker mine) apart) ∙ there) in
@@ -208,7 +210,7 @@ joins by other all worker mine s k at apart there =
     }
 
 -- the giver comes to the keeper
-pub meets : (by other : ℕ) (all : List (ℕ × Note)) (given : ℕ) → Joins {S = Note} (λ s. Keeps s.views) by (knower all) other (giver given) (handing all given) nobody
+pub meets : (by other : ℕ) (all : List (ℕ × Told)) (given : ℕ) → Joins {S = Note} (λ s. Keeps s.views) by (knower all) other (giver given) (handing all given) nobody
 meets by other all given s k at apart there =
     let known = k.fits by (knower all) at in
     let beside = k.fits other (giver given) (sym (set_else s.views by other (handing all given) apart) ∙ there) in
@@ -229,15 +231,16 @@ meets by other all given s k at apart there =
     }
 
 -- a note of the worker beside the keeper
-pub writes : (slots by : ℕ) (all : List (ℕ × Note)) (worker : ℕ) (mine : List Note) (note : Note) (f : ℕ → ℕ)
-    → Allows (λ s. Keeps s.views) slots by (seated all worker mine, []) 0 f (Wrote (step slots 0 0 0 (some note)) (seated all worker mine, []))
-writes slots by all worker mine note f s k homes at small =
+pub writes : (slots by : ℕ) (all : List (ℕ × Told)) (worker : ℕ) (mine : List Told) (note : Note) (lent : List TreeMap) (f : ℕ → ℕ)
+    → Allows (λ s. Keeps s.views) slots by (seated all worker mine, []) 0 f (Wrote lent (step slots 0 0 0 (some note)) (seated all worker mine, []))
+writes slots by all worker mine note lent f s k homes at small =
     let known = k.fits by (seated all worker mine) at in
     let sits = known.sits refl in
     let keeps_all = known.keeps refl in
-    let roll = k.roll ++ (worker, note) ∷ [] in
+    let told : Told = record { note = note; lent = lent } in
+    let roll = k.roll ++ (worker, told) ∷ [] in
     let agrees : mine ≡ of_worker worker all = sits.2 ∙ ap (of_worker worker) (sym keeps_all.1) in
-    let w = noted (seated all worker mine) note in (
+    let w = noted (seated all worker mine) told in (
       w,
       keeps,
       tt,
@@ -254,17 +257,17 @@ writes slots by all worker mine note f s k homes at small =
               sits = λ g. (
                 ((k.fits j u e).sits g).0,
                 ((k.fits j u e).sits g).1,
-                ((k.fits j u e).sits g).2 ∙ sym (of_worker-other k.roll worker u.worker note (λ n. apart (((k.fits j u e).sits g).0 ∙ (ap k.place (sym n) ∙ sym sits.0)))),
+                ((k.fits j u e).sits g).2 ∙ sym (of_worker-other k.roll worker u.worker told (λ n. apart (((k.fits j u e).sits g).0 ∙ (ap k.place (sym n) ∙ sym sits.0)))),
               );
             })
             (record {
-              keeps = λ _. (keeps_all.0, ap (λ l. l ++ (worker, note) ∷ []) keeps_all.1);
+              keeps = λ _. (keeps_all.0, ap (λ l. l ++ (worker, told) ∷ []) keeps_all.1);
               gives = λ g. off g;
-              sits = λ _. (sits.0, sits.1, ap (λ l. l ++ note ∷ []) sits.2 ∙ sym (of_worker-here k.roll worker note));
+              sits = λ _. (sits.0, sits.1, ap (λ l. l ++ told ∷ []) sits.2 ∙ sym (of_worker-here k.roll worker told));
             });
-        fresh = λ other l. of_worker-other k.roll worker other note (λ n. absurd (let t = sits.1 in omega (arith, n))) ∙ k.fresh other l;
+        fresh = λ other l. of_worker-other k.roll worker other told (λ n. absurd (let t = sits.1 in omega (arith, n))) ∙ k.fresh other l;
       },
-      (λ other said. (ap (λ n. (noted (seated all worker mine) n, [])) (some-injective note other said), agrees)),
+      (λ other said. (ap (λ n. (noted (seated all worker mine) (record { note = n; lent = lent }), [])) (some-injective note other said), agrees)),
     )
 
 -- the keeper looks at what is beside it
@@ -293,54 +296,54 @@ learns slots by v keeper s k homes at small =
     )
 
 -- the same, at a view that is known
-pub parts_as : (by : ℕ) (v : View) (all : List (ℕ × Note)) (given : ℕ) → v ≡ handing all given → Splits {S = Note} (λ s. Keeps s.views) by v (knower v.all) (giver v.given)
+pub parts_as : (by : ℕ) (v : View) (all : List (ℕ × Told)) (given : ℕ) → v ≡ handing all given → Splits {S = Note} (λ s. Keeps s.views) by v (knower v.all) (giver v.given)
 parts_as by v all given e = subst (λ x. Splits {S = Note} (λ s. Keeps s.views) by x (knower x.all) (giver x.given)) (sym e) (parts by all given)
 
 pub seats_as : (by : ℕ) (v : View) (given : ℕ) → v ≡ giver given → Splits {S = Note} (λ s. Keeps s.views) by v (giver (v.given + 1)) (sitter v.given [])
 seats_as by v given e = subst (λ x. Splits {S = Note} (λ s. Keeps s.views) by x (giver (x.given + 1)) (sitter x.given [])) (sym e) (seats by given)
 
-pub cuts_as : (by : ℕ) (v : View) (all : List (ℕ × Note)) (worker : ℕ) (mine : List Note) → v ≡ seated all worker mine → Splits {S = Note} (λ s. Keeps s.views) by v (knower v.all) (sitter v.worker v.mine)
+pub cuts_as : (by : ℕ) (v : View) (all : List (ℕ × Told)) (worker : ℕ) (mine : List Told) → v ≡ seated all worker mine → Splits {S = Note} (λ s. Keeps s.views) by v (knower v.all) (sitter v.worker v.mine)
 cuts_as by v all worker mine e = subst (λ x. Splits {S = Note} (λ s. Keeps s.views) by x (knower x.all) (sitter x.worker x.mine)) (sym e) (cuts by all worker mine)
 
-pub joins_as : (by other : ℕ) (v w : View) (all : List (ℕ × Note)) (worker : ℕ) (mine : List Note) → v ≡ knower all → w ≡ sitter worker mine → Joins {S = Note} (λ s. Keeps s.views) by v other w (with_sitter v w) nobody
+pub joins_as : (by other : ℕ) (v w : View) (all : List (ℕ × Told)) (worker : ℕ) (mine : List Told) → v ≡ knower all → w ≡ sitter worker mine → Joins {S = Note} (λ s. Keeps s.views) by v other w (with_sitter v w) nobody
 joins_as by other v w all worker mine e f =
     subst (λ x. Joins {S = Note} (λ s. Keeps s.views) by x other w (with_sitter x w) nobody) (sym e)
     (subst (λ y. Joins {S = Note} (λ s. Keeps s.views) by (knower all) other y (with_sitter (knower all) y) nobody) (sym f) (joins by other all worker mine))
 
-pub meets_as : (by other : ℕ) (v w : View) (all : List (ℕ × Note)) (given : ℕ) → v ≡ knower all → w ≡ giver given → Joins {S = Note} (λ s. Keeps s.views) by v other w (with_giver v w) nobody
+pub meets_as : (by other : ℕ) (v w : View) (all : List (ℕ × Told)) (given : ℕ) → v ≡ knower all → w ≡ giver given → Joins {S = Note} (λ s. Keeps s.views) by v other w (with_giver v w) nobody
 meets_as by other v w all given e f =
     subst (λ x. Joins {S = Note} (λ s. Keeps s.views) by x other w (with_giver x w) nobody) (sym e)
     (subst (λ y. Joins {S = Note} (λ s. Keeps s.views) by (knower all) other y (with_giver (knower all) y) nobody) (sym f) (meets by other all given))
 
-pub writes_as : (slots by : ℕ) (me : Me Note View) (all : List (ℕ × Note)) (worker : ℕ) (mine : List Note) (note : Note) (f : ℕ → ℕ) → me ≡ (seated all worker mine, [])
-    → Allows (λ s. Keeps s.views) slots by me 0 f (Wrote (step slots 0 0 0 (some note)) me)
-writes_as slots by me all worker mine note f e =
-    subst (λ x. Allows (λ s. Keeps s.views) slots by x 0 f (Wrote (step slots 0 0 0 (some note)) x)) (sym e) (writes slots by all worker mine note f)
+pub writes_as : (slots by : ℕ) (me : Me Note View) (all : List (ℕ × Told)) (worker : ℕ) (mine : List Told) (note : Note) (lent : List TreeMap) (f : ℕ → ℕ) → me ≡ (seated all worker mine, [])
+    → Allows (λ s. Keeps s.views) slots by me 0 f (Wrote lent (step slots 0 0 0 (some note)) me)
+writes_as slots by me all worker mine note lent f e =
+    subst (λ x. Allows (λ s. Keeps s.views) slots by x 0 f (Wrote lent (step slots 0 0 0 (some note)) x)) (sym e) (writes slots by all worker mine note lent f)
 
 pub learns_as : (slots by : ℕ) (me : Me Note View) (v : View) → me ≡ (v, []) → v.keeps ≡ true
     → Allows (λ s. Keeps s.views) slots by me 0 (λ n. n) (Learnt (step slots 0 0 0 none) me)
 learns_as slots by me v e keeper =
     subst (λ x. Allows (λ s. Keeps s.views) slots by x 0 (λ n. n) (Learnt (step slots 0 0 0 none) x)) (sym e) (learns slots by v keeper)
 
-pub beside : (k m s : Me Note View) (all : List (ℕ × Note)) (worker : ℕ) (mine : List Note) → k ≡ (knower all, []) → m ≡ (sitter worker mine, []) → s ≡ (with_sitter k.0 m.0, k.1) → s ≡ (seated all worker mine, [])
+pub beside : (k m s : Me Note View) (all : List (ℕ × Told)) (worker : ℕ) (mine : List Told) → k ≡ (knower all, []) → m ≡ (sitter worker mine, []) → s ≡ (with_sitter k.0 m.0, k.1) → s ≡ (seated all worker mine, [])
 beside k m s all worker mine e f g = g ∙ (ap (λ (x : Me Note View). (with_sitter x.0 m.0, x.1)) e ∙ ap (λ (y : Me Note View). (with_sitter (knower all) y.0, [])) f)
 
-pub handed : (k m s : Me Note View) (all : List (ℕ × Note)) (given : ℕ) → k ≡ (knower all, []) → m ≡ (giver given, []) → s ≡ (with_giver k.0 m.0, k.1) → s ≡ (handing all given, [])
+pub handed : (k m s : Me Note View) (all : List (ℕ × Told)) (given : ℕ) → k ≡ (knower all, []) → m ≡ (giver given, []) → s ≡ (with_giver k.0 m.0, k.1) → s ≡ (handing all given, [])
 handed k m s all given e f g = g ∙ (ap (λ (x : Me Note View). (with_giver x.0 m.0, x.1)) e ∙ ap (λ (y : Me Note View). (with_giver (knower all) y.0, [])) f)
 
-pub wrote : (s t : Me Note View) (all : List (ℕ × Note)) (worker : ℕ) (mine : List Note) (note : Note) (n slots : ℕ) → s ≡ (seated all worker mine, []) → Wrote (step slots 0 0 0 (some note)) s n t
-    → (t ≡ (seated (all ++ (worker, note) ∷ []) worker (mine ++ note ∷ []), [])) × (mine ≡ of_worker worker all)
-wrote s t all worker mine note n slots e w =
-    let w' = subst (λ (x : Me Note View). Wrote (step slots 0 0 0 (some note)) x n t) e w in w' note refl
+pub wrote : (s t : Me Note View) (all : List (ℕ × Told)) (worker : ℕ) (mine : List Told) (note : Note) (lent : List TreeMap) (n slots : ℕ) → s ≡ (seated all worker mine, []) → Wrote lent (step slots 0 0 0 (some note)) s n t
+    → (t ≡ (seated (all ++ (worker, record { note = note; lent = lent }) ∷ []) worker (mine ++ record { note = note; lent = lent } ∷ []), [])) × (mine ≡ of_worker worker all)
+wrote s t all worker mine note lent n slots e w =
+    let w' = subst (λ (x : Me Note View). Wrote lent (step slots 0 0 0 (some note)) x n t) e w in w' note refl
 
 pub learnt : (s t : Me Note View) (v : View) (n slots : ℕ) → s ≡ (v, []) → Learnt (step slots 0 0 0 none) s n t
     → (t ≡ (v, [])) × (v.sits ≡ true → v.mine ≡ of_worker v.worker v.all) × (v.gives ≡ true → (worker : ℕ) → v.given ≤ worker → of_worker worker v.all ≡ [])
 learnt s t v n slots e w = subst (λ (x : Me Note View). Learnt (step slots 0 0 0 none) x n t) e w
 
-pub known : (m : Me Note View) (all : List (ℕ × Note)) → m ≡ (knower all, []) → m ≡ (knower m.0.all, [])
+pub known : (m : Me Note View) (all : List (ℕ × Told)) → m ≡ (knower all, []) → m ≡ (knower m.0.all, [])
 known m all e = e ∙ sym (ap (λ (x : Me Note View). (knower x.0.all, [])) e)
 
-pub sits_as : (m : Me Note View) (worker : ℕ) (mine : List Note) → m ≡ (sitter worker mine, []) → m ≡ (sitter m.0.worker m.0.mine, [])
+pub sits_as : (m : Me Note View) (worker : ℕ) (mine : List Told) → m ≡ (sitter worker mine, []) → m ≡ (sitter m.0.worker m.0.mine, [])
 sits_as m worker mine e = e ∙ sym (ap (λ (x : Me Note View). (sitter x.0.worker x.0.mine, [])) e)
 
 pub gives_as : (m : Me Note View) (given : ℕ) → m ≡ (giver given, []) → m ≡ (giver m.0.given, [])

@@ -1,3 +1,6 @@
+use plain::Items;
+use trees::Tree;
+
 /// What a worker did.
 #[derive(Clone, Copy, Debug, PartialEq, Eq)]
 pub enum Note {
@@ -7,4 +10,10 @@ pub enum Note {
     Settled(u32),
     /// It gave up the vertex that it had claimed.
     Abandoned,
+}
+
+/// A note as it stands on a roll, with the trees that were lent with it. No value of it is made.
+pub struct Told {
+    pub note: Note,
+    pub lent: Items<Tree>,
 }

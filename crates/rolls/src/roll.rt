@@ -2,13 +2,14 @@ ghost use Rattle.std.specs.Prelude.{◌≡◌, ◌≤◌, ◌<◌, ◌^◌, ◌+
 ghost use Rattle.rolls.specs.Rolls.{of_worker, knower, sitter};
 ghost use Rattle.rolls.specs.Rolls.{giver as giving};
 
-use crate::rule::{Giving, Learns, Rolled, Seating, Sitting, Spare, View, Writes};
+use crate::rule::{Giving, Learns, Lends, Rolled, Seating, Sitting, Spare, View, Writes};
 use crate::{Note, Room};
 use atomic_table::{Seat, Table};
 use plain::Memory;
 use std::alloc::Global;
-use std::marker::{Model, PhantomData};
+use std::marker::{Brand, Model, PhantomData};
 use std::mem::replace;
+use trees::Tree;
 
 /// A roll that has no name yet, with nothing written.
 #[derive(Drop)]
@@ -46,10 +47,13 @@ pub struct Slip<J: Room> {
 
 impl<J: Room> Model for Roll<J> {
     ghost use Rattle.std.specs.Prelude.{◌≡◌, ℕ, [], List};
-    ghost use Rattle.rolls.specs.Rolls.{knower};
-    ghost use Rattle.rolls.specs.declared.note.Note.{Note as NoteValue};
+    ghost use Rattle.std.specs.Coded.{coded×, coded_ℕ, coded_list};
+    ghost use Rattle.rolls.specs.Rolls.{knower, told_code};
+    ghost use Rattle.rolls.specs.declared.note.Told.{Told};
 
-    ghost Value = { List (ℕ × NoteValue) };
+    ghost Value = { List (ℕ × Told) };
+
+    ghost coded = { coded_list (coded× coded_ℕ told_code) };
 
     ghost view = { λ r. r.keeper.me.0.all };
 
@@ -139,18 +143,30 @@ impl<J: Room> Roll<J> {
         }
     }
 
-    /// Writes a note of a worker, in the roll and on its slip. What stood on the slip was what the roll has of the worker.
-    pub fn write(&mut self, slip: &mut Slip<J>, note: Note)
+    /// Writes a note of a worker, in the roll and on its slip, with the trees that are lent with it. What stood on the slip was what the roll has of the
+    /// worker. Nothing is done with the trees when it runs: that they were lent stands in the proofs alone.
+    pub fn write(&mut self, slip: &mut Slip<J>, note: Note, lent: &[Tree])
         ensures agrees { slip.old.mine ≡ of_worker slip.old.worker self.old }
-        ensures roll { self.new ≡ self.old ++ (slip.old.worker, note) ∷ [] }
-        ensures slip { slip.new ≡ record { worker = slip.old.worker; mine = slip.old.mine ++ note ∷ [] } }
+        ensures roll { self.new ≡ self.old ++ (slip.old.worker, record { note = note; lent = lent.now }) ∷ [] }
+        ensures slip { slip.new ≡ record { worker = slip.old.worker; mine = slip.old.mine ++ record { note = note; lent = lent.now } ∷ [] } }
     {
+        self.write_named::<Brand>(slip, note, lent);
+    }
+
+    /// The same, the trees being those that a type names.
+    fn write_named<L: Lends>(&mut self, slip: &mut Slip<J>, note: Note, lent: &[Tree])
+        requires { lent.now ≡ L.lent }
+        ensures agrees { slip.old.mine ≡ of_worker slip.old.worker self.old }
+        ensures roll { self.new ≡ self.old ++ (slip.old.worker, record { note = note; lent = L.lent }) ∷ [] }
+        ensures slip { slip.new ≡ record { worker = slip.old.worker; mine = slip.old.mine ++ record { note = note; lent = L.lent } ∷ [] } }
+    {
+        let _lent = lent;
         let Roll { table, keeper, .. } = self;
         let shared = &table.shared;
         let spare = shared.split_seat::<Spare>(keeper);
         let mine = replace(&mut slip.seat, spare);
         shared.join_seat::<Sitting>(keeper, mine);
-        shared.compare_exchange_with::<Writes>(keeper, 0, 0, 0, &note);
+        shared.compare_exchange_with::<Writes<L>>(keeper, 0, 0, 0, &note);
         slip.seat = shared.split_seat::<Sitting>(keeper);
     }
 

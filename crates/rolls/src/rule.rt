@@ -1,19 +1,20 @@
-use crate::Note;
+use crate::{Note, Told};
 use atomic_table::{Join, Play, Split, TableRule};
 use std::collections::LinkedList;
+use std::marker::{Brand, PhantomData};
 
 // What a seat of the table knows. No value of it is made.
 pub struct View {
     // The one that knows all that was written.
     pub keeps: bool,
-    pub all: LinkedList<(u32, Note)>,
+    pub all: LinkedList<(u32, Told)>,
     // The one that knows how many slips were given.
     pub gives: bool,
     pub given: u32,
     // A worker's, with what it wrote.
     pub sits: bool,
     pub worker: u32,
-    pub mine: LinkedList<Note>,
+    pub mine: LinkedList<Told>,
 }
 
 pub struct Rolled;
@@ -87,12 +88,28 @@ impl Split<View> for Spare {
     ghost right = { λ v. nobody };
 }
 
-pub struct Writes;
+// Names the trees that are lent with a note.
+pub trait Lends {
+    ghost use Rattle.std.specs.Prelude.{List};
+    ghost use Rattle.trees.specs.TreeMap.{TreeMap};
 
-impl Play<Note, View> for Writes {
+    ghost lent: { List TreeMap };
+}
+
+impl Lends for Brand {
+    ghost use Rattle.std.specs.Prelude.{[]};
+
+    ghost lent = { [] };
+}
+
+pub struct Writes<L> {
+    of: PhantomData<L>,
+}
+
+impl<L: Lends> Play<Note, View> for Writes<L> {
     ghost use Rattle.rolls.specs.Rolls.{Wrote};
 
-    ghost then = { Wrote };
+    ghost then = { Wrote L.lent };
 }
 
 pub struct Learns;

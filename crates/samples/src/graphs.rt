@@ -80,8 +80,22 @@ pub fn locked(alloc: Global, id: &str, text: &str) -> Result<Exec, Memory> {
     }
 }
 
+/// A command as `locked` gives it with the cache `k`, and with another locked cache, `l`, at `/d`.
+fn with_two_caches(alloc: Global, text: &str) -> Result<Exec, Memory> {
+    let used = cache(alloc, "l", "/d", Sharing::Locked)?;
+    let mut exec = locked(alloc, "k", text)?;
+    match exec.caches.push(used) {
+        Ok(()) => Ok(exec),
+        Err(memory) => {
+            drop(exec);
+            Err(memory)
+        }
+    }
+}
+
 /// The operation that a line names: `scratch`, `context`, `image NAME`, `run WORD ..`, `locked WORD ..` (a run with the locked cache `k` at
-/// `/c`), `dirs PATH`, `merge`, or `copy PATTERN .. DEST`. Any other line is `scratch`.
+/// `/c`), `both WORD ..` (one with the locked cache `l` at `/d` besides), `dirs PATH`, `merge`, or `copy PATTERN .. DEST`. Any other line is
+/// `scratch`.
 pub fn op_of(alloc: Global, line: &str) -> Result<Op, Memory> {
     let (kind, rest) = line.split_once(' ').unwrap_or((line, ""));
     match kind {
@@ -89,6 +103,7 @@ pub fn op_of(alloc: Global, line: &str) -> Result<Op, Memory> {
         "image" => Ok(Op::Source(Source::Image(Text::from_str(alloc, rest)?))),
         "run" => Ok(Op::Exec(command(alloc, rest)?)),
         "locked" => Ok(Op::Exec(locked(alloc, "k", rest)?)),
+        "both" => Ok(Op::Exec(with_two_caches(alloc, rest)?)),
         "dirs" => Ok(Op::MakeDirs(path(alloc, rest)?)),
         "merge" => Ok(Op::Merge),
         "copy" => {

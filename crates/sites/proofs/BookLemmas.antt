@@ -7,7 +7,9 @@ use Rattle.std.proofs.lemmas.List.Folds.{list_any_at}
 use Rattle.std.proofs.lemmas.List.Sums.{fold-append}
 use Rattle.trees.specs.TreeMap.{TreeMap}
 use Rattle.plans.specs.Plan.{Problem, uses_at}
+use Rattle.cachemounts.specs.declared.content.Content.{Content}
 use Rattle.rolls.specs.declared.note.Note.{Note}
+use Rattle.rolls.specs.declared.note.Told.{Told}
 use Rattle.rolls.specs.declared.note.Note.TheVariants as note
 use Rattle.rolls.specs.Rolls.{of_worker}
 use Rattle.rolls.proofs.RollLemmas.{of_worker-here, of_worker-other}
@@ -15,25 +17,31 @@ use Rattle.plans.specs.Value.{Out}
 use Rattle.board.specs.Board.{BoardValue, board_problem, IsStep}
 use Rattle.board.specs.Job.{job_problem}
 use Rattle.board.specs.Claim.{ClaimValue, IsOut, IsGivenBack, claim_out}
+use Rattle.board.specs.Leaving.{lent_to}
 use Rattle.board.specs.Legal.{settles, IsSettled, IsNextClaim}
 use Rattle.board.specs.Play.{Run, Step, Claim, Settle, Abandon, Move, worker_of, step_of, next, moved, go, claimable, claim_of, vertex_of, value_at, begun, play, IsReplay}
 use Rattle.board.specs.Problem.{IsProblem}
 use Rattle.board.proofs.ListLemmas.{claim_of-worker, claim_of-without}
 use Rattle.board.proofs.StepLemmas.{other-stays, moved_claim, moved_settle, moved_abandon}
+use Rattle.board.proofs.LeavingLemmas.{step-worker, lent_to-push, lent-other}
 use Rattle.board.proofs.SoundLemmas.{replay-state}
 use Rattle.board.specs.declared.claim.ClaimOut.{ClaimOut}
 use Rattle.board.specs.declared.event.Happened.{Happened}
 use Rattle.board.specs.declared.event.Happened.TheVariants.{Claimed, Settled, Abandoned}
-use Rattle.sites.specs.Seats.{SeatValue, IsMine, IsSeatOf, tally_of, empty_hand, after_note, hand_of, IsBook}
+use Rattle.sites.specs.Seats.{SeatValue, IsMine, IsSeatOf, tally_of, empty_hand, after_note, hand_of, IsBook, loan_after, loan_of, AreLoans}
+
+-- a note with what is lent
+abbrev pub told : Note → List TreeMap → Told
+told one lent = record { note = one; lent = lent }
 
 -- a worker's hand after a note of its own, and of another
-pub hand-push : (worker : ℕ) (notes : List Note) (one : Note) → hand_of worker (notes ++ one ∷ []) ≡ after_note worker (hand_of worker notes) one
-hand-push worker notes one = fold-append (after_note worker) empty_hand notes (one ∷ [])
+pub hand-push : (worker : ℕ) (notes : List Told) (one : Told) → hand_of worker (notes ++ one ∷ []) ≡ after_note worker (hand_of worker notes) one.note
+hand-push worker notes one = fold-append (λ hand (told : Told). after_note worker hand told.note) empty_hand notes (one ∷ [])
 
-hand-here : (roll : List (ℕ × Note)) (worker : ℕ) (one : Note) → hand_of worker (of_worker worker (roll ++ (worker, one) ∷ [])) ≡ after_note worker (hand_of worker (of_worker worker roll)) one
+hand-here : (roll : List (ℕ × Told)) (worker : ℕ) (one : Told) → hand_of worker (of_worker worker (roll ++ (worker, one) ∷ [])) ≡ after_note worker (hand_of worker (of_worker worker roll)) one.note
 hand-here roll worker one = ap (hand_of worker) (of_worker-here roll worker one) ∙ hand-push worker (of_worker worker roll) one
 
-hand-other : (roll : List (ℕ × Note)) (worker other : ℕ) (one : Note) → worker ≢ other → hand_of other (of_worker other (roll ++ (worker, one) ∷ [])) ≡ hand_of other (of_worker other roll)
+hand-other : (roll : List (ℕ × Told)) (worker other : ℕ) (one : Told) → worker ≢ other → hand_of other (of_worker other (roll ++ (worker, one) ∷ [])) ≡ hand_of other (of_worker other roll)
 hand-other roll worker other one apart = ap (hand_of other) (of_worker-other roll worker other one apart)
 
 none-after : (xs : List ℕ) → xs ++ [] ≡ xs
@@ -66,16 +74,6 @@ other-claim problem run step worker apart = by_move (next problem run step) refl
     by_move None e = refl
     by_move (Some move) e = other-stays problem run step move worker e apart
 
--- what a step adds to the history is an event of its worker
-step-worker : (problem : Problem) (run : Run) (step : Step) (move : Move) → next problem run step ≡ Some move → worker_of (step_of move.happened) ≡ worker_of step
-step-worker problem run (Claim worker) move e = (let m = moved_claim problem run worker (claimable problem run.state worker) move e in rw (← m.2) refl)
-step-worker problem run (Settle worker given) move e =
-    let m = moved_settle problem run.state given (claim_of worker run.state.claims) move e in
-    rw (← m.3) (claim_of-worker worker run.state.claims m.0 m.1)
-step-worker problem run (Abandon worker) move e =
-    let m = moved_abandon run.state (claim_of worker run.state.claims) move e in
-    rw (← m.2) (claim_of-worker worker run.state.claims m.0 m.1)
-
 other-tally : (problem : Problem) (run : Run) (step : Step) (worker : ℕ) → worker_of step ≢ worker → tally_of worker (go problem run step).history ≡ tally_of worker run.history
 other-tally problem run step worker apart = by_move (next problem run step) refl
   where
@@ -86,13 +84,13 @@ other-tally problem run step worker apart = by_move (next problem run step) refl
         tally-push worker run.history move.happened ∙ (ap (λ l. tally_of worker run.history ++ l) aside ∙ none-after (tally_of worker run.history))
 
 -- the book stays true where a step's note says what the step leaves its worker
-book-note : (problem : Problem) (run : Run) (step : Step) (roll : List (ℕ × Note)) (one : Note) → IsBook roll run
-    → (after_note (worker_of step) (hand_of (worker_of step) (of_worker (worker_of step) roll)) one).out ≡ claim_of (worker_of step) (go problem run step).state.claims
-    → (after_note (worker_of step) (hand_of (worker_of step) (of_worker (worker_of step) roll)) one).tally ≡ tally_of (worker_of step) (go problem run step).history
+book-note : (problem : Problem) (run : Run) (step : Step) (roll : List (ℕ × Told)) (one : Told) → IsBook roll run
+    → (after_note (worker_of step) (hand_of (worker_of step) (of_worker (worker_of step) roll)) one.note).out ≡ claim_of (worker_of step) (go problem run step).state.claims
+    → (after_note (worker_of step) (hand_of (worker_of step) (of_worker (worker_of step) roll)) one.note).tally ≡ tally_of (worker_of step) (go problem run step).history
     → IsBook (roll ++ (worker_of step, one) ∷ []) (go problem run step)
 book-note problem run step roll one book out tally = record { out = outs; tally = tallies }
   where
-    more : List (ℕ × Note)
+    more : List (ℕ × Told)
     more = roll ++ (worker_of step, one) ∷ []
 
     outs : (worker : ℕ) → (hand_of worker (of_worker worker more)).out ≡ claim_of worker (go problem run step).state.claims
@@ -119,63 +117,63 @@ claim-tally problem run worker = by_move (next problem run (Claim worker)) refl
         rw (← m.2) (sym pushed)
 
 -- the book after a claim
-pub book-claim : (problem : Problem) (run : Run) (roll : List (ℕ × Note)) (worker vertex at : ℕ) → IsBook roll run
+pub book-claim : (problem : Problem) (run : Run) (roll : List (ℕ × Told)) (worker vertex at : ℕ) (lent : List TreeMap) → IsBook roll run
     → claim_of worker (go problem run (Claim worker)).state.claims ≡ Some (record { worker = worker; vertex = vertex; at = at })
-    → IsBook (roll ++ (worker, note.Claimed vertex at) ∷ []) (go problem run (Claim worker))
-book-claim problem run roll worker vertex at book out =
-    book-note problem run (Claim worker) roll (note.Claimed vertex at) book (sym out) (book.tally worker ∙ claim-tally problem run worker)
+    → IsBook (roll ++ (worker, told (note.Claimed vertex at) lent) ∷ []) (go problem run (Claim worker))
+book-claim problem run roll worker vertex at lent book out =
+    book-note problem run (Claim worker) roll (told (note.Claimed vertex at) lent) book (sym out) (book.tally worker ∙ claim-tally problem run worker)
 
 -- the book after a settle of the claim that is out
-pub book-settle : (problem : Problem) (run : Run) (roll : List (ℕ × Note)) (worker vertex at : ℕ) (given : List TreeMap) → IsBook roll run
+pub book-settle : (problem : Problem) (run : Run) (roll : List (ℕ × Told)) (worker vertex at : ℕ) (given lent : List TreeMap) → IsBook roll run
     → claim_of worker run.state.claims ≡ Some (record { worker = worker; vertex = vertex; at = at }) → length given ≡ length (uses_at problem vertex)
-    → IsBook (roll ++ (worker, note.Settled vertex) ∷ []) (go problem run (Settle worker given))
-book-settle problem run roll worker vertex at given book out count =
+    → IsBook (roll ++ (worker, told (note.Settled vertex) lent) ∷ []) (go problem run (Settle worker given))
+book-settle problem run roll worker vertex at given lent book out count =
     let none : None ≡ claim_of worker (go problem run (Settle worker given)).state.claims =
     rw (out, eq-eqb _ _ count) (sym (claim_of-without worker worker run.state.claims ∙ rw (eq-eqb worker worker refl) refl)) in
     let tally : (hand_of worker (of_worker worker roll)).tally ++ vertex ∷ [] ≡ tally_of worker (go problem run (Settle worker given)).history =
     rw (out, eq-eqb _ _ count) (ap (λ l. l ++ vertex ∷ []) (book.tally worker) ∙ sym (tally-push worker run.history (Settled worker vertex given) ∙ rw (eq-eqb worker worker refl) refl)) in
-    book-note problem run (Settle worker given) roll (note.Settled vertex) book none tally
+    book-note problem run (Settle worker given) roll (told (note.Settled vertex) lent) book none tally
 
 -- the book after an abandon of the claim that is out
-pub book-abandon : (problem : Problem) (run : Run) (roll : List (ℕ × Note)) (worker vertex at : ℕ) → IsBook roll run
+pub book-abandon : (problem : Problem) (run : Run) (roll : List (ℕ × Told)) (worker vertex at : ℕ) (lent : List TreeMap) → IsBook roll run
     → claim_of worker run.state.claims ≡ Some (record { worker = worker; vertex = vertex; at = at })
-    → IsBook (roll ++ (worker, note.Abandoned) ∷ []) (go problem run (Abandon worker))
-book-abandon problem run roll worker vertex at book out =
+    → IsBook (roll ++ (worker, told note.Abandoned lent) ∷ []) (go problem run (Abandon worker))
+book-abandon problem run roll worker vertex at lent book out =
     let none : None ≡ claim_of worker (go problem run (Abandon worker)).state.claims =
     rw out (sym (claim_of-without worker worker run.state.claims ∙ rw (eq-eqb worker worker refl) refl)) in
     let tally : (hand_of worker (of_worker worker roll)).tally ≡ tally_of worker (go problem run (Abandon worker)).history =
     rw out (book.tally worker ∙ sym (tally-push worker run.history (Abandoned worker vertex) ∙ none-after (tally_of worker run.history))) in
-    book-note problem run (Abandon worker) roll note.Abandoned book none tally
+    book-note problem run (Abandon worker) roll (told note.Abandoned lent) book none tally
 
 -- what lies under the lock after a claim: a board of the same problem, and a roll that is true of it
-pub held-claim : {E : Type 0} (out : E → Out) (problem : Problem) (old new : BoardValue E) (roll : List (ℕ × Note)) (worker vertex at : ℕ)
+pub held-claim : {E : Type 0} (out : E → Out) (problem : Problem) (old new : BoardValue E) (roll : List (ℕ × Told)) (worker vertex at : ℕ) (lent : List TreeMap)
     → board_problem out old ≡ problem → IsBook roll old.run → IsStep out (Claim worker) old new
     → claim_of worker new.run.state.claims ≡ Some (record { worker = worker; vertex = vertex; at = at })
-    → (board_problem out new ≡ problem) × IsBook (roll ++ (worker, note.Claimed vertex at) ∷ []) new.run
-held-claim out problem old new roll worker vertex at same book step claimed =
-    let here = book-claim (board_problem out old) old.run roll worker vertex at book (ap (λ r. claim_of worker r.state.claims) (sym step.run) ∙ claimed) in
-    (ap (job_problem out) step.job ∙ same, subst (IsBook (roll ++ (worker, note.Claimed vertex at) ∷ [])) (sym step.run) here)
+    → (board_problem out new ≡ problem) × IsBook (roll ++ (worker, told (note.Claimed vertex at) lent) ∷ []) new.run
+held-claim out problem old new roll worker vertex at lent same book step claimed =
+    let here = book-claim (board_problem out old) old.run roll worker vertex at lent book (ap (λ r. claim_of worker r.state.claims) (sym step.run) ∙ claimed) in
+    (ap (job_problem out) step.job ∙ same, subst (IsBook (roll ++ (worker, told (note.Claimed vertex at) lent) ∷ [])) (sym step.run) here)
 
 -- the same after a settle
-pub held-settle : {E : Type 0} (out : E → Out) (problem : Problem) (old new : BoardValue E) (roll : List (ℕ × Note)) (worker : ℕ) (claim : ClaimValue) (given : List TreeMap)
+pub held-settle : {E : Type 0} (out : E → Out) (problem : Problem) (old new : BoardValue E) (roll : List (ℕ × Told)) (worker : ℕ) (claim : ClaimValue) (given lent : List TreeMap)
     → board_problem out old ≡ problem → IsBook roll old.run → IsOut old.run.state claim → claim.worker ≡ worker → IsGivenBack problem claim given
     → IsStep out (Settle claim.worker given) old new
-    → (board_problem out new ≡ problem) × IsBook (roll ++ (worker, note.Settled claim.vertex) ∷ []) new.run
-held-settle out problem old new roll worker claim given same book is_out mine count step =
+    → (board_problem out new ≡ problem) × IsBook (roll ++ (worker, told (note.Settled claim.vertex) lent) ∷ []) new.run
+held-settle out problem old new roll worker claim given lent same book is_out mine count step =
     let fits : length given ≡ length (uses_at (board_problem out old) claim.vertex) = count ∙ ap (λ p. length (uses_at p claim.vertex)) (sym same) in
-    let here = book-settle (board_problem out old) old.run roll claim.worker claim.vertex claim.at given book is_out fits in
-    let there = subst (IsBook (roll ++ (claim.worker, note.Settled claim.vertex) ∷ [])) (sym step.run) here in
-    (ap (job_problem out) step.job ∙ same, subst (λ w. IsBook (roll ++ (w, note.Settled claim.vertex) ∷ []) new.run) mine there)
+    let here = book-settle (board_problem out old) old.run roll claim.worker claim.vertex claim.at given lent book is_out fits in
+    let there = subst (IsBook (roll ++ (claim.worker, told (note.Settled claim.vertex) lent) ∷ [])) (sym step.run) here in
+    (ap (job_problem out) step.job ∙ same, subst (λ w. IsBook (roll ++ (w, told (note.Settled claim.vertex) lent) ∷ []) new.run) mine there)
 
 -- the same after an abandon
-pub held-abandon : {E : Type 0} (out : E → Out) (problem : Problem) (old new : BoardValue E) (roll : List (ℕ × Note)) (worker : ℕ) (claim : ClaimValue)
+pub held-abandon : {E : Type 0} (out : E → Out) (problem : Problem) (old new : BoardValue E) (roll : List (ℕ × Told)) (worker : ℕ) (claim : ClaimValue) (lent : List TreeMap)
     → board_problem out old ≡ problem → IsBook roll old.run → IsOut old.run.state claim → claim.worker ≡ worker
     → IsStep out (Abandon claim.worker) old new
-    → (board_problem out new ≡ problem) × IsBook (roll ++ (worker, note.Abandoned) ∷ []) new.run
-held-abandon out problem old new roll worker claim same book is_out mine step =
-    let here = book-abandon (board_problem out old) old.run roll claim.worker claim.vertex claim.at book is_out in
+    → (board_problem out new ≡ problem) × IsBook (roll ++ (worker, told note.Abandoned lent) ∷ []) new.run
+held-abandon out problem old new roll worker claim lent same book is_out mine step =
+    let here = book-abandon (board_problem out old) old.run roll claim.worker claim.vertex claim.at lent book is_out in
     let there = subst (IsBook (roll ++ (claim.worker, note.Abandoned) ∷ [])) (sym step.run) here in
-    (ap (job_problem out) step.job ∙ same, subst (λ w. IsBook (roll ++ (w, note.Abandoned) ∷ []) new.run) mine there)
+    (ap (job_problem out) step.job ∙ same, subst (λ w. IsBook (roll ++ (w, told note.Abandoned lent) ∷ []) new.run) mine there)
 
 -- an empty roll is true of a board on which nothing has happened
 pub book-begun : (problem : Problem) (run : Run) → IsReplay problem run → run.history ≡ [] → IsBook [] run
@@ -184,10 +182,10 @@ book-begun problem run replay none =
     subst (IsBook []) same (record { out = λ worker. refl; tally = λ worker. refl })
 
 -- what stands on a worker's slip is what the board has of it
-pub seat-of : (problem : Problem) (run : Run) (roll : List (ℕ × Note)) (worker : ℕ) (out : Option ClaimOut) (tally : List ℕ) (mine : List Note)
+pub seat-of : (problem : Problem) (run : Run) (roll : List (ℕ × Told)) (worker : ℕ) (out : Option ClaimOut) (tally : List ℕ) (lent : List TreeMap) (mine : List Told)
     → IsProblem problem → IsReplay problem run → IsBook roll run → hand_of worker mine ≡ record { out = out; tally = tally } → mine ≡ of_worker worker roll
-    → IsSeatOf run (record { worker = worker; out = out; tally = tally })
-seat-of problem run roll worker out tally mine plan replay book hand agrees =
+    → IsSeatOf run (record { worker = worker; out = out; tally = tally; lent = lent })
+seat-of problem run roll worker out tally lent mine plan replay book hand agrees =
     let claim : out ≡ claim_of worker run.state.claims = sym (ap (λ h. h.out) hand) ∙ (ap (λ notes. (hand_of worker notes).out) agrees ∙ book.out worker) in
     record {
       claim = claim;
@@ -232,3 +230,64 @@ seat-settled problem run seat vertex plan replay is among = ((replay-state probl
 -- a vertex that a worker may claim isn't in its seat's tally
 pub tally-fresh : (problem : Problem) (run : Run) (seat : SeatValue) (vertex : ℕ) → IsSeatOf run seat → IsNextClaim problem run.history seat.worker (Some vertex) → ¬ Contains seat.tally vertex
 tally-fresh problem run seat vertex is next_is among = next_is.ready.unsettled (seat-history run seat vertex is among)
+
+-- what a worker was lent, after one note more
+loan-push : (notes : List Told) (one : Told) → loan_of (notes ++ one ∷ []) ≡ loan_after (loan_of notes) one.lent one.note
+loan-push notes one = fold-append (λ loan (told : Told). loan_after loan told.lent told.note) [] notes (one ∷ [])
+
+-- the loans stay true where a step's note says what the step's worker was lent
+loans-note : (problem : Problem) (first : List Content) (run : Run) (step : Step) (roll : List (ℕ × Told)) (one : Told) → AreLoans problem first roll run
+    → loan_after (loan_of (of_worker (worker_of step) roll)) one.lent one.note ≡ lent_to problem first (go problem run step).history (worker_of step)
+    → AreLoans problem first (roll ++ (worker_of step, one) ∷ []) (go problem run step)
+loans-note problem first run step roll one loans here worker = ⊎_elim
+    (λ (same : worker_of step ≡ worker). subst (λ w. loan_of (of_worker w (roll ++ (worker_of step, one) ∷ [])) ≡ lent_to problem first (go problem run step).history w) same (ap loan_of (of_worker-here roll (worker_of step) one) ∙ (loan-push (of_worker (worker_of step) roll) one ∙ here)))
+    (λ (apart : worker_of step ≢ worker). ap loan_of (of_worker-other roll (worker_of step) worker one apart) ∙ (loans worker ∙ sym (lent-other problem first run step worker apart)))
+    (cases_eq (worker_of step) worker)
+
+-- a settle or an abandon lends its worker nothing
+settle-lends : (problem : Problem) (first : List Content) (run : Run) (worker : ℕ) (given : List TreeMap) → lent_to problem first (go problem run (Settle worker given)).history worker ≡ lent_to problem first run.history worker
+settle-lends problem first run worker given = by_move (next problem run (Settle worker given)) refl
+  where
+    by_move : (o : Option Move) → next problem run (Settle worker given) ≡ o → lent_to problem first (moved run o).history worker ≡ lent_to problem first run.history worker
+    by_move None e = refl
+    by_move (Some move) e =
+        let m = moved_settle problem run.state given (claim_of worker run.state.claims) move e in
+        rw (← m.3) (lent_to-push problem first run.history (Settled m.0.worker m.0.vertex given) worker)
+
+abandon-lends : (problem : Problem) (first : List Content) (run : Run) (worker : ℕ) → lent_to problem first (go problem run (Abandon worker)).history worker ≡ lent_to problem first run.history worker
+abandon-lends problem first run worker = by_move (next problem run (Abandon worker)) refl
+  where
+    by_move : (o : Option Move) → next problem run (Abandon worker) ≡ o → lent_to problem first (moved run o).history worker ≡ lent_to problem first run.history worker
+    by_move None e = refl
+    by_move (Some move) e =
+        let m = moved_abandon run.state (claim_of worker run.state.claims) move e in
+        rw (← m.2) (lent_to-push problem first run.history (Abandoned m.0.worker m.0.vertex) worker)
+
+-- the loans after a claim, a settle and an abandon
+pub loans-claim : {E : Type 0} (out : E → Out) (problem : Problem) (first : List Content) (old new : BoardValue E) (roll : List (ℕ × Told)) (worker vertex at : ℕ) (lent : List TreeMap)
+    → board_problem out old ≡ problem → AreLoans problem first roll old.run → IsStep out (Claim worker) old new → lent ≡ lent_to problem first new.run.history worker
+    → AreLoans problem first (roll ++ (worker, told (note.Claimed vertex at) lent) ∷ []) new.run
+loans-claim out problem first old new roll worker vertex at lent same loans step is =
+    let goes : new.run ≡ go problem old.run (Claim worker) = step.run ∙ ap (λ p. go p old.run (Claim worker)) same in
+    subst (AreLoans problem first (roll ++ (worker, told (note.Claimed vertex at) lent) ∷ [])) (sym goes)
+    (loans-note problem first old.run (Claim worker) roll (told (note.Claimed vertex at) lent) loans (is ∙ ap (λ r. lent_to problem first r.history worker) goes))
+
+pub loans-settle : {E : Type 0} (out : E → Out) (problem : Problem) (first : List Content) (old new : BoardValue E) (roll : List (ℕ × Told)) (worker by vertex : ℕ) (given lent : List TreeMap)
+    → board_problem out old ≡ problem → AreLoans problem first roll old.run → by ≡ worker → IsStep out (Settle by given) old new
+    → AreLoans problem first (roll ++ (worker, told (note.Settled vertex) lent) ∷ []) new.run
+loans-settle out problem first old new roll worker by vertex given lent same loans mine step =
+    let goes : new.run ≡ go problem old.run (Settle worker given) = step.run ∙ (ap (λ p. go p old.run (Settle by given)) same ∙ ap (λ w. go problem old.run (Settle w given)) mine) in
+    subst (AreLoans problem first (roll ++ (worker, told (note.Settled vertex) lent) ∷ [])) (sym goes)
+    (loans-note problem first old.run (Settle worker given) roll (told (note.Settled vertex) lent) loans (loans worker ∙ sym (settle-lends problem first old.run worker given)))
+
+pub loans-abandon : {E : Type 0} (out : E → Out) (problem : Problem) (first : List Content) (old new : BoardValue E) (roll : List (ℕ × Told)) (worker by : ℕ) (lent : List TreeMap)
+    → board_problem out old ≡ problem → AreLoans problem first roll old.run → by ≡ worker → IsStep out (Abandon by) old new
+    → AreLoans problem first (roll ++ (worker, told note.Abandoned lent) ∷ []) new.run
+loans-abandon out problem first old new roll worker by lent same loans mine step =
+    let goes : new.run ≡ go problem old.run (Abandon worker) = step.run ∙ (ap (λ p. go p old.run (Abandon by)) same ∙ ap (λ w. go problem old.run (Abandon w)) mine) in
+    subst (AreLoans problem first (roll ++ (worker, told note.Abandoned lent) ∷ [])) (sym goes)
+    (loans-note problem first old.run (Abandon worker) roll (told note.Abandoned lent) loans (loans worker ∙ sym (abandon-lends problem first old.run worker)))
+
+-- nobody was lent anything before anything happened
+pub loans-begun : (problem : Problem) (first : List Content) (run : Run) → run.history ≡ [] → AreLoans problem first [] run
+loans-begun problem first run none = λ worker. sym (ap (λ h. lent_to problem first h worker) none)

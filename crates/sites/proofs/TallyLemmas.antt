@@ -8,7 +8,7 @@ use Rattle.std.proofs.lemmas.Bool.{cases_lt, eq-eqb}
 use Rattle.std.proofs.lemmas.List.Sums.{sum_by-cons}
 use Rattle.trees.specs.TreeMap.{TreeMap}
 use Rattle.plans.specs.Plan.{Problem}
-use Rattle.rolls.specs.declared.note.Note.{Note}
+use Rattle.rolls.specs.declared.note.Told.{Told}
 use Rattle.rolls.specs.Rolls.{of_worker}
 use Rattle.board.specs.Clearing.{IsCleared, no_claim, least_first}
 use Rattle.board.specs.Legal.{settles}
@@ -150,6 +150,6 @@ tallies problem run given seats plan replay are of all vertex =
     tallies-are run vertex seats are ∙ (cut given vertex seats run.history all of ∙ once problem run vertex plan replay)
 
 -- nobody without a slip has settled anything
-pub of-given : (given : ℕ) (roll : List (ℕ × Note)) (run : Run) → IsBook roll run → ((worker : ℕ) → given ≤ worker → of_worker worker roll ≡ []) → AreOf given run.history
+pub of-given : (given : ℕ) (roll : List (ℕ × Told)) (run : Run) → IsBook roll run → ((worker : ℕ) → given ≤ worker → of_worker worker roll ≡ []) → AreOf given run.history
 of-given given roll run book none worker past =
     sym (book.tally worker) ∙ ap (λ notes. (hand_of worker notes).tally) (none worker past)

@@ -3,10 +3,16 @@ use Rattle.std.specs.Prelude.{◌≡◌, ℕ, ◌<◌, ◌==◌, List, [], ◌�
 use Rattle.std.specs.List.{fold, count_by, sum_by}
 use Rattle.std.specs.Coded.{Coded, code_by, coded×, coded_ℕ, coded_list, coded_option}
 use Rattle.trees.specs.Cause.{TreeOrCause}
+use Rattle.trees.specs.TreeMap.{TreeMap}
+use Rattle.trees.specs.contracts.tree.Tree as tree
+use Rattle.plans.specs.Plan.{Problem}
+use Rattle.cachemounts.specs.declared.content.Content.{Content}
 use Rattle.rolls.specs.declared.note.Note.{Note}
+use Rattle.rolls.specs.declared.note.Told.{Told}
 use Rattle.rolls.specs.declared.note.Note.TheVariants as note
 use Rattle.rolls.specs.Rolls.{of_worker}
 use Rattle.board.specs.Claim.{ClaimValue, claim_out}
+use Rattle.board.specs.Leaving.{lent_to}
 use Rattle.board.specs.Legal.{vertex_out}
 use Rattle.board.specs.Play.{Run, claim_of, value_at, vertex_of}
 use Rattle.board.specs.contracts.claim.ClaimOut as claim_row
@@ -14,24 +20,29 @@ use Rattle.board.specs.declared.claim.ClaimOut.{ClaimOut}
 use Rattle.board.specs.declared.event.Happened.{Happened}
 use Rattle.board.specs.declared.event.Happened.TheVariants.{Claimed, Settled, Abandoned}
 
--- a worker, the claim that it has out, if any, and the vertices that it has settled, in order (own)
+-- a worker, the claim that it has out, if any, the vertices that it has settled, in order, and the trees that it was lent with its last claim (own)
 pub record SeatValue : Type 0 where
   pub worker : ℕ
   pub out : Option ClaimOut
   pub tally : List ℕ
+  pub lent : List TreeMap
 
 -- a seat in plain data, for generic code (own)
 abbrev pub seat_code : Coded SeatValue
 seat_code =
-    code_by (ℕ × (Option ClaimOut × List ℕ))
-    (coded× coded_ℕ (coded× (coded_option claim_row.the_row.coded) (coded_list coded_ℕ)))
-    (λ s. (s.worker, (s.out, s.tally)))
-    (λ t. record { worker = t.0; out = t.1.0; tally = t.1.1 })
+    code_by (ℕ × (Option ClaimOut × (List ℕ × List TreeMap)))
+    (coded× coded_ℕ (coded× (coded_option claim_row.the_row.coded) (coded× (coded_list coded_ℕ) (coded_list tree.the_row.coded))))
+    (λ s. (s.worker, (s.out, (s.tally, s.lent))))
+    (λ t. record { worker = t.0; out = t.1.0; tally = t.1.1.0; lent = t.1.1.1 })
     (λ _. refl)
 
 -- a claim is the one that a seat has out (own)
 abbrev pub IsMine : SeatValue → ClaimValue → Type 0
 IsMine seat claim = seat.out ≡ Some (claim_out claim)
+
+-- a claim has the trees that a seat was lent with its last claim (own)
+abbrev pub IsLentTo : SeatValue → ClaimValue → Type 0
+IsLentTo seat claim = claim.caches ≡ seat.lent
 
 -- the vertices that a worker has settled, in order (own)
 abbrev pub tally_of : ℕ → List Happened → List ℕ
@@ -79,10 +90,24 @@ after_note worker hand (note.Settled vertex) = record { out = None; tally = hand
 after_note worker hand note.Abandoned = record { out = None; tally = hand.tally }
 
 -- a worker's hand after its notes (own)
-abbrev pub hand_of : ℕ → List Note → Hand
-hand_of worker notes = fold (after_note worker) empty_hand notes
+abbrev pub hand_of : ℕ → List Told → Hand
+hand_of worker notes = fold (λ hand (told : Told). after_note worker hand told.note) empty_hand notes
+
+-- what a worker was lent with its last claim, after one note more (own)
+abbrev pub loan_after : List TreeMap → List TreeMap → Note → List TreeMap
+loan_after loan lent (note.Claimed vertex at) = lent
+loan_after loan lent (note.Settled vertex) = loan
+loan_after loan lent note.Abandoned = loan
+
+-- what a worker was lent with its last claim, by its notes (own)
+abbrev pub loan_of : List Told → List TreeMap
+loan_of notes = fold (λ loan (told : Told). loan_after loan told.lent told.note) [] notes
+
+-- the loans on a roll are true of a history: each worker was lent what stands there beside its last claim (own)
+abbrev pub AreLoans : Problem → List Content → List (ℕ × Told) → Run → Type 0
+AreLoans problem first roll run = (worker : ℕ) → loan_of (of_worker worker roll) ≡ lent_to problem first run.history worker
 
 -- the notes on a roll are true of a board: they leave in each worker's hand the claim that it has out, and the vertices that it has settled (own)
-pub record IsBook (roll : List (ℕ × Note)) (run : Run) : Type 0 where
+pub record IsBook (roll : List (ℕ × Told)) (run : Run) : Type 0 where
   pub out : (worker : ℕ) → (hand_of worker (of_worker worker roll)).out ≡ claim_of worker run.state.claims
   pub tally : (worker : ℕ) → (hand_of worker (of_worker worker roll)).tally ≡ tally_of worker run.history

@@ -5,11 +5,12 @@ ghost use Rattle.cachemounts.specs.Content.{tree_held};
 ghost use Rattle.plans.specs.Plan.{uses_at};
 ghost use Rattle.board.specs.Board.{board_problem, IsStep, AreContents};
 ghost use Rattle.board.specs.Claim.{ClaimValue, IsClaim, IsOut, IsResult, IsGivenBack, claim_out};
+ghost use Rattle.board.specs.Leaving.{LeaveTheSame, lent_to, IsLeftFor, GivesBackWhatIsLeft};
 ghost use Rattle.board.specs.Legal.{IsNextClaim};
 ghost use Rattle.board.specs.Play.{IsReplay};
 ghost use Rattle.board.specs.Play.{Claim as Claiming, Settle as Settling, Abandon as Abandoning};
 ghost use Rattle.board.specs.Problem.{IsProblem};
-ghost use Rattle.sites.specs.Seats.{SeatValue, IsMine, IsSeatOf, tally_of};
+ghost use Rattle.sites.specs.Seats.{SeatValue, IsMine, IsLentTo, IsSeatOf, tally_of};
 ghost use Rattle.sites.specs.PrivateSeats.{AreSeatsOf};
 
 use crate::{Case, Known, Seat};
@@ -32,7 +33,8 @@ pub struct Held<'a, E: Executor, J: Case + Room> {
 impl<'a, E: Executor, J: Case + Room> Model for Held<'a, E, J> {
     ghost use Rattle.std.specs.Prelude.{◌≡◌};
     ghost use Rattle.board.specs.Board.{BoardValue, board_code, board_problem};
-    ghost use Rattle.sites.specs.Seats.{IsBook};
+    ghost use Rattle.board.specs.Leaving.{LeaveTheSame};
+    ghost use Rattle.sites.specs.Seats.{IsBook, AreLoans};
 
     ghost Value = { BoardValue E };
 
@@ -40,7 +42,8 @@ impl<'a, E: Executor, J: Case + Room> Model for Held<'a, E, J> {
 
     ghost view = { λ h. h.board };
 
-    ghost invariant = { λ h. (board_problem E.out h.board ≡ J.problem) × IsBook h.roll h.board.run × (h.board.first ≡ J.first) };
+    ghost invariant = { λ h. (board_problem E.out h.board ≡ J.problem) × IsBook h.roll h.board.run × (h.board.first ≡ J.first)
+        × AreLoans J.problem J.first h.roll h.board.run × LeaveTheSame (E.leaves h.board.job.executor) J.leaves };
 }
 
 impl<'a, E: Executor, J: Case + Room> Held<'a, E, J> {
@@ -56,7 +59,7 @@ impl<'a, E: Executor, J: Case + Room> Held<'a, E, J> {
             (option_map (λ c. c.vertex) claim)) }
         ensures of { IfOk result (λ claim. IfSome claim (IsClaim J.problem)) }
         ensures out { IfOk result (λ claim. IfSome claim (IsOut self.new.run.state)) }
-        ensures mine { IfOk result (λ claim. IfSome claim (λ c. (c.worker ≡ seat.old.worker) × (seat.new ≡ record seat.old { out = Some (claim_out c) }))) }
+        ensures mine { IfOk result (λ claim. IfSome claim (λ c. (c.worker ≡ seat.old.worker) × (seat.new ≡ record seat.old { out = Some (claim_out c); lent = c.caches }))) }
         ensures fresh { IfOk result (λ claim. IfSome claim (λ c. ¬ Contains seat.old.tally c.vertex)) }
         ensures caches { IfOk result (λ claim. IfSome claim (λ c. c.caches
             ≡ map (tree_held self.old.contents) (new_holds seat.old.worker self.old.run.state.holds (uses_at J.problem c.vertex)))) }
@@ -76,15 +79,16 @@ impl<'a, E: Executor, J: Case + Room> Held<'a, E, J> {
             vertex: vertex.number(),
             at,
         };
-        self.roll.write(&mut seat.slip, note);
+        self.roll.write(&mut seat.slip, note, claim.caches());
         seat.out = Some(ClaimOut { worker, vertex, at });
         Ok(Some(claim))
     }
 
     /// Settles the vertex of the claim that the seat has out (`Seat::out` tells which), gives trees back to the caches that the vertex
-    /// uses, and puts the vertex into the seat's tally. The value has to be the result of the vertex's operation on the claim's inputs, and
-    /// the trees have to be as many as the vertex has uses: a run answers such (`solver::run`). After want of memory claim, value and trees
-    /// come back, and board and seat are as they were.
+    /// uses, and puts the vertex into the seat's tally. The claim has to have the trees that the seat was lent with it, as `claim` gives it; the
+    /// value has to be the result of the vertex's operation on the claim's inputs; and the trees have to be those that the vertex's run left of
+    /// what the claim was lent, one for each use: a run answers such (`solver::run`). After want of memory claim, value and trees come back, and
+    /// board and seat are as they were.
     pub fn settle(
         &mut self,
         alloc: Global,
@@ -97,10 +101,12 @@ impl<'a, E: Executor, J: Case + Room> Held<'a, E, J> {
         requires of { IsClaim J.problem claim }
         requires value { IsResult J.problem claim value.value }
         requires given { IsGivenBack J.problem claim given.items }
+        requires lent { IsLentTo seat.old claim }
+        requires left { IsLeftFor J.leaves J.problem claim given.items }
         ensures agrees { IsSeatOf self.old.run seat.old }
         ensures run { OnOk result (IsStep E.out (Settling seat.old.worker given.items) self.old self.new) }
         ensures value { OnOk result (slice_get self.new.run.state.settled claim.entry.vertex ≡ Some (Some value.entry.value)) }
-        ensures seat { OnOk result (seat.new ≡ record { worker = seat.old.worker; out = None; tally = seat.old.tally ++ claim.entry.vertex ∷ [] }) }
+        ensures seat { OnOk result (seat.new ≡ record { worker = seat.old.worker; out = None; tally = seat.old.tally ++ claim.entry.vertex ∷ []; lent = seat.old.lent }) }
         ensures err { OnErr result ((self.new ≡ self.old) × (seat.new ≡ seat.old)) }
         ensures back { IfErr result (λ refused. (refused.claim ≡ claim.entry) × (refused.value ≡ value.entry) × (refused.given.items ≡ given.items)) }
     {
@@ -115,7 +121,7 @@ impl<'a, E: Executor, J: Case + Room> Held<'a, E, J> {
         let vertex = claim.vertex();
         self.board.settle(alloc, claim, value, given)?;
         let note = Note::Settled(vertex.number());
-        self.roll.write(&mut seat.slip, note);
+        self.roll.write(&mut seat.slip, note, &[]);
         growth::add(&mut seat.tally, vertex);
         seat.out = None;
         Ok(())
@@ -131,12 +137,12 @@ impl<'a, E: Executor, J: Case + Room> Held<'a, E, J> {
     {
         self.agree(seat);
         self.board.abandon(claim);
-        self.roll.write(&mut seat.slip, Note::Abandoned);
+        self.roll.write(&mut seat.slip, Note::Abandoned, &[]);
         seat.out = None;
     }
 
     /// What has happened, in order. The board is that of the site's problem, what it holds is the replay of its history, and the contents of
-    /// its caches are those that the history left of the contents at the start.
+    /// its caches are those that the history left of the contents at the start. Each settle gave back what the run of its vertex left.
     pub fn history(&self) -> &[Happened]
         ensures value { result.now ≡ self.now.run.history }
         ensures of { board_problem E.out self.now ≡ J.problem }
@@ -144,6 +150,7 @@ impl<'a, E: Executor, J: Case + Room> Held<'a, E, J> {
         ensures problem { IsProblem J.problem }
         ensures first { self.now.first ≡ J.first }
         ensures contents { AreContents J.problem self.now.run.history J.first self.now.contents }
+        ensures given { GivesBackWhatIsLeft J.leaves J.problem J.first self.now.run.history }
     {
         self.board.history()
     }
@@ -159,6 +166,7 @@ impl<'a, E: Executor, J: Case + Room> Held<'a, E, J> {
     pub(crate) fn agree(&mut self, seat: &mut Seat<J>)
         ensures agrees { IsSeatOf self.old.run seat.old }
         ensures out { (claim : ClaimValue) → IsMine seat.old claim → IsOut self.old.run.state claim × (claim.worker ≡ seat.old.worker) }
+        ensures lent { seat.old.lent ≡ lent_to J.problem J.first self.old.run.history seat.old.worker }
         ensures replay { IsReplay J.problem self.old.run }
         ensures problem { IsProblem J.problem }
         ensures same { (self.new ≡ self.old) × (seat.new ≡ seat.old) }
@@ -203,6 +211,7 @@ impl<'a, E: Executor, J: Case + Room> Held<'a, E, J> {
         ensures board { result ≡ self.entry }
         ensures problem { board_problem E.out result ≡ J.problem }
         ensures first { result.first ≡ J.first }
+        ensures leaves { LeaveTheSame (E.leaves result.job.executor) J.leaves }
     {
         let Held {
             board,

@@ -6,7 +6,8 @@ use rolls::{Room, Slip};
 use std::alloc::Global;
 use std::marker::Model;
 
-/// A worker's place at a site: which claim it has out, if any, and which vertices it has settled. It goes with the worker's thread.
+/// A worker's place at a site: which claim it has out, if any, which vertices it has settled, and, in the proofs alone, which trees it was lent with its last
+/// claim. It goes with the worker's thread.
 #[derive(Drop)]
 pub struct Seat<J: Room> {
     pub(crate) worker: u32,
@@ -17,13 +18,13 @@ pub struct Seat<J: Room> {
 
 impl<J: Room> Model for Seat<J> {
     ghost use Rattle.std.specs.Prelude.{◌≡◌};
-    ghost use Rattle.sites.specs.Seats.{SeatValue, seat_code, hand_of};
+    ghost use Rattle.sites.specs.Seats.{SeatValue, seat_code, hand_of, loan_of};
 
     ghost Value = { SeatValue };
 
     ghost coded = { seat_code };
 
-    ghost view = { λ s. record { worker = s.worker; out = s.out; tally = s.tally.items } };
+    ghost view = { λ s. record { worker = s.worker; out = s.out; tally = s.tally.items; lent = loan_of s.slip.mine } };
 
     ghost invariant = { λ s. (s.slip.worker ≡ s.worker) × (hand_of s.worker s.slip.mine ≡ record { out = s.out; tally = s.tally.items }) };
 }
@@ -32,7 +33,7 @@ impl<J: Room> Seat<J> {
     /// The seat of a worker that has done nothing yet.
     pub(crate) fn new(alloc: Global, worker: u32, slip: Slip<J>) -> Seat<J>
         requires { slip ≡ record { worker = worker; mine = [] } }
-        ensures { result ≡ record { worker = worker; out = None; tally = [] } }
+        ensures { result ≡ record { worker = worker; out = None; tally = []; lent = [] } }
     {
         Seat {
             worker,

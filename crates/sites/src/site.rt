@@ -3,6 +3,7 @@ ghost use Rattle.plain.specs.Limits.{most_workers};
 ghost use Rattle.board.specs.Board.{board_problem};
 ghost use Rattle.board.specs.Claim.{IsClaim, IsResult};
 ghost use Rattle.board.specs.Job.{job_problem};
+ghost use Rattle.board.specs.Leaving.{LeaveTheSame};
 ghost use Rattle.sites.specs.Seats.{SeatValue, AreAll, AreSettled, AreTallies};
 
 use crate::{Case, Held, Known, Results, Seat};
@@ -79,8 +80,8 @@ impl<'a, E: Executor, J: Case + Room> Model for Site<'a, E, J> {
 }
 
 impl<'a, E: Executor, J: Case + Room> Site<'a, E, J> {
-    /// The site of a board on which nothing has happened, with a roll on which nothing stands, which gave no seat yet. Board and roll have to be those that
-    /// the site's type names.
+    /// The site of a board on which nothing has happened, with a roll on which nothing stands, which gave no seat yet. Board, its executor and roll have to be
+    /// those that the site's type names.
     pub fn new(
         board: Board<'a, E, Known<'a, J>>,
         results: &'a Results<J>,
@@ -89,6 +90,7 @@ impl<'a, E: Executor, J: Case + Room> Site<'a, E, J> {
         requires problem { board_problem E.out board ≡ J.problem }
         requires long { results.now ≡ length J.problem.vertices }
         requires first { board.first ≡ J.first }
+        requires leaves { LeaveTheSame (E.leaves board.job.executor) J.leaves }
         requires room { opened.table.shared.table_id ≡ J.table }
         requires begun { board.run.history ≡ [] }
         ensures { result ≡ 0 }
@@ -112,7 +114,7 @@ impl<'a, E: Executor, J: Case + Room> Site<'a, E, J> {
     /// A seat for one worker more, under the next number. There are seats for as many as a build may have. It takes no memory.
     pub fn seat(&mut self, alloc: Global) -> Seat<J>
         requires { self.old < most_workers }
-        ensures seat { result ≡ record { worker = self.old; out = None; tally = [] } }
+        ensures seat { result ≡ record { worker = self.old; out = None; tally = []; lent = [] } }
         ensures given { self.new ≡ self.old + 1 }
     {
         let worker = self.giver.given();
@@ -144,6 +146,7 @@ impl<'a, E: Executor, J: Case + Room> Site<'a, E, J> {
     pub fn close(self, seats: &mut [Seat<J>]) -> Board<'a, E, Known<'a, J>>
         ensures problem { board_problem E.out result ≡ J.problem }
         ensures first { result.first ≡ J.first }
+        ensures leaves { LeaveTheSame (E.leaves result.job.executor) J.leaves }
         ensures claims { result.run.state.claims ≡ [] }
         ensures settled { AreSettled result.run.state.settled seats.old }
         ensures tallies { AreAll self.entry seats.old → AreTallies result.run.state.settled seats.old }

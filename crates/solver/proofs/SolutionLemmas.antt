@@ -7,6 +7,7 @@ use Rattle.plans.specs.Plan.{Problem, IsValue, NeedsAll, vertex_value, line_at, 
 use Rattle.trees.specs.Cause.{TreeOrCause}
 use Rattle.cachemounts.specs.declared.content.Content.{Content}
 use Rattle.board.specs.Board.{AreLeft}
+use Rattle.board.specs.Leaving.{Leaving, AreLeftByRuns}
 use Rattle.board.specs.Legal.{IsReady, IsNextClaim, settles, IsSettled, HasTree, HasCause}
 use Rattle.board.specs.Play.{Run, value_at, IsReplay}
 use Rattle.board.specs.Problem.{IsProblem}
@@ -135,3 +136,8 @@ none-ready problem run worker is replay idle (inr none) = none
 pub left-same : (problem : Problem) (first contents : List Content) → contents ≡ first → AreLeft problem first contents
 unfolding AreLeft
 left-same problem first contents same = subst (AreLeft problem first) (sym same) ([], tt, λ id slot. refl)
+
+-- and no settle gave anything back
+pub runs-same : (leaves : Leaving) (problem : Problem) (first contents : List Content) → contents ≡ first → AreLeftByRuns leaves problem first contents
+unfolding AreLeftByRuns
+runs-same leaves problem first contents same = subst (AreLeftByRuns leaves problem first) (sym same) ([], tt, (λ id slot. refl), tt)

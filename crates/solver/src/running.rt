@@ -1,8 +1,7 @@
 ghost use Rattle.std.specs.Prelude.{◌≡◌, ◌<◌, Some, IfOk, length, map, slice_get};
-ghost use Rattle.llb.specs.declared.vertex.Vertex.{Vertex as VertexValue};
-ghost use Rattle.plans.specs.Plan.{IsLeftBy};
 ghost use Rattle.board.specs.Claim.{IsClaim, IsResult, IsGivenBack};
 ghost use Rattle.board.specs.Job.{job_problem};
+ghost use Rattle.board.specs.Leaving.{IsLeftFor};
 ghost use Rattle.board.specs.Problem.{IsProblem};
 
 use crate::Gate;
@@ -25,8 +24,7 @@ pub fn run<E: Executor, P: Place<TreeOrCause>>(
     requires { IsClaim (job_problem E.out job.now) claim.now }
     ensures value { IfOk result (λ ran. IsResult (job_problem E.out job.now) claim.now ran.value) }
     ensures given { IfOk result (λ ran. IsGivenBack (job_problem E.out job.now) claim.now ran.given.items) }
-    ensures left { IfOk result (λ ran. (vertex : VertexValue) → slice_get job.now.graph.vertices claim.now.vertex ≡ Some vertex
-        → IsLeftBy (E.leaves job.now.executor) vertex.op claim.now.inputs claim.now.caches ran.given.items) }
+    ensures left { IfOk result (λ ran. IsLeftFor (E.leaves job.now.executor) (job_problem E.out job.now) claim.now ran.given.items) }
 {
     let vertex = vertex_at(job, claim.vertex());
     let inputs = inputs_of(alloc, claim)?;
@@ -50,8 +48,7 @@ pub fn run_gated<E: Executor, G: Gate, P: Place<TreeOrCause>>(
     requires { IsClaim (job_problem E.out job.now) claim.now }
     ensures value { IfOk result (λ ran. IsResult (job_problem E.out job.now) claim.now ran.value) }
     ensures given { IfOk result (λ ran. IsGivenBack (job_problem E.out job.now) claim.now ran.given.items) }
-    ensures left { IfOk result (λ ran. (vertex : VertexValue) → slice_get job.now.graph.vertices claim.now.vertex ≡ Some vertex
-        → IsLeftBy (E.leaves job.now.executor) vertex.op claim.now.inputs claim.now.caches ran.given.items) }
+    ensures left { IfOk result (λ ran. IsLeftFor (E.leaves job.now.executor) (job_problem E.out job.now) claim.now ran.given.items) }
 {
     if !is_command(vertex_at(job, claim.vertex())) {
         return run(alloc, job, claim);

@@ -2,6 +2,7 @@ ghost use Rattle.std.specs.Prelude.{◌≡◌, ◌<◌, ℕ, [], false, None, So
 ghost use Rattle.std.specs.Bool.{OnTrue, OnFalse};
 ghost use Rattle.trees.specs.TreeMap.{TreeMap};
 ghost use Rattle.board.specs.Board.{board_problem, AreLeft};
+ghost use Rattle.board.specs.Leaving.{AreLeftByRuns};
 ghost use Rattle.board.specs.Legal.{IsReady};
 ghost use Rattle.board.specs.Play.{value_at, unsettled_count};
 ghost use Rattle.board.specs.Readiness.{has_tree};
@@ -27,7 +28,7 @@ const SWEEPER: u32 = 64;
 
 /// The answer to a plan under an executor, with a store of caches of which nobody holds anything (`CacheStore::is_idle` tests that). It always returns.
 /// Whatever the result, no lease is out then, and the caches hold what a legal history of the plan's problem left of what they held: those that
-/// no vertex used are as they were.
+/// no vertex used are as they were, and in the others stands what runs left in them.
 pub fn solve_here<C: Exact, E: Executor>(
     alloc: Global,
     plan: &Plan<C>,
@@ -38,6 +39,7 @@ pub fn solve_here<C: Exact, E: Executor>(
     ensures answer { IfOk result (IsAnswer (E.out executor.now) plan.now) }
     ensures idle { caches.new.holds ≡ [] }
     ensures left { AreLeft (problem_of (E.out executor.now) plan.now) caches.old.contents caches.new.contents }
+    ensures runs { AreLeftByRuns (E.leaves executor.now) (problem_of (E.out executor.now) plan.now) caches.old.contents caches.new.contents }
 {
     let solution = solve_problem(alloc, plan, executor, caches)?;
     answer_of(alloc, plan, solution)
@@ -54,6 +56,7 @@ pub fn solve_problem<C, E: Executor>(
     ensures solution { IfOk result (IsSolution (problem_of (E.out executor.now) plan.now)) }
     ensures idle { caches.new.holds ≡ [] }
     ensures left { AreLeft (problem_of (E.out executor.now) plan.now) caches.old.contents caches.new.contents }
+    ensures runs { AreLeftByRuns (E.leaves executor.now) (problem_of (E.out executor.now) plan.now) caches.old.contents caches.new.contents }
 {
     let lent = mem::replace(caches, CacheStore::new(alloc));
     let mut board = match Board::new(alloc, Job::new(plan, executor), lent) {

@@ -1,4 +1,4 @@
-ghost use Rattle.std.specs.Prelude.{◌≡◌, [], IfOk};
+ghost use Rattle.std.specs.Prelude.{◌≡◌, ◌<◌, ◌≤◌, [], IfOk};
 
 use crate::answers::solved;
 use cachemounts::CacheStore;
@@ -6,7 +6,7 @@ use llb::VertexId;
 use plain::{Bytes, Fault, Memory, Sharing, Text};
 use plans::Plan;
 use samples::{Row, cache, listing, path, plan_of_rows};
-use solver::Gate;
+use solver::{Gate, OpenGate};
 use std::alloc::Global;
 use std::process::Abort;
 use std::sync::Wait;
@@ -22,6 +22,12 @@ const TWO_LOCKED: [Row; 4] = [
     ("locked bump /c/n", &[0], 2),
     ("locked put /o 1", &[0], 4),
     ("copy / /a/", &[2, 1], 5),
+];
+
+/// A command that leaves other things in the one of its two caches than in the other.
+const TWO_CACHES: [Row; 2] = [
+    ("scratch", &[], 1),
+    ("both sh -c bump\t/c/n\nput\t/d/m\t2", &[0], 2),
 ];
 
 /// Tells whether two commands were ever run at the same time, and gives them time to.
@@ -90,9 +96,14 @@ fn put(alloc: Global, tree: &mut Tree, entry: Entry) -> Result<(), TreeFault> {
     }
 }
 
-/// What the cache `k` holds, as a locked use finds it.
-fn held(rt: &impl Abort, alloc: Global, caches: &mut CacheStore) -> Result<String, Memory> {
-    let uses = [cache(alloc, "k", "/c", Sharing::Locked)?];
+/// What a cache holds, as a locked use finds it.
+fn held(
+    rt: &impl Abort,
+    alloc: Global,
+    caches: &mut CacheStore,
+    id: &str,
+) -> Result<String, Memory> {
+    let uses = [cache(alloc, id, "/c", Sharing::Locked)?];
     assert!(rt; caches.can_take(&uses) && !caches.is_holder(0));
     match caches.take(alloc, 0, &uses) {
         Ok(lease) => {
@@ -124,7 +135,7 @@ fn expect<R: Abort + Threads + Wait + Sync>(
     let text = solved(alloc, rt, plan, 4, &gate, caches)?;
     assert_eq!(rt; text.as_str(), "built /a/ /o=1");
     assert_eq!(rt; gate.met.load(Ordering::SeqCst), 0, "one at a time");
-    assert_eq!(rt; held(rt, alloc, caches)?.as_str(), after);
+    assert_eq!(rt; held(rt, alloc, caches, "k")?.as_str(), after);
     Ok(())
 }
 
@@ -153,4 +164,46 @@ fn locked_cache_is_held_alone(rt: HostRuntime) -> Result<(), Fail> {
     expect_after(&rt, alloc, tree, " /n=++++")?;
     let tree = tree_with(alloc, Entry::Directory(Meta::directory()))?;
     expect_after(&rt, alloc, tree, " /n/")
+}
+
+/// Solves the plan of the command with two caches, and compares what each of them has then.
+fn expect_each<R: Abort + Threads + Wait + Sync>(
+    rt: &R,
+    alloc: Global,
+    plan: &Plan<u8>,
+    workers: u32,
+    caches: &mut CacheStore,
+) -> Result<(), Fail>
+    requires workers { (0 < workers) × (workers ≤ 64) }
+    requires idle { caches.old.holds ≡ [] }
+{
+    let text = solved(alloc, rt, plan, workers, &OpenGate, caches)?;
+    assert_eq!(rt; text.as_str(), "built");
+    assert_eq!(rt; held(rt, alloc, caches, "k")?.as_str(), " /n=+");
+    assert_eq!(rt; held(rt, alloc, caches, "l")?.as_str(), " /m=2");
+    Ok(())
+}
+
+/// The same over a new store.
+fn expect_anew<R: Abort + Threads + Wait + Sync>(
+    rt: &R,
+    alloc: Global,
+    workers: u32,
+) -> Result<(), Fail>
+    requires { (0 < workers) × (workers ≤ 64) }
+{
+    let mut caches = CacheStore::new(alloc);
+    let done = match plan_of_rows(alloc, &TWO_CACHES, 1, &[]) {
+        Ok(plan) => expect_each(rt, alloc, &plan, workers, &mut caches),
+        Err(memory) => Err(Fail::from(memory)),
+    };
+    drop(caches);
+    done
+}
+
+#[test]
+fn each_cache_gets_what_its_run_left_in_it(rt: HostRuntime) -> Result<(), Fail> {
+    let alloc: Global = rt.alloc();
+    expect_anew(&rt, alloc, 1)?;
+    expect_anew(&rt, alloc, 4)
 }

@@ -2,7 +2,8 @@ ghost use Rattle.std.specs.Prelude.{◌≡◌, [], length};
 ghost use Rattle.board.specs.Board.{board_problem};
 ghost use Rattle.board.specs.Claim.{IsClaim};
 ghost use Rattle.board.specs.Job.{job_problem};
-ghost use Rattle.sites.specs.Seats.{IsMine};
+ghost use Rattle.board.specs.Leaving.{LeaveTheSame};
+ghost use Rattle.sites.specs.Seats.{IsMine, IsLentTo};
 
 use board::{Board, Claim, Job, NoBoard, Refused};
 use cachemounts::CacheStore;
@@ -38,7 +39,8 @@ fn work<E: Executor, J: Case + Room, R: Wait>(
     tools: &Tools<E>,
     seat: &mut Seat<J>,
 )
-    requires { job_problem E.out tools.now.job.now ≡ J.problem }
+    requires job { job_problem E.out tools.now.job.now ≡ J.problem }
+    requires leaves { LeaveTheSame (E.leaves tools.now.job.now.executor) J.leaves }
 {
     for _ in 0..TURNS {
         turn(rt, desk, tools, seat);
@@ -51,7 +53,8 @@ fn turn<E: Executor, J: Case + Room, R: Wait>(
     tools: &Tools<E>,
     seat: &mut Seat<J>,
 )
-    requires { job_problem E.out tools.now.job.now ≡ J.problem }
+    requires job { job_problem E.out tools.now.job.now ≡ J.problem }
+    requires leaves { LeaveTheSame (E.leaves tools.now.job.now.executor) J.leaves }
 {
     let claimed = desk.lock(rt).claim(tools.alloc, seat);
     match claimed {
@@ -69,8 +72,10 @@ pub fn settle_run<'a, E: Executor, J: Case + Room, R: Wait>(
     claim: Claim<Known<'a, J>>,
 )
     requires job { job_problem E.out tools.now.job.now ≡ J.problem }
+    requires leaves { LeaveTheSame (E.leaves tools.now.job.now.executor) J.leaves }
     requires mine { IsMine seat.old claim }
     requires of { IsClaim J.problem claim }
+    requires lent { IsLentTo seat.old claim }
 {
     let Ok(ran) = run(tools.alloc, tools.job, &claim) else {
         desk.lock(rt).abandon(seat, claim);
@@ -99,14 +104,15 @@ fn work_all<E: Executor, J: Case + Room + Send + Sync, R: Threads + Wait + Sync>
     tools: &Tools<E>,
     seats: &mut [Seat<J>],
 )
-    requires { job_problem E.out tools.now.job.now ≡ J.problem }
+    requires job { job_problem E.out tools.now.job.now ≡ J.problem }
+    requires leaves { LeaveTheSame (E.leaves tools.now.job.now.executor) J.leaves }
 {
     thread::for_each_mut(
         rt,
         seats,
         2,
         &|_, seat: &mut Seat<J>|
-            requires { job_problem E.out tools.now.job.now ≡ J.problem }
+            requires { (job_problem E.out tools.now.job.now ≡ J.problem) × LeaveTheSame (E.leaves tools.now.job.now.executor) J.leaves }
         { work(rt, desk, tools, seat) },
     );
 }
@@ -123,6 +129,8 @@ fn tallies_of_two<'a, E: Executor, J: Case + Room + Send + Sync, R: Threads + Wa
     requires problem { board_problem E.out board ≡ J.problem }
     requires long { results.now ≡ length J.problem.vertices }
     requires first { board.first ≡ J.first }
+    requires leaves { LeaveTheSame (E.leaves board.job.executor) J.leaves }
+    requires same { LeaveTheSame (E.leaves tools.now.job.now.executor) J.leaves }
     requires room { opened.table.shared.table_id ≡ J.table }
     requires begun { board.run.history ≡ [] }
 {
@@ -156,6 +164,8 @@ fn tallies_of_job<E: Executor, J: Case + Room + Send + Sync, R: Threads + Wait +
     requires job { job_problem E.out tools.now.job.now ≡ J.problem }
     requires problem { job_problem E.out job ≡ J.problem }
     requires first { J.first ≡ [] }
+    requires leaves { LeaveTheSame (E.leaves job.executor) J.leaves }
+    requires same { LeaveTheSame (E.leaves tools.now.job.now.executor) J.leaves }
     requires room { opened.table.shared.table_id ≡ J.table }
 {
     let results = Results::<J>::new(tools.alloc, job.graph().len())?;

@@ -2,6 +2,7 @@
 ghost use Rattle.std.specs.Prelude.{◌≡◌, [], length};
 ghost use Rattle.board.specs.Board.{board_problem};
 ghost use Rattle.board.specs.Job.{job_problem};
+ghost use Rattle.board.specs.Leaving.{LeaveTheSame};
 
 use crate::pairs::{Tools, settle_run};
 use board::{Board, Job, NoBoard};
@@ -27,7 +28,8 @@ fn input_after_settle<'a, E: Executor, J: Case + Room, R: Wait>(
     site: &Site<'a, E, J>,
     seat: &mut Seat<J>,
 ) -> Result<String, Memory>
-    requires { job_problem E.out tools.now.job.now ≡ J.problem }
+    requires job { job_problem E.out tools.now.job.now ≡ J.problem }
+    requires leaves { LeaveTheSame (E.leaves tools.now.job.now.executor) J.leaves }
 {
     let claimed = site.lock(rt).claim(tools.alloc, seat)?;
     let Some(claim) = claimed else {
@@ -52,6 +54,8 @@ fn third_input<E: Executor, J: Case + Room, R: Wait>(
     requires job { job_problem E.out tools.now.job.now ≡ J.problem }
     requires problem { job_problem E.out job ≡ J.problem }
     requires first { J.first ≡ [] }
+    requires leaves { LeaveTheSame (E.leaves job.executor) J.leaves }
+    requires same { LeaveTheSame (E.leaves tools.now.job.now.executor) J.leaves }
     requires room { opened.table.shared.table_id ≡ J.table }
 {
     let results = Results::<J>::new(tools.alloc, job.graph().len())?;
@@ -76,6 +80,8 @@ fn third_of<'a, E: Executor, J: Case + Room, R: Wait>(
     requires problem { board_problem E.out board ≡ J.problem }
     requires long { results.now ≡ length J.problem.vertices }
     requires first { board.first ≡ J.first }
+    requires leaves { LeaveTheSame (E.leaves board.job.executor) J.leaves }
+    requires same { LeaveTheSame (E.leaves tools.now.job.now.executor) J.leaves }
     requires room { opened.table.shared.table_id ≡ J.table }
     requires begun { board.run.history ≡ [] }
 {

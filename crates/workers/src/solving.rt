@@ -3,6 +3,7 @@ ghost use Rattle.plain.specs.Limits.{most_workers};
 ghost use Rattle.plans.specs.Plan.{problem_of};
 ghost use Rattle.board.specs.Board.{board_problem, AreLeft};
 ghost use Rattle.board.specs.Job.{job_problem};
+ghost use Rattle.board.specs.Leaving.{LeaveTheSame, AreLeftByRuns};
 ghost use Rattle.solver.specs.Solution.{IsSolution};
 
 use crate::working::{Tools, work_all};
@@ -25,8 +26,8 @@ use trees::TreeOrCause;
 /// The solution of a plan's problem under an executor, by this many workers, with a store of caches of which nobody holds anything
 /// (`CacheStore::is_idle` tests that). The gate is asked around the run of each command: by the workers from 0 on, and by the caller's thread, which
 /// does what they have left, as worker 64. A thread that can't be started is no fault: its work is done by the others. It may never return. If it does, no lease
-/// is out, whatever the result, and the caches hold what a legal history of the plan's problem left of what they held: which one is the order of settles,
-/// and those that no vertex used are as they were.
+/// is out, whatever the result, and the caches hold what a legal history of the plan's problem left of what they held: which one is the order of settles.
+/// Those that no vertex used are as they were, and in the others stands what runs left in them.
 pub fn solve<C, E: Executor, G: Gate, R: Threads + Wait + Sync>(
     alloc: Global,
     rt: &R,
@@ -41,6 +42,7 @@ pub fn solve<C, E: Executor, G: Gate, R: Threads + Wait + Sync>(
     ensures solution { IfOk result (IsSolution (problem_of (E.out executor.now) plan.now)) }
     ensures idle { caches.new.holds ≡ [] }
     ensures left { AreLeft (problem_of (E.out executor.now) plan.now) caches.old.contents caches.new.contents }
+    ensures runs { AreLeftByRuns (E.leaves executor.now) (problem_of (E.out executor.now) plan.now) caches.old.contents caches.new.contents }
 {
     let opened = Opened::new(alloc)?;
     let lent = mem::replace(caches, CacheStore::new(alloc));
@@ -86,12 +88,15 @@ fn solved<E: Executor, G: Gate, J: Case + Room + Send + Sync, R: Threads + Wait 
     requires tools { job_problem E.out tools.now.job.now ≡ J.problem }
     requires problem { job_problem E.out job ≡ J.problem }
     requires first { caches.contents ≡ J.first }
+    requires leaves { LeaveTheSame (E.leaves job.executor) J.leaves }
+    requires same { LeaveTheSame (E.leaves tools.now.job.now.executor) J.leaves }
     requires idle { caches.holds ≡ [] }
     requires room { opened.table.shared.table_id ≡ J.table }
     requires workers { workers ≤ most_workers }
     ensures solution { IfOk result.solution (IsSolution J.problem) }
     ensures idle { result.caches.holds ≡ [] }
     ensures left { AreLeft J.problem J.first result.caches.contents }
+    ensures runs { AreLeftByRuns J.leaves J.problem J.first result.caches.contents }
 {
     let Ok(results) = Results::<J>::new(tools.alloc, job.graph().len()) else {
         return Ended {
@@ -122,6 +127,7 @@ fn finished<E: Executor, G: Gate, P: Place<TreeOrCause>>(
     ensures solution { IfOk result.solution (IsSolution (board_problem E.out board.entry)) }
     ensures idle { result.caches.holds ≡ [] }
     ensures left { AreLeft (board_problem E.out board.entry) board.entry.first result.caches.contents }
+    ensures runs { AreLeftByRuns (E.leaves board.entry.job.executor) (board_problem E.out board.entry) board.entry.first result.caches.contents }
 {
     match board.at_home(tools.alloc) {
         Ok(mut board) => {
@@ -151,12 +157,15 @@ fn worked<'a, E: Executor, G: Gate, J: Case + Room + Send + Sync, R: Threads + W
     requires problem { board_problem E.out board ≡ J.problem }
     requires long { results.now ≡ length J.problem.vertices }
     requires first { board.first ≡ J.first }
+    requires leaves { LeaveTheSame (E.leaves board.job.executor) J.leaves }
+    requires same { LeaveTheSame (E.leaves tools.now.job.now.executor) J.leaves }
     requires room { opened.table.shared.table_id ≡ J.table }
     requires begun { board.run.history ≡ [] }
     requires claims { board.run.state.claims ≡ [] }
     requires workers { workers ≤ most_workers }
     ensures problem { board_problem E.out result ≡ J.problem }
     ensures first { result.first ≡ J.first }
+    ensures leaves { LeaveTheSame (E.leaves result.job.executor) J.leaves }
     ensures claims { result.run.state.claims ≡ [] }
 {
     let Ok(mut seats) = Vec::with_capacity(tools.alloc, workers as usize) else {

@@ -1,7 +1,8 @@
 ghost use Rattle.std.specs.Prelude.{◌≡◌, IfOk, IfSome};
 ghost use Rattle.board.specs.Claim.{IsClaim, IsResult, IsGivenBack};
 ghost use Rattle.board.specs.Job.{job_problem};
-ghost use Rattle.sites.specs.Seats.{IsMine};
+ghost use Rattle.board.specs.Leaving.{LeaveTheSame, IsLeftFor};
+ghost use Rattle.sites.specs.Seats.{IsMine, IsLentTo};
 
 use board::{Claim, Job, Refused};
 use executor::Executor;
@@ -34,14 +35,15 @@ pub(crate) fn work_all<
     J: Case + Room + Send + Sync,
     R: Threads + Wait + Sync,
 >(rt: &R, desk: &Desk<E, J>, tools: &Tools<E, G>, seats: &mut [Seat<J>])
-    requires { job_problem E.out tools.now.job.now ≡ J.problem }
+    requires job { job_problem E.out tools.now.job.now ≡ J.problem }
+    requires leaves { LeaveTheSame (E.leaves tools.now.job.now.executor) J.leaves }
 {
     thread::for_each_mut(
         rt,
         seats,
         MOST_WORKERS as usize,
         &|_, seat: &mut Seat<J>|
-            requires { job_problem E.out tools.now.job.now ≡ J.problem }
+            requires { (job_problem E.out tools.now.job.now ≡ J.problem) × LeaveTheSame (E.leaves tools.now.job.now.executor) J.leaves }
         { work(rt, desk, tools, seat) },
     );
 }
@@ -57,7 +59,8 @@ fn work<E: Executor, G: Gate, J: Case + Room, R: Wait>(
     tools: &Tools<E, G>,
     seat: &mut Seat<J>,
 )
-    requires { job_problem E.out tools.now.job.now ≡ J.problem }
+    requires job { job_problem E.out tools.now.job.now ≡ J.problem }
+    requires leaves { LeaveTheSame (E.leaves tools.now.job.now.executor) J.leaves }
 {
     for _ in rt.forever() {
         let Some(claim) = draw(rt, desk, tools, seat) else {
@@ -87,6 +90,7 @@ fn draw<'a, E: Executor, G, J: Case + Room, R: Wait>(
 ) -> Option<Claim<Known<'a, J>>>
     ensures mine { IfSome result (IsMine seat.new) }
     ensures of { IfSome result (IsClaim J.problem) }
+    ensures lent { IfSome result (IsLentTo seat.new) }
 {
     let mut held = desk.lock(rt);
     for _ in rt.forever() {
@@ -106,6 +110,7 @@ fn draw_now<'a, E: Executor, J: Case + Room>(
 ) -> Option<Option<Claim<Known<'a, J>>>>
     ensures mine { IfSome result (λ drawn. IfSome drawn (IsMine seat.new)) }
     ensures of { IfSome result (λ drawn. IfSome drawn (IsClaim J.problem)) }
+    ensures lent { IfSome result (λ drawn. IfSome drawn (IsLentTo seat.new)) }
 {
     match held.claim(alloc, seat) {
         Ok(Some(claim)) => Some(Some(claim)),
@@ -134,11 +139,14 @@ fn keep<'a, E: Executor, G, J: Case + Room>(
     ran: Result<Ran, Memory>,
 ) -> Option<Kept<'a, J>>
     requires job { job_problem E.out tools.now.job.now ≡ J.problem }
+    requires leaves { LeaveTheSame (E.leaves tools.now.job.now.executor) J.leaves }
     requires of { IsClaim J.problem claim.now }
     requires value { IfOk ran (λ ran. IsResult J.problem claim.now ran.value) }
     requires given { IfOk ran (λ ran. IsGivenBack J.problem claim.now ran.given.items) }
+    requires left { IfOk ran (λ ran. IsLeftFor (E.leaves tools.now.job.now.executor) J.problem claim.now ran.given.items) }
     ensures value { IfSome result (λ kept. IsResult J.problem claim.now kept.known.value) }
     ensures given { IfSome result (λ kept. IsGivenBack J.problem claim.now kept.given.items) }
+    ensures left { IfSome result (λ kept. IsLeftFor J.leaves J.problem claim.now kept.given.items) }
 {
     let Ok(Ran { value, given }) = ran else {
         return None;
@@ -162,6 +170,8 @@ fn end<'a, E: Executor, J: Case + Room>(
     requires of { IsClaim J.problem claim }
     requires value { IfSome kept (λ kept. IsResult J.problem claim kept.known.value) }
     requires given { IfSome kept (λ kept. IsGivenBack J.problem claim kept.given.items) }
+    requires lent { IsLentTo seat.old claim }
+    requires left { IfSome kept (λ kept. IsLeftFor J.leaves J.problem claim kept.given.items) }
 {
     let Some(Kept { known, given }) = kept else {
         held.abandon(seat, claim);

@@ -4,7 +4,7 @@ use Rattle.worker_tests.proofs.pairs.solve_by_two.Given as goal
 
 -- the site's problem is that of the job which is given to it, and its caches hold nothing at the start
 abbrev pub ghosts-tallies_of_job-J-Case : goal.ghosts-tallies_of_job-J-Case
-ghosts-tallies_of_job-J-Case g a = record { problem = job_problem g.E.Executor.out a.job; first = [] }
+ghosts-tallies_of_job-J-Case g a = record { problem = job_problem g.E.Executor.out a.job; first = []; leaves = g.E.Executor.leaves a.job.executor }
 
 -- its roll is on the table that was opened for it
 abbrev pub ghosts-tallies_of_job-J-Room : goal.ghosts-tallies_of_job-J-Room

@@ -1,4 +1,4 @@
-use Rattle.std.proofs.Common.{◌≡◌, ◌∙◌, Some, arith, rules, sym, subst, ap, map, true}
+use Rattle.std.proofs.Common.{◌≡◌, ◌∙◌, [], ◌∷◌, ◌++◌, Some, arith, rules, sym, subst, ap, map, true}
 use Rattle.board.specs.Job.{job_problem}
 use Rattle.runs.specs.Run.{ids_differ, ids_of}
 use Rattle.cachemounts.specs.Holds.{can_take, new_holds}
@@ -10,6 +10,9 @@ use Rattle.board.specs.Play.{claimable, Claim}
 use Rattle.board.specs.Claim.{IsClaim, IsOut}
 use Rattle.board.specs.PrivateShelf.{AreInputIds}
 use Rattle.board.specs.Board.{board_problem, IsStep}
+use Rattle.board.specs.Leaving.{lent_to, IsLent}
+use Rattle.board.specs.declared.event.Happened.TheVariants.{Claimed}
+use Rattle.board.proofs.LeavingLemmas.{given-push, lent-held, lent-claimed}
 use Rattle.board.proofs.SoundLemmas.{claim-is, claim-can}
 use Rattle.board.proofs.BoardLemmas.{board_of, run_of, claim-gone, claim-out, copies-count}
 use Rattle.board.proofs.FrontierSteps.{frontier-claim, available-within, claimable-available}
@@ -71,7 +74,9 @@ invariant_of-self-2 g c =
     let after : IsAfter (Takes c.args.worker (uses_at problem vertex)) b.caches c.take.new.self = subst (λ u. IsAfter (Takes c.args.worker u) b.caches c.take.new.self) uses c.in_ok-lease.ensures.ok in
     let gone = claim-gone g.E.Executor.out b.job b.first.items b.caches c.take.new.self b.history.items c.add-2.new.list.items b.settled b.claims.items c.add.new.list.items c.args.worker vertex c.len-at.result c.self.invariant.0 can (search rules) (search rules) (search rules) after in
     let more = frontier-claim b.job.graph.vertices b.job.graph.places b.settled b.claims.items c.add.new.list.items b.frontier c.withdraw.new.self (record { worker = c.args.worker; vertex = vertex; at = c.len-at.result }) c.self.invariant.2 (claimable-available problem run.state c.args.worker vertex can) c.withdraw.ensures (search rules) in
-    rw c.again.ensures.same (gone.board, omega (arith, c.self.invariant.1, c.in_ok-room-2.ensures.room, c.room-2.ensures.len, c.room.ensures.len, c.add.ensures.len, c.add-2.ensures.len, c.add-2.ensures.capacity, c.len.ensures), more)
+    let added : c.add-2.new.list.items ≡ b.history.items ++ Claimed c.args.worker vertex ∷ [] = search rules in
+    let given = given-push (g.E.Executor.leaves b.job.executor) problem b.first.items b.history.items c.add-2.new.list.items (Claimed c.args.worker vertex) added c.self.invariant.3 tt in
+    rw c.again.ensures.same (gone.board, omega (arith, c.self.invariant.1, c.in_ok-room-2.ensures.room, c.room-2.ensures.len, c.room.ensures.len, c.add.ensures.len, c.add-2.ensures.len, c.add-2.ensures.capacity, c.len.ensures), more, given)
 
 pub returns-clause-run : goal.returns-clause-run
 returns-clause-run g c =
@@ -115,3 +120,17 @@ returns-clause-caches g c =
     let here : c.in_ok-lease.lease.trees ≡ map (tree_held b.caches.contents) (new_holds c.args.worker b.caches.holds (uses_at problem vertex)) = subst (λ u. c.in_ok-lease.lease.trees ≡ map (tree_held b.caches.contents) (new_holds c.args.worker b.caches.holds u)) uses (ap (λ l. l.trees) c.in_ok-lease.ensures.lease) in
     subst (λ claim. claim.caches ≡ map (tree_held c.args.self.now.contents) (new_holds c.args.worker c.args.self.now.run.state.holds (uses_at (board_problem g.E.Executor.out c.args.self.now) claim.vertex))) (sym c.new.ensures)
     (subst (λ v. c.in_ok-lease.lease.trees ≡ map (tree_held v.contents) (new_holds c.args.worker v.run.state.holds (uses_at (board_problem g.E.Executor.out v) vertex))) c.self.view_is here)
+
+pub returns-clause-lent : goal.returns-clause-lent
+returns-clause-lent g c =
+    let b = c.self.inside in
+    let worker = c.args.worker in
+    let vertex = c.args.next.vertex in
+    let problem = job_problem g.E.Executor.out b.job in
+    let run = run_of b.history.items b.settled b.claims.items b.caches.holds in
+    let uses : c.uses_of.result.now ≡ uses_at problem vertex = c.uses_of.ensures ∙ ap (λ vertices. uses_in vertices vertex) (c.vertices-vertices.ensures.value ∙ ap (λ graph. graph.vertices) c.graph.ensures.value) in
+    let here : c.in_ok-lease.lease.trees ≡ map (tree_held b.caches.contents) (new_holds worker b.caches.holds (uses_at problem vertex)) = subst (λ u. c.in_ok-lease.lease.trees ≡ map (tree_held b.caches.contents) (new_holds worker b.caches.holds u)) uses (ap (λ l. l.trees) c.in_ok-lease.ensures.lease) in
+    let held = lent-held problem b.first.items b.caches.contents run worker vertex c.self.invariant.0.problem c.self.invariant.0.replay c.self.invariant.0.contents in
+    let added : c.add-2.new.list.items ≡ b.history.items ++ Claimed worker vertex ∷ [] = search rules in
+    subst (IsLent problem b.first.items c.add-2.new.list.items) (sym c.new.ensures)
+    (subst (λ h. c.in_ok-lease.lease.trees ≡ lent_to problem b.first.items h worker) (sym added) (here ∙ (held ∙ sym (lent-claimed problem b.first.items b.history.items worker vertex))))

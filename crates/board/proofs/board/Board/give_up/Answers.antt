@@ -1,8 +1,10 @@
-use Rattle.std.proofs.Common.{◌≡◌, Some, arith, rules, sym, subst}
+use Rattle.std.proofs.Common.{◌≡◌, [], ◌∷◌, ◌++◌, Some, arith, rules, sym, subst}
 use Rattle.board.specs.Play.{claim_of, Abandon}
 use Rattle.board.specs.Board.{IsStep}
 use Rattle.board.specs.Job.{job_problem}
 use Rattle.board.proofs.BoardLemmas.{board_of, run_of, abandon-gone}
+use Rattle.board.specs.declared.event.Happened.TheVariants.{Abandoned}
+use Rattle.board.proofs.LeavingLemmas.{given-push}
 use Rattle.board.proofs.FrontierLemmas.{replay-alone}
 use Rattle.board.proofs.FrontierSteps.{frontier-abandon}
 use Rattle.board.proofs.board.Board.give_up.Goals as goal
@@ -24,7 +26,9 @@ invariant_of-self g c =
     let fewer = c.drop_claim.ensures.fewer claim vertex_out in
     let alone = replay-alone (job_problem g.E.Executor.out b.job) (run_of b.history.items b.settled b.claims.items b.caches.holds) claim c.self.invariant.0.problem c.self.invariant.0.replay vertex_out in
     let left = frontier-abandon b.job.graph.vertices b.job.graph.places b.settled b.claims.items c.drop_claim.new.claims.items b.frontier c.restore.new.self claim c.self.invariant.2 alone c.restore.ensures (search rules) in
-    (gone.board, omega (arith, fewer, c.self.invariant.1, c.add.ensures.len, c.add.ensures.capacity), left)
+    let added : c.add.new.list.items ≡ b.history.items ++ Abandoned claim.worker claim.vertex ∷ [] = search rules in
+    let given = given-push (g.E.Executor.leaves b.job.executor) (job_problem g.E.Executor.out b.job) b.first.items b.history.items c.add.new.list.items (Abandoned claim.worker claim.vertex) added c.self.invariant.3 tt in
+    (gone.board, omega (arith, fewer, c.self.invariant.1, c.add.ensures.len, c.add.ensures.capacity), left, given)
 
 pub returns : goal.returns
 returns g c =

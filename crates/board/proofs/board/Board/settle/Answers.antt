@@ -1,5 +1,5 @@
 use Rattle.std.specs.Prelude.{slice_get}
-use Rattle.std.proofs.Common.{◌≡◌, ◌∙◌, Some, arith, rules, sym, subst, slice_set, ◌<◌, length, ap}
+use Rattle.std.proofs.Common.{◌≡◌, ◌∙◌, [], ◌∷◌, ◌++◌, Some, arith, rules, sym, subst, slice_set, ◌<◌, length, ap}
 use Rattle.board.specs.Job.{job_problem}
 use Rattle.cachemounts.specs.Holds.{of_holder}
 use Rattle.cachemounts.specs.Changes.{Gives}
@@ -8,6 +8,9 @@ use Rattle.plans.specs.Plan.{vertex_value, uses_at}
 use Rattle.board.specs.Play.{unsettled_count, Settle}
 use Rattle.board.specs.Claim.{IsClaim, IsOut, IsResult, claim_out}
 use Rattle.board.specs.Board.{IsStep}
+use Rattle.board.specs.Leaving.{IsLent, IsLeftFor}
+use Rattle.board.specs.declared.event.Happened.TheVariants.{Settled}
+use Rattle.board.proofs.LeavingLemmas.{given-push, left-at}
 use Rattle.board.proofs.SoundLemmas.{claim-within, claim-unsettled, claim-count, unsettled-fewer, result-is}
 use Rattle.board.proofs.BoardLemmas.{slice_get-set, run_of, board_of, settle-gone}
 use Rattle.board.specs.PrivateFrontier.{users_at, line_in, CanLower, IsSettledIn}
@@ -77,7 +80,12 @@ invariant_of-self g c =
     let settles : IsSettledIn claim.vertex c.least_place-line.result value b.frontier c.settle.new.self = subst (λ x. IsSettledIn claim.vertex c.least_place-line.result x b.frontier c.settle.new.self) c.value.ensures (subst (λ v. IsSettledIn v c.least_place-line.result c.value.result.now b.frontier c.settle.new.self) at c.settle.ensures) in
     let on : c.least_place-line.result ≡ line_in b.job.graph.places claim.vertex = c.least_place-line.ensures ∙ (ap (λ graph. line_in graph.places c.vertex-vertex.result) c.graph.ensures.value ∙ ap (line_in b.job.graph.places) at) in
     let left = frontier-settle b.job.graph.vertices b.job.graph.places b.settled c.put.new.self b.claims.items c.drop_claim.new.claims.items b.frontier c.settle.new.self (claim_out claim) c.least_place-line.result value c.self.invariant.2 alone on settles put (search rules) in
-    (gone.board, omega (arith, fewer, c.self.invariant.1, c.add.ensures.len, c.add.ensures.capacity), left)
+    let leaves = g.E.Executor.leaves b.job.executor in
+    let lent : IsLent problem b.first.items b.history.items claim = subst (λ v. IsLent (job_problem g.E.Executor.out v.job) v.first v.run.history claim) (sym c.self.view_is) c.requires.lent in
+    let ran : IsLeftFor leaves problem claim c.args.given.items = subst (λ v. IsLeftFor (g.E.Executor.leaves v.job.executor) (job_problem g.E.Executor.out v.job) claim c.args.given.items) (sym c.self.view_is) c.requires.left in
+    let added : c.add.new.list.items ≡ b.history.items ++ Settled claim.worker claim.vertex c.args.given.items ∷ [] = search rules in
+    let given_so = given-push leaves problem b.first.items b.history.items c.add.new.list.items (Settled claim.worker claim.vertex c.args.given.items) added c.self.invariant.3 (left-at leaves problem claim _ c.args.given.items of ran lent) in
+    (gone.board, omega (arith, fewer, c.self.invariant.1, c.add.ensures.len, c.add.ensures.capacity), left, given_so)
 
 pub returns-clause-run : goal.returns-clause-run
 returns-clause-run g c =

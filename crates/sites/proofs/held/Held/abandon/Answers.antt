@@ -1,8 +1,9 @@
-use Rattle.std.proofs.Common.{◌≡◌, sym, ap, ◌∙◌, subst}
+use Rattle.std.proofs.Common.{◌≡◌, [], sym, ap, ◌∙◌, subst}
 use Rattle.board.specs.Board.{BoardValue}
 use Rattle.board.specs.Claim.{IsOut}
-use Rattle.sites.specs.Seats.{SeatValue, IsBook}
-use Rattle.sites.proofs.BookLemmas.{held-abandon}
+use Rattle.board.specs.Leaving.{LeaveTheSame}
+use Rattle.sites.specs.Seats.{SeatValue, IsBook, AreLoans}
+use Rattle.sites.proofs.BookLemmas.{held-abandon, loans-abandon}
 use Rattle.sites.proofs.held.Held.abandon.Goals as goal
 
 pub invariant_of-self : goal.invariant_of-self
@@ -13,5 +14,8 @@ invariant_of-self g c =
     let mine = c.agree.ensures.out claim c.requires.mine in
     let is_out : IsOut h.board.run.state claim = subst (λ (v : BoardValue _). IsOut v.run.state claim) (sym (c.self.view_is ∙ c.agree.ensures.same.0)) mine.0 in
     let who : claim.worker ≡ worker = mine.1 ∙ sym (c.seat.invariant.0 ∙ ap (λ (s : SeatValue). s.worker) (c.seat.view_is ∙ c.agree.ensures.same.1)) in
-    let kept = held-abandon g.E.Executor.out g.J.Case.problem h.board c.abandon.new.self h.roll worker claim c.self.invariant.0 c.self.invariant.1 is_out who (c.abandon.ensures.out is_out) in
-    (kept.0, subst (λ roll. IsBook roll c.abandon.new.self.run) (sym c.write.ensures.roll) kept.1, (c.abandon.ensures.out is_out).first ∙ c.self.invariant.2)
+    let kept = held-abandon g.E.Executor.out g.J.Case.problem h.board c.abandon.new.self h.roll worker claim [] c.self.invariant.0 c.self.invariant.1 is_out who (c.abandon.ensures.out is_out) in
+    let step = c.abandon.ensures.out is_out in
+    let loans = loans-abandon g.E.Executor.out g.J.Case.problem g.J.Case.first h.board c.abandon.new.self h.roll worker claim.worker [] c.self.invariant.0 c.self.invariant.3 who step in
+    let leaves = subst (λ job. LeaveTheSame (g.E.Executor.leaves job.executor) g.J.Case.leaves) (sym step.job) c.self.invariant.4 in
+    (kept.0, subst (λ roll. IsBook roll c.abandon.new.self.run) (sym c.write.ensures.roll) kept.1, step.first ∙ c.self.invariant.2, subst (λ roll. AreLoans g.J.Case.problem g.J.Case.first roll c.abandon.new.self.run) (sym c.write.ensures.roll) loans, leaves)

@@ -1,5 +1,7 @@
 use Rattle.std.proofs.Common.{subst}
 use Rattle.board.specs.Board.{BoardValue, AreContents}
+use Rattle.board.specs.Leaving.{GivesBackWhatIsLeft}
+use Rattle.board.proofs.LeavingLemmas.{given-same}
 use Rattle.board.specs.Play.{IsReplay}
 use Rattle.board.specs.Problem.{IsProblem}
 use Rattle.sites.proofs.held.Held.history.Goals as goal
@@ -20,3 +22,13 @@ returns-clause-contents g c =
     let named = subst (λ p. AreContents p h.board.run.history h.board.first h.board.contents) c.self.invariant.0 c.history.ensures.contents in
     let here = subst (λ first. AreContents problem h.board.run.history first h.board.contents) c.self.invariant.2 named in
     subst (λ (b : BoardValue _). AreContents problem b.run.history g.J.Case.first b.contents) c.self.view_is here
+
+pub returns-clause-given : goal.returns-clause-given
+returns-clause-given g c =
+    let h = c.self.inside in
+    let problem = g.J.Case.problem in
+    let leaves = g.E.Executor.leaves h.board.job.executor in
+    let named = subst (λ p. GivesBackWhatIsLeft leaves p h.board.first h.board.run.history) c.self.invariant.0 c.history.ensures.given in
+    let here = subst (λ first. GivesBackWhatIsLeft leaves problem first h.board.run.history) c.self.invariant.2 named in
+    subst (λ (b : BoardValue _). GivesBackWhatIsLeft g.J.Case.leaves problem g.J.Case.first b.run.history) c.self.view_is
+    (given-same leaves g.J.Case.leaves problem g.J.Case.first h.board.run.history c.self.invariant.4 here)

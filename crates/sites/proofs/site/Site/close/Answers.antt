@@ -1,6 +1,7 @@
 use Rattle.std.proofs.Common.{sym, ap, ◌∙◌, subst}
 use Rattle.std.specs.Prelude.{IsSome, slice_index_or}
 use Rattle.board.specs.Board.{BoardValue, board_problem}
+use Rattle.board.specs.Leaving.{LeaveTheSame}
 use Rattle.board.specs.Play.{value_at}
 use Rattle.sites.specs.Seats.{AreAll, AreTallies}
 use Rattle.sites.specs.PrivateSeats.{AreSeatsOf}
@@ -32,3 +33,8 @@ returns-clause-settled g c = λ k vertex default less among.
     let kept = cleared-settled (board_problem g.E.Executor.out board) board.run c.abandon_all.new.self.run c.abandon_all.ensures.run in
     let same = kept ∙ ap (λ (b : BoardValue _). b.run.state.settled) (c.into_board-board.ensures.board ∙ known.same.0) in
     subst (λ settled. IsSome (value_at settled vertex)) (sym same) told
+
+pub returns-clause-leaves : goal.returns-clause-leaves
+returns-clause-leaves g c =
+    let board = c.into_board-board in
+    subst (λ job. LeaveTheSame (g.E.Executor.leaves job.executor) g.J.Case.leaves) (sym c.abandon_all.ensures.job) board.ensures.leaves

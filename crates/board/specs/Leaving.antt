@@ -1,0 +1,100 @@
+-- What caches are given back: what the run of a vertex left in them, of the trees that they held when it was claimed.
+use Rattle.std.specs.Prelude.{◌≡◌, ◌↔◌, ℕ, ◌==◌, if◌then◌else◌, List, [], ◌∷◌, ◌++◌, map, Some, slice_get}
+use Rattle.trees.specs.TreeMap.{TreeMap}
+use Rattle.runs.specs.declared.run.RunRequest.{RunRequest}
+use Rattle.runs.specs.declared.run.CacheUse.{CacheUse}
+use Rattle.llb.specs.declared.vertex.Vertex.{Vertex}
+use Rattle.plans.specs.Plan.{Problem, uses_at, IsLeftBy}
+use Rattle.plans.specs.Value.{trees_at}
+use Rattle.cachemounts.specs.declared.content.Content.{Content}
+use Rattle.cachemounts.specs.declared.holds.Hold.{Hold}
+use Rattle.cachemounts.specs.Holds.{new_holds}
+use Rattle.cachemounts.specs.Content.{tree_in, slot_of}
+use Rattle.cachemounts.specs.Changes.{content_after}
+use Rattle.board.specs.Problem.{values_in}
+use Rattle.board.specs.Legal.{change_of, held_caches, IsLegal}
+use Rattle.board.specs.Claim.{ClaimValue}
+use Rattle.board.specs.Board.{AreContents}
+use Rattle.board.specs.declared.event.Happened.{Happened}
+use Rattle.board.specs.declared.event.Happened.TheVariants.{Claimed, Settled, Abandoned}
+
+-- what an executor may leave in the caches of a run, by what they held before (own)
+abbrev pub Leaving : Type 1
+Leaving = RunRequest → List TreeMap → List TreeMap → Type 0
+
+-- two executors may leave the same (own)
+abbrev pub LeaveTheSame : Leaving → Leaving → Type 0
+LeaveTheSame leaves other = (request : RunRequest) (before after : List TreeMap) → leaves request before after ↔ other request before after
+
+-- the trees that a worker is lent which claims a vertex after a history: what the contents hold then that it takes, in the order of the vertex's
+-- uses (own)
+abbrev pub lent_after : Problem → List Content → List Happened → ℕ → ℕ → List TreeMap
+lent_after problem first before worker vertex =
+    map (λ (hold : Hold). content_after (tree_in first) (map (change_of problem) before) hold.id (slot_of hold.access)) (new_holds worker (held_caches problem before) (uses_at problem vertex))
+
+-- the trees that a worker was lent with its last claim, after one event more (own)
+abbrev pub lent_then : Problem → List Content → List Happened → ℕ → List TreeMap → Happened → List TreeMap
+lent_then problem first before worker lent (Claimed by vertex) = if by == worker then lent_after problem first before by vertex else lent
+lent_then problem first before worker lent (Settled by vertex given) = lent
+lent_then problem first before worker lent (Abandoned by vertex) = lent
+
+-- the same after events that follow upon a history (own)
+abbrev pub lent_on : Problem → List Content → ℕ → List TreeMap → List Happened → List Happened → List TreeMap
+lent_on problem first worker lent before [] = lent
+lent_on problem first worker lent before (event ∷ events) =
+    lent_on problem first worker (lent_then problem first before worker lent event) (before ++ event ∷ []) events
+
+-- the trees that a worker was lent with its last claim; none, where it has made no claim (own)
+abbrev pub lent_to : Problem → List Content → List Happened → ℕ → List TreeMap
+lent_to problem first history worker = lent_on problem first worker [] [] history
+
+-- a claim has the trees that its worker was lent with it (own)
+abbrev pub IsLent : Problem → List Content → List Happened → ClaimValue → Type 0
+IsLent problem first history claim = claim.caches ≡ lent_to problem first history claim.worker
+
+-- trees are what the run of a claim may leave of those that the claim has, in the caches that its vertex uses (own)
+abbrev pub IsLeftFor : Leaving → Problem → ClaimValue → List TreeMap → Type 0
+IsLeftFor leaves problem claim given =
+    (vertex : Vertex) → slice_get problem.vertices claim.vertex ≡ Some vertex → IsLeftBy leaves vertex.op claim.inputs claim.caches given
+
+-- trees are what a vertex of a problem may leave in the caches that it uses, by what they held before: its operation on the values of its inputs (own)
+pub record IsLeftAt (leaves : Leaving) (problem : Problem) (vertex : ℕ) (before after : List TreeMap) : Type 0 where
+  pub operation : Vertex
+  pub there : slice_get problem.vertices vertex ≡ Some operation
+  pub inputs : List TreeMap
+  pub values : trees_at (values_in problem) operation.inputs ≡ Some inputs
+  pub left : IsLeftBy leaves operation.op inputs before after
+
+-- what happens after a history gives back what was left: a settle what its vertex left of the trees that its worker was lent (own)
+abbrev pub GivesBack : Leaving → Problem → List Content → List Happened → Happened → Type 0
+GivesBack leaves problem first before (Claimed worker vertex) = Unit {0}
+GivesBack leaves problem first before (Settled worker vertex given) = IsLeftAt leaves problem vertex (lent_to problem first before worker) given
+GivesBack leaves problem first before (Abandoned worker vertex) = Unit {0}
+
+-- each event of a list does, after those before it, and after the history that the list goes on (own)
+abbrev pub GiveBackOn : Leaving → Problem → List Content → List Happened → List Happened → Type 0
+GiveBackOn leaves problem first before [] = Unit {0}
+GiveBackOn leaves problem first before (event ∷ events) =
+    GivesBack leaves problem first before event × GiveBackOn leaves problem first (before ++ event ∷ []) events
+
+-- a history gives back what was left: each settle of it what the run of its vertex left in its caches, of what stood in them when it was claimed (own)
+abbrev pub GivesBackWhatIsLeft : Leaving → Problem → List Content → List Happened → Type 0
+GivesBackWhatIsLeft leaves problem first history = GiveBackOn leaves problem first [] history
+
+-- these contents are those that some legal history of a problem leaves of the contents at the start, whose settles give back what runs left: so a
+-- content that no vertex used is as it was, and in one that was used stands what a run left in it (own)
+unfoldable pub AreLeftByRuns : Leaving → Problem → List Content → List Content → Type 0
+AreLeftByRuns leaves problem first contents =
+    (history : List Happened) × IsLegal problem history × AreContents problem history first contents × GivesBackWhatIsLeft leaves problem first history
+
+-- a tree is what some run may leave in a cache: a vertex uses the cache, and its run may leave the tree at the cache's place among those that it uses (own)
+pub record IsLeftIn (leaves : Leaving) (problem : Problem) (id : List ℕ) (tree : TreeMap) : Type 0 where
+  pub vertex : ℕ
+  pub before : List TreeMap
+  pub after : List TreeMap
+  pub left : IsLeftAt leaves problem vertex before after
+  pub at : ℕ
+  pub mount : CacheUse
+  pub uses : slice_get (uses_at problem vertex) at ≡ Some mount
+  pub same : mount.id ≡ id
+  pub there : slice_get after at ≡ Some tree
