@@ -172,7 +172,7 @@ pub held-abandon : {E : Type 0} (out : E → Out) (problem : Problem) (old new :
     → (board_problem out new ≡ problem) × IsBook (roll ++ (worker, told note.Abandoned lent) ∷ []) new.run
 held-abandon out problem old new roll worker claim lent same book is_out mine step =
     let here = book-abandon (board_problem out old) old.run roll claim.worker claim.vertex claim.at lent book is_out in
-    let there = subst (IsBook (roll ++ (claim.worker, note.Abandoned) ∷ [])) (sym step.run) here in
+    let there = subst (IsBook (roll ++ (claim.worker, told note.Abandoned lent) ∷ [])) (sym step.run) here in
     (ap (job_problem out) step.job ∙ same, subst (λ w. IsBook (roll ++ (w, told note.Abandoned lent) ∷ []) new.run) mine there)
 
 -- an empty roll is true of a board on which nothing has happened

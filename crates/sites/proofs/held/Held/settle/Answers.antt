@@ -26,7 +26,7 @@ invariant_of-self-2 g c =
     (kept.0, subst (λ roll. IsBook roll run) (sym c.write.ensures.roll) named, step.first ∙ c.self.invariant.2, subst (λ roll. AreLoans g.J.Case.problem g.J.Case.first roll run) (sym c.write.ensures.roll) loaned, leaves)
 
 pub settle-requires-clause-lent : goal.settle-requires-clause-lent
-settle-requires-clause-lent g c =
+settle-requires-clause-lent g c κs within =
     let h = c.self.inside in
     let problem = g.J.Case.problem in
     let claim = c.args.claim in
@@ -36,7 +36,7 @@ settle-requires-clause-lent g c =
     here ∙ (ap (λ p. lent_to p g.J.Case.first h.board.run.history claim.worker) (sym c.self.invariant.0) ∙ ap (λ f. lent_to (board_problem g.E.Executor.out h.board) f h.board.run.history claim.worker) (sym c.self.invariant.2))
 
 pub settle-requires-clause-left : goal.settle-requires-clause-left
-settle-requires-clause-left g c =
+settle-requires-clause-left g c κs within =
     let h = c.self.inside in
     let leaves = g.E.Executor.leaves h.board.job.executor in
     let left = left-back leaves g.J.Case.leaves g.J.Case.problem c.args.claim c.args.given.items c.self.invariant.4 c.requires.left in
