@@ -10,4 +10,4 @@ returns-in-Ok-Some-clause-left g c =
     let problem = g.J.Case.problem in
     let claim = c.args.claim.now in
     let ran = subst (λ r. IfOk r (λ ran. IsLeftFor leaves problem claim ran.given.items)) c.in-Ok.is c.requires.left in
-    left-same leaves g.J.Case.leaves problem claim c.in-Ok.given.items c.requires.leaves ran
+    left-same leaves g.J.Case.leaves problem claim c.in-Ok.field-0.given.items c.requires.leaves ran
