@@ -35,6 +35,13 @@ impl<T: Drop, M: Meaning<T>> Row<T, M> {
         Ok(Row { cells })
     }
 
+    /// How many cells there are.
+    pub fn len(&self) -> usize
+        ensures { result ≡ self.now }
+    {
+        self.cells.len()
+    }
+
     /// Puts the value of a thing into the cell of its number, unless one stands there already, and answers the cell with what stands there then.
     /// None if that has another number. Nothing in this crate puts it there; that nobody does can't be said of a cell, of which only the type is known.
     pub fn keep<'a>(
@@ -57,5 +64,23 @@ impl<T: Drop, M: Meaning<T>> Row<T, M> {
             return Ok(None);
         }
         Ok(Some(KnownCell::new(cell, note, found)))
+    }
+
+    /// What stands in the cell of a number, if anything does that is of this number.
+    pub fn get(&self, number: u32) -> Option<&T>
+        ensures { IfSome result (λ value. M.means number value.now) }
+    {
+        let Some(cell) = self.cells.get(number as usize) else {
+            return None;
+        };
+        let Some(found) = cell.get() else {
+            return None;
+        };
+        let value = found.value();
+        if found.number() == number {
+            Some(value)
+        } else {
+            None
+        }
     }
 }

@@ -28,11 +28,11 @@ step_sync = search (op.the_field_sync, items.the_sync, sendable, any.crosses) de
 pub generation_sync : IsSync Generation.the_row
 generation_sync =
     let all : AllSync (fields GenerationInside.the_type) =
-    (search (tree_sync, sendable, any.crosses) depth 20, (search (step_sync, sendable, any.crosses) depth 20, (search (index.the_field_sync, sendable, any.crosses, maps.crosses) depth 20, tt))) in
+    (search (tree_sync, sendable, any.crosses) depth 20, (search (step_sync, sendable, any.crosses) depth 20, (search (index.the_field_sync, sendable, any.crosses, maps.crosses) depth 20, (search (index.the_field_sync, sendable, any.crosses, maps.crosses) depth 20, tt)))) in
     search (all, sendable) depth 20
 
 pub memo_sync : (κ : NamedLft) (E : RattleType) (g : Ghosts E.Denot) → IsSync E → IsSync (Memo.the_row κ E g)
 memo_sync κ E g e =
     let all : AllSync (fields (MemoInside.the_type κ E g)) =
-    (search (e, sendable) depth 20, (search (generation_sync, sendable) depth 20, (search (generation_sync, sendable) depth 20, tt))) in
+    (search (e, sendable) depth 20, (search (generation_sync, sendable) depth 20, (search (generation_sync, sendable) depth 20, (search sendable depth 20, tt)))) in
     search (all, sendable) depth 20

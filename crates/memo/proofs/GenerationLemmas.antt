@@ -1,6 +1,6 @@
 -- What is kept of the entries of a generation stays the same if more is kept.
 use Rattle.std.proofs.Common.{◌≡◌, ◌∙◌, ◌+◌, ◌<◌, ◌≤◌, ◌⊎◌, inl, inr, ℕ, zero, suc, List, [], ◌∷◌, ◌++◌, length, map, get_or, Option, Some, None, Ok, Err, Result, IfOk, IfNone, OnOk, OnErr, refl, sym, ap, subst, arith}
-use Rattle.std.specs.Prelude.{slice_get, slice_index_or}
+use Rattle.std.specs.Prelude.{IfSome, slice_get, slice_index_or}
 use Rattle.std.specs.List.{Contains}
 use Rattle.std.proofs.lemmas.List.{append-nil, append_assoc, get_or_append_left, get_or_default, map_push, length-append}
 use Rattle.std.proofs.lemmas.Option.{get_or_from_slice_get}
@@ -11,7 +11,7 @@ use Rattle.memo.specs.declared.step.Step.{Step}
 use Rattle.memo.specs.declared.index.Index.{Index}
 use Rattle.memo.specs.Key.{key_of}
 use Rattle.memo.specs.Memo.{Entry, GenerationValue, entry_of, Has, Lacks}
-use Rattle.memo.specs.PrivateGeneration.{tree_at, trees_at, entry_at, entries_at, AreBelow, IsPlaced, ArePlaced, IsIndexed, IsFor, Stands, IsMore}
+use Rattle.memo.specs.PrivateGeneration.{tree_at, trees_at, entry_at, entries_at, AreBelow, IsPlaced, ArePlaced, IsIndexed, IsFor, Stands, IsMore, step_of}
 use Rattle.memo.specs.PrivateIndex.{under}
 use Rattle.memo.proofs.IndexKept.{last_cases}
 
@@ -96,6 +96,27 @@ found-entry trees (first ∷ steps) op inputs (suc k) step e is =
     let rest : Has (entries_at trees steps) op inputs (tree_at trees step.tree) = found-entry trees steps op inputs k step e is in
     (suc rest.0, omega (arith, rest.1), rest.2)
 
+-- a step that stands there is that of an operation on the trees of some numbers
+pub stands-for : (steps : List Step) (op : Op) (inputs : List ℕ) (step : Step) → Stands steps step → step.op ≡ op → step.inputs ≡ inputs → Stands steps (step_of op inputs step.tree)
+stands-for steps op inputs step is same_op same_inputs =
+    let one : step_of step.op step.inputs step.tree ≡ step_of op step.inputs step.tree = ap (λ o. step_of o step.inputs step.tree) same_op in
+    let other : step_of op step.inputs step.tree ≡ step_of op inputs step.tree = ap (λ ns. step_of op ns step.tree) same_inputs in
+    record { place = is.place; there = is.there ∙ ap Some (one ∙ other) }
+
+-- a number that was found by numbers is that of a tree
+pub kept-below : (trees : List TreeMap) (steps : List Step) (op : Op) (inputs : List ℕ) (found : Option ℕ) → ArePlaced (length trees) steps → IfSome found (λ number. Stands steps (step_of op inputs number)) → IfSome found (λ number. number < length trees)
+kept-below trees steps op inputs None are is = is
+kept-below trees steps op inputs (Some number) are is =
+    let placed : IsPlaced (length trees) (step_of op inputs number) = are is.place (step_of op inputs number) is.there in
+    placed.tree
+
+-- and shows an entry over the trees of the numbers
+pub kept-has : (trees : List TreeMap) (steps : List Step) (op : Op) (inputs : List ℕ) (found : Option ℕ) → IfSome found (λ number. Stands steps (step_of op inputs number)) → IfSome found (λ number. Has (entries_at trees steps) op (trees_at trees inputs) (tree_at trees number))
+kept-has trees steps op inputs None is = is
+kept-has trees steps op inputs (Some number) is =
+    let kept : IsFor trees op (trees_at trees inputs) (step_of op inputs number) = record { same_op = refl; same_inputs = refl } in
+    found-entry trees steps op (trees_at trees inputs) is.place (step_of op inputs number) is.there kept
+
 record IsAt (trees : List TreeMap) (steps : List Step) (k : ℕ) (entry : Entry) : Type 0 where
   step : Step
   there : slice_get steps k ≡ Some step
@@ -156,12 +177,15 @@ abbrev given : List Entry → List TreeMap → GenerationValue
 given entries trees = record { entries = entries; trees = trees }
 
 -- a tree more changes no entry
-pub kept-view : {X Y : Type 0} (old new : List TreeMap) (steps : List Step) (tree : TreeMap) (value : GenerationValue) (result : Result X Y) → given (entries_at old steps) old ≡ value → ArePlaced (length old) steps → OnOk result (new ≡ old ++ tree ∷ []) → OnOk result (given (entries_at new steps) new ≡ given value.entries (value.trees ++ tree ∷ []))
-kept-view old new steps tree value (Err y) view are ok = ok
-kept-view old new steps tree value (Ok x) view are ok =
+pub kept-now : (old new : List TreeMap) (steps : List Step) (tree : TreeMap) (value : GenerationValue) → given (entries_at old steps) old ≡ value → ArePlaced (length old) steps → new ≡ old ++ tree ∷ [] → given (entries_at new steps) new ≡ given value.entries (value.trees ++ tree ∷ [])
+kept-now old new steps tree value view are ok =
     let more : given (entries_at (old ++ tree ∷ []) steps) (old ++ tree ∷ []) ≡ given (entries_at old steps) (old ++ tree ∷ []) = ap (λ es. given es (old ++ tree ∷ [])) (entries_at-more old (tree ∷ []) steps are) in
     let here : given (entries_at new steps) new ≡ given (entries_at old steps) (old ++ tree ∷ []) = subst (λ ts. given (entries_at ts steps) ts ≡ given (entries_at old steps) (old ++ tree ∷ [])) (sym ok) more in
     subst (λ (v : GenerationValue). given (entries_at new steps) new ≡ given v.entries (v.trees ++ tree ∷ [])) view here
+
+pub kept-view : {X Y : Type 0} (old new : List TreeMap) (steps : List Step) (tree : TreeMap) (value : GenerationValue) (result : Result X Y) → given (entries_at old steps) old ≡ value → ArePlaced (length old) steps → OnOk result (new ≡ old ++ tree ∷ []) → OnOk result (given (entries_at new steps) new ≡ given value.entries (value.trees ++ tree ∷ []))
+kept-view old new steps tree value (Err y) view are ok = ok
+kept-view old new steps tree value (Ok x) view are ok = kept-now old new steps tree value view are ok
 
 pub more-on : (first second third : List TreeMap) → IsMore first second → IsMore second third → IsMore first third
 more-on first second third this that = record {

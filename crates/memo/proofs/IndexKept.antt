@@ -7,7 +7,7 @@ use Rattle.memo.specs.declared.index.Index.{Index}
 use Rattle.memo.specs.declared.step.Step.{Step}
 use Rattle.memo.specs.Key.{key_of}
 use Rattle.memo.specs.PrivateGeneration.{IsIndexed}
-use Rattle.memo.specs.PrivateIndex.{under, Enters, Keeps}
+use Rattle.memo.specs.PrivateIndex.{under, Enters, SameUnder}
 
 -- an element of a list with one more is an old one or the last
 pub last_cases : {X : Type 0} (xs : List X) (x : X) (k : ℕ) (y : X) → slice_get (xs ++ x ∷ []) k ≡ Some y → (slice_get xs k ≡ Some y) ⊎ ((k ≡ length xs) × (y ≡ x))
@@ -17,7 +17,7 @@ last_cases (z ∷ zs) x zero y e = inl e
 last_cases (z ∷ zs) x (suc k) y e = elim (last_cases zs x k y e) [ inl h ↦ inl h | inr h ↦ inr (ap suc h.0, h.1) ]
 
 -- nothing was entered
-pub keeps_indexed : (vs : List Step) (old new : Index) → IsIndexed vs old → Keeps old new → IsIndexed vs new
+pub keeps_indexed : (vs : List Step) (old new : Index) → IsIndexed vs old → SameUnder old new → IsIndexed vs new
 keeps_indexed vs old new is keeps = record { entered = λ k v e. subst (λ ns. Contains ns k) (sym (keeps (key_of v.op))) (is.entered k v e) }
 
 -- what was under a key is still there

@@ -1,11 +1,15 @@
 -- What is found in a memo is lawful, and what is added keeps it so.
 use Rattle.std.proofs.Common.{◌≡◌, ◌<◌, inl, inr, ℕ, zero, suc, List, [], ◌∷◌, ◌++◌, length, Option, Some, None, Ok, Err, Result, IfNone, OnOk, OnErr, sym, subst, arith}
-use Rattle.std.specs.Prelude.{slice_index_or}
+use Rattle.std.specs.Prelude.{IfSome, slice_index_or}
 use Rattle.std.proofs.lemmas.List.Elements.{Contains-append_cases}
 use Rattle.trees.specs.TreeMap.{TreeMap}
 use Rattle.llb.specs.declared.op.Op.{Op}
 use Rattle.plans.specs.Value.{Out}
-use Rattle.memo.specs.Memo.{Entry, GenerationValue, MemoValue, entry_of, IsLawful, AreLawful, Lacks, Holds}
+use Rattle.memo.specs.declared.number.Age.{Age}
+use Rattle.memo.specs.declared.number.Age.TheVariants.{Recent, Earlier}
+use Rattle.memo.specs.Kept.{kept_tree, kept_trees}
+use Rattle.memo.specs.Memo.{Entry, GenerationValue, MemoValue, entry_of, Has, IsLawful, AreLawful, Lacks, Holds}
+use Rattle.memo.specs.Numbers.{generation_of}
 use Rattle.memo.specs.PrivateGeneration.{AddsTo}
 
 -- of no entries all are lawful
@@ -47,3 +51,17 @@ held-lawful out memo op inputs tree recent earlier (inr has) = earlier (entry_of
 pub lacks-both : {E Y : Type 0} (memo : MemoValue E) (op : Op) (inputs : List TreeMap) (found : Option Y) → Lacks memo.recent.entries op inputs → IfNone found (Lacks memo.earlier.entries op inputs) → IfNone found ((tree : TreeMap) → ¬ Holds memo op inputs tree)
 lacks-both memo op inputs (Some y) recent earlier = earlier
 lacks-both memo op inputs None recent earlier = λ tree has. elim has [ inl h ↦ recent tree h | inr h ↦ earlier tree h ]
+
+-- the entries of each generation are lawful
+age-lawful : {E : Type 0} (out : Out) (memo : MemoValue E) (age : Age) → AreLawful out memo.recent.entries → AreLawful out memo.earlier.entries → AreLawful out (generation_of memo age).entries
+age-lawful out memo Recent recent earlier = recent
+age-lawful out memo Earlier recent earlier = earlier
+
+lawful_kept : (out : Out) (generation : GenerationValue) (op : Op) (inputs : List ℕ) (found : Option ℕ) → AreLawful out generation.entries → IfSome found (λ number. Has generation.entries op (kept_trees generation inputs) (kept_tree generation number)) → IfSome found (λ number. IsLawful out (entry_of op (kept_trees generation inputs) (kept_tree generation number)))
+lawful_kept out generation op inputs None are is = is
+lawful_kept out generation op inputs (Some number) are is = are (entry_of op (kept_trees generation inputs) (kept_tree generation number)) is
+
+-- and so is what is found in one by numbers
+pub kept-found-lawful : {E : Type 0} (out : Out) (memo : MemoValue E) (age : Age) (op : Op) (inputs : List ℕ) (found : Option ℕ) → AreLawful out memo.recent.entries → AreLawful out memo.earlier.entries → IfSome found (λ number. Has (generation_of memo age).entries op (kept_trees (generation_of memo age) inputs) (kept_tree (generation_of memo age) number)) → IfSome found (λ number. IsLawful out (entry_of op (kept_trees (generation_of memo age) inputs) (kept_tree (generation_of memo age) number)))
+kept-found-lawful out memo age op inputs found recent earlier is =
+    lawful_kept out (generation_of memo age) op inputs found (age-lawful out memo age recent earlier) is

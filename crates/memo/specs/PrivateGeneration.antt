@@ -50,6 +50,10 @@ pub record IsFor (trees : List TreeMap) (op : Op) (inputs : List TreeMap) (step 
   pub same_op : step.op ≡ op
   pub same_inputs : trees_at trees step.inputs ≡ inputs
 
+-- the step of an operation on the trees of some numbers, that gave the tree of a number
+abbrev pub step_of : Op → List ℕ → ℕ → Step
+step_of op inputs tree = record { op = op; inputs = inputs; tree = tree }
+
 -- it stands among the steps
 pub record Stands (steps : List Step) (step : Step) : Type 0 where
   pub place : ℕ

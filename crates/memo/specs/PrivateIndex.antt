@@ -14,5 +14,5 @@ abbrev pub Enters : Index → Index → ℕ → ℕ → Type 0
 Enters old new key number = (other : ℕ) → under new other ≡ under old other ++ (if other == key then number ∷ [] else [])
 
 -- under each key stayed the numbers that were there
-abbrev pub Keeps : Index → Index → Type 0
-Keeps old new = (key : ℕ) → under new key ≡ under old key
+abbrev pub SameUnder : Index → Index → Type 0
+SameUnder old new = (key : ℕ) → under new key ≡ under old key

@@ -5,8 +5,9 @@ ghost use Rattle.memo.specs.PrivateGeneration.{tree_at, trees_at, entry_at, entr
 
 use crate::Hit;
 use crate::index::Index;
-use crate::number::{Age, TreeNumber};
-use crate::step::{Step, find_hit};
+use crate::number::Age;
+use crate::sought::Sought;
+use crate::step::{Step, find_hit, input_number, number_among, result_number};
 use llb::Op;
 use plain::{Exact, Items, Memory};
 use std::alloc::Global;
@@ -20,6 +21,8 @@ pub(crate) struct Generation {
     steps: Vec<Step>,
     // finds a step without comparing with all; contracts don't see it
     index: Index,
+    // the numbers of trees that sources had, by the sources' keys; contracts don't see it
+    sources: Index,
 }
 
 impl Model for Generation {
@@ -45,6 +48,7 @@ impl Generation {
             trees: Vec::new(alloc),
             steps: Vec::new(alloc),
             index: Index::new(alloc),
+            sources: Index::new(alloc),
         }
     }
 
@@ -62,34 +66,77 @@ impl Generation {
         self.trees.as_slice()
     }
 
-    /// What is there of an operation, whose key this is, on these trees, as `find_hit` finds it. It takes no memory.
+    /// What is there of an operation on these trees, as `find_hit` finds it. The key is the operation's. It takes no memory.
     pub(crate) fn find(
         &self,
         key: u64,
-        op: &Op,
-        inputs: &[&Tree],
-        known: &[Option<TreeNumber>],
+        sought: &Sought,
         age: Age,
         walks: bool,
     ) -> Option<Hit<'_>>
-        requires key { key ≡ key_of op.now }
-        requires known { Tells age self.now.trees known.now (map (λ lent. lent.now) inputs.now) }
-        ensures found { IfSome result (λ hit. Has self.now.entries op.now (map (λ lent. lent.now) inputs.now) hit.tree.now) }
+        requires key { key ≡ key_of sought.now.op.now }
+        requires known { Tells age self.now.trees sought.now.known.now (map (λ lent. lent.now) sought.now.inputs.now) }
+        ensures found { IfSome result (λ hit. Has self.now.entries sought.now.op.now (map (λ lent. lent.now) sought.now.inputs.now) hit.tree.now) }
         ensures age { IfSome result (λ hit. hit.age ≡ age) }
         ensures number { IfSome result (λ hit. slice_get self.now.trees hit.number ≡ Some hit.tree.now) }
-        ensures inputs { IfSome result (λ hit. AreAt self.now.trees hit.inputs.now (map (λ lent. lent.now) inputs.now)) }
-        ensures none { IsTrue walks → IfNone result (Lacks self.now.entries op.now (map (λ lent. lent.now) inputs.now)) }
+        ensures inputs { IfSome result (λ hit. AreAt self.now.trees hit.inputs.now (map (λ lent. lent.now) sought.now.inputs.now)) }
+        ensures none { IsTrue walks → IfNone result (Lacks self.now.entries sought.now.op.now (map (λ lent. lent.now) sought.now.inputs.now)) }
     {
         find_hit(
             self.trees.as_slice(),
             self.steps.as_slice(),
             self.index.under(key),
-            op,
-            inputs,
-            known,
+            sought,
             age,
             walks,
         )
+    }
+
+    /// The number of the tree that an operation, whose key this is, gave on the trees of these numbers. Nothing is walked, and it takes no memory.
+    pub(crate) fn find_kept(&self, key: u64, op: &Op, inputs: &[usize]) -> Option<usize>
+        ensures below { IfSome result (λ number. number < length self.now.trees) }
+        ensures found { IfSome result (λ number. Has self.now.entries op.now (trees_at self.now.trees inputs.now) (tree_at self.now.trees number)) }
+    {
+        result_number(self.steps.as_slice(), self.index.under(key), op, inputs)
+    }
+
+    /// The number of a tree among those that an operation, whose key this is, was given at a place, as `input_number` finds it. It takes no memory.
+    pub(crate) fn input_number(
+        &self,
+        key: u64,
+        op: &Op,
+        place: usize,
+        tree: &Tree,
+    ) -> Option<usize>
+        ensures { IfSome result (λ number. slice_get self.now.trees number ≡ Some tree.now) }
+    {
+        input_number(
+            self.trees.as_slice(),
+            self.steps.as_slice(),
+            self.index.under(key),
+            op,
+            place,
+            tree,
+        )
+    }
+
+    /// The number of a tree among those that are kept as a source's, whose operation has this key, as `number_among` finds it. It takes no memory.
+    pub(crate) fn source_number(&self, key: u64, tree: &Tree) -> Option<usize>
+        ensures { IfSome result (λ number. slice_get self.now.trees number ≡ Some tree.now) }
+    {
+        number_among(self.trees.as_slice(), self.sources.under(key), tree)
+    }
+
+    /// Keeps a copy of a tree as a source's, whose operation has this key, and gives its number. After `Memory` nothing has changed.
+    pub(crate) fn keep_source(&mut self, alloc: Global, key: u64, tree: &Tree) -> Result<usize, Memory>
+        ensures number { IfOk result (λ number. number ≡ length self.old.trees) }
+        ensures ok { OnOk result (self.new ≡ record { entries = self.old.entries; trees = self.old.trees ++ tree.now ∷ [] }) }
+        ensures err { OnErr result (self.new ≡ self.old) }
+    {
+        let number = keep(alloc, &mut self.trees, tree)?;
+        // If there is no memory for it, the tree isn't found as the source's.
+        let _entered = self.sources.enter(alloc, key, number);
+        Ok(number)
     }
 
     /// Keeps a copy of a tree, and gives its number. After `Memory` nothing has changed.

@@ -1,5 +1,5 @@
 ghost use Rattle.std.specs.Prelude.{◌≡◌, [], OnOk, OnErr};
-ghost use Rattle.memo.specs.PrivateIndex.{under, Enters, Keeps};
+ghost use Rattle.memo.specs.PrivateIndex.{under, Enters, SameUnder};
 
 use plain::{Items, Memory};
 use std::alloc::Global;
@@ -36,7 +36,7 @@ impl Index {
     /// Enters a number under a key, after those that are there. After `Memory` the same numbers are under each key.
     pub(crate) fn enter(&mut self, alloc: Global, key: u64, number: usize) -> Result<(), Memory>
         ensures ok { OnOk result (Enters self.old self.new key number) }
-        ensures err { OnErr result (Keeps self.old self.new) }
+        ensures err { OnErr result (SameUnder self.old self.new) }
     {
         let numbers = self.numbers.entry(key)?.or_insert(Items::new(alloc));
         numbers.push(number)?;

@@ -7,8 +7,9 @@
 // are. The type of `Memo` keeps it of all that it holds, so what is found serves every plan. Equality of the operation and of the trees decides what is found;
 // a hash of the operation narrows the search.
 //
-// To compare trees is to walk them. So the trees that a memo keeps have numbers: who knows the number of a tree hands it in, and then the numbers are
-// compared.
+// To compare trees is to walk them. So the trees that a memo keeps have numbers: who knows the numbers of trees asks by these (`Memo::find_kept`), and then
+// nothing is walked. The number of a source's tree is found by the source (`Memo::source_number`), that of another one among those that an operation was
+// given (`Memo::input_number`).
 //
 // ```
 // let mut memo = Memo::new(alloc, &executor);
@@ -28,6 +29,7 @@ mod index;
 mod key;
 mod memo;
 mod number;
+mod sought;
 mod step;
 mod written;
 

@@ -1,16 +1,17 @@
-ghost use Rattle.std.specs.Prelude.{◌≡◌, ◌+◌, ◌++◌, ◌∷◌, [], Some, length, map, IfOk, IfSome, IfNone, OnOk, OnErr, IsTrue};
+ghost use Rattle.std.specs.Prelude.{◌≡◌, ◌+◌, ◌++◌, ◌∷◌, [], Some, length, map, slice_get, IfOk, IfSome, IfNone, OnOk, OnErr, IsTrue};
 ghost use Rattle.trees.specs.TreeMap.{TreeMap};
 ghost use Rattle.memo.specs.Content.{capped, trees_bytes};
 ghost use Rattle.memo.specs.Kept.{Keeps, KeepsAll, kept_tree, kept_trees};
 ghost use Rattle.memo.specs.Key.{key_of};
-ghost use Rattle.memo.specs.Memo.{entry_of, no_generation, IsLawful, AreLawful, Holds, Adds};
-ghost use Rattle.memo.specs.Numbers.{numbered, tree_numbered, AreKnown, HaveNumbers};
+ghost use Rattle.memo.specs.Memo.{entry_of, no_generation, Has, IsLawful, AreLawful, Holds, Adds};
+ghost use Rattle.memo.specs.Numbers.{generation_of, numbered, tree_numbered, AreKnown, HaveNumbers};
 
 use crate::Hit;
 use crate::content::count_trees;
 use crate::generation::Generation;
 use crate::key::key_of;
 use crate::number::{Age, TreeNumber};
+use crate::sought::Sought;
 use executor::Executor;
 use llb::Op;
 use plain::{Items, Memory};
@@ -30,6 +31,8 @@ pub struct Memo<'a, E: Executor> {
     recent: Generation,
     /// What was added between that call and the one before.
     earlier: Generation,
+    // whether it ends with one build, so that nothing needs be added; contracts don't see it
+    is_for_one_build: bool,
 }
 
 impl<'a, E: Executor> Model for Memo<'a, E> {
@@ -53,7 +56,25 @@ impl<'a, E: Executor> Memo<'a, E> {
             executor,
             recent: Generation::new(alloc),
             earlier: Generation::new(alloc),
+            is_for_one_build: false,
         }
+    }
+
+    /// The same for who builds once and drops it: a solve adds nothing to it, since nobody would ask.
+    pub fn for_one_build(alloc: Global, executor: &'a E) -> Memo<'a, E>
+        ensures { result ≡ record { executor = executor.now; recent = no_generation; earlier = no_generation } }
+    {
+        Memo {
+            executor,
+            recent: Generation::new(alloc),
+            earlier: Generation::new(alloc),
+            is_for_one_build: true,
+        }
+    }
+
+    /// Whether it was made by `for_one_build`.
+    pub fn is_for_one_build(&self) -> bool {
+        self.is_for_one_build
     }
 
     /// The executor that it is of.
@@ -121,14 +142,14 @@ impl<'a, E: Executor> Memo<'a, E> {
         ensures lawful { IfSome result (λ hit. IsLawful (E.out self.now.executor) (entry_of op.now (map (λ lent. lent.now) inputs.now) hit.tree.now)) }
     {
         let _known = self.executor();
-        match self.sought(op, inputs, known) {
+        match self.found(op, inputs, known) {
             Some(hit) => Some(hit),
             None => None,
         }
     }
 
     /// What it has for an operation on these trees: first by numbers alone, and then by a walk.
-    fn sought(&self, op: &Op, inputs: &[&Tree], known: &[Option<TreeNumber>]) -> Option<Hit<'_>>
+    fn found(&self, op: &Op, inputs: &[&Tree], known: &[Option<TreeNumber>]) -> Option<Hit<'_>>
         requires { AreKnown self.now known.now (map (λ lent. lent.now) inputs.now) }
         ensures found { IfSome result (λ hit. Holds self.now op.now (map (λ lent. lent.now) inputs.now) hit.tree.now) }
         ensures number { IfSome result (λ hit. tree_numbered self.now (numbered hit.age hit.number) ≡ Some hit.tree.now) }
@@ -136,34 +157,26 @@ impl<'a, E: Executor> Memo<'a, E> {
         ensures none { IfNone result ((tree : TreeMap) → ¬ Holds self.now op.now (map (λ lent. lent.now) inputs.now) tree) }
     {
         let key = key_of(op);
-        match self.hit(key, op, inputs, known, false) {
+        let sought = Sought { op, inputs, known };
+        match self.hit(key, &sought, false) {
             Some(hit) => Some(hit),
-            None => self.hit(key, op, inputs, known, true),
+            None => self.hit(key, &sought, true),
         }
     }
 
     /// What it has for an operation, whose key this is, as `find_hit` finds it.
-    fn hit(
-        &self,
-        key: u64,
-        op: &Op,
-        inputs: &[&Tree],
-        known: &[Option<TreeNumber>],
-        walks: bool,
-    ) -> Option<Hit<'_>>
-        requires key { key ≡ key_of op.now }
-        requires known { AreKnown self.now known.now (map (λ lent. lent.now) inputs.now) }
-        ensures found { IfSome result (λ hit. Holds self.now op.now (map (λ lent. lent.now) inputs.now) hit.tree.now) }
+    fn hit(&self, key: u64, sought: &Sought, walks: bool) -> Option<Hit<'_>>
+        requires key { key ≡ key_of sought.now.op.now }
+        requires known { AreKnown self.now sought.now.known.now (map (λ lent. lent.now) sought.now.inputs.now) }
+        ensures found { IfSome result (λ hit. Holds self.now sought.now.op.now (map (λ lent. lent.now) sought.now.inputs.now) hit.tree.now) }
         ensures number { IfSome result (λ hit. tree_numbered self.now (numbered hit.age hit.number) ≡ Some hit.tree.now) }
-        ensures inputs { IfSome result (λ hit. HaveNumbers self.now hit.age hit.inputs.now (map (λ lent. lent.now) inputs.now)) }
-        ensures none { IsTrue walks → IfNone result ((tree : TreeMap) → ¬ Holds self.now op.now (map (λ lent. lent.now) inputs.now) tree) }
+        ensures inputs { IfSome result (λ hit. HaveNumbers self.now hit.age hit.inputs.now (map (λ lent. lent.now) sought.now.inputs.now)) }
+        ensures none { IsTrue walks → IfNone result ((tree : TreeMap) → ¬ Holds self.now sought.now.op.now (map (λ lent. lent.now) sought.now.inputs.now) tree) }
     {
-        let recent = self.recent.find(key, op, inputs, known, Age::Recent, walks);
+        let recent = self.recent.find(key, sought, Age::Recent, walks);
         match recent {
             Some(hit) => Some(hit),
-            None => self
-                .earlier
-                .find(key, op, inputs, known, Age::Earlier, walks),
+            None => self.earlier.find(key, sought, Age::Earlier, walks),
         }
     }
 }
@@ -216,5 +229,67 @@ impl<'a, E: Executor> Memo<'a, E> {
         ensures { self.new ≡ record { executor = self.old.executor; recent = no_generation; earlier = self.old.recent } }
     {
         self.earlier = mem::replace(&mut self.recent, Generation::new(alloc));
+    }
+}
+
+/// What is found by numbers. A number is that of a tree in one of the two generations, until `forget` is called.
+impl<'a, E: Executor> Memo<'a, E> {
+    /// The number of the tree that an operation gave on the trees of these numbers, all of them in this generation. Nothing is walked, and it takes no
+    /// memory. `None` doesn't say that there is no such entry: equal trees may have several numbers.
+    pub fn find_kept(&self, age: Age, op: &Op, inputs: &[usize]) -> Option<usize>
+        ensures keeps { IfSome result (Keeps (generation_of self.now age)) }
+        ensures found { IfSome result (λ number. Has (generation_of self.now age).entries op.now (kept_trees (generation_of self.now age) inputs.now) (kept_tree (generation_of self.now age) number)) }
+        ensures lawful { IfSome result (λ number. IsLawful (E.out self.now.executor) (entry_of op.now (kept_trees (generation_of self.now age) inputs.now) (kept_tree (generation_of self.now age) number))) }
+    {
+        let _known = self.executor();
+        self.generation(age).find_kept(key_of(op), op, inputs)
+    }
+
+    /// The tree of a number, if there is one.
+    pub fn tree(&self, age: Age, number: usize) -> Option<&Tree>
+        ensures { IfSome result (λ tree. slice_get (generation_of self.now age).trees number ≡ Some tree.now) }
+    {
+        self.generation(age).trees().get(number)
+    }
+
+    /// The number of a tree, if it is among the last ones that were kept as this source's (`keep_source`). A few of those are walked at most, and it takes
+    /// no memory.
+    pub fn source_number(&self, age: Age, source: &Op, tree: &Tree) -> Option<usize>
+        ensures { IfSome result (λ number. slice_get (generation_of self.now age).trees number ≡ Some tree.now) }
+    {
+        self.generation(age).source_number(key_of(source), tree)
+    }
+
+    /// The number of a tree, if it is among the last ones that an operation was given at this place among its inputs. A few of those are walked at most, and
+    /// it takes no memory.
+    pub fn input_number(&self, age: Age, op: &Op, place: usize, tree: &Tree) -> Option<usize>
+        ensures { IfSome result (λ number. slice_get (generation_of self.now age).trees number ≡ Some tree.now) }
+    {
+        self.generation(age).input_number(key_of(op), op, place, tree)
+    }
+
+    /// One of the two generations.
+    fn generation(&self, age: Age) -> &Generation
+        ensures { result.now ≡ generation_of self.now age }
+    {
+        match age {
+            Age::Recent => &self.recent,
+            Age::Earlier => &self.earlier,
+        }
+    }
+
+    /// The same as `keep`, of a tree that a build was given as a source, by which operation it is known there. No entry is made of it, and nobody is given
+    /// the tree: who has an equal one finds its number (`source_number`).
+    pub fn keep_source(
+        &mut self,
+        alloc: Global,
+        source: &Op,
+        tree: &Tree,
+    ) -> Result<usize, Memory>
+        ensures number { IfOk result (λ number. number ≡ length self.old.recent.trees) }
+        ensures ok { OnOk result (self.new ≡ record { executor = self.old.executor; recent = record { entries = self.old.recent.entries; trees = self.old.recent.trees ++ tree.now ∷ [] }; earlier = self.old.earlier }) }
+        ensures err { OnErr result (self.new ≡ self.old) }
+    {
+        self.recent.keep_source(alloc, key_of(source), tree)
     }
 }

@@ -1,14 +1,18 @@
 ghost use Rattle.std.specs.Prelude.{◌≡◌, ◌↔◌, ◌<◌, ℕ, Some, length, map, get_or, slice_get, IsTrue, IfOk, IfSome, IfNone};
 ghost use Rattle.memo.specs.declared.step.Step.{Step as StepValue};
 ghost use Rattle.memo.specs.Memo.{Has};
-ghost use Rattle.memo.specs.PrivateGeneration.{tree_at, trees_at, entries_at, AreAt, AreBelow, IsPlaced, ArePlaced, IsFor, Stands, Tells};
+ghost use Rattle.memo.specs.PrivateGeneration.{tree_at, trees_at, entries_at, AreAt, AreBelow, IsPlaced, ArePlaced, IsFor, Stands, Tells, step_of};
 
 use crate::Hit;
 use crate::number::{Age, TreeNumber, known_at};
+use crate::sought::Sought;
 use llb::Op;
 use plain::{Exact, Items, Memory};
 use std::alloc::Global;
 use trees::Tree;
+
+/// How many trees are walked, at most, to find the number of one.
+const MOST_WALKS: u32 = 4;
 
 /// An entry, with the numbers of its trees in place of these.
 #[derive(Drop)]
@@ -46,22 +50,20 @@ pub(crate) fn find_hit<'a>(
     kept: &'a [Tree],
     steps: &'a [Step],
     numbers: &[usize],
-    op: &Op,
-    inputs: &[&Tree],
-    known: &[Option<TreeNumber>],
+    sought: &Sought,
     age: Age,
     walks: bool,
 ) -> Option<Hit<'a>>
     requires placed { ArePlaced (length kept.now) steps.now }
-    requires known { Tells age kept.now known.now (map (λ lent. lent.now) inputs.now) }
-    ensures found { IfSome result (λ hit. Has (entries_at kept.now steps.now) op.now (map (λ lent. lent.now) inputs.now) hit.tree.now) }
+    requires known { Tells age kept.now sought.now.known.now (map (λ lent. lent.now) sought.now.inputs.now) }
+    ensures found { IfSome result (λ hit. Has (entries_at kept.now steps.now) sought.now.op.now (map (λ lent. lent.now) sought.now.inputs.now) hit.tree.now) }
     ensures age { IfSome result (λ hit. hit.age ≡ age) }
     ensures number { IfSome result (λ hit. slice_get kept.now hit.number ≡ Some hit.tree.now) }
-    ensures inputs { IfSome result (λ hit. AreAt kept.now hit.inputs.now (map (λ lent. lent.now) inputs.now)) }
+    ensures inputs { IfSome result (λ hit. AreAt kept.now hit.inputs.now (map (λ lent. lent.now) sought.now.inputs.now)) }
     ensures none { IsTrue walks → IfNone result ((k : ℕ) (step : StepValue) → k < length numbers.now → slice_get steps.now (get_or numbers.now k 0) ≡ Some step
-        → ¬ IsFor kept.now op.now (map (λ lent. lent.now) inputs.now) step) }
+        → ¬ IsFor kept.now sought.now.op.now (map (λ lent. lent.now) sought.now.inputs.now) step) }
 {
-    match find_step(kept, steps, numbers, op, inputs, known, age, walks) {
+    match find_step(kept, steps, numbers, sought, age, walks) {
         None => None,
         Some(step) => Some(hit_of(kept, step, age)),
     }
@@ -88,22 +90,20 @@ fn find_step<'a>(
     kept: &[Tree],
     steps: &'a [Step],
     numbers: &[usize],
-    op: &Op,
-    inputs: &[&Tree],
-    known: &[Option<TreeNumber>],
+    sought: &Sought,
     age: Age,
     walks: bool,
 ) -> Option<&'a Step>
     requires placed { ArePlaced (length kept.now) steps.now }
-    requires known { Tells age kept.now known.now (map (λ lent. lent.now) inputs.now) }
+    requires known { Tells age kept.now sought.now.known.now (map (λ lent. lent.now) sought.now.inputs.now) }
     ensures stands { IfSome result (λ step. Stands steps.now step.now) }
-    ensures found { IfSome result (λ step. IsFor kept.now op.now (map (λ lent. lent.now) inputs.now) step.now) }
+    ensures found { IfSome result (λ step. IsFor kept.now sought.now.op.now (map (λ lent. lent.now) sought.now.inputs.now) step.now) }
     ensures none { IsTrue walks → IfNone result ((k : ℕ) (step : StepValue) → k < length numbers.now → slice_get steps.now (get_or numbers.now k 0) ≡ Some step
-        → ¬ IsFor kept.now op.now (map (λ lent. lent.now) inputs.now) step) }
+        → ¬ IsFor kept.now sought.now.op.now (map (λ lent. lent.now) sought.now.inputs.now) step) }
 {
     for number in numbers {
         if let Some(step) = steps.get(*number) {
-            if is_for(kept, step, op, inputs, known, age, walks) {
+            if is_for(kept, step, sought, age, walks) {
                 return Some(step);
             }
         }
@@ -115,18 +115,18 @@ fn find_step<'a>(
 fn is_for(
     kept: &[Tree],
     step: &Step,
-    op: &Op,
-    inputs: &[&Tree],
-    known: &[Option<TreeNumber>],
+    sought: &Sought,
     age: Age,
     walks: bool,
 ) -> bool
     requires placed { IsPlaced (length kept.now) step.now }
-    requires known { Tells age kept.now known.now (map (λ lent. lent.now) inputs.now) }
-    ensures is { IsTrue result → IsFor kept.now op.now (map (λ lent. lent.now) inputs.now) step.now }
-    ensures is_not { IsTrue walks → IsFor kept.now op.now (map (λ lent. lent.now) inputs.now) step.now → IsTrue result }
+    requires known { Tells age kept.now sought.now.known.now (map (λ lent. lent.now) sought.now.inputs.now) }
+    ensures is { IsTrue result → IsFor kept.now sought.now.op.now (map (λ lent. lent.now) sought.now.inputs.now) step.now }
+    ensures is_not { IsTrue walks → IsFor kept.now sought.now.op.now (map (λ lent. lent.now) sought.now.inputs.now) step.now → IsTrue result }
 {
-    step.op.same(op) && are_at(kept, step.inputs.as_slice(), inputs, known, age, walks)
+    let inputs = step.inputs.as_slice();
+    // Numbers are compared sooner than operations, and under one key the operations are mostly equal.
+    are_at(kept, inputs, sought.inputs, sought.known, age, walks) && step.op.same(sought.op)
 }
 
 /// Whether the trees of these numbers are those that are lent one by one.
@@ -173,4 +173,116 @@ fn is_at(kept: &[Tree], number: usize, tree: &Tree, known: Option<usize>, walks:
         }
     }
     walks && kept[number].same(tree)
+}
+
+/// The number of the tree that an operation gave on the trees of these numbers, by the steps of these numbers. Nothing is walked.
+pub(crate) fn result_number(
+    steps: &[Step],
+    numbers: &[usize],
+    op: &Op,
+    inputs: &[usize],
+) -> Option<usize>
+    ensures { IfSome result (λ number. Stands steps.now (step_of op.now inputs.now number)) }
+{
+    match find_kept(steps, numbers, op, inputs) {
+        Some(step) => Some(step.tree),
+        None => None,
+    }
+}
+
+/// The step of an operation on the trees of these numbers, among those of these numbers.
+fn find_kept<'a>(
+    steps: &'a [Step],
+    numbers: &[usize],
+    op: &Op,
+    inputs: &[usize],
+) -> Option<&'a Step>
+    ensures stands { IfSome result (λ step. Stands steps.now step.now) }
+    ensures op { IfSome result (λ step. step.now.op ≡ op.now) }
+    ensures inputs { IfSome result (λ step. step.now.inputs ≡ inputs.now) }
+{
+    for number in numbers {
+        if let Some(step) = steps.get(*number) {
+            if step.inputs.as_slice() == inputs && step.op.same(op) {
+                return Some(step);
+            }
+        }
+    }
+    None
+}
+
+/// The number of a tree among those that an operation was given at a place, by the steps of these numbers. Of those it walks a few at most, the latest first.
+pub(crate) fn input_number(
+    kept: &[Tree],
+    steps: &[Step],
+    numbers: &[usize],
+    op: &Op,
+    place: usize,
+    tree: &Tree,
+) -> Option<usize>
+    ensures { IfSome result (λ number. slice_get kept.now number ≡ Some tree.now) }
+{
+    let mut walked: Option<usize> = None;
+    let mut left = MOST_WALKS;
+    for number in numbers.iter().rev() {
+        if left == 0 {
+            break;
+        }
+        let Some(given) = given_at(steps, *number, op, place) else {
+            continue;
+        };
+        if walked == Some(given) {
+            continue;
+        }
+        if is_kept_at(kept, given, tree) {
+            return Some(given);
+        }
+        walked = Some(given);
+        left -= 1;
+    }
+    None
+}
+
+/// The number of the tree that a step's operation was given at a place, if the step is one of this operation.
+fn given_at(steps: &[Step], number: usize, op: &Op, place: usize) -> Option<usize> {
+    let Some(step) = steps.get(number) else {
+        return None;
+    };
+    match step.inputs.as_slice().get(place) {
+        Some(given) => {
+            if step.op.same(op) {
+                Some(*given)
+            } else {
+                None
+            }
+        }
+        None => None,
+    }
+}
+
+/// The number of a tree among those of these numbers. Of those it walks a few at most, the latest first.
+pub(crate) fn number_among(kept: &[Tree], numbers: &[usize], tree: &Tree) -> Option<usize>
+    ensures { IfSome result (λ number. slice_get kept.now number ≡ Some tree.now) }
+{
+    let mut left = MOST_WALKS;
+    for number in numbers.iter().rev() {
+        if left == 0 {
+            break;
+        }
+        if is_kept_at(kept, *number, tree) {
+            return Some(*number);
+        }
+        left -= 1;
+    }
+    None
+}
+
+/// Whether the tree of a number is this one.
+fn is_kept_at(kept: &[Tree], number: usize, tree: &Tree) -> bool
+    ensures { IsTrue result → slice_get kept.now number ≡ Some tree.now }
+{
+    match kept.get(number) {
+        Some(other) => other.same(tree),
+        None => false,
+    }
 }

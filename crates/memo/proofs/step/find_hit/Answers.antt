@@ -12,16 +12,16 @@ hit_of-requires c = c.requires.placed c.in-Some.ensures.stands.place c.in-Some.s
 pub returns-in-Some-clause-found : goal.returns-in-Some-clause-found
 returns-in-Some-clause-found c =
     let kept = c.args.kept.now in
-    let inputs : List TreeMap = map (λ lent. lent.now) c.args.inputs.now in
+    let inputs : List TreeMap = map (λ lent. lent.now) c.args.sought.now.inputs.now in
     let step = c.in-Some.step.now in
     let tree = c.hit_of.result.tree.now in
     let at : slice_get kept step.tree ≡ Some tree = subst (λ n. slice_get kept n ≡ Some tree) c.hit_of.ensures.number c.hit_of.ensures.tree in
-    found-has kept c.args.steps.now c.args.op.now inputs step tree c.in-Some.ensures.stands c.in-Some.ensures.found at
+    found-has kept c.args.steps.now c.args.sought.now.op.now inputs step tree c.in-Some.ensures.stands c.in-Some.ensures.found at
 
 pub returns-in-Some-clause-inputs : goal.returns-in-Some-clause-inputs
 returns-in-Some-clause-inputs c =
     let kept = c.args.kept.now in
-    let inputs : List TreeMap = map (λ lent. lent.now) c.args.inputs.now in
+    let inputs : List TreeMap = map (λ lent. lent.now) c.args.sought.now.inputs.now in
     let step = c.in-Some.step.now in
     let placed : IsPlaced (length kept) step = c.requires.placed c.in-Some.ensures.stands.place step c.in-Some.ensures.stands.there in
     subst (λ ns. AreAt kept ns inputs) (sym c.hit_of.ensures.inputs) (at-numbers kept step.inputs inputs placed.inputs c.in-Some.ensures.found.same_inputs)

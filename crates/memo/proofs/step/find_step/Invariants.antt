@@ -7,4 +7,4 @@ use Rattle.memo.proofs.step.find_step.Given as goal
 -- of the numbers so far none is that of a step for the operation on these trees
 abbrev pub invariant-loop-number : goal.invariant-loop-number
 invariant-loop-number l = IsTrue l.walks → (k : ℕ) (step : Step) → k < l.number-index → slice_get l.steps (get_or l.numbers k 0) ≡ Some step
-    → ¬ IsFor l.kept l.op (map (λ lent. lent.now) l.inputs) step
+    → ¬ IsFor l.kept l.sought.op.now (map (λ lent. lent.now) l.sought.inputs.now) step

@@ -9,8 +9,8 @@ use Rattle.memo.proofs.generation.Generation.find.Goals as goal
 
 pub returns-clause-none : goal.returns-clause-none
 returns-clause-none c = λ walks.
-    let op = c.args.op.now in
-    let inputs : List TreeMap = map (λ lent. lent.now) c.args.inputs.now in
+    let op = c.args.sought.now.op.now in
+    let inputs : List TreeMap = map (λ lent. lent.now) c.args.sought.now.inputs.now in
     let index = c.self.inside.index in
     let trees : c.as_slice.result.now ≡ c.self.inside.trees.items = search rules in
     let steps : c.as_slice-2.result.now ≡ c.self.inside.steps.items = search rules in
