@@ -8,7 +8,7 @@ use Rattle.checks.proofs.mark.carets_under.Goals as goal
 
 pub loop-character-preserved : goal.loop-character-preserved
 loop-character-preserved c =
-    c.in_ok-push_str.ensures ∙ ap (λ (text : List ℕ). text ++ caret_under c.in-Some._character) c.loop-character.invariant
+    c.in_ok-push_str.ensures.bytes ∙ ap (λ (text : List ℕ). text ++ caret_under c.in-Some._character) c.loop-character.invariant
     ∙ flat_map_more caret_under [] c.loop-character.yielded c.in-Some._character
 
 pub returns : goal.returns
