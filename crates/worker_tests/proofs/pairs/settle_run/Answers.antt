@@ -4,7 +4,7 @@ use Rattle.board.proofs.LeavingLemmas.{left-same}
 use Rattle.worker_tests.proofs.pairs.settle_run.Goals as goal
 
 pub settle-requires-clause-left : goal.settle-requires-clause-left
-settle-requires-clause-left g c =
+settle-requires-clause-left g c κs within =
     let leaves = g.E.Executor.leaves c.args.tools.now.job.now.executor in
     let claim = c.args.claim in
     let given = c.in-Ok.ran.given.items in
