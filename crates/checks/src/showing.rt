@@ -228,7 +228,13 @@ fn shown_marked(
     match word {
         Some(spot) => {
             let mark = mark_under(alloc, spot.before, spot.word)?;
-            shown_seen(alloc, fault, line, meant, Some((spot.column, mark.as_str())))
+            shown_seen(
+                alloc,
+                fault,
+                line,
+                meant,
+                Some((spot.column, mark.as_str())),
+            )
         }
         None => shown_seen(alloc, fault, line, meant, None),
     }

@@ -1,8 +1,9 @@
--- The lines up to one of a number, and the stages that end on lines.
-use Rattle.std.proofs.Common.{◌≡◌, ◌≤◌, ◌+◌, ◌++◌, ◌∷◌, ◌∙◌, ℕ, zero, suc, false, Bor, List, [], ap, append-nil, arith, drop, length, map, refl, subst, sym, take}
+-- The lines up to one of a number, and those before the last one that begins a stage.
+use Rattle.std.proofs.Common.{◌≡◌, ◌<◌, ◌≤◌, ◌||◌, ℕ, zero, suc, Bool, true, false, Bor, List, [], ◌∷◌, ap, arith, drop, get_or, length, map, refl, sym, take}
 use Rattle.std.proofs.lemmas.List.{length-map, take-map, take_all}
+use Rattle.std.proofs.lemmas.List.Folds.{list_any_at}
 use Rattle.std.specs.List.{list_any}
-use Rattle.meant.specs.Begun.{begins_stage, ended_stages}
+use Rattle.meant.specs.Begun.{begins_stage, before_last}
 
 -- the lines up to a number: those that are there
 pub first_lines : (number : ℕ) (lines : List (Bor (List ℕ))) → map (λ (line : Bor (List ℕ)). line.now) (take number lines) ≡ take number (map (λ (line : Bor (List ℕ)). line.now) lines)
@@ -14,22 +15,30 @@ all_lines number lines short =
     let count : length (map (λ (line : Bor (List ℕ)). line.now) lines) ≡ length lines = length-map lines (λ (line : Bor (List ℕ)). line.now) in
     sym (take_all number (map (λ (line : Bor (List ℕ)). line.now) lines) (omega arith))
 
--- none of some lines is of a stage that ends, if none after the first begins one
+-- the line at a place is the last one that begins a stage
+pub last_begins : (place : ℕ) (lines : List (List ℕ)) → place < length lines → begins_stage (get_or lines place []) ≡ true → list_any begins_stage (drop (suc place) lines) ≡ false
+    → take place lines ≡ before_last lines
+last_begins zero [] within begins none = elim within [ ]
+last_begins (suc place) [] within begins none = elim within [ ]
+last_begins zero (line ∷ lines) within begins none = rw none refl
+last_begins (suc place) (line ∷ lines) within begins none =
+    let there = list_any_at begins_stage lines place [] (omega arith) begins in
+    rw there (ap (λ (rest : List (List ℕ)). line ∷ rest) (last_begins place lines (omega arith) begins none))
 
-none_follow : (i : ℕ) (lines : List (Bor (List ℕ))) → list_any begins_stage (map (λ (line : Bor (List ℕ)). line.now) (drop (suc i) lines)) ≡ false
-    → ended_stages (map (λ (line : Bor (List ℕ)). line.now) (drop i lines)) ≡ []
-none_follow zero [] none = refl
-none_follow (suc i) [] none = refl
-none_follow zero (line ∷ lines) none = rw none refl
-none_follow (suc i) (line ∷ lines) none = none_follow i lines none
+-- none of the lines from a place on begins a stage
+pub none_begins : (place : ℕ) (lines : List (List ℕ)) → place < length lines → begins_stage (get_or lines place []) ≡ false → list_any begins_stage (drop (suc place) lines) ≡ false
+    → list_any begins_stage (drop place lines) ≡ false
+none_begins zero [] within begins none = elim within [ ]
+none_begins (suc place) [] within begins none = elim within [ ]
+none_begins zero (line ∷ lines) within begins none = rw begins none
+none_begins (suc place) (line ∷ lines) within begins none = none_begins place lines (omega arith) begins none
 
--- so the names that were found before are all
-pub none_after : (names : List (List ℕ)) (i : ℕ) (lines : List (Bor (List ℕ))) → list_any begins_stage (map (λ (line : Bor (List ℕ)). line.now) (drop (i + 1) lines)) ≡ false
-    → names ++ ended_stages (map (λ (line : Bor (List ℕ)). line.now) (drop i lines)) ≡ ended_stages (map (λ (line : Bor (List ℕ)). line.now) lines)
-    → names ≡ ended_stages (map (λ (line : Bor (List ℕ)). line.now) lines)
-none_after names i lines none found =
-    let next : i + 1 ≡ suc i = omega arith in
-    sym (append-nil names)
-    ∙ ap (λ (more : List (List ℕ)). names ++ more)
-    (sym (none_follow i lines (subst (λ (j : ℕ). list_any begins_stage (map (λ (line : Bor (List ℕ)). line.now) (drop j lines)) ≡ false) next none)))
-    ∙ found
+later : (first rest : Bool) → (first || rest) ≡ false → rest ≡ false
+later false rest none = none
+later true false none = refl
+later true true none = none
+
+-- so no line stands before one that does
+pub none_before : (lines : List (List ℕ)) → list_any begins_stage lines ≡ false → [] ≡ before_last lines
+none_before [] none = refl
+none_before (line ∷ lines) none = rw (later (begins_stage line) (list_any begins_stage lines) none) refl

@@ -1,6 +1,6 @@
 -- The stages that the lines of a file begin, by the lines as they stand (Dockerfile reference, FROM).
 use Rattle.std.specs.Prelude.{◌&&◌, ℕ, Bool, List, [], ◌∷◌, Option, Some, None, codes, if◌then◌else◌}
-use Rattle.std.specs.List.{cons_option, filter_map, list_any}
+use Rattle.std.specs.List.{filter_map, list_any}
 use Rattle.std.specs.Str.{str_eq_ignore_ascii_case}
 use Rattle.ascii.specs.Pieces.{first_piece, behind_piece}
 
@@ -18,7 +18,11 @@ stage_in line =
 abbrev pub stages_in : List (List ℕ) → List (List ℕ)
 stages_in lines = filter_map stage_in lines
 
+-- the lines before the last one that begins a stage; none if none does
+abbrev pub before_last : List (List ℕ) → List (List ℕ)
+before_last [] = []
+before_last (line ∷ lines) = if list_any begins_stage lines then line ∷ before_last lines else []
+
 -- the names of those stages that end on these lines: another one begins on a later of them
 abbrev pub ended_stages : List (List ℕ) → List (List ℕ)
-ended_stages [] = []
-ended_stages (line ∷ lines) = if list_any begins_stage lines then cons_option (stage_in line) (ended_stages lines) else []
+ended_stages lines = stages_in (before_last lines)

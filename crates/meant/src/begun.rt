@@ -1,7 +1,6 @@
 // The stages that the lines of a file begin, by the lines as they stand.
-ghost use Rattle.std.specs.Prelude.{◌≡◌, map, option_map, take, IfOk};
-ghost use Rattle.std.specs.List.{list_any};
-ghost use Rattle.meant.specs.Begun.{begins_stage, stage_in, stages_in, ended_stages};
+ghost use Rattle.std.specs.Prelude.{◌≡◌, ◌≤◌, length, map, option_map, take, IfOk};
+ghost use Rattle.meant.specs.Begun.{begins_stage, before_last, stage_in, stages_in, ended_stages};
 
 use ascii::first_piece;
 use plain::Memory;
@@ -15,26 +14,14 @@ pub(crate) fn begins_stage(line: &str) -> bool
     instruction.eq_ignore_ascii_case("from")
 }
 
-/// Whether one of these lines begins a stage.
-fn begin_stage(lines: &[&str]) -> bool
-    ensures { result ≡ list_any begins_stage (map (λ line. line.now) lines.now) }
-{
-    for line in lines {
-        if begins_stage(*line) {
-            return true;
-        }
-    }
-    false
-}
-
 /// The name that a line gives to a stage, if it is `FROM image AS name`.
 fn stage_in(line: &str) -> Option<&str>
     ensures { option_map (λ name. name.now) result ≡ stage_in line.now }
 {
-    let (from, behind) = first_piece(line);
-    let (_, behind) = first_piece(behind);
-    let (word, behind) = first_piece(behind);
-    let (name, _) = first_piece(behind);
+    let (from, rest) = first_piece(line);
+    let (_, rest) = first_piece(rest);
+    let (word, rest) = first_piece(rest);
+    let (name, _) = first_piece(rest);
     if from.eq_ignore_ascii_case("from") && word.eq_ignore_ascii_case("as") {
         Some(name)
     } else {
@@ -55,20 +42,26 @@ pub(crate) fn stages_in<'a>(alloc: Global, lines: &[&'a str]) -> Result<Vec<&'a 
     Ok(names)
 }
 
+/// How many lines stand before the last one that begins a stage; none if none does.
+fn count_before_last(lines: &[&str]) -> usize
+    ensures within { result ≤ length lines.now }
+    ensures before { take result (map (λ line. line.now) lines.now) ≡ before_last (map (λ line. line.now) lines.now) }
+{
+    let mut place = lines.len();
+    'lines: while place > 0 {
+        place -= 1;
+        if begins_stage(lines[place]) {
+            return place;
+        }
+    }
+    0
+}
+
 /// The names of those stages that end on these lines: another one begins on a later of them.
 pub(crate) fn ended_stages<'a>(alloc: Global, lines: &[&'a str]) -> Result<Vec<&'a str>, Memory>
     ensures { IfOk result (λ names. map (λ name. name.now) names.items ≡ ended_stages (map (λ line. line.now) lines.now)) }
 {
-    let mut names = Vec::new(alloc);
-    for (place, line) in lines.iter().enumerate() {
-        if !begin_stage(&lines[place + 1..]) {
-            return Ok(names);
-        }
-        if let Some(name) = stage_in(*line) {
-            names.push(name)?;
-        }
-    }
-    Ok(names)
+    stages_in(alloc, &lines[..count_before_last(lines)])
 }
 
 /// The lines up to the one of this number, which counts from 1.

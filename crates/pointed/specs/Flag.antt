@@ -1,5 +1,6 @@
 -- Which flag a fault is about (own).
-use Rattle.std.specs.Prelude.{◌==◌, ℕ, Bool, true, false, not, List, [], ◌∷◌, Option, Some, None, is_some, length}
+use Rattle.std.specs.Prelude.{◌==◌, ◌&&◌, if◌then◌else◌, ℕ, Bool, true, false, not, List, [], ◌∷◌, Option, Some, None, is_some, length}
+use Rattle.ascii.specs.Pieces.{first_piece, is_filled}
 use Rattle.plain.specs.declared.refusal.Code.{Code}
 use Rattle.plain.specs.declared.refusal.Code.TheVariants.{R07, R12, R16, R17}
 use Rattle.words.specs.Flag.{flags, behind_flags}
@@ -9,6 +10,7 @@ use Rattle.options.specs.Mount.{are_mount_flags, mounts}
 use Rattle.sentences.specs.declared.subject.Subject.{Subject}
 use Rattle.sentences.specs.declared.subject.Subject.TheVariants.{Run, Copy}
 use Rattle.pointed.specs.First.{first_that}
+use Rattle.pointed.specs.Spot.{is_whole}
 
 -- a flag isn't taken by the instruction, or stands there for the second time: of COPY the flags up to it aren't flags of a COPY, of RUN it alone isn't
 -- one of a RUN, and no other instruction takes a flag
@@ -36,9 +38,13 @@ are_flags_of Copy flags = are_copy_flags flags
 are_flags_of Run flags = are_mount_flags flags
 are_flags_of subject flags = length flags == 0
 
--- the number of a flag that is the only one, if something follows it: else the next line may have more
+-- a word follows the flags on this line: else the next line may have more of them
+abbrev pub is_followed : List ℕ → Bool
+is_followed rest = is_filled (first_piece rest) && is_whole (first_piece rest)
+
+-- the number of a flag that is the only one, if a word follows it
 abbrev pub only_flag : List Flag → List ℕ → Option ℕ
-only_flag (flag ∷ []) (c ∷ cs) = Some 0
+only_flag (flag ∷ []) rest = if is_followed rest then Some 0 else None
 only_flag flags rest = None
 
 -- the number of the flag of a RUN that a code is about: by R12 one of its mounts names no stage and no image, which is known if it has one

@@ -1,8 +1,10 @@
 ghost use Rattle.std.specs.Prelude.{◌≡◌, not, is_some, IfOk};
 ghost use Rattle.options.specs.Copy.{copy_flags};
 ghost use Rattle.options.specs.Mount.{mounts};
-ghost use Rattle.pointed.specs.Flag.{is_unknown, is_about, first_flag, only_flag, run_flag, flag_number};
+ghost use Rattle.pointed.specs.Flag.{is_unknown, is_about, first_flag, is_followed, only_flag, run_flag, flag_number};
 
+use crate::spot::is_whole;
+use ascii::first_piece;
 use options::{are_copy_flags, are_mount_flags, copy_flags, has_from, mounts};
 use plain::{Code, Memory};
 use sentences::Subject;
@@ -74,12 +76,20 @@ fn first_flag(
     Ok(None)
 }
 
-/// The number of a flag that is the only one, if something follows it.
+/// Whether a word follows the flags on their line.
+fn is_followed(rest: &str) -> bool
+    ensures { result ≡ is_followed rest.now }
+{
+    let (word, _) = first_piece(rest);
+    !word.is_empty() && is_whole(word)
+}
+
+/// The number of a flag that is the only one, if a word follows it.
 fn only_flag(flags: &[Flag], rest: &str) -> Option<usize>
     ensures { result ≡ only_flag flags.now rest.now }
 {
     match flags {
-        [_] if !rest.is_empty() => Some(0),
+        [_] if is_followed(rest) => Some(0),
         _ => None,
     }
 }

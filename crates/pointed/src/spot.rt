@@ -37,7 +37,7 @@ fn has_escape(bytes: &[u8]) -> bool
 }
 
 /// Whether a piece can't go on in the next line.
-fn is_whole(piece: &str) -> bool
+pub(crate) fn is_whole(piece: &str) -> bool
     ensures { result ≡ is_whole piece.now }
 {
     !has_escape(piece.as_bytes())

@@ -1,14 +1,9 @@
-use Rattle.std.proofs.Common.{◌≡◌, ◌+◌, ◌∙◌, ℕ, Bor, false, List, ap, arith, map, sym}
-use Rattle.std.specs.List.{list_any}
-use Rattle.std.proofs.lemmas.List.{take_rest}
-use Rattle.meant.specs.Begun.{begins_stage}
-use Rattle.meant.proofs.LineFacts.{none_after}
+use Rattle.std.proofs.Common.{◌≡◌, ◌∙◌, IfOk, map, subst}
+use Rattle.meant.specs.Begun.{stages_in}
+use Rattle.meant.proofs.LineFacts.{first_lines}
 use Rattle.meant.proofs.begun.ended_stages.Goals as goal
 
-pub returns-then-not-begin_stage : goal.returns-then-not-begin_stage
-returns-then-not-begin_stage c =
-    let lines = c.args.lines.now in
-    let next : ℕ = c.loop-place.place + 1 in
-    let none : c.begin_stage.result ≡ false = grind arith in
-    let rest = ap (λ (left : List (Bor (List ℕ))). list_any begins_stage (map (λ (line : Bor (List ℕ)). line.now) left)) (take_rest lines next) in
-    none_after (map (λ (name : Bor (List ℕ)). name.now) c.loop-place.names.items) c.loop-place.place lines (sym rest ∙ sym c.begin_stage.ensures ∙ none) c.loop-place.invariant
+pub returns : goal.returns
+returns c =
+    let before = first_lines c.count_before_last.result c.args.lines.now ∙ c.count_before_last.ensures.before in
+    subst (λ texts. IfOk c.stages_in.result (λ names. map (λ name. name.now) names.items ≡ stages_in texts)) before c.stages_in.ensures
