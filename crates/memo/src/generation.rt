@@ -67,13 +67,7 @@ impl Generation {
     }
 
     /// What is there of an operation on these trees, as `find_hit` finds it. The key is the operation's. It takes no memory.
-    pub(crate) fn find(
-        &self,
-        key: u64,
-        sought: &Sought,
-        age: Age,
-        walks: bool,
-    ) -> Option<Hit<'_>>
+    pub(crate) fn find(&self, key: u64, sought: &Sought, age: Age, walks: bool) -> Option<Hit<'_>>
         requires key { key ≡ key_of sought.now.op.now }
         requires known { Tells age self.now.trees sought.now.known.now (map (λ lent. lent.now) sought.now.inputs.now) }
         ensures found { IfSome result (λ hit. Has self.now.entries sought.now.op.now (map (λ lent. lent.now) sought.now.inputs.now) hit.tree.now) }
@@ -101,13 +95,7 @@ impl Generation {
     }
 
     /// The number of a tree among those that an operation, whose key this is, was given at a place, as `input_number` finds it. It takes no memory.
-    pub(crate) fn input_number(
-        &self,
-        key: u64,
-        op: &Op,
-        place: usize,
-        tree: &Tree,
-    ) -> Option<usize>
+    pub(crate) fn input_number(&self, key: u64, op: &Op, place: usize, tree: &Tree) -> Option<usize>
         ensures { IfSome result (λ number. slice_get self.now.trees number ≡ Some tree.now) }
     {
         input_number(
@@ -128,7 +116,12 @@ impl Generation {
     }
 
     /// Keeps a copy of a tree as a source's, whose operation has this key, and gives its number. After `Memory` nothing has changed.
-    pub(crate) fn keep_source(&mut self, alloc: Global, key: u64, tree: &Tree) -> Result<usize, Memory>
+    pub(crate) fn keep_source(
+        &mut self,
+        alloc: Global,
+        key: u64,
+        tree: &Tree,
+    ) -> Result<usize, Memory>
         ensures number { IfOk result (λ number. number ≡ length self.old.trees) }
         ensures ok { OnOk result (self.new ≡ record { entries = self.old.entries; trees = self.old.trees ++ tree.now ∷ [] }) }
         ensures err { OnErr result (self.new ≡ self.old) }

@@ -265,7 +265,8 @@ impl<'a, E: Executor> Memo<'a, E> {
     pub fn input_number(&self, age: Age, op: &Op, place: usize, tree: &Tree) -> Option<usize>
         ensures { IfSome result (λ number. slice_get (generation_of self.now age).trees number ≡ Some tree.now) }
     {
-        self.generation(age).input_number(key_of(op), op, place, tree)
+        self.generation(age)
+            .input_number(key_of(op), op, place, tree)
     }
 
     /// One of the two generations.
@@ -280,12 +281,7 @@ impl<'a, E: Executor> Memo<'a, E> {
 
     /// The same as `keep`, of a tree that a build was given as a source, by which operation it is known there. No entry is made of it, and nobody is given
     /// the tree: who has an equal one finds its number (`source_number`).
-    pub fn keep_source(
-        &mut self,
-        alloc: Global,
-        source: &Op,
-        tree: &Tree,
-    ) -> Result<usize, Memory>
+    pub fn keep_source(&mut self, alloc: Global, source: &Op, tree: &Tree) -> Result<usize, Memory>
         ensures number { IfOk result (λ number. number ≡ length self.old.recent.trees) }
         ensures ok { OnOk result (self.new ≡ record { executor = self.old.executor; recent = record { entries = self.old.recent.entries; trees = self.old.recent.trees ++ tree.now ∷ [] }; earlier = self.old.earlier }) }
         ensures err { OnErr result (self.new ≡ self.old) }

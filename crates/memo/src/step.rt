@@ -112,13 +112,7 @@ fn find_step<'a>(
 }
 
 /// Whether a step is kept for an operation on these trees.
-fn is_for(
-    kept: &[Tree],
-    step: &Step,
-    sought: &Sought,
-    age: Age,
-    walks: bool,
-) -> bool
+fn is_for(kept: &[Tree], step: &Step, sought: &Sought, age: Age, walks: bool) -> bool
     requires placed { IsPlaced (length kept.now) step.now }
     requires known { Tells age kept.now sought.now.known.now (map (λ lent. lent.now) sought.now.inputs.now) }
     ensures is { IsTrue result → IsFor kept.now sought.now.op.now (map (λ lent. lent.now) sought.now.inputs.now) step.now }
@@ -249,13 +243,7 @@ fn given_at(steps: &[Step], number: usize, op: &Op, place: usize) -> Option<usiz
         return None;
     };
     match step.inputs.as_slice().get(place) {
-        Some(given) => {
-            if step.op.same(op) {
-                Some(*given)
-            } else {
-                None
-            }
-        }
+        Some(given) => { if step.op.same(op) { Some(*given) } else { None } }
         None => None,
     }
 }
