@@ -1,12 +1,14 @@
 ghost use Rattle.std.specs.Prelude.{◌≡◌, ◌<◌, ◌≤◌, ◌+◌};
 ghost use Rattle.counted.specs.Edges.{LosesBeginning};
 ghost use Rattle.plain.specs.Limits.{most_bundle_bytes, most_workers};
+ghost use Rattle.memo.specs.Memo.{Grows};
 ghost use Rattle.build.specs.Ends.{Ends, devices};
 
 use crate::telling::tell_bundle;
 use crate::{BuildFault, Status};
 use counted::{CountedRead, CountedWrite, read_all};
 use executor::Executor;
+use memo::Memo;
 use plain::limits::MOST_BUNDLE_BYTES;
 use solver::Gate;
 use std::alloc::Global;
@@ -22,6 +24,9 @@ use std::thread::Threads;
 /// is the one that running the target's stages instruction by instruction gives, up to the first that fails. Nothing says that it returns, since
 /// it may wait.
 ///
+/// What a memo of the executor has of earlier builds isn't run again, and it gets what this build gives, as `workers::solve` says. The answer doesn't know of
+/// it. If a write fails, or there is no memory for the text of the answer, the memo has it nevertheless.
+///
 /// All this is said where the reader and the writer tell their bytes, as those in memory do (`Cursor`, `Vec<u8>`). Of standard
 /// input and output the standard library says how many bytes a call takes at most, and not which bytes those are; there the
 /// counts of failed calls are what is said. One body serves all: it doesn't know what it reads from or writes to.
@@ -36,7 +41,9 @@ pub fn run_build<R: CountedRead, W: CountedWrite, E: Executor, G: Gate>(
     executor: &E,
     workers: u32,
     gate: &G,
+    memo: &mut Memo<E>,
 ) -> Result<Status, BuildFault>
+    requires executor { E.out memo.old.executor ≡ E.out executor.now }
     requires workers { (0 < workers) × (workers ≤ most_workers) }
     requires reads { R.failures input.old < u64.MAX }
     requires writes { W.failures output.old < u64.MAX }
@@ -45,6 +52,7 @@ pub fn run_build<R: CountedRead, W: CountedWrite, E: Executor, G: Gate>(
         (devices (R.remaining input.new) (R.failures input.new) (W.contents output.new) (W.failures output.new))
         result }
     ensures taken { LosesBeginning (most_bundle_bytes + 1) (R.remaining input.old) (R.remaining input.new) }
+    ensures memo { Grows memo.old memo.new }
 {
     build_within(
         alloc,
@@ -55,6 +63,7 @@ pub fn run_build<R: CountedRead, W: CountedWrite, E: Executor, G: Gate>(
         executor,
         workers,
         gate,
+        memo,
     )
 }
 
@@ -68,7 +77,9 @@ fn build_within<R: CountedRead, W: CountedWrite, E: Executor, G: Gate>(
     executor: &E,
     workers: u32,
     gate: &G,
+    memo: &mut Memo<E>,
 ) -> Result<Status, BuildFault>
+    requires executor { E.out memo.old.executor ≡ E.out executor.now }
     requires workers { (0 < workers) × (workers ≤ most_workers) }
     requires limit { most ≡ most_bundle_bytes }
     requires room { most < usize.MAX }
@@ -79,7 +90,17 @@ fn build_within<R: CountedRead, W: CountedWrite, E: Executor, G: Gate>(
         (devices (R.remaining input.new) (R.failures input.new) (W.contents output.new) (W.failures output.new))
         result }
     ensures taken { LosesBeginning (most + 1) (R.remaining input.old) (R.remaining input.new) }
+    ensures memo { Grows memo.old memo.new }
 {
     let bytes = read_all(alloc, input, most + 1)?;
-    tell_bundle(alloc, rt, bytes.as_slice(), output, executor, workers, gate)
+    tell_bundle(
+        alloc,
+        rt,
+        bytes.as_slice(),
+        output,
+        executor,
+        workers,
+        gate,
+        memo,
+    )
 }

@@ -7,6 +7,7 @@ ghost use Rattle.serde_json.specs.Data.{Data};
 ghost use Rattle.serde_json.specs.Written.{compact_text};
 ghost use Rattle.imageconfig.specs.Writing.{config_data};
 ghost use Rattle.bundle.specs.Answer.{built_text, failed_text, refused_text};
+ghost use Rattle.memo.specs.Memo.{Grows};
 ghost use Rattle.build.specs.Lowerable.{IsLowerable};
 ghost use Rattle.counted.specs.Edges.{line_of};
 ghost use Rattle.build.specs.PrivateTelling.{TellsAsked, TellsBundle, TellsPlan, TellsSolution, TellsText, IsTold};
@@ -21,6 +22,7 @@ use counted::{CountedWrite, Gathered, finish, gather, write_all};
 use executor::Executor;
 use expand::Rejection;
 use imageconfig::Config;
+use memo::Memo;
 use plain::{Fault, Memory, Text};
 use plans::Plan;
 use solver::{Gate, Solution};
@@ -39,14 +41,17 @@ pub(crate) fn tell_bundle<W: CountedWrite, E: Executor, G: Gate>(
     executor: &E,
     workers: u32,
     gate: &G,
+    memo: &mut Memo<E>,
 ) -> Result<Status, BuildFault>
+    requires executor { E.out memo.old.executor ≡ E.out executor.now }
     requires workers { (0 < workers) × (workers ≤ most_workers) }
     requires writes { W.failures output.old < u64.MAX }
-    ensures { IsTold (TellsBundle bytes.now (E.out executor.now))
+    ensures told { IsTold (TellsBundle bytes.now (E.out executor.now))
         (W.contents output.old) (W.failures output.old) (W.contents output.new) (W.failures output.new) result }
+    ensures memo { Grows memo.old memo.new }
 {
     match ask(alloc, rt, bytes) {
-        Ok(asked) => tell_asked(alloc, rt, asked, output, executor, workers, gate),
+        Ok(asked) => tell_asked(alloc, rt, asked, output, executor, workers, gate, memo),
         Err(Fault::Because(refusal)) => tell_refusal(alloc, refusal, output),
         Err(Fault::Memory) => Err(BuildFault::Memory),
     }
@@ -61,13 +66,16 @@ fn tell_asked<W: CountedWrite, E: Executor, G: Gate>(
     executor: &E,
     workers: u32,
     gate: &G,
+    memo: &mut Memo<E>,
 ) -> Result<Status, BuildFault>
+    requires executor { E.out memo.old.executor ≡ E.out executor.now }
     requires workers { (0 < workers) × (workers ≤ most_workers) }
     requires lowerable { IsLowerable asked.evaluated }
     requires idle { asked.caches.holds ≡ [] }
     requires writes { W.failures output.old < u64.MAX }
-    ensures { IsTold (TellsAsked (E.out executor.now) (OkOf asked.evaluated))
+    ensures told { IsTold (TellsAsked (E.out executor.now) (OkOf asked.evaluated))
         (W.contents output.old) (W.failures output.old) (W.contents output.new) (W.failures output.new) result }
+    ensures memo { Grows memo.old memo.new }
 {
     let Asked {
         evaluated,
@@ -84,6 +92,7 @@ fn tell_asked<W: CountedWrite, E: Executor, G: Gate>(
                 workers,
                 gate,
                 &mut caches,
+                memo,
             );
             drop(plan);
             drop(caches);
@@ -106,14 +115,17 @@ fn tell_plan<W: CountedWrite, E: Executor, G: Gate>(
     workers: u32,
     gate: &G,
     caches: &mut CacheStore,
+    memo: &mut Memo<E>,
 ) -> Result<Status, BuildFault>
+    requires executor { E.out memo.old.executor ≡ E.out executor.now }
     requires workers { (0 < workers) × (workers ≤ most_workers) }
     requires idle { caches.old.holds ≡ [] }
     requires writes { W.failures output.old < u64.MAX }
-    ensures { IsTold (TellsPlan (E.out executor.now) plan.now)
+    ensures told { IsTold (TellsPlan (E.out executor.now) plan.now)
         (W.contents output.old) (W.failures output.old) (W.contents output.new) (W.failures output.new) result }
+    ensures memo { Grows memo.old memo.new }
 {
-    match solve(alloc, rt, plan, executor, workers, gate, caches) {
+    match solve(alloc, rt, plan, executor, workers, gate, caches, memo) {
         Ok(solution) => {
             let ended = tell_solution(alloc, plan.config(), &solution, output);
             drop(solution);

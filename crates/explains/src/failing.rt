@@ -11,6 +11,7 @@ use build::{Asked, plan_of};
 use cachemounts::CacheStore;
 use executor::Executor;
 use imageconfig::Config;
+use memo::Memo;
 use plain::Memory;
 use plans::Plan;
 use solver::{OpenGate, Solution};
@@ -64,7 +65,12 @@ fn failure_in<E: Executor>(
     requires idle { caches.old.holds ≡ [] }
     ensures { IfOk result (λ failure. (solution : Solution) × IsSolution (problem_of (E.out executor.now) plan.now) solution × (failure ≡ failure_in solution)) }
 {
-    let solution = solve(alloc, rt, plan, executor, workers, &OpenGate, caches)?;
+    let mut memo = Memo::for_one_build(alloc, executor);
+    let solved = solve(
+        alloc, rt, plan, executor, workers, &OpenGate, caches, &mut memo,
+    );
+    drop(memo);
+    let solution = solved?;
     let failure = failure_told(&solution);
     drop(solution);
     Ok(failure)

@@ -7,6 +7,9 @@ use Rattle.trees.specs.contracts.tree.Tree as tree_row
 use Rattle.llb.specs.declared.op.Op.{Op}
 use Rattle.llb.specs.declared.op.Op.TheVariants.{Source as SourceOp, Exec as ExecOp, Copy as CopyOp, MakeDirs as MakeDirsOp, Merge as MergeOp}
 use Rattle.llb.specs.contracts.op.Op as op_row
+use Rattle.llb.specs.declared.op.Exec.{Exec}
+use Rattle.runs.specs.declared.run.RunRequest.{RunRequest}
+use Rattle.plans.specs.Request.{request_of}
 use Rattle.plans.specs.Sources.{SourcesValue}
 use Rattle.plans.specs.Value.{Out, result_of}
 
@@ -92,6 +95,15 @@ memo_code {E} e =
 -- a memo has this tree for an operation on these trees
 abbrev pub Holds : {E : Type 0} → MemoValue E → Op → List TreeMap → TreeMap → Type 0
 Holds memo op inputs tree = Has memo.recent.entries op inputs tree ⊎ Has memo.earlier.entries op inputs tree
+
+-- a memo knows a request: it has an entry of a command whose run is asked for by it
+pub record Knows {E : Type 0} (memo : MemoValue E) (request : RunRequest) : Type 0 where
+  pub exec : Exec
+  pub root : TreeMap
+  pub trees : List TreeMap
+  pub tree : TreeMap
+  pub holds : Holds memo (ExecOp exec) (root ∷ trees) tree
+  pub asked : request_of exec root trees ≡ Ok request
 
 -- a memo is another one that grew: of the same executor, with more of the recent generation
 pub record Grows {E : Type 0} (old new : MemoValue E) : Type 0 where

@@ -1,4 +1,5 @@
 ghost use Rattle.std.specs.Prelude.{◌≡◌, ◌+◌, ◌++◌, ◌∷◌, [], Some, length, map, slice_get, IfOk, IfSome, IfNone, OnOk, OnErr, IsTrue};
+ghost use Rattle.std.specs.Option.{option_map};
 ghost use Rattle.trees.specs.TreeMap.{TreeMap};
 ghost use Rattle.memo.specs.Content.{capped, trees_bytes};
 ghost use Rattle.memo.specs.Kept.{Keeps, KeepsAll, kept_tree, kept_trees};
@@ -247,7 +248,7 @@ impl<'a, E: Executor> Memo<'a, E> {
 
     /// The tree of a number, if there is one.
     pub fn tree(&self, age: Age, number: usize) -> Option<&Tree>
-        ensures { IfSome result (λ tree. slice_get (generation_of self.now age).trees number ≡ Some tree.now) }
+        ensures { option_map (λ tree. tree.now) result ≡ slice_get (generation_of self.now age).trees number }
     {
         self.generation(age).trees().get(number)
     }

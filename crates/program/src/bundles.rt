@@ -31,6 +31,7 @@ use checks::Form;
 use command::{BuildOptions, CheckOptions, GraphOptions, LlbOptions, WhyOptions};
 use counted::{CountedRead, CountedWrite};
 use executor::Executor;
+use memo::Memo;
 use plain::Text;
 use solver::OpenGate;
 use std::alloc::{AllocError, Global};
@@ -74,10 +75,36 @@ pub(crate) fn build_bundle<F: Files, R: CountedRead, W: CountedWrite, S: Counted
             executor,
         ),
         None => {
-            let ended = run_build(alloc, rt, input, output, executor, workers, &OpenGate);
+            let ended = build_anew(alloc, rt, input, output, executor, workers);
             finish(errors, ended)
         }
     }
+}
+
+/// Builds a bundle without anything of earlier builds.
+fn build_anew<R: CountedRead, W: CountedWrite, E: Executor>(
+    alloc: Global,
+    rt: &(impl Threads + Wait + Sync),
+    input: &mut R,
+    output: &mut W,
+    executor: &E,
+    workers: u32,
+) -> Result<Status, BuildFault>
+    requires workers { (0 < workers) × (workers ≤ most_workers) }
+    requires reads { R.failures input.old < u64.MAX }
+    requires writes { W.failures output.old < u64.MAX }
+    ensures ends { Ends (E.out executor.now)
+        (devices (R.remaining input.old) (R.failures input.old) (W.contents output.old) (W.failures output.old))
+        (devices (R.remaining input.new) (R.failures input.new) (W.contents output.new) (W.failures output.new))
+        result }
+    ensures taken { LosesBeginning (most_bundle_bytes + 1) (R.remaining input.old) (R.remaining input.new) }
+{
+    let mut memo = Memo::for_one_build(alloc, executor);
+    let ended = run_build(
+        alloc, rt, input, output, executor, workers, &OpenGate, &mut memo,
+    );
+    drop(memo);
+    ended
 }
 
 /// Draws the graph of a bundle, and gives the status to end with.
@@ -300,7 +327,7 @@ fn build_file<F: Files, W: CountedWrite, S: CountedWrite, E: Executor>(
 {
     match open_bundle(files, name) {
         Ok(mut file) => {
-            let ended = run_build(alloc, rt, &mut file, output, executor, workers, &OpenGate);
+            let ended = build_anew(alloc, rt, &mut file, output, executor, workers);
             finish_file(alloc, errors, ended, name, file.why)
         }
         Err(error) => {

@@ -1,6 +1,7 @@
 use build::{BuildFault, Status, ask, plan_of, run_build, run_graph};
 use counted::Counted;
 use executor::Fixture;
+use memo::Memo;
 use plain::Fault;
 use program::{NotText, run_program};
 use solver::OpenGate;
@@ -92,15 +93,19 @@ impl Write for FailsOnce {
 fn first_run_prints_hi(rt: HostRuntime) -> Result<(), Fail> {
     let mut input = Counted::new(Cursor::new(FIRST.as_bytes()));
     let mut output = Counted::new(Vec::with_capacity(rt.alloc(), 4096)?);
+    let executor = Fixture;
+    let mut memo = Memo::new(rt.alloc(), &executor);
     let result = run_build(
         rt.alloc(),
         &rt,
         &mut input,
         &mut output,
-        &Fixture,
+        &executor,
         4,
         &OpenGate,
+        &mut memo,
     );
+    drop(memo);
     assert_eq!(rt; result, Ok(Status::Built));
     assert_eq!(rt; output.into_inner().as_slice(), ANSWER.as_bytes());
     Ok(())
@@ -145,15 +150,19 @@ fn failed_write_is_not_retried(rt: HostRuntime) {
         first: 5,
         has_failed: false,
     });
+    let executor = Fixture;
+    let mut memo = Memo::new(rt.alloc(), &executor);
     let result = run_build(
         rt.alloc(),
         &rt,
         &mut input,
         &mut output,
-        &Fixture,
+        &executor,
         4,
         &OpenGate,
+        &mut memo,
     );
+    drop(memo);
     assert_eq!(rt; result, Err(BuildFault::Device));
     assert_eq!(rt; output.failures(), 1);
     assert_eq!(rt; output.into_inner().taken.as_slice(), b"{\"con".as_slice());
@@ -163,15 +172,19 @@ fn failed_write_is_not_retried(rt: HostRuntime) {
 fn failed_read_writes_nothing(rt: HostRuntime) -> Result<(), Fail> {
     let mut input = Counted::new(Broken);
     let mut output = Counted::new(Vec::with_capacity(rt.alloc(), 4096)?);
+    let executor = Fixture;
+    let mut memo = Memo::new(rt.alloc(), &executor);
     let result = run_build(
         rt.alloc(),
         &rt,
         &mut input,
         &mut output,
-        &Fixture,
+        &executor,
         4,
         &OpenGate,
+        &mut memo,
     );
+    drop(memo);
     assert_eq!(rt; result, Err(BuildFault::Device));
     assert_eq!(rt; input.failures(), 1);
     assert!(rt; output.into_inner().is_empty());
@@ -182,15 +195,19 @@ fn failed_read_writes_nothing(rt: HostRuntime) -> Result<(), Fail> {
 fn no_more_is_read_than_one_byte_past_the_limit(rt: HostRuntime) -> Result<(), Fail> {
     let mut input = Counted::new(Blanks { taken: 0 });
     let mut output = Counted::new(Vec::with_capacity(rt.alloc(), 4096)?);
+    let executor = Fixture;
+    let mut memo = Memo::new(rt.alloc(), &executor);
     let result = run_build(
         rt.alloc(),
         &rt,
         &mut input,
         &mut output,
-        &Fixture,
+        &executor,
         4,
         &OpenGate,
+        &mut memo,
     );
+    drop(memo);
     assert_eq!(rt; result, Ok(Status::Refused));
     assert_eq!(rt; input.into_inner().taken, 67_108_865);
     Ok(())

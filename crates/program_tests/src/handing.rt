@@ -2,6 +2,7 @@ use build::{Status, run_build};
 use counted::Counted;
 use executor::{Executor, Outcome, Request};
 use llb::VertexId;
+use memo::Memo;
 use plain::{Exact, Memory};
 use solver::Gate;
 use std::alloc::Global;
@@ -75,6 +76,7 @@ fn caches_gate_and_workers_are_handed_on(rt: HostRuntime) -> Result<(), Fail> {
     };
     let mut input = Counted::new(Cursor::new(TWO_RUNS.as_bytes()));
     let mut output = Counted::new(Vec::with_capacity(rt.alloc(), 4096)?);
+    let mut memo = Memo::new(rt.alloc(), &executor);
     let result = run_build(
         rt.alloc(),
         &rt,
@@ -83,7 +85,9 @@ fn caches_gate_and_workers_are_handed_on(rt: HostRuntime) -> Result<(), Fail> {
         &executor,
         2,
         &gate,
+        &mut memo,
     );
+    drop(memo);
     assert_eq!(rt; result, Ok(Status::Built));
     assert_eq!(rt; executor.lent.load(Ordering::SeqCst), 2);
     assert_eq!(rt; gate.seen.load(Ordering::SeqCst), 3);

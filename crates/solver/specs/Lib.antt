@@ -1,3 +1,4 @@
 pub mod Solution
 pub mod Answer
 pub mod PrivateSolution
+pub mod Recall

@@ -19,14 +19,24 @@
 #![tactic(auto)]
 
 mod answer;
+mod finding;
 mod gate;
 pub mod laws;
+mod numbering;
+mod recall;
+mod recalling;
+mod remembering;
 mod running;
 mod solution;
 mod sweep;
 
 pub use answer::Answer;
+pub use finding::{Finding, Findings, FindingsOf};
 pub use gate::{Gate, OpenGate};
+pub use numbering::Numbering;
+pub use recall::Recall;
+pub use recalling::{Recalling, run_recalled};
+pub use remembering::remember;
 pub use running::{run, run_gated};
 pub use solution::Solution;
-pub use sweep::{finish, solve_here, solve_problem};
+pub use sweep::{finish, finish_recalled, solve_here, solve_problem};

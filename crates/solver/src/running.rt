@@ -50,7 +50,7 @@ pub fn run_gated<E: Executor, G: Gate, P: Place<TreeOrCause>>(
     ensures given { IfOk result (λ ran. IsGivenBack (job_problem E.out job.now) claim.now ran.given.items) }
     ensures left { IfOk result (λ ran. IsLeftFor (E.leaves job.now.executor) (job_problem E.out job.now) claim.now ran.given.items) }
 {
-    if !is_command(vertex_at(job, claim.vertex())) {
+    if !is_command(&vertex_at(job, claim.vertex()).op) {
         return run(alloc, job, claim);
     }
     gate.enter(claim.worker(), claim.vertex());
@@ -59,13 +59,13 @@ pub fn run_gated<E: Executor, G: Gate, P: Place<TreeOrCause>>(
     ran
 }
 
-/// Whether a vertex is a command, which an executor runs.
-fn is_command(vertex: &Vertex) -> bool {
-    matches!(vertex.op, Op::Exec(_))
+/// Whether an operation is a command, which an executor runs.
+pub(crate) fn is_command(op: &Op) -> bool {
+    matches!(op, Op::Exec(_))
 }
 
 /// A vertex of a job.
-fn vertex_at<'a, E: Executor>(job: &Job<'a, E>, id: VertexId) -> &'a Vertex
+pub(crate) fn vertex_at<'a, E: Executor>(job: &Job<'a, E>, id: VertexId) -> &'a Vertex
     requires { id < length job.now.graph.vertices }
     ensures value { slice_get job.now.graph.vertices id ≡ Some result.now }
     ensures problem { IsProblem (job_problem E.out job.now) }
@@ -74,7 +74,10 @@ fn vertex_at<'a, E: Executor>(job: &Job<'a, E>, id: VertexId) -> &'a Vertex
 }
 
 /// The trees of the inputs of a claim's vertex, in their order.
-fn inputs_of<P: Place<TreeOrCause>>(alloc: Global, claim: &Claim<P>) -> Result<Vec<&Tree>, Memory>
+pub(crate) fn inputs_of<P: Place<TreeOrCause>>(
+    alloc: Global,
+    claim: &Claim<P>,
+) -> Result<Vec<&Tree>, Memory>
     ensures { IfOk result (λ inputs. map (λ tree. tree.now) inputs.items ≡ claim.now.inputs) }
 {
     let mut inputs = Vec::with_capacity(alloc, claim.input_count())?;

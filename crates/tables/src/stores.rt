@@ -12,6 +12,7 @@ use build::{Asked, ask, plan_of};
 use cachemounts::CacheStore;
 use executor::{Executor, Fixture, Outcome, Request};
 use imageconfig::Config;
+use memo::Memo;
 use plain::Memory;
 use plans::Plan;
 use samples::listing;
@@ -135,7 +136,12 @@ fn solved<E: Executor>(
     requires idle { caches.old.holds ≡ [] }
     ensures idle { caches.new.holds ≡ [] }
 {
-    let text = match solve(alloc, rt, plan, executor, workers, &OpenGate, caches) {
+    let mut memo = Memo::new(alloc, executor);
+    let solution = solve(
+        alloc, rt, plan, executor, workers, &OpenGate, caches, &mut memo,
+    );
+    drop(memo);
+    let text = match solution {
         Ok(solution) => solution_text(alloc, solution),
         Err(Memory) => Ok(String::from_str(alloc, "out of memory")?),
     };

@@ -2,6 +2,7 @@ ghost use Rattle.std.specs.Prelude.{◌≡◌, ◌<◌, ◌≤◌, []};
 // Answers in a line.
 use cachemounts::CacheStore;
 use executor::Fixture;
+use memo::Memo;
 use plans::Plan;
 use samples::listing;
 use solver::{Gate, Solution};
@@ -23,7 +24,11 @@ pub fn solved<G: Gate, R: Threads + Wait + Sync>(
     requires workers { (0 < workers) × (workers ≤ 64) }
     requires idle { caches.old.holds ≡ [] }
 {
-    match solve(alloc, rt, plan, &Fixture, workers, gate, caches) {
+    let executor = Fixture;
+    let mut memo = Memo::new(alloc, &executor);
+    let solution = solve(alloc, rt, plan, &executor, workers, gate, caches, &mut memo);
+    drop(memo);
+    match solution {
         Ok(solution) => written(alloc, solution),
         Err(memory) => Err(Fail::from(memory)),
     }

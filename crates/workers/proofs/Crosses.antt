@@ -1,15 +1,17 @@
 -- What the workers share may be lent to several threads.
 use denote.RattleType.{RattleType}
 use denote.Ref.{NamedLft}
-use denote.Param.Send.{IsSync, AllSync, sendable}
+use denote.Param.Send.{IsSend, IsSync, AllSync, sendable}
 use denote.Struct.Declared.{fields}
 use Rattle.executor.specs.declared.executor.Executor.{Ghosts}
 use Rattle.std.proofs.Crossing as any
 use Rattle.sites.proofs.Crosses.{job_sync}
+use Rattle.solver.proofs.Crosses.{recall_sync}
+use Rattle.solver.specs.declared.numbering.Numbering.{Ghosts as NumberingGhosts}
 use Rattle.workers.specs.contracts.working.Tools as Tools
 
-pub tools_sync : (κ : NamedLft) (E G : RattleType) (g : Ghosts E.Denot) → IsSync E → IsSync G → IsSync (Tools.the_row κ E G g)
-tools_sync κ E G g e t =
-    let all : AllSync (fields (Tools.the_type κ E G g)) =
-    (search sendable depth 20, (search (job_sync κ E g e, sendable) depth 20, (search (t, sendable) depth 20, (search (sendable, any.crosses) depth 20, tt)))) in
+pub tools_sync : (κ β ρ μ ν γ : NamedLft) (E G J : RattleType) (g : Ghosts E.Denot) (n : NumberingGhosts J.Denot) → IsSync E → IsSync G → IsSend J → IsSync J → IsSync (Tools.the_row κ β ρ μ ν γ E G J g n)
+tools_sync κ β ρ μ ν γ E G J g n e t s j =
+    let all : AllSync (fields (Tools.the_type κ β ρ μ ν γ E G J g n)) =
+    (search sendable depth 20, (search (job_sync β E g e, sendable) depth 20, (search (recall_sync μ ν E J g n e s j, sendable, any.crosses) depth 20, (search (t, sendable) depth 20, (search (sendable, any.crosses) depth 20, tt))))) in
     search (all, sendable) depth 20

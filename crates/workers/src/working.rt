@@ -1,8 +1,10 @@
 ghost use Rattle.std.specs.Prelude.{◌≡◌, IfOk, IfSome};
+ghost use Rattle.std.specs.ControlFlow.{break_value};
 ghost use Rattle.board.specs.Claim.{IsClaim, IsResult, IsGivenBack};
 ghost use Rattle.board.specs.Job.{job_problem};
 ghost use Rattle.board.specs.Leaving.{LeaveTheSame, IsLeftFor};
 ghost use Rattle.sites.specs.Seats.{IsMine, IsLentTo};
+ghost use Rattle.solver.specs.Recall.{AreOf, MayStay};
 
 use board::{Claim, Job, Refused};
 use executor::Executor;
@@ -10,8 +12,9 @@ use plain::Memory;
 use plain::limits::MOST_WORKERS;
 use rolls::Room;
 use sites::{Case, Desk, Held, Known, Seat};
-use solver::{Gate, run_gated};
+use solver::{Gate, Numbering, Recall, run_recalled};
 use std::alloc::Global;
+use std::ops::ControlFlow;
 use std::sync::{Condvar, Wait};
 use std::thread;
 use std::thread::Threads;
@@ -20,10 +23,12 @@ use vertexrun::Ran;
 
 /// What the workers of a site share beside its desk.
 #[derive(Drop)]
-pub(crate) struct Tools<'a, E: Executor, G> {
+pub(crate) struct Tools<'a, 'b, 'r, 'm, 'k, 'g, E: Executor, M: Executor, G, J: Numbering> {
     pub alloc: Global,
-    pub job: &'a Job<'a, E>,
-    pub gate: &'a G,
+    pub job: &'a Job<'b, E>,
+    /// What earlier builds gave, if that is anything.
+    pub recall: Option<&'r Recall<'m, 'k, M, J>>,
+    pub gate: &'g G,
     /// Where a worker sleeps that finds nothing to claim while others have claims out.
     pub bell: Condvar,
 }
@@ -31,19 +36,25 @@ pub(crate) struct Tools<'a, E: Executor, G> {
 /// The work of each seat, in a thread of its own.
 pub(crate) fn work_all<
     E: Executor,
+    M: Executor,
     G: Gate,
-    J: Case + Room + Send + Sync,
+    J: Case + Room + Numbering + Send + Sync,
     R: Threads + Wait + Sync,
->(rt: &R, desk: &Desk<E, J>, tools: &Tools<E, G>, seats: &mut [Seat<J>])
+>(rt: &R, desk: &Desk<E, J>, tools: &Tools<E, M, G, J>, seats: &mut [Seat<J>])
     requires job { job_problem E.out tools.now.job.now ≡ J.problem }
     requires leaves { LeaveTheSame (E.leaves tools.now.job.now.executor) J.leaves }
+    requires named { AreOf J.problem J.out J.values }
+    requires stays { MayStay J.knows J.leaves }
 {
     thread::for_each_mut(
         rt,
         seats,
         MOST_WORKERS as usize,
         &|_, seat: &mut Seat<J>|
-            requires { (job_problem E.out tools.now.job.now ≡ J.problem) × LeaveTheSame (E.leaves tools.now.job.now.executor) J.leaves }
+            requires job { job_problem E.out tools.now.job.now ≡ J.problem }
+            requires leaves { LeaveTheSame (E.leaves tools.now.job.now.executor) J.leaves }
+            requires named { AreOf J.problem J.out J.values }
+            requires stays { MayStay J.knows J.leaves }
         { work(rt, desk, tools, seat) },
     );
 }
@@ -53,21 +64,23 @@ pub(crate) fn work_all<
 ///
 /// A vertex gets ready by the end of a claim. Whoever settles one looks for the next itself; having found it, it wakes one sleeper, who looks for another
 /// and does the same. Whoever leaves wakes all, since it may leave something behind. So no ready vertex waits for a sleeper, and an end wakes no crowd.
-fn work<E: Executor, G: Gate, J: Case + Room, R: Wait>(
+fn work<E: Executor, M: Executor, G: Gate, J: Case + Room + Numbering, R: Wait>(
     rt: &R,
     desk: &Desk<E, J>,
-    tools: &Tools<E, G>,
+    tools: &Tools<E, M, G, J>,
     seat: &mut Seat<J>,
 )
     requires job { job_problem E.out tools.now.job.now ≡ J.problem }
     requires leaves { LeaveTheSame (E.leaves tools.now.job.now.executor) J.leaves }
+    requires named { AreOf J.problem J.out J.values }
+    requires stays { MayStay J.knows J.leaves }
 {
     for _ in rt.forever() {
         let Some(claim) = draw(rt, desk, tools, seat) else {
             break;
         };
         tools.bell.notify_one();
-        let ran = run_gated(tools.alloc, tools.job, tools.gate, &claim);
+        let ran = run_recalled(tools.alloc, tools.job, tools.recall, tools.gate, &claim);
         let kept = keep(tools, desk, &claim, ran);
         let ended = {
             let mut held = desk.lock(rt);
@@ -82,10 +95,10 @@ fn work<E: Executor, G: Gate, J: Case + Room, R: Wait>(
 
 /// A claim for a seat, as soon as there is one: none where no claim is out and none is to be had, or where memory is wanting. It sleeps while others
 /// have claims out, until it is woken.
-fn draw<'a, E: Executor, G, J: Case + Room, R: Wait>(
+fn draw<'a, E: Executor, M: Executor, G, J: Case + Room + Numbering, R: Wait>(
     rt: &R,
     desk: &Desk<'a, E, J>,
-    tools: &Tools<E, G>,
+    tools: &Tools<E, M, G, J>,
     seat: &mut Seat<J>,
 ) -> Option<Claim<Known<'a, J>>>
     ensures mine { IfSome result (IsMine seat.new) }
@@ -94,7 +107,7 @@ fn draw<'a, E: Executor, G, J: Case + Room, R: Wait>(
 {
     let mut held = desk.lock(rt);
     for _ in rt.forever() {
-        if let Some(drawn) = draw_now(tools.alloc, &mut *held, seat) {
+        if let ControlFlow::Break(drawn) = draw_now(tools.alloc, &mut *held, seat) {
             return drawn;
         }
         held = tools.bell.wait(rt, held);
@@ -102,25 +115,25 @@ fn draw<'a, E: Executor, G, J: Case + Room, R: Wait>(
     unreachable!()
 }
 
-/// What a seat draws from the board as it is: a claim, or, as `draw` says, that there is none for it. None while it may come from a claim that is out.
+/// What a seat draws from the board as it is: a claim, or, as `draw` says, that there is none for it. It goes on while one may come from a claim that is out.
 fn draw_now<'a, E: Executor, J: Case + Room>(
     alloc: Global,
     held: &mut Held<'a, E, J>,
     seat: &mut Seat<J>,
-) -> Option<Option<Claim<Known<'a, J>>>>
-    ensures mine { IfSome result (λ drawn. IfSome drawn (IsMine seat.new)) }
-    ensures of { IfSome result (λ drawn. IfSome drawn (IsClaim J.problem)) }
-    ensures lent { IfSome result (λ drawn. IfSome drawn (IsLentTo seat.new)) }
+) -> ControlFlow<Option<Claim<Known<'a, J>>>>
+    ensures mine { IfSome (break_value result) (λ drawn. IfSome drawn (IsMine seat.new)) }
+    ensures of { IfSome (break_value result) (λ drawn. IfSome drawn (IsClaim J.problem)) }
+    ensures lent { IfSome (break_value result) (λ drawn. IfSome drawn (IsLentTo seat.new)) }
 {
     match held.claim(alloc, seat) {
-        Ok(Some(claim)) => Some(Some(claim)),
+        Ok(Some(claim)) => ControlFlow::Break(Some(claim)),
         Ok(None) => {
             if held.is_idle() {
-                return Some(None);
+                return ControlFlow::Break(None);
             }
-            None
+            ControlFlow::Continue(())
         }
-        Err(Memory) => Some(None),
+        Err(Memory) => ControlFlow::Break(None),
     }
 }
 
@@ -132,8 +145,8 @@ struct Kept<'a, J: Case> {
 }
 
 /// Puts what a run gave into the cell of its vertex, without the lock. None if memory is wanting, or if the value of another vertex stands there.
-fn keep<'a, E: Executor, G, J: Case + Room>(
-    tools: &Tools<E, G>,
+fn keep<'a, E: Executor, M: Executor, G, J: Case + Room + Numbering>(
+    tools: &Tools<E, M, G, J>,
     desk: &Desk<'a, E, J>,
     claim: &Claim<Known<'a, J>>,
     ran: Result<Ran, Memory>,

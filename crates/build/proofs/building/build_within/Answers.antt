@@ -11,6 +11,7 @@ returns g c =
     let new : Devices = devices (g.R.CountedRead.remaining c.read_all.new.input) (g.R.CountedRead.failures c.read_all.new.input) (g.W.CountedWrite.contents c.tell_bundle.new.output) (g.W.CountedWrite.failures c.tell_bundle.new.output) in
     let read = read_of _ old.left new.left bytes _ (ap (λ n. n + 1) c.requires.limit) c.as_slice.ensures.value c.in_ok-bytes.ensures.bytes in
     record {
-      ends = has_told out old new bytes c.tell_bundle.result read c.tell_bundle.ensures c.in_ok-bytes.ensures.count;
+      ends = has_told out old new bytes c.tell_bundle.result read c.tell_bundle.ensures.told c.in_ok-bytes.ensures.count;
       taken = loses_at_most _ old.left new.left _ c.in_ok-bytes.ensures.bytes;
+      memo = c.tell_bundle.ensures.memo;
     }

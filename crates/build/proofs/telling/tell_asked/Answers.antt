@@ -3,8 +3,8 @@ use Rattle.build.specs.PrivateTelling.{TellsPlan, TellsAsked}
 use Rattle.build.proofs.TellFacts.{told_of, asked_told}
 use Rattle.build.proofs.telling.tell_asked.Goals as goal
 
-pub returns-in-Ok : goal.returns-in-Ok
-returns-in-Ok g c =
+pub returns-in-Ok-clause-told : goal.returns-in-Ok-clause-told
+returns-in-Ok-clause-told g c =
     let out = g.E.Executor.out c.args.executor.now in
     told_of (TellsPlan out c.in-Ok.plan) (TellsAsked out (Ok c.args.asked.evaluated))
-    (λ told is. asked_told out c.args.asked.evaluated c.in-Ok.plan told (c.in-Ok.ensures.tells out) is) _ _ _ _ c.tell_plan-ended.result c.tell_plan-ended.ensures
+    (λ told is. asked_told out c.args.asked.evaluated c.in-Ok.plan told (c.in-Ok.ensures.tells out) is) _ _ _ _ c.tell_plan-ended.result c.tell_plan-ended.ensures.told

@@ -10,7 +10,7 @@ returns-in_default-clause-over g c =
     let is = c.history-known.ensures in
     let same : c.claim.new.self ≡ old = search rules in
     let next : IsNextClaim (board_problem g.E.Executor.out old) old.run.history 64 None = search rules in
-    subst (λ v. (vertex : _) → ¬ IsReady (board_problem g.E.Executor.out v) v.run.history vertex) (sym same) (none-ready (board_problem g.E.Executor.out old) old.run 64 is.problem is.replay c.requires next)
+    subst (λ v. (vertex : _) → ¬ IsReady (board_problem g.E.Executor.out v) v.run.history vertex) (sym same) (none-ready (board_problem g.E.Executor.out old) old.run 64 is.problem is.replay c.requires.idle next)
 
 pub returns-in-Ok-settle-clause-unbuilt : goal.returns-in-Ok-settle-clause-unbuilt
 returns-in-Ok-settle-clause-unbuilt g c =

@@ -1,27 +1,36 @@
-use Rattle.std.proofs.Common.{◌∙◌, ap, subst}
-use Rattle.board.specs.Leaving.{AreLeftByRuns}
-use Rattle.board.proofs.LeavingLemmas.{left_by_runs-same}
-use Rattle.solver.proofs.SolutionLemmas.{left-same, runs-same}
+use Rattle.std.proofs.Common.{◌∙◌, ap, sym, subst}
+use Rattle.plans.specs.Plan.{Problem}
+use Rattle.board.specs.Board.{AreLeft, board_problem}
+use Rattle.board.specs.Problem.{values_in}
+use Rattle.memo.proofs.GrowLemmas.{grows-same}
+use Rattle.solver.proofs.SolutionLemmas.{left-same}
 use Rattle.workers.proofs.solving.solved.Goals as goal
 
--- where there are no cells, and where there is no board, nothing has happened
+-- where there are no cells nothing has happened
 pub returns-in_default-clause-left : goal.returns-in_default-clause-left
-returns-in_default-clause-left g c = left-same g.J.Case.problem g.J.Case.first c.args.caches.contents c.requires.first
+returns-in_default-clause-left g c = left-same g.J.Case.problem g.J.Case.first c.unsolved.result.caches.contents (ap (λ store. store.contents) c.unsolved.ensures.caches ∙ c.requires.first)
 
-pub returns-in-Err-clause-left : goal.returns-in-Err-clause-left
-returns-in-Err-clause-left g c = left-same g.J.Case.problem g.J.Case.first c.in-Err.refused.caches.contents (ap (λ store. store.contents) c.in-Err.ensures.back ∙ c.requires.first)
+pub returns-in_default-clause-memo : goal.returns-in_default-clause-memo
+returns-in_default-clause-memo g c = grows-same c.args.memo.now
 
-pub returns-in_default-clause-runs : goal.returns-in_default-clause-runs
-returns-in_default-clause-runs g c = runs-same g.J.Case.leaves g.J.Case.problem g.J.Case.first c.args.caches.contents c.requires.first
+pub returns-in_default-new-clause-left : goal.returns-in_default-new-clause-left
+returns-in_default-new-clause-left g c = left-same g.J.Case.problem g.J.Case.first c.unsolved-in_default-new.result.caches.contents (ap (λ store. store.contents) c.unsolved-in_default-new.ensures.caches ∙ c.requires.first)
 
-pub returns-in-Err-clause-runs : goal.returns-in-Err-clause-runs
-returns-in-Err-clause-runs g c = runs-same g.J.Case.leaves g.J.Case.problem g.J.Case.first c.in-Err.refused.caches.contents (ap (λ store. store.contents) c.in-Err.ensures.back ∙ c.requires.first)
+pub returns-in_default-new-clause-memo : goal.returns-in_default-new-clause-memo
+returns-in_default-new-clause-memo g c = grows-same c.args.memo.now
 
-pub returns-clause-runs : goal.returns-clause-runs
-returns-clause-runs g c =
-    let board = c.worked.result in
-    let contents = c.finished.result.caches.contents in
-    let leaves = g.E.Executor.leaves board.job.executor in
-    let named = subst (λ p. AreLeftByRuns leaves p board.first contents) c.worked.ensures.problem c.finished.ensures.runs in
-    let here = subst (λ first. AreLeftByRuns leaves g.J.Case.problem first contents) c.worked.ensures.first named in
-    left_by_runs-same leaves g.J.Case.leaves g.J.Case.problem g.J.Case.first contents c.worked.ensures.leaves here
+pub returns-clause-memo : goal.returns-clause-memo
+returns-clause-memo g c = grows-same c.args.memo.now
+
+-- what the memo gets is of the board's problem
+pub remember-requires-clause-executor : goal.remember-requires-clause-executor
+remember-requires-clause-executor g c κs within =
+    c.requires.executor ∙ (c.requires.named.same_out ∙ ap (λ (p : Problem). p.out) (sym c.in-Ok-outcome.ensures.problem))
+
+pub remember-requires-clause-values : goal.remember-requires-clause-values
+remember-requires-clause-values g c κs within = c.requires.named.same_values ∙ ap values_in (sym c.in-Ok-outcome.ensures.problem)
+
+pub returns-in-Ok-outcome-clause-left : goal.returns-in-Ok-outcome-clause-left
+returns-in-Ok-outcome-clause-left g c =
+    let named = subst (λ p. AreLeft p c.in-Ok-outcome.field-0.board.first c.into_caches.result.contents) c.in-Ok-outcome.ensures.problem c.into_caches.ensures.left in
+    subst (λ f. AreLeft g.J.Case.problem f c.into_caches.result.contents) c.in-Ok-outcome.ensures.first named

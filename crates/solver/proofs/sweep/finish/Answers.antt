@@ -1,0 +1,5 @@
+use Rattle.std.proofs.Common.{refl}
+use Rattle.solver.proofs.sweep.finish.Goals as goal
+
+pub finish_alone-requires-clause-named : goal.finish_alone-requires-clause-named
+finish_alone-requires-clause-named g c κs within = record { same_out = refl; same_values = refl }
