@@ -1,23 +1,30 @@
 -- What a memo has by the numbers of trees is the value of a vertex, and the result of its claim.
-use Rattle.std.proofs.Common.{◌≡◌, ◌∙◌, ℕ, zero, suc, Bool, List, [], ◌∷◌, ◌++◌, length, Option, Some, None, Result, Ok, Err, IfOk, refl, sym, ap, subst}
+use Rattle.std.proofs.Common.{◌≡◌, ◌∙◌, ◌⊎◌, inl, inr, ℕ, zero, suc, Bool, List, [], ◌∷◌, ◌++◌, length, Option, Some, None, Result, Ok, Err, IfOk, OnOk, refl, sym, ap, subst}
 use Rattle.std.specs.Prelude.{IfSome, slice_get, slice_index_or}
-use Rattle.std.specs.Option.{option_map_or}
+use Rattle.std.specs.Option.{option_map, option_map_or}
 use Rattle.std.proofs.lemmas.List.{map_push}
 use Rattle.std.proofs.lemmas.Option.{slice_get_within, get_or_from_slice_get}
 use Rattle.trees.specs.TreeMap.{TreeMap, empty_tree}
+use Rattle.trees.specs.declared.cause.Cause.{Cause}
+use Rattle.runs.specs.declared.run.RunRequest.{RunRequest}
+use Rattle.llb.specs.declared.op.Op.{Op}
+use Rattle.llb.specs.declared.op.Op.TheVariants.{Source as SourceOp, Exec as ExecOp, Copy as CopyOp, MakeDirs as MakeDirsOp, Merge as MergeOp}
 use Rattle.llb.specs.declared.vertex.Vertex.{Vertex}
-use Rattle.plans.specs.Plan.{Problem, vertex_value, caches_of}
+use Rattle.plans.specs.Plan.{Problem, vertex_value, caches_of, IsLeftBy, IsLeftByRun}
+use Rattle.plans.specs.Request.{request_of}
 use Rattle.plans.specs.Value.{Out, Value, tree_of, with_tree, trees_at, result_of}
 use Rattle.board.specs.Claim.{ClaimValue, IsClaim, IsResult, IsGivenBack}
+use Rattle.board.specs.Leaving.{Leaving, LeaveTheSame, IsLeftFor}
 use Rattle.board.specs.Problem.{IsProblem, values_in}
+use Rattle.board.proofs.LeavingLemmas.{left-more}
 use Rattle.board.proofs.ProblemLemmas.{value-there}
 use Rattle.memo.specs.declared.number.Age.{Age}
 use Rattle.memo.specs.declared.number.Age.TheVariants.{Recent, Earlier}
 use Rattle.memo.specs.Kept.{Keeps, kept_tree, kept_trees}
-use Rattle.memo.specs.Memo.{GenerationValue, MemoValue, entry_of, IsLawful}
+use Rattle.memo.specs.Memo.{GenerationValue, MemoValue, entry_of, IsLawful, Has, Holds, Knows}
 use Rattle.memo.specs.Numbers.{generation_of}
 use Rattle.solver.specs.declared.finding.Finding.{Finding}
-use Rattle.solver.specs.Recall.{IsKept, IsFinding, AreOf, number_in}
+use Rattle.solver.specs.Recall.{IsKept, IsFinding, AreOf, number_in, stays, leaves_or_stays, MayStay}
 
 -- ---- results
 
@@ -60,6 +67,70 @@ lawful-kept problem id v asked out values generation inputs (Some number) is the
 pub ok-more : {X Y : Type 0} (P Q : X → Type 0) (result : Result X Y) → ((x : X) → P x → Q x) → IfOk result P → IfOk result Q
 ok-more P Q (Ok x) more is = more x is
 ok-more P Q (Err y) more is = is
+
+pub on-ok-more : {X Y : Type 0} (P Q : Type 0) (result : Result X Y) → (P → Q) → OnOk result P → OnOk result Q
+on-ok-more P Q (Ok x) more is = more is
+on-ok-more P Q (Err y) more is = is
+
+-- what is found at a place stands there
+pub some-there : {X Y : Type 0} (now : X → Y) (P : X → Type 0) (found : Option X) (there : Option Y) → option_map now found ≡ there → ((x : X) → there ≡ Some (now x) → P x) → IfSome found P
+some-there now P None there e then = tt
+some-there now P (Some x) there e then = then x (sym e)
+
+pub some-all : {X : Type 0} (P : Type 0) (found : Option X) → P → IfSome found (λ x. P)
+some-all P None is = tt
+some-all P (Some x) is = is
+
+-- ---- what stays in caches
+
+-- in the caches of an operation of which a memo has an entry the trees may stay, as of a request that it knows
+held-stays : {E : Type 0} (memo : MemoValue E) (knows : RunRequest → Type 0) (op : Op) (inputs : List TreeMap) (tree : TreeMap) (caches : List TreeMap)
+    → ((request : RunRequest) → Knows memo request → knows request) → Holds memo op inputs tree → IsLeftBy (stays knows) op inputs caches caches
+held-stays memo knows (SourceOp source) inputs tree caches all holds = refl
+held-stays memo knows (ExecOp exec) [] tree caches all holds = refl
+held-stays memo knows (ExecOp exec) (root ∷ trees) tree caches all holds = by_request (request_of exec root trees) refl
+  where
+    by_request : (request : Result RunRequest Cause) → request_of exec root trees ≡ request → IsLeftByRun (stays knows) request caches caches
+    by_request (Err cause) asked = refl
+    by_request (Ok request) asked = (all request (record { exec = exec; root = root; trees = trees; tree = tree; holds = holds; asked = asked }), refl)
+held-stays memo knows (CopyOp files) inputs tree caches all holds = refl
+held-stays memo knows (MakeDirsOp path) inputs tree caches all holds = refl
+held-stays memo knows MergeOp inputs tree caches all holds = refl
+
+has-holds : {E : Type 0} (memo : MemoValue E) (age : Age) (op : Op) (inputs : List TreeMap) (tree : TreeMap) → Has (generation_of memo age).entries op inputs tree → Holds memo op inputs tree
+has-holds memo Recent op inputs tree has = inl has
+has-holds memo Earlier op inputs tree has = inr has
+
+-- so they may in the caches of a claim, where the memo has an entry for its operation on the trees of its inputs
+pub found-stays : {E : Type 0} (memo : MemoValue E) (age : Age) (knows : RunRequest → Type 0) (problem : Problem) (claim : ClaimValue) (v : Vertex) (out : Out) (values : List Value) (numbers : List ℕ) (found : Option ℕ)
+    → IsClaim problem claim → AreOf problem out values → slice_get problem.vertices claim.vertex ≡ Some v
+    → trees_at values v.inputs ≡ Some (kept_trees (generation_of memo age) numbers)
+    → ((request : RunRequest) → Knows memo request → knows request)
+    → IfSome found (λ number. Has (generation_of memo age).entries v.op (kept_trees (generation_of memo age) numbers) (kept_tree (generation_of memo age) number))
+    → IfSome found (λ number. IsLeftFor (stays knows) problem claim claim.caches)
+found-stays memo age knows problem claim v out values numbers None of named there trees all has = tt
+found-stays memo age knows problem claim v out values numbers (Some number) of named there trees all has = λ u at.
+    let generation : GenerationValue = generation_of memo age in
+    let tree : TreeMap = kept_tree generation number in
+    let same : of.vertex ≡ v = (let f : Some of.vertex ≡ Some v = sym of.there ∙ there in cc) in
+    let one : v ≡ u = (let f : Some v ≡ Some u = sym there ∙ at in cc) in
+    let own : trees_at (values_in problem) v.inputs ≡ Some claim.inputs = subst (λ (w : Vertex). trees_at (values_in problem) w.inputs ≡ Some claim.inputs) same of.inputs in
+    let kept : trees_at (values_in problem) v.inputs ≡ Some (kept_trees generation numbers) = subst (λ vs. trees_at vs v.inputs ≡ Some (kept_trees generation numbers)) named.same_values trees in
+    let lent : kept_trees generation numbers ≡ claim.inputs = (let f : Some (kept_trees generation numbers) ≡ Some claim.inputs = sym kept ∙ own in cc) in
+    let held : Holds memo v.op claim.inputs tree = subst (λ inputs. Holds memo v.op inputs tree) lent (has-holds memo age v.op (kept_trees generation numbers) tree has) in
+    subst (λ (w : Vertex). IsLeftBy (stays knows) w.op claim.inputs claim.caches claim.caches) one (held-stays memo knows v.op claim.inputs tree claim.caches all held)
+
+-- where the trees of known requests may stay, they may in a claim's caches
+pub stays-left : (knows : RunRequest → Type 0) (leaves : Leaving) (problem : Problem) (claim : ClaimValue) → MayStay knows leaves → IsLeftFor (stays knows) problem claim claim.caches → IsLeftFor leaves problem claim claim.caches
+stays-left knows leaves problem claim may is =
+    left-more (stays knows) leaves problem claim claim.caches (λ request before after known. subst (λ trees. leaves request before trees) (sym known.1) (may request before known.0)) is
+
+pub stay-same : (knows : RunRequest → Type 0) (leaves other : Leaving) → LeaveTheSame leaves other → MayStay knows other → MayStay knows leaves
+stay-same knows leaves other same may = λ request trees known. (same request trees trees).1 (may request trees known)
+
+-- beside what an executor leaves
+pub stay-beside : (knows : RunRequest → Type 0) (leaves : Leaving) → MayStay knows (leaves_or_stays knows leaves)
+stay-beside knows leaves = λ request trees known. inr (known, refl)
 
 -- ---- trees of inputs
 

@@ -50,6 +50,8 @@ impl<'e, E: Executor, N: Numbering + Sync> Executor for Recalling<'e, E, N> {
 
     ghost leaves = { λ executor. leaves_or_stays N.knows (E.leaves executor) };
 
+    ghost exits = { E.exits };
+
     fn run(
         &self,
         alloc: Global,

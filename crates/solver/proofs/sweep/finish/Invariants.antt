@@ -10,4 +10,5 @@ ghosts-finish_alone g a = record {
   values = values_in (board_problem g.E.Executor.out a.board.now);
   recent = [];
   earlier = [];
+  knows = λ request. ⊥;
 }

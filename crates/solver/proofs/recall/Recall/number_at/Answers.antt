@@ -7,7 +7,7 @@ use Rattle.solver.proofs.recall.Recall.number_at.Goals as goal
 
 pub sought-requires : goal.sought-requires
 sought-requires g c =
-    let problem = job_problem g.E.Executor.out c.args.job.now in
+    let problem = job_problem g.X.Executor.out c.args.job.now in
     let claim = c.args.claim.now in
     let id = c.in-Some.input.now in
     let tree = c.input.result.now in
