@@ -1,5 +1,5 @@
 -- What a memo has by the numbers of trees is the value of a vertex, and the result of its claim.
-use Rattle.std.proofs.Common.{◌≡◌, ◌∙◌, ◌⊎◌, inl, inr, ℕ, zero, suc, Bool, List, [], ◌∷◌, ◌++◌, length, Option, Some, None, Result, Ok, Err, IfOk, OnOk, refl, sym, ap, subst}
+use Rattle.std.proofs.Common.{◌≡◌, ◌∙◌, ◌⊎◌, inl, inr, ℕ, zero, suc, Bool, List, [], ◌∷◌, ◌++◌, length, Option, Some, None, Result, Ok, Err, IfOk, OnOk, refl, sym, ap, subst, arith}
 use Rattle.std.specs.Prelude.{IfSome, slice_get, slice_index_or}
 use Rattle.std.specs.Option.{option_map, option_map_or}
 use Rattle.std.proofs.lemmas.List.{map_push}
@@ -21,7 +21,7 @@ use Rattle.board.proofs.ProblemLemmas.{value-there}
 use Rattle.memo.specs.declared.number.Age.{Age}
 use Rattle.memo.specs.declared.number.Age.TheVariants.{Recent, Earlier}
 use Rattle.memo.specs.Kept.{Keeps, kept_tree, kept_trees}
-use Rattle.memo.specs.Memo.{GenerationValue, MemoValue, entry_of, IsLawful, Has, Holds, Knows}
+use Rattle.memo.specs.Memo.{GenerationValue, MemoValue, entry_of, no_generation, IsLawful, Has, Holds, Knows}
 use Rattle.memo.specs.Numbers.{generation_of}
 use Rattle.solver.specs.declared.finding.Finding.{Finding}
 use Rattle.solver.specs.Recall.{IsKept, IsFinding, AreOf, number_in, stays, leaves_or_stays, MayStay}
@@ -131,6 +131,21 @@ stay-same knows leaves other same may = λ request trees known. (same request tr
 -- beside what an executor leaves
 pub stay-beside : (knows : RunRequest → Type 0) (leaves : Leaving) → MayStay knows (leaves_or_stays knows leaves)
 stay-beside knows leaves = λ request trees known. inr (known, refl)
+
+-- a memo without an entry knows no request
+knows-nothing : {E : Type 0} (executor : E) (request : RunRequest) → Knows (record { executor = executor; recent = no_generation; earlier = no_generation }) request → ⊥
+knows-nothing executor request known = in_none known.holds
+  where
+    in_none : {op : Op} {inputs : List TreeMap} {tree : TreeMap} → Has [] op inputs tree ⊎ Has [] op inputs tree → ⊥
+    in_none (inl has) = omega (arith, has.1)
+    in_none (inr has) = omega (arith, has.1)
+
+pub nothing-stays : {E : Type 0} (executor : E) (leaves : Leaving) → LeaveTheSame (leaves_or_stays (Knows (record { executor = executor; recent = no_generation; earlier = no_generation })) leaves) leaves
+nothing-stays executor leaves = λ request before after. (left request before after, inl)
+  where
+    left : (request : RunRequest) (before after : List TreeMap) → leaves_or_stays (Knows (record { executor = executor; recent = no_generation; earlier = no_generation })) leaves request before after → leaves request before after
+    left request before after (inl is) = is
+    left request before after (inr is) = absurd (knows-nothing executor request is.0)
 
 -- ---- trees of inputs
 

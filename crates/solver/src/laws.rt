@@ -1,14 +1,19 @@
-// What follows where a plan's target needs every vertex: each function's contract is one law, and its body is empty.
+// What follows where a plan's target needs every vertex, and what of a memo: each function's contract is one law, and its body is empty.
 ghost use Rattle.std.specs.Prelude.{◌≡◌, ℕ};
 ghost use Rattle.trees.specs.declared.cause.Cause.{Cause};
 ghost use Rattle.plans.specs.Plan.{PlanValue, IsPlan, Problem, problem_of, NeedsAll, HasLinesInOrder};
 ghost use Rattle.plans.specs.Value.{Out};
+ghost use Rattle.board.specs.Leaving.{LeaveTheSame};
 ghost use Rattle.board.specs.Problem.{IsProblem};
+ghost use Rattle.memo.specs.Memo.{Knows, no_generation};
 ghost use Rattle.solver.specs.Answer.{IsAnswer, AreAlike};
+ghost use Rattle.solver.specs.Recall.{leaves_or_stays};
 ghost use Rattle.solver.specs.Solution.{IsFailure, IsSolution};
 ghost use Rattle.solver.specs.Solution.{AreAlike as AreAlikeSolutions};
 ghost use Rattle.solver.specs.declared.answer.Answer.{Answer};
 ghost use Rattle.solver.specs.declared.solution.Solution.{Solution};
+
+use executor::Executor;
 
 /// Where the target needs every vertex, a problem has no two solutions that differ but in which failure they name: both are built with the same
 /// tree, or both failed.
@@ -29,4 +34,10 @@ pub fn answers_agree<C>()
 pub fn failures_name_the_first_line()
     ensures { (problem : Problem) (vertex place other line : ℕ) (cause why : Cause) → NeedsAll problem → HasLinesInOrder problem
         → IsFailure problem vertex place cause → IsFailure problem other line why → place ≡ line }
+{}
+
+/// A memo without an entry lets nothing stay in a cache: after a solve with such a one, what stands there the executor left.
+pub fn a_new_memo_lets_nothing_stay<E: Executor>()
+    ensures { (executor : E)
+        → LeaveTheSame (leaves_or_stays (Knows (record { executor = executor; recent = no_generation; earlier = no_generation })) (E.leaves executor)) (E.leaves executor) }
 {}
