@@ -6,6 +6,7 @@ use Rattle.memo.specs.Memo.{Entry, MemoValue, Adds, Grows}
 pub grows-same : {E : Type 0} (memo : MemoValue E) → Grows memo memo
 grows-same memo = record {
   executor = refl;
+  as_long = refl;
   entries = [];
   more_entries = sym (append-nil memo.recent.entries);
   trees = [];
@@ -16,6 +17,7 @@ grows-same memo = record {
 pub grows-on : {E : Type 0} (first second third : MemoValue E) → Grows first second → Grows second third → Grows first third
 grows-on first second third this that = record {
   executor = that.executor ∙ this.executor;
+  as_long = that.as_long ∙ this.as_long;
   entries = this.entries ++ that.entries;
   more_entries = that.more_entries ∙ (ap (λ entries. entries ++ that.entries) this.more_entries ∙ append_assoc first.recent.entries this.entries that.entries);
   trees = this.trees ++ that.trees;
@@ -26,6 +28,7 @@ grows-on first second third this that = record {
 pub adds-grows : {E : Type 0} (old new : MemoValue E) (entry : Entry) → Adds old new entry → Grows old new
 adds-grows old new entry adds = record {
   executor = adds.executor;
+  as_long = adds.as_long;
   entries = entry ∷ [];
   more_entries = adds.more_entries;
   trees = adds.trees;

@@ -1,7 +1,7 @@
 -- What a memo is: for one executor, operations with the trees that they were given and the tree that they gave.
 use Rattle.std.specs.Prelude.{◌≡◌, ◌⊎◌, Bool, true, false, Some, Ok, List, [], ◌∷◌, ◌++◌, refl}
 use Rattle.std.specs.List.{Contains}
-use Rattle.std.specs.Coded.{Coded, code_by, coded×, coded_list}
+use Rattle.std.specs.Coded.{Coded, code_by, coded×, coded_bool, coded_list}
 use Rattle.trees.specs.TreeMap.{TreeMap}
 use Rattle.trees.specs.contracts.tree.Tree as tree_row
 use Rattle.llb.specs.declared.op.Op.{Op}
@@ -78,19 +78,29 @@ generation_code =
 abbrev pub no_generation : GenerationValue
 no_generation = record { entries = []; trees = [] }
 
--- a memo: its executor, what was added since the last call of forget, and what was added between that one and the one before
+-- a memo: its executor, what was added since the last call of forget, what was added between that one and the one before, and whether it is for one build,
+-- after which nobody asks it
 pub record MemoValue (E : Type 0) : Type 0 where
   pub executor : E
   pub recent : GenerationValue
   pub earlier : GenerationValue
+  pub is_for_one_build : Bool
 
 -- a memo in plain data, for generic code (own)
 abbrev pub memo_code : {E : Type 0} → Coded E → Coded (MemoValue E)
 memo_code {E} e =
-    code_by (E × (GenerationValue × GenerationValue)) (coded× e (coded× generation_code generation_code))
-    (λ m. (m.executor, (m.recent, m.earlier)))
-    (λ t. record { executor = t.0; recent = t.1.0; earlier = t.1.1 })
+    code_by (E × (GenerationValue × (GenerationValue × Bool))) (coded× e (coded× generation_code (coded× generation_code coded_bool)))
+    (λ m. (m.executor, (m.recent, (m.earlier, m.is_for_one_build))))
+    (λ t. record { executor = t.0; recent = t.1.0; earlier = t.1.1.0; is_for_one_build = t.1.1.1 })
     (λ _. refl)
+
+-- a memo without an entry
+abbrev pub new_memo : {E : Type 0} → E → Bool → MemoValue E
+new_memo executor is_for_one_build = record { executor = executor; recent = no_generation; earlier = no_generation; is_for_one_build = is_for_one_build }
+
+-- a memo with one tree more among the recent ones
+abbrev pub with_kept : {E : Type 0} → MemoValue E → TreeMap → MemoValue E
+with_kept memo tree = record memo { recent = record { entries = memo.recent.entries; trees = memo.recent.trees ++ tree ∷ [] } }
 
 -- a memo has this tree for an operation on these trees
 abbrev pub Holds : {E : Type 0} → MemoValue E → Op → List TreeMap → TreeMap → Type 0
@@ -108,6 +118,7 @@ pub record Knows {E : Type 0} (memo : MemoValue E) (request : RunRequest) : Type
 -- a memo is another one that grew: of the same executor, with more of the recent generation
 pub record Grows {E : Type 0} (old new : MemoValue E) : Type 0 where
   pub executor : new.executor ≡ old.executor
+  pub as_long : new.is_for_one_build ≡ old.is_for_one_build
   pub entries : List Entry
   pub more_entries : new.recent.entries ≡ old.recent.entries ++ entries
   pub trees : List TreeMap
@@ -117,6 +128,7 @@ pub record Grows {E : Type 0} (old new : MemoValue E) : Type 0 where
 -- a memo is another one that grew by this entry, and by trees
 pub record Adds {E : Type 0} (old new : MemoValue E) (entry : Entry) : Type 0 where
   pub executor : new.executor ≡ old.executor
+  pub as_long : new.is_for_one_build ≡ old.is_for_one_build
   pub more_entries : new.recent.entries ≡ old.recent.entries ++ entry ∷ []
   pub trees : List TreeMap
   pub more_trees : new.recent.trees ≡ old.recent.trees ++ trees

@@ -1,10 +1,10 @@
-ghost use Rattle.std.specs.Prelude.{◌≡◌, ◌+◌, ◌++◌, ◌∷◌, [], Some, length, map, slice_get, IfOk, IfSome, IfNone, OnOk, OnErr, IsTrue};
+ghost use Rattle.std.specs.Prelude.{◌≡◌, ◌+◌, true, false, Some, length, map, slice_get, IfOk, IfSome, IfNone, OnOk, OnErr, IsTrue};
 ghost use Rattle.std.specs.Option.{option_map};
 ghost use Rattle.trees.specs.TreeMap.{TreeMap};
 ghost use Rattle.memo.specs.Content.{capped, trees_bytes};
 ghost use Rattle.memo.specs.Kept.{Keeps, KeepsAll, kept_tree, kept_trees};
 ghost use Rattle.memo.specs.Key.{key_of};
-ghost use Rattle.memo.specs.Memo.{entry_of, no_generation, Has, IsLawful, AreLawful, Holds, Adds};
+ghost use Rattle.memo.specs.Memo.{entry_of, new_memo, no_generation, with_kept, Has, IsLawful, AreLawful, Holds, Adds};
 ghost use Rattle.memo.specs.Numbers.{generation_of, numbered, tree_numbered, AreKnown, HaveNumbers};
 
 use crate::Hit;
@@ -32,7 +32,7 @@ pub struct Memo<'a, E: Executor> {
     recent: Generation,
     /// What was added between that call and the one before.
     earlier: Generation,
-    // whether it ends with one build, so that nothing needs be added; contracts don't see it
+    // so nothing needs be added
     is_for_one_build: bool,
 }
 
@@ -43,7 +43,7 @@ impl<'a, E: Executor> Model for Memo<'a, E> {
 
     ghost coded = { memo_code E.code };
 
-    ghost view = { λ m. record { executor = m.executor.now; recent = m.recent; earlier = m.earlier } };
+    ghost view = { λ m. record { executor = m.executor.now; recent = m.recent; earlier = m.earlier; is_for_one_build = m.is_for_one_build } };
 
     ghost invariant = { λ m. AreLawful (E.out m.executor.now) m.recent.entries × AreLawful (E.out m.executor.now) m.earlier.entries };
 }
@@ -51,7 +51,7 @@ impl<'a, E: Executor> Model for Memo<'a, E> {
 impl<'a, E: Executor> Memo<'a, E> {
     /// A memo of an executor, without an entry. It takes no memory.
     pub fn new(alloc: Global, executor: &'a E) -> Memo<'a, E>
-        ensures { result ≡ record { executor = executor.now; recent = no_generation; earlier = no_generation } }
+        ensures { result ≡ new_memo executor.now false }
     {
         Memo {
             executor,
@@ -63,7 +63,7 @@ impl<'a, E: Executor> Memo<'a, E> {
 
     /// The same for who builds once and drops it: a solve adds nothing to it, since nobody would ask.
     pub fn for_one_build(alloc: Global, executor: &'a E) -> Memo<'a, E>
-        ensures { result ≡ record { executor = executor.now; recent = no_generation; earlier = no_generation } }
+        ensures { result ≡ new_memo executor.now true }
     {
         Memo {
             executor,
@@ -74,7 +74,9 @@ impl<'a, E: Executor> Memo<'a, E> {
     }
 
     /// Whether it was made by `for_one_build`.
-    pub fn is_for_one_build(&self) -> bool {
+    pub fn is_for_one_build(&self) -> bool
+        ensures { result ≡ self.now.is_for_one_build }
+    {
         self.is_for_one_build
     }
 
@@ -201,7 +203,7 @@ impl<'a, E: Executor> Memo<'a, E> {
     /// Keeps a copy of a tree, and gives its number among those that were kept since the last call of `forget`. After `Memory` nothing has changed.
     pub fn keep(&mut self, alloc: Global, tree: &Tree) -> Result<usize, Memory>
         ensures number { IfOk result (λ number. number ≡ length self.old.recent.trees) }
-        ensures ok { OnOk result (self.new ≡ record { executor = self.old.executor; recent = record { entries = self.old.recent.entries; trees = self.old.recent.trees ++ tree.now ∷ [] }; earlier = self.old.earlier }) }
+        ensures ok { OnOk result (self.new ≡ with_kept self.old tree.now) }
         ensures err { OnErr result (self.new ≡ self.old) }
     {
         self.recent.keep(alloc, tree)
@@ -227,7 +229,7 @@ impl<'a, E: Executor> Memo<'a, E> {
 
     /// Forgets what was added before the last such call; of it stays what was added again since. It takes no memory.
     pub fn forget(&mut self, alloc: Global)
-        ensures { self.new ≡ record { executor = self.old.executor; recent = no_generation; earlier = self.old.recent } }
+        ensures { self.new ≡ record self.old { recent = no_generation; earlier = self.old.recent } }
     {
         self.earlier = mem::replace(&mut self.recent, Generation::new(alloc));
     }
@@ -284,7 +286,7 @@ impl<'a, E: Executor> Memo<'a, E> {
     /// the tree: who has an equal one finds its number (`source_number`).
     pub fn keep_source(&mut self, alloc: Global, source: &Op, tree: &Tree) -> Result<usize, Memory>
         ensures number { IfOk result (λ number. number ≡ length self.old.recent.trees) }
-        ensures ok { OnOk result (self.new ≡ record { executor = self.old.executor; recent = record { entries = self.old.recent.entries; trees = self.old.recent.trees ++ tree.now ∷ [] }; earlier = self.old.earlier }) }
+        ensures ok { OnOk result (self.new ≡ with_kept self.old tree.now) }
         ensures err { OnErr result (self.new ≡ self.old) }
     {
         self.recent.keep_source(alloc, key_of(source), tree)

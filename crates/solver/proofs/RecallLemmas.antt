@@ -21,7 +21,7 @@ use Rattle.board.proofs.ProblemLemmas.{value-there}
 use Rattle.memo.specs.declared.number.Age.{Age}
 use Rattle.memo.specs.declared.number.Age.TheVariants.{Recent, Earlier}
 use Rattle.memo.specs.Kept.{Keeps, kept_tree, kept_trees}
-use Rattle.memo.specs.Memo.{GenerationValue, MemoValue, entry_of, no_generation, IsLawful, Has, Holds, Knows}
+use Rattle.memo.specs.Memo.{GenerationValue, MemoValue, entry_of, new_memo, IsLawful, Has, Holds, Knows}
 use Rattle.memo.specs.Numbers.{generation_of}
 use Rattle.solver.specs.declared.finding.Finding.{Finding}
 use Rattle.solver.specs.Recall.{IsKept, IsFinding, AreOf, number_in, stays, leaves_or_stays, MayStay}
@@ -133,19 +133,19 @@ pub stay-beside : (knows : RunRequest → Type 0) (leaves : Leaving) → MayStay
 stay-beside knows leaves = λ request trees known. inr (known, refl)
 
 -- a memo without an entry knows no request
-knows-nothing : {E : Type 0} (executor : E) (request : RunRequest) → Knows (record { executor = executor; recent = no_generation; earlier = no_generation }) request → ⊥
-knows-nothing executor request known = in_none known.holds
+knows-nothing : {E : Type 0} (executor : E) (for_one : Bool) (request : RunRequest) → Knows (new_memo executor for_one) request → ⊥
+knows-nothing executor for_one request known = in_none known.holds
   where
     in_none : {op : Op} {inputs : List TreeMap} {tree : TreeMap} → Has [] op inputs tree ⊎ Has [] op inputs tree → ⊥
     in_none (inl has) = omega (arith, has.1)
     in_none (inr has) = omega (arith, has.1)
 
-pub nothing-stays : {E : Type 0} (executor : E) (leaves : Leaving) → LeaveTheSame (leaves_or_stays (Knows (record { executor = executor; recent = no_generation; earlier = no_generation })) leaves) leaves
-nothing-stays executor leaves = λ request before after. (left request before after, inl)
+pub nothing-stays : {E : Type 0} (executor : E) (for_one : Bool) (leaves : Leaving) → LeaveTheSame (leaves_or_stays (Knows (new_memo executor for_one)) leaves) leaves
+nothing-stays executor for_one leaves = λ request before after. (left request before after, inl)
   where
-    left : (request : RunRequest) (before after : List TreeMap) → leaves_or_stays (Knows (record { executor = executor; recent = no_generation; earlier = no_generation })) leaves request before after → leaves request before after
+    left : (request : RunRequest) (before after : List TreeMap) → leaves_or_stays (Knows (new_memo executor for_one)) leaves request before after → leaves request before after
     left request before after (inl is) = is
-    left request before after (inr is) = absurd (knows-nothing executor request is.0)
+    left request before after (inr is) = absurd (knows-nothing executor for_one request is.0)
 
 -- ---- trees of inputs
 

@@ -19,10 +19,10 @@ use Rattle.board.proofs.PlayLemmas.{replay-value}
 use Rattle.board.proofs.ProblemLemmas.{value-there}
 use Rattle.board.proofs.SoundLemmas.{sound}
 use Rattle.memo.specs.Kept.{Keeps, KeepsAll, kept_trees}
-use Rattle.memo.specs.Memo.{Entry, MemoValue, is_source, entry_of, IsLawful, Adds, Grows}
+use Rattle.memo.specs.Memo.{Entry, MemoValue, is_source, entry_of, with_kept, IsLawful, Adds, Grows}
 use Rattle.memo.proofs.GrowLemmas.{grows-same, grows-on, added-grows}
 use Rattle.solver.proofs.RecallLemmas.{numbers-push}
-use Rattle.solver.specs.Recall.{IsKept, AreKept, Remembers, IsPut, with_kept}
+use Rattle.solver.specs.Recall.{IsKept, AreKept, Remembers, IsPut}
 
 -- ---- what may be added
 
@@ -108,6 +108,7 @@ remembers-added values first second third numbers entry result grows are ok err 
 keep-grows : {E : Type 0} (memo : MemoValue E) (tree : TreeMap) → Grows memo (with_kept memo tree)
 keep-grows memo tree = record {
   executor = refl;
+  as_long = refl;
   entries = [];
   more_entries = sym (append-nil memo.recent.entries);
   trees = tree ∷ [];

@@ -60,7 +60,3 @@ pub record Remembers {E : Type 0} (values : List Value) (old new : MemoValue E) 
 -- a number was put at a place, if there is such a place (own)
 abbrev pub IsPut : List (Option ℕ) → List (Option ℕ) → ℕ → ℕ → Type 0
 IsPut old new place number = (new ≡ old) ⊎ ((place < length old) × (new ≡ slice_set old place (Some number)))
-
--- a memo with one tree more among the recent ones (own)
-abbrev pub with_kept : {E : Type 0} → MemoValue E → TreeMap → MemoValue E
-with_kept memo tree = record { executor = memo.executor; recent = record { entries = memo.recent.entries; trees = memo.recent.trees ++ tree ∷ [] }; earlier = memo.earlier }

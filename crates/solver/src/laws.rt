@@ -1,11 +1,11 @@
 // What follows where a plan's target needs every vertex, and what of a memo: each function's contract is one law, and its body is empty.
-ghost use Rattle.std.specs.Prelude.{◌≡◌, ℕ};
+ghost use Rattle.std.specs.Prelude.{◌≡◌, ℕ, Bool};
 ghost use Rattle.trees.specs.declared.cause.Cause.{Cause};
 ghost use Rattle.plans.specs.Plan.{PlanValue, IsPlan, Problem, problem_of, NeedsAll, HasLinesInOrder};
 ghost use Rattle.plans.specs.Value.{Out};
 ghost use Rattle.board.specs.Leaving.{LeaveTheSame};
 ghost use Rattle.board.specs.Problem.{IsProblem};
-ghost use Rattle.memo.specs.Memo.{Knows, no_generation};
+ghost use Rattle.memo.specs.Memo.{Knows, new_memo};
 ghost use Rattle.solver.specs.Answer.{IsAnswer, AreAlike};
 ghost use Rattle.solver.specs.Recall.{leaves_or_stays};
 ghost use Rattle.solver.specs.Solution.{IsFailure, IsSolution};
@@ -38,6 +38,6 @@ pub fn failures_name_the_first_line()
 
 /// A memo without an entry lets nothing stay in a cache: after a solve with such a one, what stands there the executor left.
 pub fn a_new_memo_lets_nothing_stay<E: Executor>()
-    ensures { (executor : E)
-        → LeaveTheSame (leaves_or_stays (Knows (record { executor = executor; recent = no_generation; earlier = no_generation })) (E.leaves executor)) (E.leaves executor) }
+    ensures { (executor : E) (is_for_one_build : Bool)
+        → LeaveTheSame (leaves_or_stays (Knows (new_memo executor is_for_one_build)) (E.leaves executor)) (E.leaves executor) }
 {}

@@ -1,10 +1,10 @@
-ghost use Rattle.std.specs.Prelude.{◌≡◌, ◌<◌, Some, IfOk, IfSome, OnOk, OnErr, length};
+ghost use Rattle.std.specs.Prelude.{◌≡◌, ◌<◌, Some, IfOk, IfSome, OnOk, OnErr, IsTrue, length};
 ghost use Rattle.board.specs.Board.{board_problem};
 ghost use Rattle.board.specs.Problem.{values_in};
 ghost use Rattle.plans.specs.Value.{trees_at};
 ghost use Rattle.memo.specs.Kept.{KeepsAll, kept_trees};
-ghost use Rattle.memo.specs.Memo.{is_source, Grows};
-ghost use Rattle.solver.specs.Recall.{AreKept, IsKept, IsPut, Remembers, with_kept};
+ghost use Rattle.memo.specs.Memo.{is_source, with_kept, Grows};
+ghost use Rattle.solver.specs.Recall.{AreKept, IsKept, IsPut, Remembers};
 
 use crate::Numbering;
 use crate::finding::Findings;
@@ -29,7 +29,8 @@ pub fn remember<E: Executor, M: Executor, N: Numbering>(
     requires executor { M.out memo.old.executor ≡ E.out board.now.job.executor }
     requires values { N.values ≡ values_in (board_problem E.out board.now) }
     requires recent { N.recent ≡ memo.old.recent.trees }
-    ensures { Grows memo.old memo.new }
+    ensures grows { Grows memo.old memo.new }
+    ensures one { IsTrue memo.old.is_for_one_build → memo.new ≡ memo.old }
 {
     if memo.is_for_one_build() {
         return;

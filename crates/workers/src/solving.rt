@@ -1,4 +1,4 @@
-ghost use Rattle.std.specs.Prelude.{◌≡◌, ◌<◌, ◌≤◌, ℕ, [], IfOk, IfErr, OnOk, OnErr, length};
+ghost use Rattle.std.specs.Prelude.{◌≡◌, ◌<◌, ◌≤◌, ℕ, [], IfOk, IfErr, OnOk, OnErr, IsTrue, length};
 ghost use Rattle.plain.specs.Limits.{most_workers};
 ghost use Rattle.plans.specs.Plan.{problem_of};
 ghost use Rattle.board.specs.Board.{board_problem, AreLeft};
@@ -37,7 +37,7 @@ use trees::TreeOrCause;
 ///
 /// A memo of the executor is asked for the result of each claim, and what it has is run by nobody; then the claim's caches get back what was taken, which
 /// only befalls a request that the memo knows. If there is a solution, the memo gets what the vertices gave, after the workers have left. What there is no
-/// memory for is left out.
+/// memory for is left out, and so is all by one that is for one build.
 pub fn solve<C, E: Executor, G: Gate, R: Threads + Wait + Sync>(
     alloc: Global,
     rt: &R,
@@ -59,6 +59,7 @@ pub fn solve<C, E: Executor, G: Gate, R: Threads + Wait + Sync>(
     ensures ended { OnOk result (AreLeftAtEnd (leaves_or_stays (Knows memo.old) (E.leaves executor.now)) (problem_of (E.out executor.now) plan.now)
         caches.old.contents caches.new.contents) }
     ensures memo { Grows memo.old memo.new }
+    ensures one { IsTrue memo.old.is_for_one_build → memo.new ≡ memo.old }
     ensures err { OnErr result (memo.new ≡ memo.old) }
 {
     let opened = Opened::new(alloc)?;
@@ -116,6 +117,7 @@ fn solved<
     ensures runs { AreLeftByRuns J.leaves J.problem J.first result.caches.contents }
     ensures ended { OnOk result.solution (AreLeftAtEnd J.leaves J.problem J.first result.caches.contents) }
     ensures memo { Grows memo.old memo.new }
+    ensures one { IsTrue memo.old.is_for_one_build → memo.new ≡ memo.old }
     ensures err { OnErr result.solution (memo.new ≡ memo.old) }
 {
     let recalling = Recalling::<E, J>::new(executor);
