@@ -17,13 +17,13 @@ use Rattle.cachemounts.specs.Content.{tree_in, tree_held, slot_of}
 use Rattle.cachemounts.specs.Changes.{content_after}
 use Rattle.board.specs.Problem.{IsProblem}
 use Rattle.board.specs.Play.{Run, Step, Claim, Settle, Abandon, Move, worker_of, step_of, claim_of, claimable, next, moved, go, IsReplay}
-use Rattle.board.specs.Legal.{change_of, held_caches, IsReady}
+use Rattle.board.specs.Legal.{change_of, held_caches}
 use Rattle.board.specs.Claim.{ClaimValue, IsClaim}
 use Rattle.board.specs.Board.{AreContents}
-use Rattle.board.specs.Leaving.{Leaving, LeaveTheSame, AreLeftByRuns, AreLeftAtEnd, lent_after, lent_then, lent_on, lent_to, IsLeftFor, IsLeftAt, GivesBack, GiveBackOn, GivesBackWhatIsLeft}
+use Rattle.board.specs.Leaving.{Leaving, LeaveTheSame, AreLeftByRuns, lent_after, lent_then, lent_on, lent_to, IsLeftFor, IsLeftAt, GivesBack, GiveBackOn, GivesBackWhatIsLeft}
 use Rattle.board.proofs.ListLemmas.{claim_of-worker}
 use Rattle.board.proofs.StepLemmas.{moved_claim, moved_settle, moved_abandon}
-use Rattle.board.proofs.PlayLemmas.{IsRight, replay-right, idle_all}
+use Rattle.board.proofs.PlayLemmas.{replay-right}
 use Rattle.board.proofs.SoundLemmas.{sound}
 use Rattle.board.specs.declared.event.Happened.{Happened}
 use Rattle.board.specs.declared.event.Happened.TheVariants.{Claimed, Settled, Abandoned}
@@ -126,11 +126,6 @@ allows-by leaves other may MergeOp trees before after is = is
 pub leave-same : {E : Type 0} (leaves : E → Leaving) (one other : E) → one ≡ other → LeaveTheSame (leaves one) (leaves other)
 leave-same leaves one other e = subst (λ x. LeaveTheSame (leaves one) (leaves x)) e (λ request before after. ((λ is. is), (λ is. is)))
 
--- what a claim's run left by one executor it left by another one that allows more
-pub left-more : (leaves other : Leaving) (problem : Problem) (claim : ClaimValue) (given : List TreeMap) → ((request : RunRequest) (before after : List TreeMap) → leaves request before after → other request before after)
-    → IsLeftFor leaves problem claim given → IsLeftFor other problem claim given
-left-more leaves other problem claim given may is = λ vertex there. allows-by leaves other may vertex.op claim.inputs claim.caches given (is vertex there)
-
 pub left-same : (leaves other : Leaving) (problem : Problem) (claim : ClaimValue) (given : List TreeMap) → LeaveTheSame leaves other → IsLeftFor leaves problem claim given → IsLeftFor other problem claim given
 left-same leaves other problem claim given same is = λ vertex there. allows-by leaves other (λ request before after. (same request before after).0) vertex.op claim.inputs claim.caches given (is vertex there)
 
@@ -159,28 +154,3 @@ given-same leaves other problem first history same is = give_on-same leaves othe
 pub left_by_runs-same : (leaves other : Leaving) (problem : Problem) (first contents : List Content) → LeaveTheSame leaves other → AreLeftByRuns leaves problem first contents → AreLeftByRuns other problem first contents
 unfolding AreLeftByRuns
 left_by_runs-same leaves other problem first contents same is = (is.0, is.1, is.2, given-same leaves other problem first is.0 same is.3)
-
-pub left-at-end-same : (leaves other : Leaving) (problem : Problem) (first contents : List Content) → LeaveTheSame leaves other → AreLeftAtEnd leaves problem first contents → AreLeftAtEnd other problem first contents
-left-at-end-same leaves other problem first contents same is = record {
-  history = is.history;
-  legal = is.legal;
-  contents = is.contents;
-  given = given-same leaves other problem first is.history same is.given;
-  idle = is.idle;
-  none_ready = is.none_ready;
-}
-
--- what a board without claims, on which no vertex is ready, says of its contents
-pub left-at-end : (leaves : Leaving) (problem : Problem) (run : Run) (first contents : List Content) → IsProblem problem → IsReplay problem run → run.state.claims ≡ []
-    → AreContents problem run.history first contents → GivesBackWhatIsLeft leaves problem first run.history → ((vertex : ℕ) → ¬ IsReady problem run.history vertex) → AreLeftAtEnd leaves problem first contents
-left-at-end leaves problem run first contents plan replay none are gives ready = record {
-  history = run.history;
-  legal = right.legal;
-  contents = are;
-  given = gives;
-  idle = idle_all problem run right none;
-  none_ready = ready;
-}
-  where
-    right : IsRight problem run
-    right = replay-right problem run (sound problem plan) replay
