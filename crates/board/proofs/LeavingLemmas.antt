@@ -17,13 +17,13 @@ use Rattle.cachemounts.specs.Content.{tree_in, tree_held, slot_of}
 use Rattle.cachemounts.specs.Changes.{content_after}
 use Rattle.board.specs.Problem.{IsProblem}
 use Rattle.board.specs.Play.{Run, Step, Claim, Settle, Abandon, Move, worker_of, step_of, claim_of, claimable, next, moved, go, IsReplay}
-use Rattle.board.specs.Legal.{change_of, held_caches}
+use Rattle.board.specs.Legal.{change_of, held_caches, IsReady}
 use Rattle.board.specs.Claim.{ClaimValue, IsClaim}
 use Rattle.board.specs.Board.{AreContents}
-use Rattle.board.specs.Leaving.{Leaving, LeaveTheSame, AreLeftByRuns, lent_after, lent_then, lent_on, lent_to, IsLeftFor, IsLeftAt, GivesBack, GiveBackOn, GivesBackWhatIsLeft}
+use Rattle.board.specs.Leaving.{Leaving, LeaveTheSame, AreLeftByRuns, AreLeftAtEnd, lent_after, lent_then, lent_on, lent_to, IsLeftFor, IsLeftAt, GivesBack, GiveBackOn, GivesBackWhatIsLeft}
 use Rattle.board.proofs.ListLemmas.{claim_of-worker}
 use Rattle.board.proofs.StepLemmas.{moved_claim, moved_settle, moved_abandon}
-use Rattle.board.proofs.PlayLemmas.{replay-right}
+use Rattle.board.proofs.PlayLemmas.{IsRight, replay-right, idle_all}
 use Rattle.board.proofs.SoundLemmas.{sound}
 use Rattle.board.specs.declared.event.Happened.{Happened}
 use Rattle.board.specs.declared.event.Happened.TheVariants.{Claimed, Settled, Abandoned}
@@ -154,3 +154,28 @@ given-same leaves other problem first history same is = give_on-same leaves othe
 pub left_by_runs-same : (leaves other : Leaving) (problem : Problem) (first contents : List Content) → LeaveTheSame leaves other → AreLeftByRuns leaves problem first contents → AreLeftByRuns other problem first contents
 unfolding AreLeftByRuns
 left_by_runs-same leaves other problem first contents same is = (is.0, is.1, is.2, given-same leaves other problem first is.0 same is.3)
+
+pub left-at-end-same : (leaves other : Leaving) (problem : Problem) (first contents : List Content) → LeaveTheSame leaves other → AreLeftAtEnd leaves problem first contents → AreLeftAtEnd other problem first contents
+left-at-end-same leaves other problem first contents same is = record {
+  history = is.history;
+  legal = is.legal;
+  left = is.left;
+  given = given-same leaves other problem first is.history same is.given;
+  idle = is.idle;
+  none_ready = is.none_ready;
+}
+
+-- what a board without claims, on which no vertex is ready, says of its contents
+pub left-at-end : (leaves : Leaving) (problem : Problem) (run : Run) (first contents : List Content) → IsProblem problem → IsReplay problem run → run.state.claims ≡ []
+    → AreContents problem run.history first contents → GivesBackWhatIsLeft leaves problem first run.history → ((vertex : ℕ) → ¬ IsReady problem run.history vertex) → AreLeftAtEnd leaves problem first contents
+left-at-end leaves problem run first contents plan replay none are gives ready = record {
+  history = run.history;
+  legal = right.legal;
+  left = are;
+  given = gives;
+  idle = idle_all problem run right none;
+  none_ready = ready;
+}
+  where
+    right : IsRight problem run
+    right = replay-right problem run (sound problem plan) replay

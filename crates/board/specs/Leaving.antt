@@ -1,5 +1,5 @@
 -- What caches are given back: what the run of a vertex left in them, of the trees that they held when it was claimed.
-use Rattle.std.specs.Prelude.{◌≡◌, ◌↔◌, ℕ, ◌==◌, if◌then◌else◌, List, [], ◌∷◌, ◌++◌, map, Some, slice_get}
+use Rattle.std.specs.Prelude.{◌≡◌, ◌↔◌, ℕ, ◌==◌, if◌then◌else◌, List, [], ◌∷◌, ◌++◌, map, Some, None, slice_get}
 use Rattle.trees.specs.TreeMap.{TreeMap}
 use Rattle.runs.specs.declared.run.RunRequest.{RunRequest}
 use Rattle.runs.specs.declared.run.CacheUse.{CacheUse}
@@ -12,7 +12,7 @@ use Rattle.cachemounts.specs.Holds.{new_holds}
 use Rattle.cachemounts.specs.Content.{tree_in, slot_of}
 use Rattle.cachemounts.specs.Changes.{content_after}
 use Rattle.board.specs.Problem.{values_in}
-use Rattle.board.specs.Legal.{change_of, held_caches, IsLegal}
+use Rattle.board.specs.Legal.{change_of, held_caches, vertex_out, IsReady, IsLegal}
 use Rattle.board.specs.Claim.{ClaimValue}
 use Rattle.board.specs.Board.{AreContents}
 use Rattle.board.specs.declared.event.Happened.{Happened}
@@ -86,6 +86,16 @@ GivesBackWhatIsLeft leaves problem first history = GiveBackOn leaves problem fir
 unfoldable pub AreLeftByRuns : Leaving → Problem → List Content → List Content → Type 0
 AreLeftByRuns leaves problem first contents =
     (history : List Happened) × IsLegal problem history × AreContents problem history first contents × GivesBackWhatIsLeft leaves problem first history
+
+-- these contents are those that one history leaves of the contents at the start, which is over: it is legal, its settles give back what runs left,
+-- no claim is out after it, and no vertex is ready (own)
+pub record AreLeftAtEnd (leaves : Leaving) (problem : Problem) (first contents : List Content) : Type 0 where
+  pub history : List Happened
+  pub legal : IsLegal problem history
+  pub left : AreContents problem history first contents
+  pub given : GivesBackWhatIsLeft leaves problem first history
+  pub idle : (worker : ℕ) → vertex_out history worker ≡ None
+  pub none_ready : (vertex : ℕ) → ¬ IsReady problem history vertex
 
 -- a tree is what some run may leave in a cache: a vertex uses the cache, and its run may leave the tree at the cache's place among those that it uses (own)
 pub record IsLeftIn (leaves : Leaving) (problem : Problem) (id : List ℕ) (tree : TreeMap) : Type 0 where
