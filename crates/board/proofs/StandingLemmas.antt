@@ -1,5 +1,5 @@
--- In a cache stands what it held at first, or what some run left in it.
-use Rattle.std.proofs.Common.{◌≡◌, ℕ, zero, suc, ◌==◌, Bool, true, false, cond, ◌⊎◌, inl, inr, ⊎_elim, List, [], ◌∷◌, ◌++◌, map, Option, Some, None, refl, sym, ap, ◌∙◌, subst, append_assoc, append-nil}
+-- In a content stands what it held at first, or what the last settle that gave it back brought, which its vertex's run left of what it was lent.
+use Rattle.std.proofs.Common.{◌≡◌, ℕ, zero, suc, ◌==◌, Bool, true, false, cond, ◌⊎◌, inl, inr, List, [], ◌∷◌, ◌++◌, map, Option, Some, None, refl, sym, ap, ◌∙◌, subst, append_assoc, append-nil}
 use Rattle.std.specs.Prelude.{slice_get}
 use Rattle.trees.specs.TreeMap.{TreeMap, empty_tree}
 use Rattle.runs.specs.Run.{ids_of}
@@ -9,12 +9,13 @@ use Rattle.cachemounts.specs.declared.holds.Hold.{Hold}
 use Rattle.cachemounts.specs.declared.content.Content.{Content}
 use Rattle.cachemounts.specs.Holds.{new_holds, of_holder, without_holder}
 use Rattle.cachemounts.specs.Content.{tree_in, slot_of, same_content, given_back}
-use Rattle.cachemounts.specs.Changes.{holds_then, holders, content_then, content_after}
+use Rattle.cachemounts.specs.Changes.{holds_then, content_then, content_after}
 use Rattle.cachemounts.proofs.HoldLemmas.{of_holder-takes, of_holder-without}
 use Rattle.cachemounts.proofs.ContentLemmas.{cell-is, content-push}
 use Rattle.board.specs.Problem.{IsProblem}
-use Rattle.board.specs.Legal.{vertex_out, vertex_out_then, change_of, held_caches, IsNext, Possible, GoesOn}
-use Rattle.board.specs.Leaving.{Leaving, lent_to, IsLeftAt, GivesBack, GiveBackOn, AreLeftByRuns, IsLeftIn}
+use Rattle.board.specs.Legal.{vertex_out, vertex_out_then, change_of, held_caches, IsNext, Possible, GoesOn, IsLegal}
+use Rattle.board.specs.Board.{AreContents}
+use Rattle.board.specs.Leaving.{Leaving, GivesBack, GiveBackOn, GivesBackWhatIsLeft, BringsNone, BringNoneOn, IsLeftIn}
 use Rattle.board.proofs.ReadyLemmas.{IsSound}
 use Rattle.board.proofs.CacheLemmas.{AreHeld, AreHeld-begun, AreHeld-claim, AreHeld-end, held_caches-push, map_push}
 use Rattle.board.proofs.StepLemmas.{held-push}
@@ -83,37 +84,38 @@ theirs-step problem history (Claimed worker vertex) is_sound is possible = their
 theirs-step problem history (Settled worker vertex given) is_sound is possible = theirs-end problem history (Settled worker vertex given) worker is (λ by. refl) refl
 theirs-step problem history (Abandoned worker vertex) is_sound is possible = theirs-end problem history (Abandoned worker vertex) worker is (λ by. refl) refl
 
--- a tree was given back for one of these holds, of this cache
-record IsBack (holds : List Hold) (trees : List TreeMap) (id : List ℕ) (tree : TreeMap) : Type 0 where
+-- a tree was given back for one of these holds, of this content
+record IsBack (holds : List Hold) (trees : List TreeMap) (id : List ℕ) (slot : Option ℕ) (tree : TreeMap) : Type 0 where
   at : ℕ
   hold : Hold
   held : slice_get holds at ≡ Some hold
-  same : hold.id ≡ id
+  held_id : hold.id ≡ id
+  held_slot : slot_of hold.access ≡ slot
   given : slice_get trees at ≡ Some tree
 
-back-more : (hold : Hold) (holds : List Hold) (tree : TreeMap) (trees : List TreeMap) (id : List ℕ) (now : TreeMap) → IsBack holds trees id now → IsBack (hold ∷ holds) (tree ∷ trees) id now
-back-more hold holds tree trees id now back = record { at = suc back.at; hold = back.hold; held = back.held; same = back.same; given = back.given }
+-- trees that are given back for holds bring a content none, or one of them, whatever stood there
+abbrev BringNoneOrOne : List Hold → List TreeMap → List ℕ → Option ℕ → Type 0
+BringNoneOrOne holds trees id slot =
+    ((before : TreeMap) → given_back holds trees id slot before ≡ before)
+    ⊎ ((tree : TreeMap) × IsBack holds trees id slot tree × ((before : TreeMap) → given_back holds trees id slot before ≡ tree))
 
--- what stands in a content after trees were given back is what stood there, or one of them
-given_back-is : (holds : List Hold) (trees : List TreeMap) (id : List ℕ) (slot : Option ℕ) (before : TreeMap)
-    → (given_back holds trees id slot before ≡ before) ⊎ IsBack holds trees id (given_back holds trees id slot before)
-given_back-is [] trees id slot before = inl refl
-given_back-is (hold ∷ holds) [] id slot before = inl refl
-given_back-is (hold ∷ holds) (tree ∷ trees) id slot before = by_test (same_content hold.id (slot_of hold.access) id slot) refl (given_back-is holds trees id slot tree) (given_back-is holds trees id slot before)
+none-or-one : (holds : List Hold) (trees : List TreeMap) (id : List ℕ) (slot : Option ℕ) → BringNoneOrOne holds trees id slot
+none-or-one [] trees id slot = inl (λ before. refl)
+none-or-one (hold ∷ holds) [] id slot = inl (λ before. refl)
+none-or-one (hold ∷ holds) (tree ∷ trees) id slot = by_rest (none-or-one holds trees id slot)
   where
-    After : TreeMap → Type 0
-    After now = (now ≡ before) ⊎ IsBack (hold ∷ holds) (tree ∷ trees) id now
-
-    by_test : (b : Bool) → same_content hold.id (slot_of hold.access) id slot ≡ b
-        → (given_back holds trees id slot tree ≡ tree) ⊎ IsBack holds trees id (given_back holds trees id slot tree)
-        → (given_back holds trees id slot before ≡ before) ⊎ IsBack holds trees id (given_back holds trees id slot before)
-        → After (given_back holds trees id slot (cond b tree before))
-    by_test true t (inl e) kept =
+    by_test : (b : Bool) → same_content hold.id (slot_of hold.access) id slot ≡ b → ((before : TreeMap) → given_back holds trees id slot before ≡ before) → BringNoneOrOne (hold ∷ holds) (tree ∷ trees) id slot
+    by_test true t none =
         let one = cell-is id slot (record { id = hold.id; slot = slot_of hold.access; tree = empty_tree }) t in
-        inr (record { at = 0; hold = hold; held = refl; same = one.0; given = ap Some (sym e) })
-    by_test true t (inr back) kept = inr (back-more hold holds tree trees id _ back)
-    by_test false t put (inl e) = inl e
-    by_test false t put (inr back) = inr (back-more hold holds tree trees id _ back)
+        inr (tree, record { at = 0; hold = hold; held = refl; held_id = one.0; held_slot = one.1; given = refl }, λ before. rw t (none tree))
+    by_test false t none = inl (λ before. rw t (none before))
+
+    by_rest : BringNoneOrOne holds trees id slot → BringNoneOrOne (hold ∷ holds) (tree ∷ trees) id slot
+    by_rest (inl none) = by_test (same_content hold.id (slot_of hold.access) id slot) refl none
+    by_rest (inr found) =
+        let back = found.1 in
+        let more : IsBack (hold ∷ holds) (tree ∷ trees) id slot found.0 = record { at = suc back.at; hold = back.hold; held = back.held; held_id = back.held_id; held_slot = back.held_slot; given = back.given } in
+        inr (found.0, more, λ before. found.2 (cond (same_content hold.id (slot_of hold.access) id slot) tree before))
 
 -- the use of a cache that is held
 use-at : (holds : List Hold) (uses : List CacheUse) (at : ℕ) (hold : Hold) → ids_held holds ≡ ids_of uses → slice_get holds at ≡ Some hold → (mount : CacheUse) × (slice_get uses at ≡ Some mount) × (mount.id ≡ hold.id)
@@ -133,47 +135,106 @@ use-at (first ∷ holds) (mount ∷ uses) (suc at) hold e there =
 abbrev standing : Problem → List Content → List ℕ → Option ℕ → List Happened → TreeMap
 standing problem first id slot history = content_after (tree_in first) (map (change_of problem) history) id slot
 
--- a tree is what a content held at first, or what some run may leave in its cache
-abbrev IsFirstOrLeft : Leaving → Problem → List Content → List ℕ → Option ℕ → TreeMap → Type 0
-IsFirstOrLeft leaves problem first id slot tree = (tree ≡ tree_in first id slot) ⊎ IsLeftIn leaves problem id tree
+-- a tree is what a content held at first, or what the last settle brought that gave it back
+abbrev IsFirstOrLeft : Leaving → Problem → List Content → List ℕ → Option ℕ → List Happened → TreeMap → Type 0
+IsFirstOrLeft leaves problem first id slot history tree = (tree ≡ tree_in first id slot) ⊎ IsLeftIn leaves problem first history id slot tree
+
+none-push : (problem : Problem) (id : List ℕ) (slot : Option ℕ) (before events : List Happened) (happened : Happened) → BringNoneOn problem id slot before events
+    → BringsNone problem id slot (before ++ events) happened → BringNoneOn problem id slot before (events ++ happened ∷ [])
+none-push problem id slot before [] happened on none = (subst (λ b. BringsNone problem id slot b happened) (append-nil before) none, tt)
+none-push problem id slot before (event ∷ events) happened on none =
+    (on.0, none-push problem id slot (before ++ event ∷ []) events happened on.1 (subst (λ b. BringsNone problem id slot b happened) (sym (append_assoc before (event ∷ []) events)) none))
+
+-- what stands in a content is still that after an event that brings it no tree
+still : (leaves : Leaving) (problem : Problem) (first : List Content) (id : List ℕ) (slot : Option ℕ) (history : List Happened) (happened : Happened) (tree : TreeMap) → BringsNone problem id slot history happened
+    → IsFirstOrLeft leaves problem first id slot history tree → IsFirstOrLeft leaves problem first id slot (history ++ happened ∷ []) tree
+still leaves problem first id slot history happened tree none (inl e) = inl e
+still leaves problem first id slot history happened tree none (inr is) =
+    let settled = Settled is.worker is.vertex is.given in
+    let past : history ≡ (is.before ++ settled ∷ []) ++ is.after = is.whole ∙ sym (append_assoc is.before (settled ∷ []) is.after) in
+    inr (record {
+      before = is.before;
+      worker = is.worker;
+      vertex = is.vertex;
+      given = is.given;
+      after = is.after ++ happened ∷ [];
+      whole = ap (λ h. h ++ happened ∷ []) is.whole ∙ append_assoc is.before (settled ∷ is.after) (happened ∷ []);
+      left = is.left;
+      at = is.at;
+      mount = is.mount;
+      uses = is.uses;
+      same = is.same;
+      hold = is.hold;
+      held = is.held;
+      held_id = is.held_id;
+      held_slot = is.held_slot;
+      there = is.there;
+      last = none-push problem id slot (is.before ++ settled ∷ []) is.after happened is.last (subst (λ h. BringsNone problem id slot h happened) past none);
+    })
 
 standing-push : (problem : Problem) (first : List Content) (id : List ℕ) (slot : Option ℕ) (history : List Happened) (happened : Happened)
     → standing problem first id slot (history ++ happened ∷ []) ≡ content_then (held_caches problem history) (change_of problem happened) id slot (standing problem first id slot history)
 standing-push problem first id slot history happened =
     ap (λ changes. content_after (tree_in first) changes id slot) (map_push (change_of problem) history happened) ∙ content-push (tree_in first) (map (change_of problem) history) (change_of problem happened) id slot
 
+-- an event that brings a content no tree leaves what stands there
+standing-still : (leaves : Leaving) (problem : Problem) (first : List Content) (history : List Happened) (happened : Happened) (id : List ℕ) (slot : Option ℕ) → BringsNone problem id slot history happened
+    → IsFirstOrLeft leaves problem first id slot history (standing problem first id slot history) → IsFirstOrLeft leaves problem first id slot (history ++ happened ∷ []) (standing problem first id slot (history ++ happened ∷ []))
+standing-still leaves problem first history happened id slot none was =
+    let before = standing problem first id slot history in
+    subst (IsFirstOrLeft leaves problem first id slot (history ++ happened ∷ [])) (sym (standing-push problem first id slot history happened ∙ none before))
+    (still leaves problem first id slot history happened before none was)
+
 standing-step : (leaves : Leaving) (problem : Problem) (first : List Content) (history : List Happened) (happened : Happened) → AreTheirs problem history → Possible problem history happened → GivesBack leaves problem first history happened
-    → (id : List ℕ) (slot : Option ℕ) → IsFirstOrLeft leaves problem first id slot (standing problem first id slot history) → IsFirstOrLeft leaves problem first id slot (standing problem first id slot (history ++ happened ∷ []))
-standing-step leaves problem first history (Claimed worker vertex) is possible gives id slot was =
-    subst (IsFirstOrLeft leaves problem first id slot) (sym (standing-push problem first id slot history (Claimed worker vertex))) was
-standing-step leaves problem first history (Settled worker vertex given) is possible gives id slot was =
-    subst (IsFirstOrLeft leaves problem first id slot) (sym (standing-push problem first id slot history (Settled worker vertex given)))
-    (by_case (given_back-is holds given id slot (standing problem first id slot history)))
+    → (id : List ℕ) (slot : Option ℕ) → IsFirstOrLeft leaves problem first id slot history (standing problem first id slot history)
+    → IsFirstOrLeft leaves problem first id slot (history ++ happened ∷ []) (standing problem first id slot (history ++ happened ∷ []))
+standing-step leaves problem first history (Claimed worker vertex) is possible gives id slot was = standing-still leaves problem first history (Claimed worker vertex) id slot (λ tree. refl) was
+standing-step leaves problem first history (Settled worker vertex given) is possible gives id slot was = by_case (none-or-one holds given id slot)
   where
     holds : List Hold
     holds = of_holder worker (held_caches problem history)
 
-    by_case : (given_back holds given id slot (standing problem first id slot history) ≡ standing problem first id slot history) ⊎ IsBack holds given id (given_back holds given id slot (standing problem first id slot history))
-        → IsFirstOrLeft leaves problem first id slot (given_back holds given id slot (standing problem first id slot history))
-    by_case (inl e) = subst (IsFirstOrLeft leaves problem first id slot) (sym e) was
-    by_case (inr back) =
-        let found = use-at holds (uses_at problem vertex) back.at back.hold (is.ids worker vertex possible.0) back.held in
-        inr (record { vertex = vertex; before = lent_to problem first history worker; after = given; left = gives; at = back.at; mount = found.0; uses = found.1; same = found.2 ∙ back.same; there = back.given })
-standing-step leaves problem first history (Abandoned worker vertex) is possible gives id slot was =
-    subst (IsFirstOrLeft leaves problem first id slot) (sym (standing-push problem first id slot history (Abandoned worker vertex))) was
+    After : TreeMap → Type 0
+    After = IsFirstOrLeft leaves problem first id slot (history ++ Settled worker vertex given ∷ [])
+
+    by_case : BringNoneOrOne holds given id slot → After (standing problem first id slot (history ++ Settled worker vertex given ∷ []))
+    by_case (inl none) = standing-still leaves problem first history (Settled worker vertex given) id slot none was
+    by_case (inr found) =
+        let back = found.1 in
+        let of = use-at holds (uses_at problem vertex) back.at back.hold (is.ids worker vertex possible.0) back.held in
+        subst After (sym (standing-push problem first id slot history (Settled worker vertex given) ∙ found.2 (standing problem first id slot history)))
+        (inr (record {
+          before = history;
+          worker = worker;
+          vertex = vertex;
+          given = given;
+          after = [];
+          whole = refl;
+          left = gives;
+          at = back.at;
+          mount = of.0;
+          uses = of.1;
+          same = of.2 ∙ back.held_id;
+          hold = back.hold;
+          held = back.held;
+          held_id = back.held_id;
+          held_slot = back.held_slot;
+          there = back.given;
+          last = tt;
+        }))
+standing-step leaves problem first history (Abandoned worker vertex) is possible gives id slot was = standing-still leaves problem first history (Abandoned worker vertex) id slot (λ tree. refl) was
 
 standing-on : (leaves : Leaving) (problem : Problem) (first : List Content) (before events : List Happened) → IsSound problem → AreTheirs problem before → GoesOn problem before events → GiveBackOn leaves problem first before events
-    → (id : List ℕ) (slot : Option ℕ) → IsFirstOrLeft leaves problem first id slot (standing problem first id slot before) → IsFirstOrLeft leaves problem first id slot (standing problem first id slot (before ++ events))
-standing-on leaves problem first before [] is_sound is goes on id slot was = subst (λ h. IsFirstOrLeft leaves problem first id slot (standing problem first id slot h)) (sym (append-nil before)) was
+    → (id : List ℕ) (slot : Option ℕ) → IsFirstOrLeft leaves problem first id slot before (standing problem first id slot before) → IsFirstOrLeft leaves problem first id slot (before ++ events) (standing problem first id slot (before ++ events))
+standing-on leaves problem first before [] is_sound is goes on id slot was = subst (λ h. IsFirstOrLeft leaves problem first id slot h (standing problem first id slot h)) (sym (append-nil before)) was
 standing-on leaves problem first before (event ∷ events) is_sound is goes on id slot was =
     let now = standing-step leaves problem first before event is goes.0 on.0 id slot was in
     let rest = standing-on leaves problem first (before ++ event ∷ []) events is_sound (theirs-step problem before event is_sound is goes.0) goes.1 on.1 id slot now in
-    subst (λ h. IsFirstOrLeft leaves problem first id slot (standing problem first id slot h)) (append_assoc before (event ∷ []) events) rest
+    subst (λ h. IsFirstOrLeft leaves problem first id slot h (standing problem first id slot h)) (append_assoc before (event ∷ []) events) rest
 
--- in a content stands what it held at first, or what some run left in its cache
-pub left-or-first : (leaves : Leaving) (problem : Problem) (first contents : List Content) → IsProblem problem → AreLeftByRuns leaves problem first contents
-    → (id : List ℕ) (slot : Option ℕ) → (tree_in contents id slot ≡ tree_in first id slot) ⊎ IsLeftIn leaves problem id (tree_in contents id slot)
-unfolding AreLeftByRuns
-left-or-first leaves problem first contents is left id slot =
-    subst (IsFirstOrLeft leaves problem first id slot) (sym (left.2 id slot))
-    (standing-on leaves problem first [] left.0 (sound problem is) (theirs-begun problem) left.1 left.3 id slot (inl refl))
+-- in a content stands what it held at first, or what the last settle brought that gave it back
+pub first-or-left : (leaves : Leaving) (problem : Problem) (first contents : List Content) (history : List Happened) → IsProblem problem → IsLegal problem history → AreContents problem history first contents
+    → GivesBackWhatIsLeft leaves problem first history → (id : List ℕ) (slot : Option ℕ) → (tree_in contents id slot ≡ tree_in first id slot) ⊎ IsLeftIn leaves problem first history id slot (tree_in contents id slot)
+first-or-left leaves problem first contents history is legal are gives id slot =
+    subst (IsFirstOrLeft leaves problem first id slot history) (sym (are id slot))
+    (standing-on leaves problem first [] history (sound problem is) (theirs-begun problem) legal gives id slot (inl refl))

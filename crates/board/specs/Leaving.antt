@@ -1,5 +1,5 @@
 -- What caches are given back: what the run of a vertex left in them, of the trees that they held when it was claimed.
-use Rattle.std.specs.Prelude.{◌≡◌, ◌↔◌, ℕ, ◌==◌, if◌then◌else◌, List, [], ◌∷◌, ◌++◌, map, Some, None, slice_get}
+use Rattle.std.specs.Prelude.{◌≡◌, ◌↔◌, ℕ, ◌==◌, if◌then◌else◌, List, [], ◌∷◌, ◌++◌, map, Option, Some, None, slice_get}
 use Rattle.trees.specs.TreeMap.{TreeMap}
 use Rattle.runs.specs.declared.run.RunRequest.{RunRequest}
 use Rattle.runs.specs.declared.run.CacheUse.{CacheUse}
@@ -8,9 +8,9 @@ use Rattle.plans.specs.Plan.{Problem, uses_at, IsLeftBy}
 use Rattle.plans.specs.Value.{trees_at}
 use Rattle.cachemounts.specs.declared.content.Content.{Content}
 use Rattle.cachemounts.specs.declared.holds.Hold.{Hold}
-use Rattle.cachemounts.specs.Holds.{new_holds}
+use Rattle.cachemounts.specs.Holds.{new_holds, of_holder}
 use Rattle.cachemounts.specs.Content.{tree_in, slot_of}
-use Rattle.cachemounts.specs.Changes.{content_after}
+use Rattle.cachemounts.specs.Changes.{content_then, content_after}
 use Rattle.board.specs.Problem.{values_in}
 use Rattle.board.specs.Legal.{change_of, held_caches, vertex_out, IsReady, IsLegal}
 use Rattle.board.specs.Claim.{ClaimValue}
@@ -81,8 +81,8 @@ GiveBackOn leaves problem first before (event ∷ events) =
 abbrev pub GivesBackWhatIsLeft : Leaving → Problem → List Content → List Happened → Type 0
 GivesBackWhatIsLeft leaves problem first history = GiveBackOn leaves problem first [] history
 
--- these contents are those that some legal history of a problem leaves of the contents at the start, whose settles give back what runs left: so a
--- content that no vertex used is as it was, and in one that was used stands what a run left in it (own)
+-- these contents are those that some legal history of a problem leaves of the contents at the start, whose settles give back what runs left: so each
+-- content is as it was, or what the last settle that gave it back brought, which its vertex's run left of what it was lent (own)
 unfoldable pub AreLeftByRuns : Leaving → Problem → List Content → List Content → Type 0
 AreLeftByRuns leaves problem first contents =
     (history : List Happened) × IsLegal problem history × AreContents problem history first contents × GivesBackWhatIsLeft leaves problem first history
@@ -97,14 +97,34 @@ pub record AreLeftAtEnd (leaves : Leaving) (problem : Problem) (first contents :
   pub idle : (worker : ℕ) → vertex_out history worker ≡ None
   pub none_ready : (vertex : ℕ) → ¬ IsReady problem history vertex
 
--- a tree is what some run may leave in a cache: a vertex uses the cache, and its run may leave the tree at the cache's place among those that it uses (own)
-pub record IsLeftIn (leaves : Leaving) (problem : Problem) (id : List ℕ) (tree : TreeMap) : Type 0 where
+-- what happens after a history brings a content no tree: whatever stands in it stays (own)
+abbrev pub BringsNone : Problem → List ℕ → Option ℕ → List Happened → Happened → Type 0
+BringsNone problem id slot before event =
+    (tree : TreeMap) → content_then (held_caches problem before) (change_of problem event) id slot tree ≡ tree
+
+-- no event of a list brings a content a tree, after those before it, and after the history that the list goes on (own)
+abbrev pub BringNoneOn : Problem → List ℕ → Option ℕ → List Happened → List Happened → Type 0
+BringNoneOn problem id slot before [] = Unit {0}
+BringNoneOn problem id slot before (event ∷ events) =
+    BringsNone problem id slot before event × BringNoneOn problem id slot (before ++ event ∷ []) events
+
+-- a tree is what the last settle of a history that gave a content back brought it: its vertex's run left this tree of what its worker was lent, at the
+-- place of a use of the content's cache, and what that use held then is this content (own)
+pub record IsLeftIn (leaves : Leaving) (problem : Problem) (first : List Content) (history : List Happened) (id : List ℕ) (slot : Option ℕ) (tree : TreeMap) : Type 0 where
+  pub before : List Happened
+  pub worker : ℕ
   pub vertex : ℕ
-  pub before : List TreeMap
-  pub after : List TreeMap
-  pub left : IsLeftAt leaves problem vertex before after
+  pub given : List TreeMap
+  pub after : List Happened
+  pub whole : history ≡ before ++ Settled worker vertex given ∷ after
+  pub left : IsLeftAt leaves problem vertex (lent_to problem first before worker) given
   pub at : ℕ
   pub mount : CacheUse
   pub uses : slice_get (uses_at problem vertex) at ≡ Some mount
   pub same : mount.id ≡ id
-  pub there : slice_get after at ≡ Some tree
+  pub hold : Hold
+  pub held : slice_get (of_holder worker (held_caches problem before)) at ≡ Some hold
+  pub held_id : hold.id ≡ id
+  pub held_slot : slot_of hold.access ≡ slot
+  pub there : slice_get given at ≡ Some tree
+  pub last : BringNoneOn problem id slot (before ++ Settled worker vertex given ∷ []) after

@@ -29,7 +29,7 @@ use trees::{Tree, TreeOrCause};
 
 /// Which vertices of a job are settled and with what, which claims are out, and what the job's caches hold. The type keeps that all of it is
 /// the replay of the history, and that each settle of it gave back what a run left: so whatever calls were made, the history is legal, each vertex that is settled
-/// has its value, and in each cache stands what was left in it.
+/// has its value, and each content is as it was at the start, or what the last settle that gave it back brought, which its vertex's run left of what it was lent.
 #[derive(Drop)]
 pub struct Board<'a, E: Executor, P: Place<TreeOrCause> = TreeOrCause> {
     job: Job<'a, E>,
@@ -284,8 +284,8 @@ impl<'a, E: Executor, P: Place<TreeOrCause>> Board<'a, E, P> {
         history
     }
 
-    /// Ends the board, and gives its store: the contents are those that the history left, so those that runs left. Where no claim is out, no
-    /// lease is.
+    /// Ends the board, and gives its store: the contents are those that the history left, whose settles gave back what runs left. Where no claim is
+    /// out, no lease is.
     pub fn into_caches(self) -> CacheStore
         ensures value { result ≡ record { contents = self.entry.contents; holds = self.entry.run.state.holds } }
         ensures idle { self.entry.run.state.claims ≡ [] → result.holds ≡ [] }

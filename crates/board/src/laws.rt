@@ -11,7 +11,8 @@ ghost use Rattle.board.specs.Play.{Run, Step, worker_of, go, play, value_at, cla
 ghost use Rattle.board.specs.Claim.{ClaimValue, IsOut, IsStateOf};
 ghost use Rattle.board.specs.declared.event.Event.{Event};
 ghost use Rattle.board.specs.declared.event.Happened.{Happened};
-ghost use Rattle.board.specs.Leaving.{AreLeftByRuns, IsLeftIn};
+ghost use Rattle.board.specs.Board.{AreContents};
+ghost use Rattle.board.specs.Leaving.{GivesBackWhatIsLeft, IsLeftIn};
 ghost use Rattle.board.specs.Legal.{without_trees, vertex_out, IsSettled, HasTree, HasCause, IsReady, IsNextClaim, IsLegal, Plays, StepsOn, IsSettledOnce};
 
 use executor::Executor;
@@ -35,11 +36,12 @@ pub fn no_two_caches_clash()
         → is_lawful run.state.holds ≡ true }
 {}
 
-/// What a run left in a cache is what stands in it: each content that some legal history leaves, whose settles give back what runs left, is what it was
-/// at the start, or what the run of a vertex that uses this very cache left in it.
+/// Each content that a legal history leaves, whose settles give back what runs left, is as it was at the start, or what the last settle that gave it back
+/// brought, which its vertex's run left of what it was lent.
 pub fn a_cache_holds_what_a_run_left_in_it<E: Executor>()
-    ensures { (executor : E) (problem : Problem) (first contents : List Content) → IsProblem problem → AreLeftByRuns (E.leaves executor) problem first contents
-        → (id : List ℕ) (slot : Option ℕ) → (tree_in contents id slot ≡ tree_in first id slot) ⊎ IsLeftIn (E.leaves executor) problem id (tree_in contents id slot) }
+    ensures { (executor : E) (problem : Problem) (first contents : List Content) (history : List Happened) → IsProblem problem → IsLegal problem history
+        → AreContents problem history first contents → GivesBackWhatIsLeft (E.leaves executor) problem first history → (id : List ℕ) (slot : Option ℕ)
+        → (tree_in contents id slot ≡ tree_in first id slot) ⊎ IsLeftIn (E.leaves executor) problem first history id slot (tree_in contents id slot) }
 {}
 
 /// A claim that has ended is out no more, whatever happens: also where its worker claims its vertex again.
