@@ -126,6 +126,11 @@ allows-by leaves other may MergeOp trees before after is = is
 pub leave-same : {E : Type 0} (leaves : E → Leaving) (one other : E) → one ≡ other → LeaveTheSame (leaves one) (leaves other)
 leave-same leaves one other e = subst (λ x. LeaveTheSame (leaves one) (leaves x)) e (λ request before after. ((λ is. is), (λ is. is)))
 
+-- what a claim's run left by one executor it left by another one that allows more
+pub left-more : (leaves other : Leaving) (problem : Problem) (claim : ClaimValue) (given : List TreeMap) → ((request : RunRequest) (before after : List TreeMap) → leaves request before after → other request before after)
+    → IsLeftFor leaves problem claim given → IsLeftFor other problem claim given
+left-more leaves other problem claim given may is = λ vertex there. allows-by leaves other may vertex.op claim.inputs claim.caches given (is vertex there)
+
 pub left-same : (leaves other : Leaving) (problem : Problem) (claim : ClaimValue) (given : List TreeMap) → LeaveTheSame leaves other → IsLeftFor leaves problem claim given → IsLeftFor other problem claim given
 left-same leaves other problem claim given same is = λ vertex there. allows-by leaves other (λ request before after. (same request before after).0) vertex.op claim.inputs claim.caches given (is vertex there)
 
