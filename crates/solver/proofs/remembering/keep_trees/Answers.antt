@@ -15,7 +15,7 @@ loop-vertex-init g c = record {
 }
 
 pub keep_tree-requires : goal.keep_tree-requires
-keep_tree-requires g c = (c.type_bounds.sync-E, c.loop-vertex.invariant.remembers.kept)
+keep_tree-requires g c = (c.type_bounds.sync-E, (c.type_bounds.sync-M, c.loop-vertex.invariant.remembers.kept))
 
 pub loop-vertex-preserved : goal.loop-vertex-preserved
 loop-vertex-preserved g c =

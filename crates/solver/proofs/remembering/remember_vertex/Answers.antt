@@ -13,7 +13,7 @@ pub returns-then-is_source : goal.returns-then-is_source
 returns-then-is_source g c = remembers-same (values_in (board_problem g.E.Executor.out c.args.board.now)) c.args.memo.now c.args.kept.now.items c.requires.kept
 
 pub keep_trees-requires : goal.keep_trees-requires
-keep_trees-requires g c = (c.type_bounds.sync-E, c.keep_tree.ensures.remembers.kept)
+keep_trees-requires g c = (c.type_bounds.sync-E, (c.type_bounds.sync-M, c.keep_tree.ensures.remembers.kept))
 
 pub returns-in_err-inputs : goal.returns-in_err-inputs
 returns-in_err-inputs g c =
@@ -49,7 +49,7 @@ add_kept-requires-clause-lawful g c κs within =
     let given = rw c.in-Some-2.is at c.in_ok-inputs.ensures.trees in
     let trees : trees_at (values_in problem) told.inputs ≡ Some inputs = subst (λ ids. trees_at (values_in problem) ids ≡ Some inputs) c.as_slice.ensures given in
     let lawful = value-lawful problem c.args.vertex told inputs tree known.problem there runs is.value trees in
-    subst (λ out. IsLawful out (entry_of told.op inputs tree)) (sym (ap g.E.Executor.out grows.executor ∙ c.requires.executor)) lawful
+    subst (λ out. IsLawful out (entry_of told.op inputs tree)) (sym (ap g.M.Executor.out grows.executor ∙ c.requires.executor)) lawful
 
 pub returns : goal.returns
 returns g c =
