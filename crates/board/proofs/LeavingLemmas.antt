@@ -1,6 +1,6 @@
 -- What a worker was lent with its last claim after one event more, and that a board's history gives back what was left.
-use Rattle.std.proofs.Common.{◌≡◌, ◌≢◌, ℕ, ◌==◌, List, [], ◌∷◌, ◌++◌, map, Option, Some, None, refl, sym, ap, ◌∙◌, subst, append_assoc, append-nil}
-use Rattle.std.specs.Prelude.{◌↔◌, Result, Ok, Err}
+use Rattle.std.proofs.Common.{◌≡◌, ◌≢◌, ℕ, List, [], ◌∷◌, ◌++◌, map, Option, Some, None, refl, sym, ap, ◌∙◌, subst, append_assoc, append-nil}
+use Rattle.std.specs.Prelude.{Result, Ok, Err}
 use Rattle.std.proofs.lemmas.Bool.{eq-eqb, ne_eqb}
 use Rattle.trees.specs.declared.cause.Cause.{Cause}
 use Rattle.runs.specs.declared.run.RunRequest.{RunRequest}
@@ -17,7 +17,7 @@ use Rattle.cachemounts.specs.Content.{tree_in, tree_held, slot_of}
 use Rattle.cachemounts.specs.Changes.{content_after}
 use Rattle.board.specs.Problem.{IsProblem}
 use Rattle.board.specs.Play.{Run, Step, Claim, Settle, Abandon, Move, worker_of, step_of, claim_of, claimable, next, moved, go, IsReplay}
-use Rattle.board.specs.Legal.{change_of, held_caches, IsReady}
+use Rattle.board.specs.Legal.{change_of, IsReady}
 use Rattle.board.specs.Claim.{ClaimValue, IsClaim}
 use Rattle.board.specs.Board.{AreContents}
 use Rattle.board.specs.Leaving.{Leaving, LeaveTheSame, AreLeftByRuns, AreLeftAtEnd, lent_after, lent_then, lent_on, lent_to, IsLeftFor, IsLeftAt, GivesBack, GiveBackOn, GivesBackWhatIsLeft}

@@ -57,8 +57,8 @@ returns-clause-ended g c =
     (AreLeftAtEnd (leaves c.args.executor.now) (problem_of (out c.args.executor.now) c.args.plan.now) c.args.caches.now.contents c.into_caches.result.contents)
     c.finish-solution.result
     (λ over.
-        let ended = left-at-end (leaves board.job.executor) problem board.run board.first board.contents known.problem known.replay c.finish-solution.ensures.idle known.contents known.given over in
-        let held = subst (AreLeftAtEnd (leaves board.job.executor) problem board.first) (sym (ap (λ store. store.contents) c.into_caches.ensures.value)) ended in
-        let named = subst (λ j. AreLeftAtEnd (leaves j.executor) (job_problem out j) board.first c.into_caches.result.contents) job held in
-        subst (λ f. AreLeftAtEnd (leaves c.args.executor.now) (problem_of (out c.args.executor.now) c.args.plan.now) f c.into_caches.result.contents) first named)
+    let ended = left-at-end (leaves board.job.executor) problem board.run board.first board.contents known.problem known.replay c.finish-solution.ensures.idle known.contents known.given over in
+    let held = subst (AreLeftAtEnd (leaves board.job.executor) problem board.first) (sym (ap (λ store. store.contents) c.into_caches.ensures.value)) ended in
+    let named = subst (λ j. AreLeftAtEnd (leaves j.executor) (job_problem out j) board.first c.into_caches.result.contents) job held in
+    subst (λ f. AreLeftAtEnd (leaves c.args.executor.now) (problem_of (out c.args.executor.now) c.args.plan.now) f c.into_caches.result.contents) first named)
     c.finish-solution.ensures.over

@@ -1,4 +1,4 @@
-use Rattle.std.proofs.Common.{◌≡◌, ◌<◌, length, subst, rules}
+use Rattle.std.proofs.Common.{◌<◌, length, subst}
 use Rattle.std.specs.Prelude.{IfSome}
 use Rattle.memo.specs.Memo.{Has}
 use Rattle.memo.specs.PrivateGeneration.{Stands, step_of, tree_at, trees_at}
