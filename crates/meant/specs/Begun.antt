@@ -3,6 +3,7 @@ use Rattle.std.specs.Prelude.{◌&&◌, ℕ, Bool, List, [], ◌∷◌, Option, 
 use Rattle.std.specs.List.{filter_map, list_any}
 use Rattle.std.specs.Str.{str_eq_ignore_ascii_case}
 use Rattle.ascii.specs.Pieces.{first_piece, behind_piece}
+use Rattle.meant.specs.Escapes.{before_escape, may_go_on}
 
 -- a line begins a stage: its first word is FROM, in any case
 abbrev pub begins_stage : List ℕ → Bool
@@ -26,3 +27,7 @@ before_last (line ∷ lines) = if list_any begins_stage lines then line ∷ befo
 -- the names of those stages that end on these lines: another one begins on a later of them
 abbrev pub ended_stages : List (List ℕ) → List (List ℕ)
 ended_stages lines = stages_in (before_last lines)
+
+-- a line begins a FROM that may go on in the next line: its stage may have a name that this line doesn't show (own)
+abbrev pub is_unfinished : List ℕ → Bool
+is_unfinished line = str_eq_ignore_ascii_case (before_escape (first_piece line)) (codes "from") && may_go_on line

@@ -1,3 +1,4 @@
 pub mod Begun
+pub mod Escapes
 pub mod Meant
 pub mod Sources

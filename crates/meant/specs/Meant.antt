@@ -1,6 +1,6 @@
 -- Which name may have been meant by one that there isn't (own).
-use Rattle.std.specs.Prelude.{◌&&◌, ◌++◌, ◌==◌, ℕ, Bool, true, false, List, Option, None, length, map, nat_le, take, if◌then◌else◌}
-use Rattle.std.specs.List.{before_first, find}
+use Rattle.std.specs.Prelude.{◌&&◌, ◌++◌, ◌-◌, ℕ, Bool, true, false, not, List, Option, None, filter, length, map, nat_le, take, if◌then◌else◌}
+use Rattle.std.specs.List.{find, list_any}
 use Rattle.std.specs.Option.{option_and_then}
 use Rattle.plain.specs.declared.refusal.Code.TheVariants.{R04, R12, R13}
 use Rattle.ascii.specs.Pieces.{first_piece}
@@ -8,26 +8,28 @@ use Rattle.nearest.specs.Nearness.{nearest}
 use Rattle.instructions.specs.Keyword.{keywords, name_of}
 use Rattle.expand.specs.declared.reason.Reason.{Reason}
 use Rattle.expand.specs.declared.reason.Reason.TheVariants.{Coded, Required}
-use Rattle.meant.specs.Begun.{stages_in, ended_stages}
+use Rattle.meant.specs.Begun.{stages_in, ended_stages, is_unfinished}
+use Rattle.meant.specs.Escapes.{before_escape, is_whole}
 use Rattle.meant.specs.Sources.{sources_in, is_astray}
+
+-- the nearest of those names that stand there whole
+abbrev pub nearest_whole : List ℕ → List (List ℕ) → Option (List ℕ)
+nearest_whole word names = nearest word (filter is_whole names)
 
 -- the stage or the image that may have been meant on a line after these stages: by the first name on it that leads to none of them
 abbrev pub meant_after : List (List ℕ) → List (List ℕ) → List ℕ → Option (List ℕ)
-meant_after stages images line = option_and_then (λ name. nearest name (stages ++ images)) (find (is_astray stages images) (sources_in line))
+meant_after stages images line = option_and_then (λ name. nearest_whole name (stages ++ images)) (find (is_astray stages images) (sources_in line))
 
 -- so few images and lines that a name on each line may be compared with all others: 64 and 512 at most
 abbrev pub are_few : ℕ → ℕ → Bool
 are_few images lines = nat_le images 64 && nat_le lines 512
 
--- the stage or the image that may have been meant on the line of this number of a file: one of the stages that end above it, or one of these images
+-- the stage or the image that may have been meant on the line of this number of a file: one of the stages that end above it, or one of these images. There
+-- is none if a FROM above it may go on in the next line: a name that leads to its stage would be taken for one that leads nowhere
 unfoldable pub meant_source : List (List ℕ) → List (List ℕ) → ℕ → List ℕ → Option (List ℕ)
 meant_source images lines number line =
-    if are_few (length images) (length lines) then meant_after (ended_stages (take number lines)) images line else None
-
--- a word up to a backslash or a backtick, of which one may be the file's escape character: by that the word goes on in the next line (Dockerfile
--- reference, `escape`)
-abbrev pub before_escape : List ℕ → List ℕ
-before_escape word = before_first (λ c. c == 96) (before_first (λ c. c == 92) word)
+    if are_few (length images) (length lines) && not (list_any is_unfinished (take (number - 1) lines))
+    then meant_after (ended_stages (take number lines)) images line else None
 
 -- the instruction that may have been meant on a line: by its first word, as far as that stands on it
 abbrev pub meant_keyword : List ℕ → Option (List ℕ)
@@ -38,7 +40,7 @@ meant_keyword line = nearest (before_escape (first_piece line)) (map name_of key
 abbrev pub meant_by : Option (List ℕ) → List (List ℕ) → List (List ℕ) → Reason → ℕ → List ℕ → Option (List ℕ)
 meant_by target images lines (Coded R04) number line = meant_keyword line
 meant_by target images lines (Coded R12) number line = meant_source images lines number line
-meant_by target images lines (Coded R13) number line = option_and_then (λ name. nearest name (stages_in lines)) target
+meant_by target images lines (Coded R13) number line = option_and_then (λ name. nearest_whole name (stages_in lines)) target
 meant_by target images lines (Coded code) number line = None
 meant_by target images lines (Required text) number line = None
 

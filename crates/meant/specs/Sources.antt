@@ -6,6 +6,7 @@ use Rattle.std.specs.Str.{all_ascii_digits, str_eq_ignore_ascii_case}
 use Rattle.ascii.specs.Pieces.{first_piece, behind_piece, pieces}
 use Rattle.words.specs.Pairs.{pair}
 use Rattle.meant.specs.Begun.{begins_stage}
+use Rattle.meant.specs.Escapes.{may_escape}
 
 -- the value that a text gives to a name: `x` of `name=x`
 unfoldable pub value_of : List ℕ → List ℕ → Option (List ℕ)
@@ -31,7 +32,7 @@ sources_in line = if begins_stage line then first_piece (behind_piece line) ∷ 
 
 -- a character with which a text may say another: `$`, a quote, or one that may be the escape character
 abbrev pub is_sign : ℕ → Bool
-is_sign c = (c == 36) || ((c == 34) || ((c == 39) || ((c == 92) || (c == 96))))
+is_sign c = (c == 36) || ((c == 34) || ((c == 39) || may_escape c))
 
 -- a name stands on a line as it is, and is no number (Dockerfile reference, COPY --from)
 abbrev pub is_spelled_out : List ℕ → Bool

@@ -1,7 +1,9 @@
 // The stages that the lines of a file begin, by the lines as they stand.
 ghost use Rattle.std.specs.Prelude.{◌≡◌, ◌≤◌, length, map, option_map, take, IfOk};
-ghost use Rattle.meant.specs.Begun.{begins_stage, before_last, stage_in, stages_in, ended_stages};
+ghost use Rattle.std.specs.List.{list_any};
+ghost use Rattle.meant.specs.Begun.{begins_stage, before_last, stage_in, stages_in, ended_stages, is_unfinished};
 
+use crate::escapes::{before_escape, may_go_on};
 use ascii::first_piece;
 use plain::Memory;
 use std::alloc::Global;
@@ -74,4 +76,24 @@ pub(crate) fn lines_until<'a, 'b>(lines: &'b [&'a str], number: u32) -> &'b [&'a
         return &lines[..count];
     }
     lines
+}
+
+/// Whether a line begins a FROM that may go on in the next line.
+fn is_unfinished(line: &str) -> bool
+    ensures { result ≡ is_unfinished line.now }
+{
+    let (word, _) = first_piece(line);
+    before_escape(word).eq_ignore_ascii_case("from") && may_go_on(line)
+}
+
+/// Whether one of these lines does.
+pub(crate) fn has_unfinished(lines: &[&str]) -> bool
+    ensures { result ≡ list_any is_unfinished (map (λ line. line.now) lines.now) }
+{
+    for line in lines {
+        if is_unfinished(*line) {
+            return true;
+        }
+    }
+    false
 }

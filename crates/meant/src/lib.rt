@@ -4,10 +4,11 @@
 // stage or an image that isn't there the stages above and the images of the bundle, and of a target the stages. Which of these names is near to the one
 // that stands there, `nearest` says.
 //
-// It reads no instruction, so it tells a line by its words alone. Of an instruction that goes on over several lines it knows the first.
+// It reads no instruction, so it tells a line by its words alone. Of an instruction that goes on over several lines it knows the first. It shows no name
+// that may go on in the next line, and looks for no stage and no image below a FROM that may.
 //
-// The central definition is `meant_by` in specs/Meant.antt: specs/Begun.antt says which stages lines begin, and specs/Sources.antt by which names a line
-// takes stages and images.
+// The central definition is `meant_by` in specs/Meant.antt: specs/Begun.antt says which stages lines begin, specs/Sources.antt by which names a line takes
+// stages and images, and specs/Escapes.antt what may go on in the next line.
 //
 // ```
 // let lines = ["FROM scratch AS build", "COPY --from=biuld a b"];
@@ -18,6 +19,7 @@
 #![tactic(auto)]
 
 mod begun;
+mod escapes;
 mod meant;
 mod sources;
 

@@ -1,11 +1,12 @@
-ghost use Rattle.std.specs.Prelude.{◌≡◌, ◌==◌, ◌++◌, [], map, option_map, IfOk};
-ghost use Rattle.std.specs.List.{before_first};
+ghost use Rattle.std.specs.Prelude.{◌≡◌, ◌++◌, [], filter, map, option_map, IfOk};
 ghost use Rattle.std.specs.Option.{option_copied};
 ghost use Rattle.plain.specs.declared.refusal.Code.TheVariants.{R13};
 ghost use Rattle.expand.specs.declared.reason.Reason.TheVariants.{Coded};
-ghost use Rattle.meant.specs.Meant.{before_escape, meant_keyword, are_few, meant_after, meant_source, meant_by, needs_lines};
+ghost use Rattle.meant.specs.Escapes.{is_whole};
+ghost use Rattle.meant.specs.Meant.{nearest_whole, meant_keyword, are_few, meant_after, meant_source, meant_by, needs_lines};
 
-use crate::begun::{ended_stages, lines_until, stages_in};
+use crate::begun::{ended_stages, has_unfinished, lines_until, stages_in};
+use crate::escapes::{before_escape, is_whole};
 use crate::sources::{first_astray, sources_in};
 use ascii::first_piece;
 use expand::Reason;
@@ -20,6 +21,31 @@ const MOST_IMAGES: usize = 64;
 /// The most lines of a file on which names of stages and images are compared with others.
 const MOST_LINES: usize = 512;
 
+/// Those of some names that stand on their lines whole.
+fn whole_names<'a>(alloc: Global, names: &[&'a str]) -> Result<Vec<&'a str>, Memory>
+    ensures { IfOk result (λ whole. map (λ name. name.now) whole.items ≡ filter is_whole (map (λ name. name.now) names.now)) }
+{
+    let mut whole = Vec::new(alloc);
+    for name in names {
+        if is_whole(*name) {
+            whole.push(*name)?;
+        }
+    }
+    Ok(whole)
+}
+
+/// The nearest of those names that stand on their lines whole.
+fn nearest_whole<'a>(
+    alloc: Global,
+    word: &str,
+    names: &[&'a str],
+) -> Result<Option<&'a str>, Memory>
+    ensures { IfOk result (λ name. option_map (λ it. it.now) name ≡ nearest_whole word.now (map (λ name. name.now) names.now)) }
+{
+    let whole = whole_names(alloc, names)?;
+    nearest(alloc, word, whole.as_slice())
+}
+
 /// The stage that may have been meant by a target that is none.
 fn meant_stage<'a>(
     alloc: Global,
@@ -32,30 +58,7 @@ fn meant_stage<'a>(
         return Ok(None);
     };
     let stages = stages_in(alloc, lines)?;
-    nearest(alloc, target.as_str(), stages.as_slice())
-}
-
-/// A word up to a backslash.
-fn before_backslash(word: &str) -> &str
-    ensures { result.now ≡ before_first (λ c. c == 92) word.now }
-{
-    let (before, _) = word.split_once('\\').unwrap_or((word, ""));
-    before
-}
-
-/// A word up to a backtick.
-fn before_backtick(word: &str) -> &str
-    ensures { result.now ≡ before_first (λ c. c == 96) word.now }
-{
-    let (before, _) = word.split_once('`').unwrap_or((word, ""));
-    before
-}
-
-/// A word up to what may be the file's escape character, by which it goes on in the next line.
-fn before_escape(word: &str) -> &str
-    ensures { result.now ≡ before_escape word.now }
-{
-    before_backtick(before_backslash(word))
+    nearest_whole(alloc, target.as_str(), stages.as_slice())
 }
 
 /// The instruction that may have been meant by the first word of a line that spells none.
@@ -91,7 +94,7 @@ fn meant_after<'a>(
         return Ok(None);
     };
     let names = with_images(stages, images)?;
-    nearest(alloc, source, names.as_slice())
+    nearest_whole(alloc, source, names.as_slice())
 }
 
 /// Whether there are so few images and lines that a name on each line may be compared with all others.
@@ -112,7 +115,9 @@ fn meant_source<'a>(
 ) -> Result<Option<&'a str>, Memory>
     ensures { IfOk result (λ name. option_map (λ it. it.now) name ≡ meant_source images.now (map (λ line. line.now) lines.now) number line.now) }
 {
-    if !are_few(images.len(), lines.len()) {
+    if !are_few(images.len(), lines.len())
+        || has_unfinished(lines_until(lines, number.saturating_sub(1)))
+    {
         return Ok(None);
     }
     let stages = ended_stages(alloc, lines_until(lines, number))?;

@@ -5,6 +5,7 @@ ghost use Rattle.ascii.specs.Pieces.{first_piece, behind_piece};
 ghost use Rattle.meant.specs.Sources.{value_of, first_source, mount_source, source_in, sources_in, is_sign, is_spelled_out, is_called, is_stage, is_image, is_astray};
 
 use crate::begun::begins_stage;
+use crate::escapes::may_escape;
 use ascii::{are_digits, first_piece, split_at_blanks};
 use plain::{Memory, Text};
 use std::alloc::{AllocError, Global};
@@ -102,7 +103,7 @@ pub(crate) fn sources_in<'a>(alloc: Global, line: &'a str) -> Result<Vec<&'a str
 fn is_sign(byte: u8) -> bool
     ensures { result ≡ is_sign byte }
 {
-    byte == b'$' || byte == b'"' || byte == b'\'' || byte == b'\\' || byte == b'`'
+    byte == b'$' || byte == b'"' || byte == b'\'' || may_escape(byte)
 }
 
 /// Whether a text has such a byte.
@@ -164,7 +165,7 @@ fn is_astray(stages: &[&str], images: &[Text], name: &str) -> bool
     is_spelled_out(name) && !is_stage(stages, name) && !is_image(images, name)
 }
 
-/// The first of some names that does.
+/// The first of some names that leads nowhere: it is spelled out, and leads to none of these stages and images.
 pub(crate) fn first_astray<'a>(
     stages: &[&str],
     images: &[Text],

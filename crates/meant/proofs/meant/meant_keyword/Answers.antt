@@ -2,7 +2,7 @@ use Rattle.std.proofs.Common.{◌≡◌, ◌∙◌, ℕ, List, Option, Result, B
 use Rattle.plain.specs.declared.memory.Memory.{Memory}
 use Rattle.ascii.specs.Pieces.{first_piece}
 use Rattle.nearest.specs.Nearness.{nearest}
-use Rattle.meant.specs.Meant.{before_escape}
+use Rattle.meant.specs.Escapes.{before_escape}
 use Rattle.meant.proofs.meant.meant_keyword.Goals as goal
 
 -- what is answered is the nearest of these names to this word
