@@ -20,9 +20,17 @@ nearest_whole word names = nearest word (filter is_whole names)
 abbrev pub meant_after : List (List ℕ) → List (List ℕ) → List ℕ → Option (List ℕ)
 meant_after stages images line = option_and_then (λ name. nearest_whole name (stages ++ images)) (find (is_astray stages images) (sources_in line))
 
--- so few images and lines that a name on each line may be compared with all others: 64 and 512 at most
+-- the most images with which a name on a line is compared
+abbrev pub most_compared_images : ℕ
+most_compared_images = 64
+
+-- the most lines of a file on which names of stages and images are compared with others
+abbrev pub most_compared_lines : ℕ
+most_compared_lines = 512
+
+-- so few images and lines that a name on each line may be compared with all others
 abbrev pub are_few : ℕ → ℕ → Bool
-are_few images lines = nat_le images 64 && nat_le lines 512
+are_few images lines = nat_le images most_compared_images && nat_le lines most_compared_lines
 
 -- the stage or the image that may have been meant on the line of this number of a file: one of the stages that end above it, or one of these images. There
 -- is none if a FROM above it may go on in the next line: a name that leads to its stage would be taken for one that leads nowhere

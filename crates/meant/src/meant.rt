@@ -16,10 +16,10 @@ use plain::{Code, Memory, Text};
 use std::alloc::Global;
 
 /// The most images with which a name on a line is compared.
-const MOST_IMAGES: usize = 64;
+const MOST_COMPARED_IMAGES: usize = 64;
 
 /// The most lines of a file on which names of stages and images are compared with others.
-const MOST_LINES: usize = 512;
+const MOST_COMPARED_LINES: usize = 512;
 
 /// Those of some names that stand on their lines whole.
 fn whole_names<'a>(alloc: Global, names: &[&'a str]) -> Result<Vec<&'a str>, Memory>
@@ -101,7 +101,7 @@ fn meant_after<'a>(
 fn are_few(images: usize, lines: usize) -> bool
     ensures { result ≡ are_few images lines }
 {
-    images <= MOST_IMAGES && lines <= MOST_LINES
+    images <= MOST_COMPARED_IMAGES && lines <= MOST_COMPARED_LINES
 }
 
 /// The stage or the image that may have been meant on the line of this number of a file.
