@@ -117,25 +117,30 @@ cut-piece text =
     (subst (λ (t : List ℕ). IsCut t (behind_piece text)) (sym (piece-and-rest trimmed))
     (after-piece (until_blank trimmed) (from_blank trimmed) (blank-first trimmed)))
 
-cut-pieces : (count : ℕ) (text : List ℕ) → IsCut text (behind_pieces count text)
+pub cut-pieces : (count : ℕ) (text : List ℕ) → IsCut text (behind_pieces count text)
 cut-pieces zero text = cut-blanks text
 cut-pieces (suc n) text = cut-twice text (behind_piece text) (behind_pieces n (behind_piece text)) (cut-piece text) (cut-pieces n (behind_piece text))
 
-trimmed-pieces : (count : ℕ) (text : List ℕ) → after_blanks (behind_pieces count text) ≡ behind_pieces count text
+pub trimmed-pieces : (count : ℕ) (text : List ℕ) → after_blanks (behind_pieces count text) ≡ behind_pieces count text
 trimmed-pieces zero text = after_blanks-twice text
 trimmed-pieces (suc n) text = trimmed-pieces n (behind_piece text)
 
 -- ---- the word
 
-abbrev made : List ℕ → List ℕ → Spot
+abbrev pub made : List ℕ → List ℕ → Spot
 made line left = record { column = (length line - length left) + 1; before = take (length line - length left) line; word = first_piece left }
 
-is-word : (line left : List ℕ) → IsCut line left → after_blanks left ≡ left → is_filled (first_piece left) ≡ true → IsWordOf line (made line left)
+pub front-is : (line left : List ℕ) (cut : IsCut line left) → take (length line - length left) line ≡ cut.front
+front-is line left cut =
+    let all : length line ≡ length cut.front + length left = ap length cut.is ∙ length-append cut.front left in
+    let count : length line - length left ≡ length cut.front = omega (arith, all) in
+    ap (λ n. take n line) count ∙ ap (take (length cut.front)) cut.is ∙ take_at cut.front left (length cut.front) refl
+
+pub is-word : (line left : List ℕ) → IsCut line left → after_blanks left ≡ left → is_filled (first_piece left) ≡ true → IsWordOf line (made line left)
 is-word line left cut trimmed filled =
     let all : length line ≡ length cut.front + length left = ap length cut.is ∙ length-append cut.front left in
     let count : length line - length left ≡ length cut.front = omega (arith, all) in
-    let before : take (length line - length left) line ≡ cut.front =
-    ap (λ n. take n line) count ∙ ap (take (length cut.front)) cut.is ∙ take_at cut.front left (length cut.front) refl in
+    let before : take (length line - length left) line ≡ cut.front = front-is line left cut in
     let parts : left ≡ first_piece left ++ from_blank left =
     piece-and-rest left ∙ ap (λ (piece : List ℕ). piece ++ from_blank left) (sym (ap until_blank trimmed)) in
     record {

@@ -2,5 +2,5 @@
 use Rattle.std.specs.Prelude.{◌≡◌, ◌++◌, ℕ, List}
 
 -- a line ends with this
-abbrev pub IsLeft : List ℕ → List ℕ → Type 0
-IsLeft line left = (front : List ℕ) × (line ≡ front ++ left)
+abbrev pub IsEndOf : List ℕ → List ℕ → Type 0
+IsEndOf line left = (front : List ℕ) × (line ≡ front ++ left)

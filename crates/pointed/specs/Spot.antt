@@ -18,7 +18,8 @@ spot it = record { column = it.column; before = it.before.now; word = it.word.no
 abbrev pub may_escape : ℕ → Bool
 may_escape c = (c == 92) || (c == 96)
 
--- a piece ends where it ends on its line: only by an escape character at its end may it go on in the next line
+-- a piece is whole: no character of it may be the escape character. By one at its end it may go on in the next line, and one elsewhere may stand for itself
+-- or not, which the line alone doesn't tell
 abbrev pub is_whole : List ℕ → Bool
 is_whole piece = not (list_any may_escape piece)
 

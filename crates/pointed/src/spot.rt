@@ -1,7 +1,7 @@
 ghost use Rattle.std.specs.Prelude.{◌≡◌, option_map};
 ghost use Rattle.std.specs.List.{list_any};
 ghost use Rattle.words.specs.Flag.{behind_pieces};
-ghost use Rattle.pointed.specs.PrivateSpot.{IsLeft};
+ghost use Rattle.pointed.specs.PrivateSpot.{IsEndOf};
 ghost use Rattle.pointed.specs.Spot.{may_escape, is_whole, spot, spot_at};
 
 use ascii::{after_blanks, first_piece};
@@ -60,7 +60,7 @@ pub(crate) fn after_pieces(text: &str, count: usize) -> &str
 /// The first piece of what is left of a line, with what stands before it; none if nothing is left, or the piece may go on in the next line.
 #[tactic(auto, unfolding(crate::specs::Spot::spot_at))]
 pub(crate) fn spot_at<'a>(line: &'a str, left: &'a str) -> Option<Pointed<'a>>
-    requires { IsLeft line.now left.now }
+    requires { IsEndOf line.now left.now }
     ensures { option_map spot result ≡ spot_at line.now left.now }
 {
     let (word, _) = first_piece(left);
