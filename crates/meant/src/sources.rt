@@ -110,12 +110,7 @@ fn is_sign(byte: u8) -> bool
 fn has_sign(bytes: &[u8]) -> bool
     ensures { result ≡ list_any is_sign bytes.now }
 {
-    for byte in bytes {
-        if is_sign(*byte) {
-            return true;
-        }
-    }
-    false
+    bytes.iter().any(|byte| is_sign(*byte))
 }
 
 /// Whether a name stands on a line as it is, and is no number.
