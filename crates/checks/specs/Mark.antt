@@ -8,7 +8,8 @@ use Rattle.pointed.specs.Spot.{Spot}
 use Rattle.sentences.specs.Showing.{Pointer}
 use Rattle.checks.specs.Visible.{visible}
 
--- what stands under a character that is shown before a word: a tab is as wide as one above it, and a blank as any other character is
+-- what stands under a character that is shown before a word: a tab under a tab, since that is as wide as the one above it wherever a terminal stops, and a
+-- blank under any other character
 abbrev pub blank_under : ℕ → List ℕ
 blank_under c = if c == 9 then 9 ∷ [] else codes " "
 

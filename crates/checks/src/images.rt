@@ -129,7 +129,8 @@ fn need_images(faults: &[Rejection]) -> bool
     false
 }
 
-/// Names of images by which these faults of a bundle are shown as by all. The bundle is read again only if that needs any.
+/// Names of images by which these faults of a bundle are shown as by all. For them the bundle is read again, since what was read of it finds an image by its
+/// name and lists none; that is done only if a fault is shown by them.
 pub(crate) fn images_for(
     alloc: Global,
     bytes: &[u8],

@@ -2,7 +2,7 @@ ghost use Rattle.std.specs.Prelude.{◌≡◌, ◌-◌, false, map, option_map, 
 ghost use Rattle.std.specs.Option.{option_copied};
 ghost use Rattle.std.specs.String.{string_bytes};
 ghost use Rattle.lines.specs.Text.{without_byte_order_mark, text_lines};
-ghost use Rattle.sentences.specs.Showing.{lent, shown};
+ghost use Rattle.sentences.specs.Showing.{pointer_of, shown};
 ghost use Rattle.meant.specs.Meant.{meant_by, needs_lines};
 ghost use Rattle.pointed.specs.Spot.{spot};
 ghost use Rattle.checks.specs.Mark.{marked, named};
@@ -248,7 +248,7 @@ fn shown_seen(
     meant: Option<&str>,
     marked: Option<(usize, &str)>,
 ) -> Result<String, Memory>
-    ensures { IfOk result (λ text. string_bytes text ≡ shown_seen fault.now line.now (option_copied meant.entry) (lent marked.entry)) }
+    ensures { IfOk result (λ text. string_bytes text ≡ shown_seen fault.now line.now (option_copied meant.entry) (pointer_of marked.entry)) }
 {
     let line = visible(alloc, line)?;
     let reason = visible_reason(alloc, &fault.reason)?;

@@ -29,8 +29,8 @@ abbrev pub Pointer : Type 0
 Pointer = ℕ × List ℕ
 
 -- the same of a text that is lent, if a word is pointed at
-abbrev pub lent : Option (ℕ × Bor (List ℕ)) → Option Pointer
-lent pointed = option_map (λ it. (it.0, it.1.now)) pointed
+abbrev pub pointer_of : Option (ℕ × Bor (List ℕ)) → Option Pointer
+pointer_of pointed = option_map (λ it. (it.0, it.1.now)) pointed
 
 -- where a fault is: the file, the line's number, and the column of the word that is pointed at, if one is
 abbrev pub placed : List ℕ → List ℕ → Option Pointer → List ℕ

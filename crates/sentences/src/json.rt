@@ -5,7 +5,7 @@ ghost use Rattle.serde_json.specs.View.{view};
 ghost use Rattle.serde_json.specs.Written.{has_float};
 ghost use Rattle.plain.specs.Codes.{code_text};
 ghost use Rattle.sentences.specs.Json.{code_of, data_of, json_line, line_about, message_of, place_data, place_line, pointed_data, refusal_data, remedy_of, data_with, written_line};
-ghost use Rattle.sentences.specs.Showing.{lent};
+ghost use Rattle.sentences.specs.Showing.{pointer_of};
 ghost use Rattle.sentences.specs.Subject.{subject_of};
 ghost use Rattle.sentences.specs.Table.{remedy, sentence};
 
@@ -109,7 +109,7 @@ fn value_with(
     helps: &str,
     text: &str,
 ) -> Result<Value, AllocError>
-    ensures { IfOk result (λ v. view v ≡ data_with (lent pointed.entry) (string_bytes code) file.now line (string_bytes message) helps.now text.now) }
+    ensures { IfOk result (λ v. view v ≡ data_with (pointer_of pointed.entry) (string_bytes code) file.now line (string_bytes message) helps.now text.now) }
 {
     match pointed {
         None => refusal_value(alloc, code, file, line, message, helps, text),
@@ -128,7 +128,7 @@ fn value_of(
     meant: Option<&str>,
     pointed: Option<(usize, &str)>,
 ) -> Result<Value, AllocError>
-    ensures { IfOk result (λ v. view v ≡ data_of file.now refusal.now text.now (option_copied meant.entry) (lent pointed.entry)) }
+    ensures { IfOk result (λ v. view v ≡ data_of file.now refusal.now text.now (option_copied meant.entry) (pointer_of pointed.entry)) }
 {
     let subject = Subject::of_line(text);
     let code = code_of(alloc, &refusal.reason)?;
@@ -171,7 +171,7 @@ pub fn json_line(
     meant: Option<&str>,
     pointed: Option<(usize, &str)>,
 ) -> Result<String, Memory>
-    ensures { IfOk result (λ text. string_bytes text ≡ json_line file.now refusal.now line.now (option_copied meant.entry) (lent pointed.entry)) }
+    ensures { IfOk result (λ text. string_bytes text ≡ json_line file.now refusal.now line.now (option_copied meant.entry) (pointer_of pointed.entry)) }
 {
     let text = line_about(refusal.line, line);
     let value = value_of(alloc, file, refusal, text, meant, pointed)?;

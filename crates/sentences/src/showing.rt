@@ -1,7 +1,7 @@
 ghost use Rattle.std.specs.Prelude.{◌≡◌, IfOk};
 ghost use Rattle.std.specs.Option.{option_copied};
 ghost use Rattle.std.specs.String.{string_bytes};
-ghost use Rattle.sentences.specs.Showing.{margin, cited, headed, lent, placed, below, shown_line, shown_whole, shown_place, shown_required, shown_coded, shown};
+ghost use Rattle.sentences.specs.Showing.{margin, cited, headed, pointer_of, placed, below, shown_line, shown_whole, shown_place, shown_required, shown_coded, shown};
 
 use crate::table::{required_remedy, required_sentence, wrong_with};
 use crate::{Subject, remedy, sentence};
@@ -38,7 +38,7 @@ fn placed(
     number: &str,
     pointed: Option<(usize, &str)>,
 ) -> Result<String, Memory>
-    ensures { IfOk result (λ text. string_bytes text ≡ placed file.now number.now (lent pointed.entry)) }
+    ensures { IfOk result (λ text. string_bytes text ≡ placed file.now number.now (pointer_of pointed.entry)) }
 {
     match pointed {
         None => Ok(format!(in alloc; "{file}:{number}")?),
@@ -53,7 +53,7 @@ fn below(
     pointed: Option<(usize, &str)>,
     helps: &str,
 ) -> Result<String, Memory>
-    ensures { IfOk result (λ text. string_bytes text ≡ below number.now (lent pointed.entry) helps.now) }
+    ensures { IfOk result (λ text. string_bytes text ≡ below number.now (pointer_of pointed.entry) helps.now) }
 {
     match pointed {
         None => Ok(String::from_str(alloc, helps)?),
@@ -74,7 +74,7 @@ fn shown_line(
     meant: Option<&str>,
     pointed: Option<(usize, &str)>,
 ) -> Result<String, Memory>
-    ensures { IfOk result (λ text. string_bytes text ≡ shown_line file.now code number.now line.now (option_copied meant.entry) (lent pointed.entry)) }
+    ensures { IfOk result (λ text. string_bytes text ≡ shown_line file.now code number.now line.now (option_copied meant.entry) (pointer_of pointed.entry)) }
 {
     let subject = Subject::of_line(line);
     let place = placed(alloc, file, number, pointed)?;
@@ -130,7 +130,7 @@ fn shown_coded(
     meant: Option<&str>,
     pointed: Option<(usize, &str)>,
 ) -> Result<String, Memory>
-    ensures { IfOk result (λ text. string_bytes text ≡ shown_coded file.now code number line.now (option_copied meant.entry) (lent pointed.entry)) }
+    ensures { IfOk result (λ text. string_bytes text ≡ shown_coded file.now code number line.now (option_copied meant.entry) (pointer_of pointed.entry)) }
 {
     if number == 0 {
         return shown_whole(alloc, file, code, meant);
@@ -153,7 +153,7 @@ pub fn shown(
     meant: Option<&str>,
     pointed: Option<(usize, &str)>,
 ) -> Result<String, Memory>
-    ensures { IfOk result (λ text. string_bytes text ≡ shown file.now refusal.now line.now (option_copied meant.entry) (lent pointed.entry)) }
+    ensures { IfOk result (λ text. string_bytes text ≡ shown file.now refusal.now line.now (option_copied meant.entry) (pointer_of pointed.entry)) }
 {
     match &refusal.reason {
         Reason::Coded(code) => shown_coded(alloc, file, *code, refusal.line, line, meant, pointed),
