@@ -1,5 +1,5 @@
 -- Laws of which word of a line a code is about.
-use Rattle.std.proofs.Common.{◌≡◌, ◌<◌, ◌+◌, ◌++◌, ◌&&◌, ◌||◌, ◌⊎◌, ◌∙◌, ℕ, zero, suc, Bool, true, false, not, List, [], ◌∷◌, Option, Some, None, inl, inr, codes, cond, is_some, length, get_or, map, take, refl, sym, ap, subst, arith, if◌then◌else◌}
+use Rattle.std.proofs.Common.{◌≡◌, ◌<◌, ◌+◌, ◌++◌, ◌&&◌, ◌||◌, ◌⊎◌, ◌∙◌, ℕ, suc, Bool, true, false, not, List, [], ◌∷◌, Option, Some, None, inl, inr, codes, cond, is_some, length, get_or, map, take, refl, sym, ap, subst, arith, if◌then◌else◌}
 use Rattle.std.specs.List.{list_all, list_any, take_while}
 use Rattle.std.specs.Option.{option_or}
 use Rattle.std.specs.Str.{str_eq_ignore_ascii_case}
@@ -10,7 +10,6 @@ use Rattle.std.proofs.lemmas.Option.{none-some, same_Some}
 use Rattle.ascii.specs.Names.{is_name}
 use Rattle.ascii.specs.Pieces.{pieces, first_piece, behind_piece, is_filled}
 use Rattle.ascii.proofs.PieceLaws.{cut}
-use Rattle.plain.specs.declared.refusal.Code.{Code}
 use Rattle.plain.specs.declared.refusal.Code.TheVariants.{R04, R07, R10, R11, R12, R16, R17}
 use Rattle.lines.specs.Marks.{is_flag, after_flags}
 use Rattle.words.specs.Flag.{behind_flags, flag_of, flag_pieces, flags}
@@ -27,7 +26,7 @@ use Rattle.pointed.specs.Flag.{are_flags_of, first_flag, flag_number, is_followe
 use Rattle.pointed.specs.Pointing.{number_of, pointed}
 use Rattle.pointed.specs.Spot.{Spot, is_whole}
 use Rattle.pointed.specs.Stands.{flag_at, flags_before, pieces_before, IsAfterAs, IsArgumentOf, IsFlagOf, IsOnlyFlagOf, IsPieceOf}
-use Rattle.pointed.specs.Word.{after_as, bad_port, first_of, first_wrong, has_bad_name, is_no_port, is_plain, only_piece, plain_words, stage_name, word_number}
+use Rattle.pointed.specs.Word.{bad_port, first_of, first_wrong, has_bad_name, is_no_port, is_plain, only_piece, plain_words, stage_name, word_number}
 use Rattle.pointed.proofs.FirstFacts.{IsFirst, first-is}
 use Rattle.pointed.proofs.FlagLaws.{first-unknown}
 use Rattle.pointed.proofs.FrontFacts.{all-pass, none-before, passes-here, reaches, with-it}

@@ -1,5 +1,5 @@
 -- Laws of a word's place among the pieces of its line.
-use Rattle.std.proofs.Common.{◌≡◌, ◌<◌, ◌≤◌, ◌-◌, ◌+◌, ◌++◌, ◌&&◌, ◌||◌, ◌∙◌, ℕ, zero, suc, Bool, true, false, List, [], ◌∷◌, Option, Some, None, length, take, drop, refl, sym, ap, subst, arith, append_assoc, append-nil, if◌then◌else◌}
+use Rattle.std.proofs.Common.{◌≡◌, ◌<◌, ◌≤◌, ◌-◌, ◌+◌, ◌++◌, ◌&&◌, ◌∙◌, ℕ, suc, Bool, true, false, List, [], ◌∷◌, Option, Some, None, length, drop, refl, sym, ap, subst, arith, append_assoc, append-nil, if◌then◌else◌}
 use Rattle.std.specs.Option.{option_and_then}
 use Rattle.std.proofs.lemmas.List.{length-append, length-drop, drop-append-le}
 use Rattle.std.proofs.lemmas.Option.{none-some, same_Some}
@@ -10,7 +10,7 @@ use Rattle.words.specs.Flag.{behind_pieces}
 use Rattle.words.proofs.FlagLaws.{pieces-behind_piece, pieces-behind_pieces}
 use Rattle.pointed.specs.Pointing.{spot_after}
 use Rattle.pointed.specs.Spot.{Spot, is_whole, spot_at}
-use Rattle.pointed.specs.Stands.{ends_in_blank, IsWordOf, IsPieceOf, pieces_before}
+use Rattle.pointed.specs.Stands.{ends_in_blank, IsPieceOf, pieces_before}
 use Rattle.pointed.proofs.PointedLaws.{IsCut, cut-pieces, front-is, is-word, made, trimmed-pieces}
 use Rattle.pointed.proofs.SpotFacts.{something}
 

@@ -28,12 +28,7 @@ pub(crate) fn may_escape(byte: u8) -> bool
 fn has_escape(bytes: &[u8]) -> bool
     ensures { result ≡ list_any may_escape bytes.now }
 {
-    for byte in bytes {
-        if may_escape(*byte) {
-            return true;
-        }
-    }
-    false
+    bytes.iter().any(|byte| may_escape(*byte))
 }
 
 /// Whether a piece can't go on in the next line.

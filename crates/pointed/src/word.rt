@@ -20,12 +20,7 @@ fn may_join(byte: u8) -> bool
 fn has_joint(bytes: &[u8]) -> bool
     ensures { result ≡ list_any may_join bytes.now }
 {
-    for byte in bytes {
-        if may_join(*byte) {
-            return true;
-        }
-    }
-    false
+    bytes.iter().any(|byte| may_join(*byte))
 }
 
 /// Whether a piece is a word as it stands.
@@ -61,12 +56,7 @@ fn has_bad_name(word: &str) -> bool
 fn has_dollar(bytes: &[u8]) -> bool
     ensures { result ≡ has_dollar bytes.now }
 {
-    for byte in bytes {
-        if *byte == b'$' {
-            return true;
-        }
-    }
-    false
+    bytes.iter().any(|byte| *byte == b'$')
 }
 
 /// Whether a word is no port, whatever values variables have.
