@@ -4,8 +4,10 @@ mod ConfigurationFacts
 mod EndFacts
 mod EnvironmentFacts
 mod ExistFacts
+mod FaultFacts
 mod FoldFacts
 mod JudgedFacts
+mod JudgingFacts
 mod NeededFacts
 mod OrderFacts
 mod ImageFacts

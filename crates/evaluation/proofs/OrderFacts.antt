@@ -46,16 +46,16 @@ use Rattle.evaluation.proofs.ReachedFacts.{same_ok, next_made, stage_made}
 -- lines of which some are left out
 
 -- these lines ascend where those do, whatever comes after both
-abbrev AscendLike : List ℕ → List ℕ → Type 0
+abbrev pub AscendLike : List ℕ → List ℕ → Type 0
 AscendLike these those =
     (after_these after_those : List ℕ) → ((low : ℕ) → AscendFrom low after_those → AscendFrom low after_these) → (low : ℕ)
     → AscendFrom low (those ++ after_those) → AscendFrom low (these ++ after_these)
 
-ascend_lower : (low high : ℕ) (lines : List ℕ) → low ≤ high → AscendFrom high lines → AscendFrom low lines
+pub ascend_lower : (low high : ℕ) (lines : List ℕ) → low ≤ high → AscendFrom high lines → AscendFrom low lines
 ascend_lower low high [] le ascend = tt
 ascend_lower low high (line ∷ lines) le ascend = (let above = ascend.0 in omega (arith, le, above), (ascend.1.0, ascend.1.1))
 
-none_ascend : (those : List ℕ) → AscendLike [] those
+pub none_ascend : (those : List ℕ) → AscendLike [] those
 none_ascend [] after_these after_those rest low ascend = rest low ascend
 none_ascend (line ∷ those) after_these after_those rest low ascend =
     ascend_lower low line after_these (let above = ascend.0 in omega (arith, above)) (none_ascend those after_these after_those rest line ascend.1.1)
@@ -63,7 +63,7 @@ none_ascend (line ∷ those) after_these after_those rest low ascend =
 one_ascends : (line : ℕ) → AscendLike (line ∷ []) (line ∷ [])
 one_ascends line after_these after_those rest low ascend = (ascend.0, (ascend.1.0, rest line ascend.1.1))
 
-both_ascend : (these those more others : List ℕ) → AscendLike these those → AscendLike more others → AscendLike (these ++ more) (those ++ others)
+pub both_ascend : (these those more others : List ℕ) → AscendLike these those → AscendLike more others → AscendLike (these ++ more) (those ++ others)
 both_ascend these those more others first second after_these after_those rest low ascend =
     subst (AscendFrom low) (sym (append_assoc these more after_these))
     (first (more ++ after_these) (others ++ after_those) (second after_these after_those rest) low

@@ -1,9 +1,11 @@
 pub mod Chain
 pub mod Configuration
 pub mod Evaluated
+pub mod Faults
 pub mod Images
 pub mod Instruction
 pub mod NeededLines
+pub mod PrivateFaults
 pub mod PrivateInstruction
 pub mod PrivateMaking
 pub mod PrivateNames

@@ -1,12 +1,13 @@
 // What is proved of the definitions alone. The functions do nothing: their contracts are laws.
 
-ghost use Rattle.std.specs.Prelude.{◌≡◌, ◌⊎◌, ◌++◌, ℕ, List, [], Bool, true, false, Some, Ok, Err, slice_get};
+ghost use Rattle.std.specs.Prelude.{◌≡◌, ◌⊎◌, ◌++◌, ℕ, List, [], ◌∷◌, map, Bool, true, false, Some, Ok, Err, Contains, slice_get};
 ghost use Rattle.std.specs.List.{All};
 ghost use Rattle.plain.specs.Marks.{is_marked};
 ghost use Rattle.plain.specs.declared.fault.Fault.TheVariants.{Because};
 ghost use Rattle.expand.specs.declared.reason.Rejection.{Rejection};
 ghost use Rattle.plain.specs.declared.variable.Variable.{Variable};
 ghost use Rattle.trees.specs.TreeMap.{TreeMap};
+ghost use Rattle.llb.specs.Places.{AreLines};
 ghost use Rattle.llb.specs.declared.op.Source.{Source};
 ghost use Rattle.plans.specs.Images.{ImagesValue};
 ghost use Rattle.scopes.specs.Evaluate.{Values};
@@ -16,7 +17,7 @@ ghost use Rattle.rows.specs.WellFormed.{IsWellFormed, RowNames, HasTree};
 ghost use Rattle.rows.specs.declared.row.Stage.{Stage};
 ghost use Rattle.stages.specs.Naming.{names_in};
 ghost use Rattle.stages.specs.Needed.{AreNeeded};
-ghost use Rattle.stages.specs.Table.{TableValue, IsTable, NamesKnown};
+ghost use Rattle.stages.specs.Table.{TableValue, IsTable, NamesKnown, stage_lines};
 ghost use Rattle.stages.specs.declared.stage.ResolvedInstruction.{ResolvedInstruction};
 ghost use Rattle.stages.specs.declared.stage.ResolvedStage.{ResolvedStage};
 ghost use Rattle.imageconfig.specs.Environment.{variables_of};
@@ -25,6 +26,7 @@ ghost use Rattle.imageconfig.specs.declared.config.Config.{Config};
 ghost use Rattle.evaluation.specs.Chain.{IsChain, chain_history};
 ghost use Rattle.evaluation.specs.Configuration.{in_scope, base_config};
 ghost use Rattle.evaluation.specs.Evaluated.{evaluated, config_at, IsMade, EvaluatesTable};
+ghost use Rattle.evaluation.specs.Faults.{evaluation_refusals, IsStageRefused};
 ghost use Rattle.evaluation.specs.NeededLines.{needed_lines, IsFree, IsLeastRefusal, SameWhereMarked};
 ghost use Rattle.evaluation.specs.Reached.{ComesTo, HaveEnvironments, HasScopesEnvironment};
 ghost use Rattle.evaluation.specs.Stages.{instructions_from};
@@ -50,6 +52,34 @@ pub fn the_least_refusal_is_reported()
 {
     instructions::laws::the_least_reason_is_reported();
 }
+
+/// The first of the refusals that a table's needed stages are listed with is what the table is refused for, and there is none exactly if it is
+/// evaluated.
+pub fn the_first_fault_is_the_refusal()
+    ensures first { (args : Values) (images : ImagesValue Config) (needed : List Bool) (table : TableValue) (refusal : Rejection) (more : List Rejection)
+        → evaluation_refusals args images needed table ≡ refusal ∷ more → evaluated args images needed table ≡ Err refusal }
+    ensures refused { (args : Values) (images : ImagesValue Config) (needed : List Bool) (table : TableValue) (refusal : Rejection)
+        → evaluated args images needed table ≡ Err refusal → (more : List Rejection) × (evaluation_refusals args images needed table ≡ refusal ∷ more) }
+    ensures free { (args : Values) (images : ImagesValue Config) (needed : List Bool) (table : TableValue)
+        → evaluation_refusals args images needed table ≡ [] → (walk : Walk) × (evaluated args images needed table ≡ Ok walk) }
+    ensures evaluated { (args : Values) (images : ImagesValue Config) (needed : List Bool) (table : TableValue) (walk : Walk)
+        → evaluated args images needed table ≡ Ok walk → evaluation_refusals args images needed table ≡ [] }
+{}
+
+/// Each refusal in that list is the one of a stage, evaluated after what the stages before it leave, and each stage that is refused so has its
+/// refusal there. A stage has one at most, at a line of its own, and the lines ascend.
+pub fn each_refused_stage_is_listed()
+    ensures each { (args : Values) (images : ImagesValue Config) (needed : List Bool) (table : TableValue) (refusal : Rejection)
+        → Contains (evaluation_refusals args images needed table) refusal → (number : ℕ) × IsStageRefused args images needed table number refusal }
+    ensures listed { (args : Values) (images : ImagesValue Config) (needed : List Bool) (table : TableValue) (number : ℕ) (refusal : Rejection)
+        → IsStageRefused args images needed table number refusal → Contains (evaluation_refusals args images needed table) refusal }
+    ensures once { (args : Values) (images : ImagesValue Config) (needed : List Bool) (table : TableValue) (number : ℕ) (one other : Rejection)
+        → IsStageRefused args images needed table number one → IsStageRefused args images needed table number other → one ≡ other }
+    ensures line { (args : Values) (images : ImagesValue Config) (needed : List Bool) (table : TableValue) (number : ℕ) (refusal : Rejection)
+        (is : IsStageRefused args images needed table number refusal) → Contains (stage_lines is.stage) refusal.line }
+    ensures order { (args : Values) (images : ImagesValue Config) (needed : List Bool) (table : TableValue) → IsTable table
+        → AreLines (map (λ (refusal : Rejection). refusal.line) (evaluation_refusals args images needed table)) }
+{}
 
 /// What a stage says that isn't needed changes nothing: where all needed stages of a file are the same, the same are needed, and they are
 /// evaluated to the same rows, scopes, configurations and images, or refused alike.

@@ -17,6 +17,7 @@
 #![tactic(auto)]
 
 mod evaluated;
+mod faults;
 mod given;
 mod instruction;
 pub mod laws;
@@ -27,3 +28,4 @@ mod state;
 mod walk;
 
 pub use evaluated::{Evaluated, evaluate};
+pub use faults::list_faults;

@@ -105,7 +105,7 @@ fn evaluate_begun(
 }
 
 /// What a stage's instructions leave and do, after stages that left these states.
-fn evaluate_stage(
+pub(crate) fn evaluate_stage(
     alloc: Global,
     given: &Given,
     states: &[Option<State>],
@@ -183,7 +183,7 @@ fn end_walk(
 }
 
 /// The stages so far, with one more that ends so; the names so far are its own.
-fn end_stage(
+pub(crate) fn end_stage(
     rows: Items<Option<Stage>>,
     states: Items<Option<State>>,
     line: u32,
@@ -248,7 +248,7 @@ fn evaluate_needed_stage(
 }
 
 /// The stages so far, with one more that is left out.
-fn skip_stage(walk: Walk) -> Result<Walk, Memory>
+pub(crate) fn skip_stage(walk: Walk) -> Result<Walk, Memory>
     ensures { IfOk result (λ more. more ≡ with_none walk) }
 {
     let mut walk = walk;
@@ -269,7 +269,7 @@ fn skip_stage(walk: Walk) -> Result<Walk, Memory>
 }
 
 /// Whether a stage is marked.
-fn is_marked(marks: &[bool], stage: usize) -> bool
+pub(crate) fn is_marked(marks: &[bool], stage: usize) -> bool
     ensures { result ≡ is_marked marks.now stage }
 {
     match marks.get(stage) {

@@ -1,0 +1,217 @@
+-- The walk that goes on after a refusal: a stage after those before it, and all stages one after another.
+use Rattle.std.specs.Prelude.{◌≡◌, ◌&&◌, ℕ, Bool, true, false, List, [], ◌∷◌, ◌++◌, Option, Result, Ok, Err, length, refl, IfOk, if◌then◌else◌}
+use Rattle.std.specs.List.{All}
+use Rattle.std.proofs.Common.{sym, ◌∙◌, ap, subst, arith, append-nil, append_assoc}
+use Rattle.std.proofs.lemmas.Bool.{true≢false}
+use Rattle.plain.specs.Marks.{is_marked}
+use Rattle.plain.specs.declared.fault.Fault.{Fault}
+use Rattle.plain.specs.declared.fault.Fault.TheVariants.{Because}
+use Rattle.plain.specs.declared.memory.Memory.{Memory}
+use Rattle.expand.specs.declared.reason.Rejection.{Rejection}
+use Rattle.plans.specs.Images.{ImagesValue}
+use Rattle.scopes.specs.Evaluate.{Values}
+use Rattle.scopes.specs.Scope.{value_in}
+use Rattle.scopes.specs.declared.declaration.Declaration.{Declaration}
+use Rattle.stages.specs.Needed.{AreNeeded}
+use Rattle.stages.specs.Table.{TableValue}
+use Rattle.stages.specs.declared.stage.ResolvedInstruction.{ResolvedInstruction}
+use Rattle.stages.specs.declared.stage.ResolvedStage.{ResolvedStage}
+use Rattle.imageconfig.specs.declared.config.Config.{Config}
+use Rattle.evaluation.specs.Evaluated.{no_stage}
+use Rattle.evaluation.specs.Faults.{is_base_lost, judged_stage, refusals_in, after_judged, with_refused, refusals_after, evaluation_refusals, AreTableFaults}
+use Rattle.evaluation.specs.PrivateFaults.{judged_with, IsNeededJudged, IsJudged, AreJudged}
+use Rattle.evaluation.specs.PrivateWalk.{IsEnded, IsWalk, IsStageAdded}
+use Rattle.evaluation.specs.Stages.{with_stage, with_none, stage_from, next_stage}
+use Rattle.evaluation.specs.declared.faults.Judged.{Judged}
+use Rattle.evaluation.specs.declared.stage.Progress.{Progress}
+use Rattle.evaluation.specs.declared.state.State.{State}
+use Rattle.evaluation.specs.declared.walk.Walk.{Walk}
+use Rattle.evaluation.proofs.StepFacts.{item_is}
+use Rattle.evaluation.proofs.WalkFacts.{added_put, added_reported}
+
+abbrev judged_of : Walk → List Rejection → Judged
+judged_of walk faults = record { walk = walk; faults = faults }
+
+-- a needed stage
+
+accepted_by : (args outer : Values) (images : ImagesValue Config) (judged : Judged) (stage : ResolvedStage) (walk : Walk) (result : Result Judged Memory)
+    → stage_from args outer images judged.walk stage ≡ Ok walk → IfOk result (λ more. more ≡ judged_of walk judged.faults)
+    → IsNeededJudged args outer images judged stage result
+unfolding IsNeededJudged
+accepted_by args outer images judged stage walk (Ok more) e is =
+    is ∙ (ap (judged_of walk) (sym (append-nil judged.faults)) ∙ ap (judged_with judged) (sym e))
+accepted_by args outer images judged stage walk (Err memory) e is = tt
+
+went_well : (args outer : Values) (images : ImagesValue Config) (walk : Walk) (stage : ResolvedStage) (states : List (Option State)) (rs : List ResolvedInstruction) (p : Progress)
+    → states ≡ walk.states → rs ≡ stage.instructions → IsEnded args outer images states walk.names stage.line stage.base rs (Ok p)
+    → stage_from args outer images walk stage ≡ Ok (with_stage walk stage p)
+unfolding IsStageAdded IsWalk
+went_well args outer images walk stage states rs p same_states same ended =
+    added_put args outer images walk stage states rs p (Ok (with_stage walk stage p)) same_states same ended refl
+
+pub needed_accepted : (args outer : Values) (images : ImagesValue Config) (judged : Judged) (stage : ResolvedStage) (states : List (Option State)) (rs : List ResolvedInstruction) (p : Progress)
+    (result : Result Judged Memory) → states ≡ judged.walk.states → rs ≡ stage.instructions
+    → IsEnded args outer images states judged.walk.names stage.line stage.base rs (Ok p)
+    → IfOk result (λ more. more ≡ judged_of (with_stage judged.walk stage p) judged.faults) → IsNeededJudged args outer images judged stage result
+needed_accepted args outer images judged stage states rs p result same_states same ended is =
+    accepted_by args outer images judged stage (with_stage judged.walk stage p) result
+    (went_well args outer images judged.walk stage states rs p same_states same ended) is
+
+refused_by : (args outer : Values) (images : ImagesValue Config) (judged : Judged) (stage : ResolvedStage) (refusal : Rejection) (result : Result Judged Memory)
+    → stage_from args outer images judged.walk stage ≡ Err refusal → IfOk result (λ more. more ≡ judged_of (with_refused judged.walk) (judged.faults ++ refusal ∷ []))
+    → IsNeededJudged args outer images judged stage result
+unfolding IsNeededJudged
+refused_by args outer images judged stage refusal (Ok more) e is = is ∙ ap (judged_with judged) (sym e)
+refused_by args outer images judged stage refusal (Err memory) e is = tt
+
+went_wrong : (args outer : Values) (images : ImagesValue Config) (walk : Walk) (stage : ResolvedStage) (states : List (Option State)) (rs : List ResolvedInstruction) (fault : Fault Rejection) (refusal : Rejection)
+    → fault ≡ Because refusal → states ≡ walk.states → rs ≡ stage.instructions → IsEnded args outer images states walk.names stage.line stage.base rs (Err fault)
+    → stage_from args outer images walk stage ≡ Err refusal
+unfolding IsStageAdded
+went_wrong args outer images walk stage states rs fault refusal is same_states same ended =
+    added_reported args outer images walk stage states rs (Because refusal) same_states same
+    (subst (λ (f : Fault Rejection). IsEnded args outer images states walk.names stage.line stage.base rs (Err f)) is ended)
+
+pub needed_refused : (args outer : Values) (images : ImagesValue Config) (judged : Judged) (stage : ResolvedStage) (states : List (Option State)) (rs : List ResolvedInstruction) (fault : Fault Rejection)
+    (refusal : Rejection) (result : Result Judged Memory) → fault ≡ Because refusal → states ≡ judged.walk.states → rs ≡ stage.instructions
+    → IsEnded args outer images states judged.walk.names stage.line stage.base rs (Err fault)
+    → IfOk result (λ more. more ≡ judged_of (with_refused judged.walk) (judged.faults ++ refusal ∷ [])) → IsNeededJudged args outer images judged stage result
+needed_refused args outer images judged stage states rs fault refusal result e same_states same ended is =
+    refused_by args outer images judged stage refusal result
+    (went_wrong args outer images judged.walk stage states rs fault refusal e same_states same ended) is
+
+pub needed_none : (args outer : Values) (images : ImagesValue Config) (judged : Judged) (stage : ResolvedStage) (memory : Memory)
+    → IsNeededJudged args outer images judged stage (Err memory)
+unfolding IsNeededJudged
+needed_none args outer images judged stage memory = tt
+
+-- a stage
+
+left_out_by : (args outer : Values) (images : ImagesValue Config) (needed : List Bool) (judged : Judged) (stage : ResolvedStage) (result : Result Judged Memory)
+    → judged_stage args outer images needed judged.walk stage ≡ Ok (with_none judged.walk) → IfOk result (λ more. more ≡ judged_of (with_none judged.walk) judged.faults)
+    → IsJudged args outer images needed judged stage result
+unfolding IsJudged
+left_out_by args outer images needed judged stage (Ok more) e is =
+    is ∙ (ap (judged_of (with_none judged.walk)) (sym (append-nil judged.faults)) ∙ ap (judged_with judged) (sym e))
+left_out_by args outer images needed judged stage (Err memory) e is = tt
+
+first_case : {X : Type 0} (b : Bool) (x y : X) → b ≡ true → (if b then x else y) ≡ x
+first_case true x y e = refl
+first_case false x y e = absurd (true≢false (sym e))
+
+second_case : {X : Type 0} (b : Bool) (x y : X) → b ≡ false → (if b then x else y) ≡ y
+second_case true x y e = absurd (true≢false e)
+second_case false x y e = refl
+
+abbrev kept_out : Walk → Result Walk Rejection
+kept_out walk = Ok (with_none walk)
+
+pub judged_lost : (args outer : Values) (images : ImagesValue Config) (needed : List Bool) (judged : Judged) (stage : ResolvedStage) (states : List (Option State)) (lost : Bool) (result : Result Judged Memory)
+    → states ≡ judged.walk.states → lost ≡ is_base_lost needed states stage.base → lost ≡ true
+    → IfOk result (λ more. more ≡ judged_of (with_none judged.walk) judged.faults) → IsJudged args outer images needed judged stage result
+judged_lost args outer images needed judged stage states lost result same says is more =
+    let here : is_base_lost needed judged.walk.states stage.base ≡ true = ap (λ (ss : List (Option State)). is_base_lost needed ss stage.base) (sym same) ∙ (sym says ∙ is) in
+    left_out_by args outer images needed judged stage result
+    (first_case (is_base_lost needed judged.walk.states stage.base) (kept_out judged.walk) (next_stage args outer images needed judged.walk stage) here) more
+
+-- a stage that doesn't begin with a lost one
+in_turn : (args outer : Values) (images : ImagesValue Config) (needed : List Bool) (walk : Walk) (stage : ResolvedStage) (states : List (Option State)) (lost : Bool)
+    → states ≡ walk.states → lost ≡ is_base_lost needed states stage.base → lost ≡ false
+    → judged_stage args outer images needed walk stage ≡ next_stage args outer images needed walk stage
+in_turn args outer images needed walk stage states lost same says is =
+    let here : is_base_lost needed walk.states stage.base ≡ false = ap (λ (ss : List (Option State)). is_base_lost needed ss stage.base) (sym same) ∙ (sym says ∙ is) in
+    second_case (is_base_lost needed walk.states stage.base) (kept_out walk) (next_stage args outer images needed walk stage) here
+
+judged_as : (args outer : Values) (images : ImagesValue Config) (needed : List Bool) (judged : Judged) (stage : ResolvedStage) (result : Result Judged Memory)
+    → judged_stage args outer images needed judged.walk stage ≡ stage_from args outer images judged.walk stage
+    → IsNeededJudged args outer images judged stage result → IsJudged args outer images needed judged stage result
+unfolding IsNeededJudged IsJudged
+judged_as args outer images needed judged stage (Ok more) e is = is ∙ ap (judged_with judged) (sym e)
+judged_as args outer images needed judged stage (Err memory) e is = tt
+
+pub judged_needed : (args outer : Values) (images : ImagesValue Config) (needed : List Bool) (judged : Judged) (stage : ResolvedStage) (states : List (Option State)) (lost marked : Bool) (long : ℕ)
+    (result : Result Judged Memory) → states ≡ judged.walk.states → lost ≡ is_base_lost needed states stage.base → lost ≡ false
+    → long ≡ length judged.walk.rows → marked ≡ is_marked needed long → marked ≡ true
+    → IsNeededJudged args outer images judged stage result → IsJudged args outer images needed judged stage result
+judged_needed args outer images needed judged stage states lost marked long result same says is at says_marked is_marked_true h =
+    let here : is_marked needed (length judged.walk.rows) ≡ true = ap (is_marked needed) (sym at) ∙ (sym says_marked ∙ is_marked_true) in
+    judged_as args outer images needed judged stage result
+    (in_turn args outer images needed judged.walk stage states lost same says is
+    ∙ first_case (is_marked needed (length judged.walk.rows)) (stage_from args outer images judged.walk stage) (kept_out judged.walk) here) h
+
+pub judged_unneeded : (args outer : Values) (images : ImagesValue Config) (needed : List Bool) (judged : Judged) (stage : ResolvedStage) (states : List (Option State)) (lost marked : Bool) (long : ℕ)
+    (result : Result Judged Memory) → states ≡ judged.walk.states → lost ≡ is_base_lost needed states stage.base → lost ≡ false
+    → long ≡ length judged.walk.rows → marked ≡ is_marked needed long → marked ≡ false
+    → IfOk result (λ more. more ≡ judged_of (with_none judged.walk) judged.faults) → IsJudged args outer images needed judged stage result
+judged_unneeded args outer images needed judged stage states lost marked long result same says is at says_marked is_marked_false more =
+    let here : is_marked needed (length judged.walk.rows) ≡ false = ap (is_marked needed) (sym at) ∙ (sym says_marked ∙ is_marked_false) in
+    left_out_by args outer images needed judged stage result
+    (in_turn args outer images needed judged.walk stage states lost same says is
+    ∙ second_case (is_marked needed (length judged.walk.rows)) (stage_from args outer images judged.walk stage) (kept_out judged.walk) here) more
+
+-- all stages
+
+-- how far the loop has come: what was listed, and then what is still to be listed, are all refusals
+unfoldable pub JudgedSoFar : Values → Values → ImagesValue Config → List Bool → List ResolvedStage → List ResolvedStage → Judged → Type 0
+JudgedSoFar args outer images needed all rest now =
+    (before : List ResolvedStage) × ((all ≡ before ++ rest)
+    × (now.faults ++ refusals_after args outer images needed now.walk rest ≡ refusals_after args outer images needed no_stage all))
+
+pub judged_first : (args outer : Values) (images : ImagesValue Config) (needed : List Bool) (all : List ResolvedStage) (first : Judged)
+    → first ≡ record { walk = no_stage; faults = [] } → JudgedSoFar args outer images needed all all first
+unfolding JudgedSoFar
+judged_first args outer images needed all first is =
+    ([], (refl, ap (λ (j : Judged). j.faults ++ refusals_after args outer images needed j.walk all) is))
+
+pub judged_more : (args outer : Values) (images : ImagesValue Config) (needed : List Bool) (all rest left : List ResolvedStage) (stage : ResolvedStage) (now more : Judged)
+    → JudgedSoFar args outer images needed all rest now → rest ≡ stage ∷ left → IsJudged args outer images needed now stage (Ok more)
+    → JudgedSoFar args outer images needed all left more
+unfolding JudgedSoFar IsJudged
+judged_more args outer images needed all rest left stage now more far is made =
+    let judged = judged_stage args outer images needed now.walk stage in
+    let later = refusals_after args outer images needed (after_judged now.walk judged) left in (
+      far.0 ++ stage ∷ [],
+      (
+        far.1.0 ∙ (ap (λ (xs : List ResolvedStage). far.0 ++ xs) is ∙ sym (append_assoc far.0 (stage ∷ []) left)),
+        ap (λ (j : Judged). j.faults ++ refusals_after args outer images needed j.walk left) made
+            ∙ (append_assoc now.faults (refusals_in judged) later
+            ∙ (ap (λ (xs : List ResolvedStage). now.faults ++ refusals_after args outer images needed now.walk xs) (sym is) ∙ far.1.1)),
+      ),
+    )
+
+pub judged_none : (args outer : Values) (images : ImagesValue Config) (needed : List Bool) (whole : List ResolvedStage) (memory : Memory)
+    → AreJudged args outer images needed whole (Err memory)
+unfolding AreJudged
+judged_none args outer images needed whole memory = tt
+
+over_by : (args outer : Values) (images : ImagesValue Config) (needed : List Bool) (rest : List ResolvedStage) (now : Judged) (told : List Rejection)
+    → now.faults ++ refusals_after args outer images needed now.walk rest ≡ told → length rest ≡ 0 → now.faults ≡ told
+over_by args outer images needed [] now told e over = sym (append-nil now.faults) ∙ e
+over_by args outer images needed (stage ∷ rest) now told e over = absurd (omega (arith, over))
+
+pub judged_all : (args outer : Values) (images : ImagesValue Config) (needed : List Bool) (all rest whole : List ResolvedStage) (now : Judged)
+    → JudgedSoFar args outer images needed all rest now → length rest ≡ 0 → all ≡ whole → AreJudged args outer images needed whole (Ok now.faults)
+unfolding JudgedSoFar AreJudged
+judged_all args outer images needed all rest whole now far over same =
+    over_by args outer images needed rest now (refusals_after args outer images needed no_stage all) far.1.1 over
+    ∙ ap (refusals_after args outer images needed no_stage) same
+
+pub judged_is : (P : ResolvedStage → Type 0) (args outer : Values) (images : ImagesValue Config) (needed : List Bool) (all rest left whole : List ResolvedStage) (stage : ResolvedStage) (now : Judged)
+    → JudgedSoFar args outer images needed all rest now → rest ≡ stage ∷ left → all ≡ whole → All P whole → P stage
+unfolding JudgedSoFar
+judged_is P args outer images needed all rest left whole stage now far is same are =
+    item_is P all far.0 rest left stage (subst (All P) (sym same) are) far.1.0 is
+
+-- a table
+
+pub table_judged : (args : Values) (images : ImagesValue Config) (table : TableValue) (outer : List Declaration) (stages : List ResolvedStage) (needed : List Bool) (result : Result (List Rejection) Memory)
+    → outer ≡ table.outer → stages ≡ table.stages → AreNeeded table.stages table.target needed → AreJudged args (value_in outer) images needed stages result
+    → IfOk result (λ faults. AreTableFaults images args table faults)
+unfolding AreJudged evaluation_refusals
+table_judged args images table outer stages needed (Ok faults) same_outer same are judged = (
+  needed,
+  are,
+  judged ∙ (ap (λ (ds : List Declaration). refusals_after args (value_in ds) images needed no_stage stages) same_outer
+      ∙ ap (refusals_after args (value_in table.outer) images needed no_stage) same),
+)
+table_judged args images table outer stages needed (Err memory) same_outer same are judged = tt
