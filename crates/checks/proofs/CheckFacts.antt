@@ -8,8 +8,6 @@ use Rattle.plain.specs.declared.memory.Memory.{Memory}
 use Rattle.plain.specs.declared.refusal.Refusal.{Refusal}
 use Rattle.expand.specs.Reasons.{rejection_of}
 use Rattle.expand.specs.declared.reason.Rejection.{Rejection}
-use Rattle.trees.specs.TreeMap.{TreeMap}
-use Rattle.plans.specs.Images.{ImagesValue}
 use Rattle.instructions.specs.declared.instruction.Instruction.{Instruction}
 use Rattle.dockerfile.specs.Dockerfile.{AreInstructions}
 use Rattle.dockerfile.specs.Faults.{AreFaults, IsChecked}
@@ -20,12 +18,11 @@ use Rattle.stages.specs.Faults.{stage_refusals}
 use Rattle.stages.specs.Table.{TableValue}
 use Rattle.imageconfig.specs.Reading.{config_in}
 use Rattle.imageconfig.specs.declared.config.Config.{Config}
-use Rattle.evaluation.specs.Evaluated.{EvaluatesTable}
-use Rattle.evaluation.specs.declared.evaluated.Evaluated.{Evaluated}
 use Rattle.bundle.specs.Reading.{ReadsBundle}
 use Rattle.bundle.specs.declared.whole.Bundle.{Bundle}
 use Rattle.checks.specs.declared.checking.Findings.{Findings}
-use Rattle.checks.specs.Checks.{refusals_in, AreTableFaults, AreStageFaults, AreFileFaults, AreFaultsOf}
+use Rattle.evaluation.specs.Faults.{AreTableFaults}
+use Rattle.checks.specs.Checks.{AreStageFaults, AreFileFaults, AreFaultsOf}
 
 -- the faults of a bundle's Dockerfile, of its stages, and of those that are in a table
 abbrev pub OfFile : Bundle Config → List Rejection → Type 0
@@ -116,17 +113,3 @@ never_refused leads known args target there is fault refusal none same e told =
     let led = leads known args target is none in
     let refused = subst (λ f. Resolves (resolved known args there is) (Err f)) e told in
     ok_or_err (resolved known args target is) led.0 refusal led.1 (subst (λ t. resolved known args t is ≡ Err refusal) same refused)
-
--- the needed stages are evaluated
-pub stages_sound : (images : ImagesValue Config) (args : Values) (context : TreeMap) (table : TableValue) (made : Evaluated) (faults : List Rejection)
-    → EvaluatesTable args images context table (Ok made) → faults ≡ [] → AreTableFaults images args table faults
-stages_sound images args context table made faults evaluates is = (evaluates.0, evaluates.1, is ∙ sym (ap refusals_in evaluates.2.1))
-
--- one of their lines is refused
-pub stages_refused : (images : ImagesValue Config) (args : Values) (context : TreeMap) (table : TableValue) (fault : Fault Rejection) (refusal : Rejection)
-    (result : Result (List Rejection) Memory) → fault ≡ Because refusal → EvaluatesTable args images context table (Err fault)
-    → IfOk result (λ faults. faults ≡ refusal ∷ []) → IfOk result (λ faults. AreTableFaults images args table faults)
-stages_refused images args context table fault refusal (Ok faults) e told is =
-    let refused = subst (λ f. EvaluatesTable args images context table (Err f)) e told in
-    (refused.0, refused.1, is ∙ sym (ap refusals_in refused.2))
-stages_refused images args context table fault refusal (Err memory) e told is = tt

@@ -23,14 +23,14 @@ use Rattle.stages.specs.Needed.{AreNeeded}
 use Rattle.stages.specs.declared.stage.ResolvedStage.{ResolvedStage}
 use Rattle.imageconfig.specs.Reading.{config_in}
 use Rattle.imageconfig.specs.declared.config.Config.{Config}
-use Rattle.evaluation.specs.Evaluated.{evaluated}
 use Rattle.evaluation.specs.Evaluated as evaluation
+use Rattle.evaluation.specs.Faults.{evaluation_refusals, AreTableFaults}
 use Rattle.evaluation.specs.declared.evaluated.Evaluated.{Evaluated}
 use Rattle.bundle.specs.Parts.{parts_of}
 use Rattle.bundle.specs.Reading.{ignore_bytes, told_line, IsBundle, Completes, ReadsBundle}
 use Rattle.bundle.specs.declared.parts.Parts.{Parts}
 use Rattle.bundle.specs.declared.whole.Bundle.{Bundle}
-use Rattle.checks.specs.Checks.{refusals_in, AreTableFaults, AreStageFaults, AreFileFaults, AreFaultsOf}
+use Rattle.checks.specs.Checks.{AreStageFaults, AreFileFaults, AreFaultsOf}
 
 -- the laws of the crates below, as premises: what each phase has to do with its faults
 pub record TextLaws : Type 0 where
@@ -123,7 +123,7 @@ faults_alike bytes a b faults these those are =
 table_one : (images : ImagesValue Config) (args : Values) (table : TableValue) (a b : List Rejection) → AreTableFaults images args table a → AreTableFaults images args table b → a ≡ b
 table_one images args table a b these those =
     let same = same_marks table.stages table.target these.0 those.0 these.1 those.1 in
-    these.2 ∙ (ap (λ marks. refusals_in (evaluated args images marks table)) same ∙ sym those.2)
+    these.2 ∙ (ap (λ marks. evaluation_refusals args images marks table) same ∙ sym those.2)
 
 same_table : (made : Result TableValue Rejection) (a b : TableValue) → made ≡ Ok a → made ≡ Ok b → a ≡ b
 same_table made a b p q = cc
@@ -171,8 +171,8 @@ some_more refusal more e = cc
 table_some : StageLaws → (images : ImagesValue Config) (args : Values) (context : TreeMap) (table : TableValue) → IsTable table
     → (faults : List Rejection) × AreTableFaults images args table faults
 table_some stages images args context table whole = elim (stages.evaluates args images context table whole) [
-  | inl (made, (needed, marked, went)) ↦ (refusals_in (evaluated args images needed table), (needed, marked, refl))
-  | inr (refusal, (needed, marked, told)) ↦ (refusals_in (evaluated args images needed table), (needed, marked, refl))
+  | inl (made, (needed, marked, went)) ↦ (evaluation_refusals args images needed table, (needed, marked, refl))
+  | inr (refusal, (needed, marked, told)) ↦ (evaluation_refusals args images needed table, (needed, marked, refl))
 ]
 
 stage_some : NameLaws → StageLaws → (images : ImagesValue Config) (args : Values) (context : TreeMap) (target : Option (List ℕ)) (is : List Instruction) → IsDockerfile is

@@ -1,5 +1,5 @@
 -- All faults of a bundle: where a build answers one refusal, the least, these are all of the first phase of reading that has one (own).
-use Rattle.std.specs.Prelude.{◌≡◌, ◌≢◌, ◌⊎◌, ℕ, List, [], ◌∷◌, map, Bool, Option, Result, Ok, Err}
+use Rattle.std.specs.Prelude.{◌≡◌, ◌≢◌, ◌⊎◌, ℕ, List, [], ◌∷◌, map, Option, Ok, Err}
 use Rattle.std.specs.FinMap.{get}
 use Rattle.plain.specs.declared.fault.Fault.TheVariants.{Because}
 use Rattle.plain.specs.declared.refusal.Refusal.{Refusal}
@@ -14,23 +14,11 @@ use Rattle.stages.specs.Naming.{names_in}
 use Rattle.stages.specs.Resolved.{resolved}
 use Rattle.stages.specs.Faults.{stage_refusals}
 use Rattle.stages.specs.Table.{TableValue}
-use Rattle.stages.specs.Needed.{AreNeeded}
 use Rattle.imageconfig.specs.Reading.{config_in}
 use Rattle.imageconfig.specs.declared.config.Config.{Config}
-use Rattle.evaluation.specs.Evaluated.{evaluated}
-use Rattle.evaluation.specs.declared.walk.Walk.{Walk}
+use Rattle.evaluation.specs.Faults.{AreTableFaults}
 use Rattle.bundle.specs.Reading.{ReadsBundle}
 use Rattle.bundle.specs.declared.whole.Bundle.{Bundle}
-
--- the refusal that an evaluation ends with, if it does
-abbrev pub refusals_in : Result Walk Rejection → List Rejection
-refusals_in (Ok walk) = []
-refusals_in (Err refusal) = refusal ∷ []
-
--- the faults of stages that are in a table: the refusal of the first line of a needed stage that is refused, if one is
-abbrev pub AreTableFaults : ImagesValue Config → Values → TableValue → List Rejection → Type 0
-AreTableFaults images args table faults =
-    (needed : List Bool) × AreNeeded table.stages table.target needed × (faults ≡ refusals_in (evaluated args images needed table))
 
 -- the faults of a file's stages: all that the names of the file are refused for; where there is nothing, those of the needed stages
 abbrev pub AreStageFaults : ImagesValue Config → Values → Option (List ℕ) → List Instruction → List Rejection → Type 0
@@ -46,7 +34,7 @@ AreFileFaults images args target text faults =
 
 -- The faults of the bytes of a bundle, in the order of their lines: the one that they are refused for as a bundle, or for their ignore file; else
 -- all of the Dockerfile's text, which are those of the first phase that has one: the whole text and its lines, or its instructions; else all of
--- its stages; else the first one of the evaluation of the needed stages. An accepted bundle has none.
+-- its stages; else those of the evaluation of the needed stages, one at most of each. An accepted bundle has none.
 abbrev pub AreFaultsOf : List ℕ → List Rejection → Type 0
 AreFaultsOf bytes faults =
     ((refusal : Refusal) × ReadsBundle config_in bytes (Err (Because refusal)) × (faults ≡ rejection_of refusal ∷ []))

@@ -5,15 +5,16 @@ ghost use Rattle.stages.specs.Faults.{stage_refusals};
 ghost use Rattle.stages.specs.Naming.{names_in};
 ghost use Rattle.plain.specs.declared.fault.Fault.TheVariants.{Because};
 ghost use Rattle.imageconfig.specs.Reading.{config_in};
+ghost use Rattle.evaluation.specs.Faults.{AreTableFaults};
 ghost use Rattle.bundle.specs.IgnoreFile.{ignore_bytes_of};
 ghost use Rattle.bundle.specs.Reading.{ReadsBundle};
 ghost use Rattle.flaws.specs.Flaws.{flaw_in};
-ghost use Rattle.checks.specs.Checks.{AreTableFaults, AreStageFaults, AreFileFaults, AreFaultsOf};
+ghost use Rattle.checks.specs.Checks.{AreStageFaults, AreFileFaults, AreFaultsOf};
 ghost use Rattle.checks.specs.Checked.{faulty_text, asked_target};
 
 use bundle::{Bundle, read_bundle, read_ignore_bytes};
 use dockerfile::Dockerfile;
-use evaluation::evaluate;
+use evaluation::list_faults;
 use expand::Rejection;
 use flaws::{Flaw, find};
 use imageconfig::Config;
@@ -38,9 +39,9 @@ pub struct Findings {
 
 /// All faults of the bytes of a bundle, of the first phase that has one, in the order of their lines (own).
 ///
-/// There is one if the bytes are no bundle (R20), if the ignore file has a bad line (R19), and if the evaluation of the stages that the target
-/// needs is refused, which stops there. The faults of the Dockerfile's text are those of `Dockerfile::check`, and the faults of its stages
-/// are those of `StageTable::faults`. An accepted bundle has none.
+/// There is one if the bytes are no bundle (R20), and if the ignore file has a bad line (R19). The faults of the Dockerfile's text are those of
+/// `Dockerfile::check`, those of its stages are those of `StageTable::faults`, and those of the evaluation of the stages that the target needs are
+/// those of `evaluation::list_faults`. An accepted bundle has none.
 pub fn check_bundle(
     alloc: Global,
     rt: &(impl Threads + Sync),
@@ -230,7 +231,7 @@ fn check_named(
     }
 }
 
-/// The fault that the evaluation of the needed stages ends with, if it does.
+/// The faults that the evaluation of the needed stages finds.
 fn check_table(
     alloc: Global,
     bundle: Bundle<Config>,
@@ -238,23 +239,7 @@ fn check_table(
 ) -> Result<Items<Rejection>, Memory>
     ensures { IfOk result (λ faults. AreTableFaults bundle.images (arg_value bundle.args) table faults) }
 {
-    let Bundle {
-        dockerfile,
-        context,
-        images,
-        args,
-        caches,
-        target,
-    } = bundle;
-    drop(dockerfile);
-    drop(caches);
-    drop(target);
-    match evaluate(alloc, table, images, context, &args) {
-        Ok(evaluated) => {
-            drop(evaluated);
-            Ok(Items::new(alloc))
-        }
-        Err(Fault::Because(refusal)) => alone(alloc, refusal),
-        Err(Fault::Memory) => Err(Memory),
-    }
+    let faults = list_faults(alloc, table, &bundle.images, &bundle.args);
+    drop(bundle);
+    faults
 }

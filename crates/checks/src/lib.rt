@@ -1,8 +1,9 @@
 // All faults of a bundle, and how a person or a program reads them.
 //
 // A build answers one refusal. `check_bundle` lists all of the first phase that has one: the bundle and its ignore file, the Dockerfile's text
-// and lines, its instructions, its stages, and the evaluation of those that the target needs. Of the evaluation it lists the first fault alone, since
-// the lines after one that is refused have no values to be judged by. It runs nothing, so it doesn't tell whether a build would fail.
+// and lines, its instructions, its stages, and the evaluation of those that the target needs. Of the evaluation it lists one fault for each stage: the
+// lines after one that is refused have no values to be judged by, nor has a stage that begins with one that is refused. It runs nothing, so it doesn't
+// tell whether a build would fail.
 //
 // `shown_faults` shows faults, each with the line that it is about, to a person or as lines of JSON. It is given the faults and their text. One
 // fault is shown in one walk through the text. Where there are several, the lines are listed first, so each is found at once. `check` does both,

@@ -1,5 +1,5 @@
 -- The refusals of a table's needed stages: the first of them, that of each stage, and their order.
-use Rattle.std.specs.Prelude.{◌≡◌, ◌≤◌, ◌+◌, ◌&&◌, ◌⊎◌, ℕ, zero, suc, Bool, true, false, List, [], ◌∷◌, ◌++◌, map, Option, Some, None, Result, Ok, Err, Contains, length, slice_get, refl, if◌then◌else◌}
+use Rattle.std.specs.Prelude.{◌≡◌, ◌+◌, ◌&&◌, ◌⊎◌, ℕ, zero, suc, Bool, true, false, List, [], ◌∷◌, ◌++◌, map, Option, Some, None, Result, Ok, Err, Contains, length, slice_get, refl, if◌then◌else◌}
 use Rattle.std.proofs.Common.{sym, ◌∙◌, ap, subst, arith, inl, inr, append-nil, length-append}
 use Rattle.std.proofs.lemmas.Bool.{true≢false}
 use Rattle.std.proofs.lemmas.List.Elements.{Contains-append_left, Contains-append_right, Contains-append_cases}
@@ -24,7 +24,6 @@ use Rattle.evaluation.specs.Evaluated.{no_stage, evaluated}
 use Rattle.evaluation.specs.Faults.{leaves_nothing, is_lost, is_base_lost, judged_stage, refusals_in, after_judged, refusals_after, evaluation_refusals, walk_before, IsStageRefused}
 use Rattle.evaluation.specs.Images.{ImageNames, with_origin, many_codes}
 use Rattle.evaluation.specs.Instruction.{fault}
-use Rattle.evaluation.specs.Refusals.{all_from}
 use Rattle.evaluation.specs.Stages.{line_codes, with_instruction, next_instruction, instructions_from, begun, with_ended, with_none, stage_from, next_stage, stages_from}
 use Rattle.evaluation.specs.declared.stage.Progress.{Progress}
 use Rattle.evaluation.specs.declared.state.State.{State}

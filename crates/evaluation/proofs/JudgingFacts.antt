@@ -1,5 +1,5 @@
 -- The walk that goes on after a refusal: a stage after those before it, and all stages one after another.
-use Rattle.std.specs.Prelude.{◌≡◌, ◌&&◌, ℕ, Bool, true, false, List, [], ◌∷◌, ◌++◌, Option, Result, Ok, Err, length, refl, IfOk, if◌then◌else◌}
+use Rattle.std.specs.Prelude.{◌≡◌, ℕ, Bool, true, false, List, [], ◌∷◌, ◌++◌, Option, Result, Ok, Err, length, refl, IfOk, if◌then◌else◌}
 use Rattle.std.specs.List.{All}
 use Rattle.std.proofs.Common.{sym, ◌∙◌, ap, subst, arith, append-nil, append_assoc}
 use Rattle.std.proofs.lemmas.Bool.{true≢false}
@@ -9,6 +9,7 @@ use Rattle.plain.specs.declared.fault.Fault.TheVariants.{Because}
 use Rattle.plain.specs.declared.memory.Memory.{Memory}
 use Rattle.expand.specs.declared.reason.Rejection.{Rejection}
 use Rattle.plans.specs.Images.{ImagesValue}
+use Rattle.rows.specs.declared.row.Stage.{Stage}
 use Rattle.scopes.specs.Evaluate.{Values}
 use Rattle.scopes.specs.Scope.{value_in}
 use Rattle.scopes.specs.declared.declaration.Declaration.{Declaration}
@@ -19,6 +20,7 @@ use Rattle.stages.specs.declared.stage.ResolvedStage.{ResolvedStage}
 use Rattle.imageconfig.specs.declared.config.Config.{Config}
 use Rattle.evaluation.specs.Evaluated.{no_stage}
 use Rattle.evaluation.specs.Faults.{is_base_lost, judged_stage, refusals_in, after_judged, with_refused, refusals_after, evaluation_refusals, AreTableFaults}
+use Rattle.evaluation.specs.Images.{ImageNames}
 use Rattle.evaluation.specs.PrivateFaults.{judged_with, IsNeededJudged, IsJudged, AreJudged}
 use Rattle.evaluation.specs.PrivateWalk.{IsEnded, IsWalk, IsStageAdded}
 use Rattle.evaluation.specs.Stages.{with_stage, with_none, stage_from, next_stage}
@@ -26,6 +28,7 @@ use Rattle.evaluation.specs.declared.faults.Judged.{Judged}
 use Rattle.evaluation.specs.declared.stage.Progress.{Progress}
 use Rattle.evaluation.specs.declared.state.State.{State}
 use Rattle.evaluation.specs.declared.walk.Walk.{Walk}
+use Rattle.evaluation.proofs.ReachedFacts.{same_ok}
 use Rattle.evaluation.proofs.StepFacts.{item_is}
 use Rattle.evaluation.proofs.WalkFacts.{added_put, added_reported}
 
@@ -33,6 +36,12 @@ abbrev judged_of : Walk → List Rejection → Judged
 judged_of walk faults = record { walk = walk; faults = faults }
 
 -- a needed stage
+
+pub stage_accepted : (rows : List (Option Stage)) (states : List (Option State)) (names : ImageNames) (walk : Walk) (faults : List Rejection) → IsWalk rows states names (Ok walk)
+    → judged_of walk faults ≡ judged_of (record { rows = rows; states = states; names = names }) faults
+unfolding IsWalk
+stage_accepted rows states names walk faults h =
+    ap (λ (w : Walk). judged_of w faults) (sym (same_ok (record { rows = rows; states = states; names = names }) walk h))
 
 accepted_by : (args outer : Values) (images : ImagesValue Config) (judged : Judged) (stage : ResolvedStage) (walk : Walk) (result : Result Judged Memory)
     → stage_from args outer images judged.walk stage ≡ Ok walk → IfOk result (λ more. more ≡ judged_of walk judged.faults)

@@ -1,5 +1,5 @@
 -- Parts of the walk that goes on after a refusal: what each of them answers.
-use Rattle.std.specs.Prelude.{◌≡◌, ◌++◌, Bool, List, [], ◌∷◌, Result, IfOk}
+use Rattle.std.specs.Prelude.{◌≡◌, ◌++◌, Bool, List, Result, IfOk}
 use Rattle.plain.specs.declared.memory.Memory.{Memory}
 use Rattle.expand.specs.declared.reason.Rejection.{Rejection}
 use Rattle.plans.specs.Images.{ImagesValue}

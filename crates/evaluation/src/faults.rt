@@ -108,12 +108,12 @@ fn accept_stage(
     progress: Progress,
 ) -> Result<Judged, Memory>
     ensures { IfOk result (λ more. more ≡ record {
-        walk = record {
-            rows = rows ++ SomeOf (record { line = line; base = base; steps = progress.steps }) ∷ [];
-            states = states ++ SomeOf progress.state ∷ [];
-            names = progress.names;
-        };
-        faults = faults;
+      walk = record {
+        rows = rows ++ SomeOf (record { line = line; base = base; steps = progress.steps }) ∷ [];
+        states = states ++ SomeOf progress.state ∷ [];
+        names = progress.names;
+      };
+      faults = faults;
     }) }
 {
     match end_stage(rows, states, line, base, progress) {

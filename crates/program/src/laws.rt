@@ -17,6 +17,7 @@ pub fn the_first_fault_is_the_refusal()
     dockerfile::laws::each_text_has_its_faults();
     dockerfile::laws::the_first_fault_is_the_refusal();
     stages::laws::the_first_fault_is_the_refusal();
+    evaluation::laws::the_first_fault_is_the_refusal();
     checks::laws::each_bundle_has_its_faults();
     build::laws::every_bundle_has_an_answer();
 }
