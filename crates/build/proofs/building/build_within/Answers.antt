@@ -1,4 +1,5 @@
 use Rattle.std.proofs.Common.{◌+◌, ap}
+use Rattle.memo.proofs.GrowLemmas.{grows-same}
 use Rattle.build.specs.Ends.{Devices, devices}
 use Rattle.build.proofs.BuildingFacts.{read_of, loses_at_most, has_told}
 use Rattle.build.proofs.building.build_within.Goals as goal
@@ -15,3 +16,7 @@ returns g c =
       taken = loses_at_most _ old.left new.left _ c.in_ok-bytes.ensures.bytes;
       memo = c.tell_bundle.ensures.memo;
     }
+
+-- nothing is built
+pub returns-in_err-bytes-clause-memo : goal.returns-in_err-bytes-clause-memo
+returns-in_err-bytes-clause-memo g c = grows-same c.args.memo.now

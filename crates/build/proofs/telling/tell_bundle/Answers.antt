@@ -22,3 +22,6 @@ returns-in-Err-Because-clause-told g c =
 -- nothing is built
 pub returns-in-Err-Because-clause-memo : goal.returns-in-Err-Because-clause-memo
 returns-in-Err-Because-clause-memo g c = grows-same c.args.memo.now
+
+pub returns-in-Err-Memory-clause-memo : goal.returns-in-Err-Memory-clause-memo
+returns-in-Err-Memory-clause-memo g c = grows-same c.args.memo.now
