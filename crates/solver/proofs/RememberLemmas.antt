@@ -1,10 +1,11 @@
 -- What a board is settled with may be added to a memo, under the numbers of trees that the memo keeps.
-use Rattle.std.proofs.Common.{◌≡◌, ◌∙◌, ◌<◌, ◌≤◌, ◌⊎◌, inl, inr, ℕ, zero, suc, false, List, [], ◌∷◌, ◌++◌, length, map, Option, Some, None, Result, Ok, OnOk, OnErr, refl, sym, ap, subst, arith}
+use Rattle.std.proofs.Common.{◌≡◌, ◌∙◌, ◌<◌, ◌≤◌, ◌⊎◌, inl, inr, ℕ, zero, suc, false, List, [], ◌∷◌, ◌++◌, length, map, Option, Some, None, Result, Ok, Err, IfOk, OnOk, OnErr, refl, sym, ap, subst, arith}
 use Rattle.std.specs.Prelude.{IfSome, slice_get, slice_index_or, slice_set}
 use Rattle.std.specs.List.{All}
 use Rattle.std.proofs.lemmas.Bool.{cases_eq, cases_lt}
 use Rattle.std.proofs.lemmas.List.{append-nil, length-append, get_or_append_left, get_or_past, get_or-set_same, get_or-set_other}
 use Rattle.std.proofs.lemmas.List.Elements.{All-push}
+use Rattle.std.proofs.lemmas.Option.{slice_get_within, slice_get-get_or, get_or_from_slice_get}
 use Rattle.std.proofs.Math.Seq.{get_or-append_seam}
 use Rattle.trees.specs.TreeMap.{TreeMap, empty_tree}
 use Rattle.llb.specs.declared.op.Op.{Op}
@@ -22,7 +23,8 @@ use Rattle.memo.specs.Kept.{Keeps, KeepsAll, kept_trees}
 use Rattle.memo.specs.Memo.{Entry, MemoValue, is_source, entry_of, with_kept, IsLawful, Adds, Grows}
 use Rattle.memo.proofs.GrowLemmas.{grows-same, grows-on, added-grows}
 use Rattle.solver.proofs.RecallLemmas.{numbers-push}
-use Rattle.solver.specs.Recall.{IsKept, AreKept, Remembers, IsPut}
+use Rattle.solver.specs.Recall.{IsKept}
+use Rattle.solver.specs.PrivateRemembering.{AreKept, Remembers, IsPut}
 
 -- ---- what may be added
 
@@ -116,15 +118,28 @@ keep-grows memo tree = record {
   earlier = refl;
 }
 
-last-kept : (values : List Value) (trees : List TreeMap) (tree : TreeMap) (vertex number : ℕ) → number ≡ length trees → slice_index_or values vertex None ≡ Some (Ok tree) → IsKept values (trees ++ tree ∷ []) vertex number
-last-kept values trees tree vertex number e value =
+last-stands : (trees : List TreeMap) (tree : TreeMap) (number : ℕ) → number ≡ length trees → slice_get (trees ++ tree ∷ []) number ≡ Some tree
+last-stands trees tree number e =
+    let within : number < length (trees ++ tree ∷ []) = omega (arith, e, length-append trees (tree ∷ [])) in
     let here : slice_index_or (trees ++ tree ∷ []) number empty_tree ≡ tree = subst (λ n. slice_index_or (trees ++ tree ∷ []) n empty_tree ≡ tree) (sym e) (get_or-append_seam trees tree [] empty_tree) in
-    record { below = omega (arith, e, length-append trees (tree ∷ [])); value = value ∙ ap (λ t. Some (Ok t)) (sym here) }
+    slice_get-get_or (trees ++ tree ∷ []) number empty_tree within ∙ ap Some here
 
--- the tree that was kept last is that of its vertex
-pub kept-last : {E : Type 0} (values : List Value) (old new : MemoValue E) (tree : TreeMap) (vertex number : ℕ) → new ≡ with_kept old tree → number ≡ length old.recent.trees → slice_index_or values vertex None ≡ Some (Ok tree) → IsKept values new.recent.trees vertex number
-kept-last values old new tree vertex number e last value =
-    subst (λ (m : MemoValue _). IsKept values m.recent.trees vertex number) (sym e) (last-kept values old.recent.trees tree vertex number last value)
+-- the tree that was kept last stands under its number
+pub kept-stands : {E Y : Type 0} (old new : MemoValue E) (tree : TreeMap) (result : Result ℕ Y) → IfOk result (λ number. number ≡ length old.recent.trees) → OnOk result (new ≡ with_kept old tree) → IfOk result (λ number. slice_get new.recent.trees number ≡ Some tree)
+kept-stands old new tree (Ok number) last e =
+    subst (λ (m : MemoValue _). slice_get m.recent.trees number ≡ Some tree) (sym e) (last-stands old.recent.trees tree number last)
+kept-stands old new tree (Err y) last e = last
+
+pub kept-grows : {E X Y : Type 0} (old new : MemoValue E) (tree : TreeMap) (result : Result X Y) → OnOk result (new ≡ with_kept old tree) → OnErr result (new ≡ old) → Grows old new
+kept-grows old new tree (Ok x) ok err = subst (Grows old) (sym ok) (keep-grows old tree)
+kept-grows old new tree (Err y) ok err = subst (Grows old) (sym err) (grows-same old)
+
+-- a tree that stands under a number is that of its vertex
+pub kept-there : (values : List Value) (trees : List TreeMap) (tree : TreeMap) (vertex number : ℕ) → slice_get trees number ≡ Some tree → slice_index_or values vertex None ≡ Some (Ok tree) → IsKept values trees vertex number
+kept-there values trees tree vertex number there value = record {
+  below = slice_get_within trees number tree there;
+  value = value ∙ ap (λ t. Some (Ok t)) (sym (get_or_from_slice_get trees number tree empty_tree there));
+}
 
 put_case : (values : List Value) (trees : List TreeMap) (old : List (Option ℕ)) (place number vertex other : ℕ) → AreKept values trees old → IsKept values trees place number → place < length old → slice_index_or (slice_set old place (Some number)) vertex None ≡ Some other → (vertex ≡ place) ⊎ (vertex ≡ place → ⊥) → IsKept values trees vertex other
 put_case values trees old place number vertex other are is l e (inl here) =
@@ -141,14 +156,16 @@ put-kept values trees old new place number are is (inl same) = subst (AreKept va
 put-kept values trees old new place number are is (inr set) = λ vertex other e.
     put_case values trees old place number vertex other are is set.0 (subst (λ ns. slice_index_or ns vertex None ≡ Some other) set.1 e) (cases_eq vertex place)
 
--- a tree more, with its number
-pub remembers-kept : {E : Type 0} (values : List Value) (old new : MemoValue E) (tree : TreeMap) (vertex number : ℕ) (numbers after : List (Option ℕ)) → new ≡ with_kept old tree → number ≡ length old.recent.trees → slice_index_or values vertex None ≡ Some (Ok tree) → AreKept values old.recent.trees numbers → IsPut numbers after vertex number → Remembers values old new after
-remembers-kept values old new tree vertex number numbers after e last value are is =
-    let grows : Grows old new = subst (Grows old) (sym e) (keep-grows old tree) in
-    record {
-      grows = grows;
-      kept = put-kept values new.recent.trees numbers after vertex number (all-kept-on values old new numbers grows are) (kept-last values old new tree vertex number e last value) is;
-    }
+-- the number of a tree more
+pub remembers-there : {E : Type 0} (values : List Value) (old new : MemoValue E) (tree : TreeMap) (vertex number : ℕ) (numbers after : List (Option ℕ)) → Grows old new → slice_get new.recent.trees number ≡ Some tree → slice_index_or values vertex None ≡ Some (Ok tree) → AreKept values old.recent.trees numbers → IsPut numbers after vertex number → Remembers values old new after
+remembers-there values old new tree vertex number numbers after grows there value are is = record {
+  grows = grows;
+  kept = put-kept values new.recent.trees numbers after vertex number (all-kept-on values old new numbers grows are) (kept-there values new.recent.trees tree vertex number there value) is;
+}
+
+-- no number more
+pub remembers-grown : {E : Type 0} (values : List Value) (old new : MemoValue E) (numbers : List (Option ℕ)) → Grows old new → AreKept values old.recent.trees numbers → Remembers values old new numbers
+remembers-grown values old new numbers grows are = record { grows = grows; kept = all-kept-on values old new numbers grows are }
 
 -- ---- the trees of inputs
 

@@ -1,5 +1,5 @@
 -- What is known of the trees of a problem's vertices in a memo: under which number it keeps a vertex's tree.
-use Rattle.std.specs.Prelude.{◌≡◌, ◌<◌, ◌⊎◌, ℕ, List, [], ◌∷◌, ◌++◌, length, Option, Some, None, Ok, IfSome, slice_index_or, slice_set}
+use Rattle.std.specs.Prelude.{◌≡◌, ◌<◌, ◌⊎◌, ℕ, List, length, Option, None, Some, Ok, IfSome, slice_index_or}
 use Rattle.trees.specs.TreeMap.{TreeMap, empty_tree}
 use Rattle.runs.specs.declared.run.RunRequest.{RunRequest}
 use Rattle.plans.specs.Plan.{Problem}
@@ -8,7 +8,6 @@ use Rattle.board.specs.Leaving.{Leaving}
 use Rattle.board.specs.Problem.{values_in}
 use Rattle.memo.specs.declared.number.Age.{Age}
 use Rattle.memo.specs.declared.number.Age.TheVariants.{Recent, Earlier}
-use Rattle.memo.specs.Memo.{MemoValue, Grows}
 use Rattle.solver.specs.declared.finding.Finding.{Finding}
 
 -- the tree of a vertex, by the values of all of them, is kept under this number (own)
@@ -20,11 +19,6 @@ pub record IsKept (values : List Value) (kept : List TreeMap) (vertex number : �
 abbrev pub number_in : Finding → Age → Option ℕ
 number_in finding Recent = finding.recent
 number_in finding Earlier = finding.earlier
-
--- the trees of one of two generations (own)
-abbrev pub trees_of : Age → List TreeMap → List TreeMap → List TreeMap
-trees_of Recent recent earlier = recent
-trees_of Earlier recent earlier = earlier
 
 -- the numbers in a finding are those of the vertex's tree, by the values of all vertices and the trees of both generations (own)
 pub record IsFinding (values : List Value) (recent earlier : List TreeMap) (vertex : ℕ) (finding : Finding) : Type 0 where
@@ -47,16 +41,3 @@ leaves_or_stays knows leaves request before after = leaves request before after 
 -- the trees may stay as they were in the caches of each request that is known (own)
 abbrev pub MayStay : (RunRequest → Type 0) → Leaving → Type 0
 MayStay knows leaves = (request : RunRequest) (trees : List TreeMap) → knows request → leaves request trees trees
-
--- a number that is known for a vertex is that of its tree, by the values of all vertices (own)
-abbrev pub AreKept : List Value → List TreeMap → List (Option ℕ) → Type 0
-AreKept values kept numbers = (vertex number : ℕ) → slice_index_or numbers vertex None ≡ Some number → IsKept values kept vertex number
-
--- a memo has grown, and these numbers are those of its recent trees (own)
-pub record Remembers {E : Type 0} (values : List Value) (old new : MemoValue E) (numbers : List (Option ℕ)) : Type 0 where
-  pub grows : Grows old new
-  pub kept : AreKept values new.recent.trees numbers
-
--- a number was put at a place, if there is such a place (own)
-abbrev pub IsPut : List (Option ℕ) → List (Option ℕ) → ℕ → ℕ → Type 0
-IsPut old new place number = (new ≡ old) ⊎ ((place < length old) × (new ≡ slice_set old place (Some number)))

@@ -1,9 +1,10 @@
 // What follows where a plan's target needs every vertex, and what of a memo: each function's contract is one law, and its body is empty.
-ghost use Rattle.std.specs.Prelude.{◌≡◌, ℕ, Bool};
+ghost use Rattle.std.specs.Prelude.{◌≡◌, ℕ, Bool, List};
+ghost use Rattle.cachemounts.specs.declared.content.Content.{Content};
 ghost use Rattle.trees.specs.declared.cause.Cause.{Cause};
 ghost use Rattle.plans.specs.Plan.{PlanValue, IsPlan, Problem, problem_of, NeedsAll, HasLinesInOrder};
 ghost use Rattle.plans.specs.Value.{Out};
-ghost use Rattle.board.specs.Leaving.{LeaveTheSame};
+ghost use Rattle.board.specs.Leaving.{LeaveTheSame, AreLeftByRuns, AreLeftAtEnd};
 ghost use Rattle.board.specs.Problem.{IsProblem};
 ghost use Rattle.memo.specs.Memo.{Knows, new_memo};
 ghost use Rattle.solver.specs.Answer.{IsAnswer, AreAlike};
@@ -36,8 +37,14 @@ pub fn failures_name_the_first_line()
         → IsFailure problem vertex place cause → IsFailure problem other line why → place ≡ line }
 {}
 
-/// A memo without an entry lets nothing stay in a cache: after a solve with such a one, what stands there the executor left.
+/// A memo without an entry lets nothing stay in a cache: what a solve with such a one leaves there, the executor left.
 pub fn a_new_memo_lets_nothing_stay<E: Executor>()
-    ensures { (executor : E) (is_for_one_build : Bool)
+    ensures same { (executor : E) (is_for_one_build : Bool)
         → LeaveTheSame (leaves_or_stays (Knows (new_memo executor is_for_one_build)) (E.leaves executor)) (E.leaves executor) }
+    ensures runs { (executor : E) (is_for_one_build : Bool) (problem : Problem) (first contents : List Content)
+        → AreLeftByRuns (leaves_or_stays (Knows (new_memo executor is_for_one_build)) (E.leaves executor)) problem first contents
+        → AreLeftByRuns (E.leaves executor) problem first contents }
+    ensures ended { (executor : E) (is_for_one_build : Bool) (problem : Problem) (first contents : List Content)
+        → AreLeftAtEnd (leaves_or_stays (Knows (new_memo executor is_for_one_build)) (E.leaves executor)) problem first contents
+        → AreLeftAtEnd (E.leaves executor) problem first contents }
 {}

@@ -1,4 +1,4 @@
-ghost use Rattle.std.specs.Prelude.{◌≡◌, None, Some, Ok as OkOf, IfOk, IfSome, slice_get, slice_index_or};
+ghost use Rattle.std.specs.Prelude.{◌≡◌, [], None, Some, Ok as OkOf, IfOk, IfSome, IfNone, slice_get, slice_index_or};
 ghost use Rattle.board.specs.Claim.{IsClaim, IsResult};
 ghost use Rattle.board.specs.Job.{job_problem};
 ghost use Rattle.board.specs.Leaving.{IsLeftFor};
@@ -25,7 +25,7 @@ use trees::{Tree, TreeOrCause};
 /// A memo that is asked while a problem is solved, and what was found in it: the numbers that it has for the trees of the problem's vertices. So a tree that
 /// was found is known by its number to whoever asks next, and is walked by nobody.
 ///
-/// A tree whose number isn't known is sought in the memo once at most, and only where that pays. A source is sought, since it was read in this build, which
+/// A tree whose number isn't known is sought in the memo, mostly once, and only where that pays. A source is sought, since it was read in this build, which
 /// takes longer than a walk. What a command gave isn't, since it ran on trees that aren't known, or is new. What a copy gave is sought where a command runs
 /// on it, if the tree is known into which the files were copied: then files may have come that were there in an earlier build, out of a folder in which
 /// others changed.
@@ -65,6 +65,8 @@ impl<'m, 'k, E: Executor, N: Numbering> Recall<'m, 'k, E, N> {
         requires recent { memo.now.recent.trees ≡ N.recent }
         requires earlier { memo.now.earlier.trees ≡ N.earlier }
         requires knows { (request : RunRequest) → Knows memo.now request → N.knows request }
+        ensures memo { IfOk result (λ found. IfSome found (λ recall. recall ≡ memo.now)) }
+        ensures none { IfOk result (λ found. IfNone found ((memo.now.recent.entries ≡ []) × (memo.now.earlier.entries ≡ []))) }
     {
         if memo.recent_len() == 0 && memo.earlier_len() == 0 {
             return Ok(None);
@@ -204,18 +206,18 @@ impl<'m, 'k, E: Executor, N: Numbering> Recall<'m, 'k, E, N> {
         requires { slice_index_or N.values vertex None ≡ Some (OkOf tree.now) }
         ensures { IfSome result (IsFinding N.values N.recent N.earlier vertex) }
     {
-        let Some(told) = job.graph().vertex(vertex) else {
+        let Some(node) = job.graph().vertex(vertex) else {
             return None;
         };
-        match &told.op {
+        match &node.op {
             Op::Source(_) => Some(Finding {
-                recent: self.memo.source_number(Age::Recent, &told.op, tree),
-                earlier: self.memo.source_number(Age::Earlier, &told.op, tree),
+                recent: self.memo.source_number(Age::Recent, &node.op, tree),
+                earlier: self.memo.source_number(Age::Earlier, &node.op, tree),
                 is_remembered: false,
             }),
             Op::Exec(_) => None,
             _ => {
-                if !is_command(op) || !self.is_base_known(told) {
+                if !is_command(op) || !self.is_base_known(node) {
                     return None;
                 }
                 Some(Finding {

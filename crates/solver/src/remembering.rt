@@ -1,10 +1,11 @@
-ghost use Rattle.std.specs.Prelude.{◌≡◌, ◌<◌, Some, IfOk, IfSome, OnOk, OnErr, IsTrue, length};
+ghost use Rattle.std.specs.Prelude.{◌≡◌, ◌<◌, Some, IfOk, IfSome, IsTrue, length, slice_get};
 ghost use Rattle.board.specs.Board.{board_problem};
 ghost use Rattle.board.specs.Problem.{values_in};
 ghost use Rattle.plans.specs.Value.{trees_at};
 ghost use Rattle.memo.specs.Kept.{KeepsAll, kept_trees};
-ghost use Rattle.memo.specs.Memo.{is_source, with_kept, Grows};
-ghost use Rattle.solver.specs.Recall.{AreKept, IsKept, IsPut, Remembers};
+ghost use Rattle.memo.specs.Memo.{is_source, Grows};
+ghost use Rattle.solver.specs.Recall.{IsKept};
+ghost use Rattle.solver.specs.PrivateRemembering.{AreKept, IsPut, Remembers};
 
 use crate::Numbering;
 use crate::finding::Findings;
@@ -12,7 +13,7 @@ use crate::running::vertex_at;
 use board::{Board, Job};
 use executor::Executor;
 use llb::{Op, VertexId};
-use memo::Memo;
+use memo::{Age, Memo};
 use plain::{Items, Memory};
 use std::alloc::Global;
 use trees::Tree;
@@ -116,17 +117,17 @@ fn remember_vertex<E: Executor, M: Executor>(
     ensures { Remembers (values_in (board_problem E.out board.now)) memo.old memo.new kept.new.items }
 {
     let _known = board.history();
-    let told = vertex_at(board.job(), vertex);
-    if is_source(&told.op) {
+    let node = vertex_at(board.job(), vertex);
+    if is_source(&node.op) {
         return Ok(());
     }
     let Some(tree) = keep_tree(alloc, memo, board, kept, vertex)? else {
         return Ok(());
     };
-    let Some(inputs) = keep_trees(alloc, memo, board, kept, told.inputs.as_slice())? else {
+    let Some(inputs) = keep_trees(alloc, memo, board, kept, node.inputs.as_slice())? else {
         return Ok(());
     };
-    memo.add_kept(alloc, &told.op, inputs, tree)
+    memo.add_kept(alloc, &node.op, inputs, tree)
 }
 
 /// Whether an operation is a source.
@@ -191,7 +192,7 @@ fn keep_tree<E: Executor, M: Executor>(
     }
 }
 
-/// Keeps the tree of a vertex, as a source's if it is one.
+/// The number of the tree of a vertex, which a memo keeps from now on if it didn't. That of a source is looked for first, since its tree comes anew in each build.
 fn keep<E: Executor, M: Executor>(
     alloc: Global,
     memo: &mut Memo<M>,
@@ -199,16 +200,19 @@ fn keep<E: Executor, M: Executor>(
     vertex: VertexId,
     tree: &Tree,
 ) -> Result<usize, Memory>
-    ensures number { IfOk result (λ number. number ≡ length memo.old.recent.trees) }
-    ensures ok { OnOk result (memo.new ≡ with_kept memo.old tree.now) }
-    ensures err { OnErr result (memo.new ≡ memo.old) }
+    ensures there { IfOk result (λ number. slice_get memo.new.recent.trees number ≡ Some tree.now) }
+    ensures grows { Grows memo.old memo.new }
 {
-    if let Some(found) = job.graph().vertex(vertex) {
-        if is_source(&found.op) {
-            return memo.keep_source(alloc, &found.op, tree);
-        }
+    let Some(node) = job.graph().vertex(vertex) else {
+        return memo.keep(alloc, tree);
+    };
+    if !is_source(&node.op) {
+        return memo.keep(alloc, tree);
     }
-    memo.keep(alloc, tree)
+    match memo.source_number(Age::Recent, &node.op, tree) {
+        Some(number) => Ok(number),
+        None => memo.keep_source(alloc, &node.op, tree),
+    }
 }
 
 /// Puts a number at a place, if there is such a place.

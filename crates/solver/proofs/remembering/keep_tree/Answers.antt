@@ -3,8 +3,8 @@ use Rattle.std.specs.Prelude.{slice_index_or}
 use Rattle.board.specs.Board.{board_problem}
 use Rattle.board.specs.Play.{value_at}
 use Rattle.board.specs.Problem.{values_in}
-use Rattle.solver.specs.Recall.{IsPut, Remembers}
-use Rattle.solver.proofs.RememberLemmas.{remembers-same, remembers-kept, kept-last, settled-tree}
+use Rattle.solver.specs.PrivateRemembering.{IsPut}
+use Rattle.solver.proofs.RememberLemmas.{remembers-same, remembers-there, remembers-grown, kept-there, settled-tree}
 use Rattle.solver.proofs.remembering.keep_tree.Goals as goal
 
 pub returns-in-Some-Some-clause-remembers : goal.returns-in-Some-Some-clause-remembers
@@ -20,8 +20,7 @@ returns-in-Some-Some-clause-number g c =
 
 pub returns-in_err-number-in-Some-Ok-clause-remembers : goal.returns-in_err-number-in-Some-Ok-clause-remembers
 returns-in_err-number-in-Some-Ok-clause-remembers g c =
-    let values = values_in (board_problem g.E.Executor.out c.args.board.now) in
-    subst (λ m. Remembers values c.args.memo.now m c.args.kept.now.items) (sym c.in_err-number-in-Some-Ok.ensures.err) (remembers-same values c.args.memo.now c.args.kept.now.items c.requires)
+    remembers-grown (values_in (board_problem g.E.Executor.out c.args.board.now)) c.args.memo.now c.keep.new.memo c.args.kept.now.items c.keep.ensures.grows c.requires
 
 pub returns-in_ok-number-in-Some-Ok-clause-remembers : goal.returns-in_ok-number-in-Some-Ok-clause-remembers
 returns-in_ok-number-in-Some-Ok-clause-remembers g c =
@@ -33,7 +32,7 @@ returns-in_ok-number-in-Some-Ok-clause-remembers g c =
     let settled : value_at board.run.state.settled vertex ≡ Some (Ok tree) = first_of (search rules, cc) in
     let value : slice_index_or (values_in problem) vertex None ≡ Some (Ok tree) = settled-tree problem board.run vertex tree is.problem is.replay settled in
     let put : IsPut c.args.kept.now.items c.put.new.numbers.items vertex c.in_ok-number-in-Some-Ok.number = subst (λ at. IsPut c.args.kept.now.items c.put.new.numbers.items at c.in_ok-number-in-Some-Ok.number) c.index-in-Some-Ok.ensures c.put.ensures in
-    remembers-kept (values_in problem) c.args.memo.now c.keep.new.memo tree vertex c.in_ok-number-in-Some-Ok.number c.args.kept.now.items c.put.new.numbers.items c.in_ok-number-in-Some-Ok.ensures.ok c.in_ok-number-in-Some-Ok.ensures.number value c.requires put
+    remembers-there (values_in problem) c.args.memo.now c.keep.new.memo tree vertex c.in_ok-number-in-Some-Ok.number c.args.kept.now.items c.put.new.numbers.items c.keep.ensures.grows c.in_ok-number-in-Some-Ok.ensures.there value c.requires put
 
 pub returns-in_ok-number-in-Some-Ok-clause-number : goal.returns-in_ok-number-in-Some-Ok-clause-number
 returns-in_ok-number-in-Some-Ok-clause-number g c =
@@ -44,7 +43,7 @@ returns-in_ok-number-in-Some-Ok-clause-number g c =
     let tree = c.in-Some-Ok.tree in
     let settled : value_at board.run.state.settled vertex ≡ Some (Ok tree) = first_of (search rules, cc) in
     let value : slice_index_or (values_in problem) vertex None ≡ Some (Ok tree) = settled-tree problem board.run vertex tree is.problem is.replay settled in
-    kept-last (values_in problem) c.args.memo.now c.keep.new.memo tree vertex c.in_ok-number-in-Some-Ok.number c.in_ok-number-in-Some-Ok.ensures.ok c.in_ok-number-in-Some-Ok.ensures.number value
+    kept-there (values_in problem) c.keep.new.memo.recent.trees tree vertex c.in_ok-number-in-Some-Ok.number c.in_ok-number-in-Some-Ok.ensures.there value
 
 pub returns-in_default-value-clause-remembers : goal.returns-in_default-value-clause-remembers
 returns-in_default-value-clause-remembers g c = remembers-same (values_in (board_problem g.E.Executor.out c.args.board.now)) c.args.memo.now c.args.kept.now.items c.requires

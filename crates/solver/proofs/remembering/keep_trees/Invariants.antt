@@ -3,7 +3,7 @@ use Rattle.board.specs.Board.{board_problem}
 use Rattle.board.specs.Problem.{values_in}
 use Rattle.plans.specs.Value.{trees_at}
 use Rattle.memo.specs.Kept.{KeepsAll, kept_trees}
-use Rattle.solver.specs.Recall.{Remembers}
+use Rattle.solver.specs.PrivateRemembering.{Remembers}
 use Rattle.solver.proofs.remembering.keep_trees.Given as goal
 
 -- the numbers so far are those of the trees of the first vertices

@@ -1,7 +1,8 @@
 use Rattle.std.proofs.Common.{◌∷◌, [], length, ap, sym, subst, arith}
 use Rattle.std.proofs.lemmas.List.{length-append}
 use Rattle.std.specs.Prelude.{IfSome}
-use Rattle.solver.specs.Recall.{AreKept, IsKept}
+use Rattle.solver.specs.Recall.{IsKept}
+use Rattle.solver.specs.PrivateRemembering.{AreKept}
 use Rattle.solver.proofs.RememberLemmas.{kept-none, kept-push}
 use Rattle.solver.proofs.remembering.known_numbers.Goals as goal
 

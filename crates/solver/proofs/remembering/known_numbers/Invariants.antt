@@ -1,5 +1,5 @@
 use Rattle.std.proofs.Common.{◌≡◌, length}
-use Rattle.solver.specs.Recall.{AreKept}
+use Rattle.solver.specs.PrivateRemembering.{AreKept}
 use Rattle.solver.proofs.remembering.known_numbers.Given as goal
 
 -- the numbers so far are those of the first vertices

@@ -1,6 +1,6 @@
 use Rattle.std.proofs.Common.{sym, subst}
 use Rattle.memo.proofs.GrowLemmas.{grows-same, grows-on}
-use Rattle.solver.specs.Recall.{AreKept, Remembers}
+use Rattle.solver.specs.PrivateRemembering.{AreKept, Remembers}
 use Rattle.solver.proofs.RememberLemmas.{remembers-same, remembers-on}
 use Rattle.solver.proofs.remembering.remember_all.Goals as goal
 

@@ -1,4 +1,4 @@
-use Rattle.solver.specs.Recall.{Remembers}
+use Rattle.solver.specs.PrivateRemembering.{Remembers}
 use Rattle.solver.proofs.remembering.remember_all.Given as goal
 
 -- the memo has grown, and the numbers are those of its trees

@@ -37,19 +37,19 @@ pub add_kept-requires-clause-lawful : goal.add_kept-requires-clause-lawful
 add_kept-requires-clause-lawful g c κs within =
     let problem = board_problem g.E.Executor.out c.args.board.now in
     let known = c.history-known.ensures in
-    let told = c.vertex_at-told.result.now in
+    let node = c.vertex_at-node.result.now in
     let memo = c.keep_trees.new.memo in
     let here = rw c.in-Some.is at c.in_ok-tree.ensures.number in
     let is = kept-on (values_in problem) c.keep_tree.new.memo memo c.args.vertex c.in-Some.tree c.keep_trees.ensures.remembers.grows here in
-    let there : slice_get problem.vertices c.args.vertex ≡ Some told = search rules in
-    let runs : is_source told.op ≡ false = search rules in
+    let there : slice_get problem.vertices c.args.vertex ≡ Some node = search rules in
+    let runs : is_source node.op ≡ false = search rules in
     let grows = grows-on c.args.memo.now c.keep_tree.new.memo memo c.keep_tree.ensures.remembers.grows c.keep_trees.ensures.remembers.grows in
     let inputs = kept_trees memo.recent c.in-Some-2.inputs in
     let tree = kept_tree memo.recent c.in-Some.tree in
     let given = rw c.in-Some-2.is at c.in_ok-inputs.ensures.trees in
-    let trees : trees_at (values_in problem) told.inputs ≡ Some inputs = subst (λ ids. trees_at (values_in problem) ids ≡ Some inputs) c.as_slice.ensures given in
-    let lawful = value-lawful problem c.args.vertex told inputs tree known.problem there runs is.value trees in
-    subst (λ out. IsLawful out (entry_of told.op inputs tree)) (sym (ap g.M.Executor.out grows.executor ∙ c.requires.executor)) lawful
+    let trees : trees_at (values_in problem) node.inputs ≡ Some inputs = subst (λ ids. trees_at (values_in problem) ids ≡ Some inputs) c.as_slice.ensures given in
+    let lawful = value-lawful problem c.args.vertex node inputs tree known.problem there runs is.value trees in
+    subst (λ out. IsLawful out (entry_of node.op inputs tree)) (sym (ap g.M.Executor.out grows.executor ∙ c.requires.executor)) lawful
 
 pub returns : goal.returns
 returns g c =
