@@ -8,6 +8,9 @@
 // under what was set before it, up to the first line that is refused (specs/Refusals.antt). A stage that the target doesn't need is
 // left out: nothing of it is evaluated, and nothing is refused.
 //
+// `list_faults` goes on after a line that is refused, with the stages that don't begin with the refused one, and answers the refusals alone
+// (`evaluation_refusals` in specs/Faults.antt).
+//
 // Heavy values are dropped by name where a function ends early: the prover then meets a call, and doesn't walk the value at each end.
 //
 // ```
