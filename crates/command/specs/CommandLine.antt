@@ -99,9 +99,17 @@ asking_command = with_subcommand (with_subcommand bundle_command pack_command.to
 abbrev pub llb_options : App
 llb_options = with_rule (with_rule (with_rule (new_app (codes "llb")) (text_option (codes "platform"))) (text_option (codes "network"))) (text_option (codes "unique"))
 
--- `llb [--platform P] [--network N] --unique TEXT [FILE]` (own)
+-- `--follow` (own)
+abbrev pub follow_flag : Rule
+follow_flag = record (new_rule (codes "follow")) { long = Some (codes "follow"); action = Some SetTrue }
+
+-- `llb [--platform P] [--network N] --unique TEXT [--merge M] [--follow]` (own)
+abbrev pub llb_choices : App
+llb_choices = with_rule (with_rule llb_options (text_option (codes "merge"))) follow_flag
+
+-- `llb [--platform P] [--network N] --unique TEXT [--merge M] [--follow] [FILE]` (own)
 abbrev pub llb_command : App
-llb_command = with_rule llb_options bundle_argument
+llb_command = with_rule llb_choices bundle_argument
 
 -- `config [FILE]` (own)
 abbrev pub config_command : App

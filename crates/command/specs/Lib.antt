@@ -1,3 +1,4 @@
 pub mod CommandLine
+pub mod Flags
 pub mod Llb
 pub mod Tasks

@@ -2,7 +2,10 @@
 use Rattle.std.specs.Prelude.{◌==◌, ◌&&◌, Bool, not, List, Option, Some, None, length, codes, bytes_eq, unwrap_or, option_map, option_and_then, if◌then◌else◌}
 use Rattle.std.specs.List.{position_or_len, before_first, after_first}
 use Rattle.clap.specs.Words.{Row, Text, first_of}
+use Rattle.command.specs.Flags.{is_set}
 use Rattle.command.specs.declared.task.LlbOptions.{LlbOptions}
+use Rattle.command.specs.declared.task.MergeName.{MergeName}
+use Rattle.command.specs.declared.task.MergeName.TheVariants.{Native, Chain}
 use Rattle.command.specs.declared.task.NetworkName.{NetworkName}
 use Rattle.command.specs.declared.task.NetworkName.TheVariants.{Usual, Absent, Host}
 use Rattle.command.specs.declared.task.PlatformName.{PlatformName}
@@ -14,6 +17,10 @@ default_platform = codes "linux/amd64"
 -- the network of words that name none
 abbrev pub default_network : Text
 default_network = codes "default"
+
+-- what a merge is by words that don't say it
+abbrev pub default_merge : Text
+default_merge = codes "native"
 
 -- what stands before the first `/` of a text, all of it where there is none, and what stands after that
 abbrev pub before_slash : Text → Text
@@ -61,11 +68,24 @@ network_named name =
 abbrev pub network_of : List Row → Option NetworkName
 network_of rows = network_named (unwrap_or (first_of (codes "network") rows) default_network)
 
--- what `llb` is asked for by its matches, with this text that no other build has, this platform and this network
-abbrev pub llb_with : List Row → Text → PlatformName → NetworkName → LlbOptions
-llb_with rows unique platform network = record { file = first_of (codes "FILE") rows; platform = platform; network = network; unique = unique }
+-- what a merge is by a name
+abbrev pub merge_named : Text → Option MergeName
+merge_named name = if bytes_eq name (codes "native") then Some Native else (if bytes_eq name (codes "chain") then Some Chain else None)
 
--- the same, where there is such a text, a platform and a network
+-- what a merge is by the matches, or the usual one
+abbrev pub merge_of : List Row → Option MergeName
+merge_of rows = merge_named (unwrap_or (first_of (codes "merge") rows) default_merge)
+
+-- what `llb` is asked for by its matches, with this text that no other build has, this platform, this network and such merges
+abbrev pub llb_with : List Row → Text → PlatformName → NetworkName → MergeName → LlbOptions
+llb_with rows unique platform network merging =
+    record { file = first_of (codes "FILE") rows; platform = platform; network = network; merging = merging; follow = is_set (codes "follow") rows; unique = unique }
+
+-- the same, where there are such a platform and such a network, and it is said what a merge is
+abbrev pub llb_on : List Row → Text → PlatformName → Option NetworkName → Option LlbOptions
+llb_on rows unique platform network = option_and_then (λ network. option_map (llb_with rows unique platform network) (merge_of rows)) network
+
+-- the same, where there is such a text too
 abbrev pub llb_of : List Row → Option LlbOptions
 llb_of rows =
-    option_and_then (λ unique. option_and_then (λ platform. option_map (llb_with rows unique platform) (network_of rows)) (platform_of rows)) (first_of (codes "unique") rows)
+    option_and_then (λ unique. option_and_then (λ platform. llb_on rows unique platform (network_of rows)) (platform_of rows)) (first_of (codes "unique") rows)

@@ -1,6 +1,5 @@
 -- What the words that were found ask for (own).
-use Rattle.std.specs.Prelude.{◌≡◌, ◌≤◌, ◌==◌, ◌&&◌, ◌||◌, ℕ, Bool, false, not, List, [], ◌∷◌, Option, Some, None, map, length, codes, bytes_eq, is_some, unwrap_or, option_map, option_and_then, if◌then◌else◌}
-use Rattle.std.specs.Option.{option_map_or}
+use Rattle.std.specs.Prelude.{◌≡◌, ◌≤◌, ◌==◌, ◌&&◌, ◌||◌, ℕ, Bool, not, List, [], ◌∷◌, Option, Some, None, map, length, codes, bytes_eq, is_some, unwrap_or, option_map, option_and_then, if◌then◌else◌}
 use Rattle.std.specs.List.{list_all, position_or_len, before_first, after_first}
 use Rattle.std.specs.Str.Parse.{IsNumeral, digits_value, without_leading_plus}
 use Rattle.clap.specs.Kinds.{Kinds, or_else}
@@ -9,6 +8,7 @@ use Rattle.clap.specs.Words.{Row, Text, fault_of, first_of, one_of, subcommand_o
 use Rattle.clap.specs.declared.error.kind.ErrorKind.TheVariants.{ValueValidation}
 use Rattle.plain.specs.Limits.{most_workers}
 use Rattle.command.specs.CommandLine.{least_workers, whole_command}
+use Rattle.command.specs.Flags.{is_set}
 use Rattle.command.specs.Llb.{llb_of}
 use Rattle.command.specs.declared.task.BuildOptions.{BuildOptions}
 use Rattle.command.specs.declared.task.CheckOptions.{CheckOptions}
@@ -59,10 +59,6 @@ arguments_of rows = pairs_of (codes "build-arg") rows
 
 abbrev pub images_of : List Row → Option (List (Text × Text))
 images_of rows = pairs_of (codes "image") rows
-
--- a flag is given: its first value is `true`, which is how clap keeps one (own)
-abbrev pub is_set : Text → List Row → Bool
-is_set flag rows = option_map_or (λ text. bytes_eq text (codes "true")) (first_of flag rows) false
 
 -- what `graph` is asked for by its matches (own)
 abbrev pub graph_of : List Row → GraphOptions
@@ -115,7 +111,7 @@ IsTaskOf (Some found) (Explain file) = (found.0 ≡ codes "explain") × (file �
 abbrev pub has_bare_argument : Text × List Row → Bool
 has_bare_argument found = bytes_eq found.0 (codes "pack") && (not (is_some (arguments_of found.1)) || not (is_some (images_of found.1)))
 
--- `llb` without a text of `--unique`, or with a value that is no platform or no network (own)
+-- `llb` without a text of `--unique`, or with a value that is no platform, no network or no kind of merge (own)
 abbrev pub has_wrong_choice : Text × List Row → Bool
 has_wrong_choice found = bytes_eq found.0 (codes "llb") && not (is_some (llb_of found.1))
 

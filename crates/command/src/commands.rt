@@ -1,7 +1,7 @@
 ghost use Rattle.std.specs.Prelude.{◌≡◌, IfOk, IsOkAnd, false};
 ghost use Rattle.clap.specs.Words.{app_of, rule_of, with_subcommand};
 ghost use Rattle.clap.specs.declared.builder.command.Command.TheViews.{out-Command};
-ghost use Rattle.command.specs.CommandLine.{argument_option, asking_command, bare_command, build_command, bundle_argument, bundle_command, check_command, config_command, dot_flag, explain_command, folder_argument, graph_command, ignore_flag, image_option, json_flag, llb_command, llb_options, pack_command, pack_from, pack_to, pack_with, paths_argument, text_option, whole_command, why_command, workers_option};
+ghost use Rattle.command.specs.CommandLine.{argument_option, asking_command, bare_command, build_command, bundle_argument, bundle_command, check_command, config_command, dot_flag, explain_command, folder_argument, follow_flag, graph_command, ignore_flag, image_option, json_flag, llb_choices, llb_command, llb_options, pack_command, pack_from, pack_to, pack_with, paths_argument, text_option, whole_command, why_command, workers_option};
 
 use clap::{Arg, ArgAction, Command, value_parser};
 use plain::limits::MOST_WORKERS;
@@ -51,11 +51,18 @@ pub const NETWORK: &str = "network";
 
 pub const UNIQUE: &str = "unique";
 
+pub const MERGE: &str = "merge";
+
+pub const FOLLOW: &str = "follow";
+
 /// The platform of words that name none.
 pub const DEFAULT_PLATFORM: &str = "linux/amd64";
 
 /// The network of words that name none.
 pub const DEFAULT_NETWORK: &str = "default";
+
+/// What a merge is by words that don't say it.
+pub const DEFAULT_MERGE: &str = "native";
 
 /// What stands at the end of each command's help: its statuses and an example.
 const BUILD_HELP: &str =
@@ -231,13 +238,29 @@ fn why_command<'a>(alloc: Global) -> Result<Command<'a>, AllocError>
         .arg(paths_argument(alloc))
 }
 
-/// `llb [--platform P] [--network N] --unique TEXT [FILE]`.
+/// `llb [--platform P] [--network N] --unique TEXT [--merge M] [--follow] [FILE]`.
 fn llb_command<'a>(alloc: Global) -> Result<Command<'a>, AllocError>
     ensures app { IfOk result (λ command. app_of command ≡ llb_command) }
     ensures local { IfOk result (λ command. (out-Command command).has_globals ≡ false) }
 {
-    let command = llb_options(alloc)?;
+    let command = llb_choices(alloc)?;
     command.arg(bundle_argument(alloc))
+}
+
+/// `llb [--platform P] [--network N] --unique TEXT [--merge M] [--follow]`.
+fn llb_choices<'a>(alloc: Global) -> Result<Command<'a>, AllocError>
+    ensures app { IfOk result (λ command. app_of command ≡ llb_choices) }
+    ensures local { IfOk result (λ command. (out-Command command).has_globals ≡ false) }
+{
+    let command = llb_options(alloc)?;
+    command
+        .arg(text_option(
+            alloc,
+            MERGE,
+            "HOW",
+            "What a merge of trees is: native, or chain, copies that any BuildKit can make [default: native]",
+        ))?
+        .arg(follow_flag(alloc))
 }
 
 /// `llb [--platform P] [--network N] --unique TEXT`.
@@ -389,6 +412,17 @@ fn dot_flag<'a>(alloc: Global) -> Arg<'a>
     Arg::new(alloc, DOT)
         .long(DOT)
         .help("Print it in the DOT language of Graphviz, with the instructions and their lines")
+        .action(ArgAction::SetTrue)
+}
+
+/// `--follow`.
+fn follow_flag<'a>(alloc: Global) -> Arg<'a>
+    ensures rule { rule_of result ≡ follow_flag }
+    ensures local { result.global ≡ false }
+{
+    Arg::new(alloc, FOLLOW)
+        .long(FOLLOW)
+        .help("Ask for only the paths of the context that the graph names")
         .action(ArgAction::SetTrue)
 }
 

@@ -22,6 +22,6 @@ mod task;
 
 pub use reading::read_command;
 pub use task::{
-    BuildOptions, CheckOptions, GraphOptions, LlbOptions, NetworkName, PackOptions, PlatformName,
-    Task, WhyOptions,
+    BuildOptions, CheckOptions, GraphOptions, LlbOptions, MergeName, NetworkName, PackOptions,
+    PlatformName, Task, WhyOptions,
 };

@@ -1,16 +1,20 @@
 // What the matches of `llb` ask for.
 ghost use Rattle.std.specs.Prelude.{◌≡◌, IfOk, codes, unwrap_or};
 ghost use Rattle.clap.specs.Words.{first_of, found_of, rows_of};
-ghost use Rattle.command.specs.Llb.{after_slash, are_names, before_slash, ends_platform, llb_of, network_named, network_of, platform_named, platform_of};
+ghost use Rattle.command.specs.Llb.{after_slash, are_names, before_slash, ends_platform, llb_of, merge_named, merge_of, network_named, network_of, platform_named, platform_of};
 
-use crate::commands::{BUNDLE, DEFAULT_NETWORK, DEFAULT_PLATFORM, NETWORK, PLATFORM, UNIQUE};
-use crate::reading::text_of;
-use crate::{LlbOptions, NetworkName, PlatformName};
+use crate::commands::{
+    BUNDLE, DEFAULT_MERGE, DEFAULT_NETWORK, DEFAULT_PLATFORM, FOLLOW, MERGE, NETWORK, PLATFORM,
+    UNIQUE,
+};
+use crate::reading::{is_set, text_of};
+use crate::{LlbOptions, MergeName, NetworkName, PlatformName};
 use clap::ArgMatches;
 use plain::Text;
 use std::alloc::{AllocError, Global};
 
-/// What the matches of `llb` ask for; `None` where they hold no text of `--unique`, no platform, or no network.
+/// What the matches of `llb` ask for; `None` where they hold no text of `--unique`, no platform, no network, or no kind of
+/// merge.
 pub(crate) fn llb_of(alloc: Global, matches: &ArgMatches) -> Result<Option<LlbOptions>, AllocError>
     ensures { IfOk result (λ options. options ≡ llb_of (rows_of (found_of matches.now))) }
 {
@@ -23,10 +27,15 @@ pub(crate) fn llb_of(alloc: Global, matches: &ArgMatches) -> Result<Option<LlbOp
     let Some(network) = network_of(matches) else {
         return Ok(None);
     };
+    let Some(merging) = merge_of(matches) else {
+        return Ok(None);
+    };
     Ok(Some(LlbOptions {
         file: text_of(alloc, matches, BUNDLE)?,
         platform,
         network,
+        merging,
+        follow: is_set(matches, FOLLOW),
         unique,
     }))
 }
@@ -45,6 +54,10 @@ pub(crate) fn wrong_choice(alloc: Global, matches: &ArgMatches) -> Result<String
             "a value of --network is default, none or host, and not '{network}'"
         );
     }
+    let merge = chosen_text(matches, MERGE, DEFAULT_MERGE);
+    if merge_named(merge).is_none() {
+        return format!(in alloc; "a value of --merge is native or chain, and not '{merge}'");
+    }
     let platform = chosen_text(matches, PLATFORM, DEFAULT_PLATFORM);
     format!(in alloc; "a value of --platform is OS/ARCH or OS/ARCH/VARIANT, and not '{platform}'")
 }
@@ -61,6 +74,13 @@ fn network_of(matches: &ArgMatches) -> Option<NetworkName>
     ensures { result ≡ network_of (rows_of (found_of matches.now)) }
 {
     network_named(chosen_text(matches, NETWORK, DEFAULT_NETWORK))
+}
+
+/// What a merge is by the matches, or the usual one; `None` where it is no kind of merge.
+fn merge_of(matches: &ArgMatches) -> Option<MergeName>
+    ensures { result ≡ merge_of (rows_of (found_of matches.now)) }
+{
+    merge_named(chosen_text(matches, MERGE, DEFAULT_MERGE))
 }
 
 /// The text that the matches hold for an id, or another one.
@@ -127,6 +147,19 @@ fn network_named(name: &str) -> Option<NetworkName>
     }
     if name == "host" {
         return Some(NetworkName::Host);
+    }
+    None
+}
+
+/// What a merge is by a name.
+fn merge_named(name: &str) -> Option<MergeName>
+    ensures { result ≡ merge_named name.now }
+{
+    if name == "native" {
+        return Some(MergeName::Native);
+    }
+    if name == "chain" {
+        return Some(MergeName::Chain);
     }
     None
 }

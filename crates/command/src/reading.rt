@@ -4,7 +4,8 @@ ghost use Rattle.clap.specs.Walk.{all_of};
 ghost use Rattle.clap.specs.Words.{FailsBy, first_of, found_of, rows_of, subcommand_of, subcommand_rows_of};
 ghost use Rattle.clap.specs.declared.error.kind.ErrorKind.TheVariants.{ValueValidation};
 ghost use Rattle.command.specs.CommandLine.{whole_command};
-ghost use Rattle.command.specs.Tasks.{IsBuild, IsTaskOf, IsWorkers, bundle_file, check_of, faults_of, graph_of, halves_of, has_equals, is_set, pack_of, pairs_of, paths_of, why_of};
+ghost use Rattle.command.specs.Flags.{is_set};
+ghost use Rattle.command.specs.Tasks.{IsBuild, IsTaskOf, IsWorkers, bundle_file, check_of, faults_of, graph_of, halves_of, has_equals, pack_of, pairs_of, paths_of, why_of};
 ghost use Rattle.command.specs.declared.task.BuildOptions.{BuildOptions};
 ghost use Rattle.command.specs.declared.task.Task.{Task};
 
@@ -28,8 +29,9 @@ use std::alloc::{AllocError, Global};
 /// `--file F`, `--target T`, `--output FILE` and `--apply-ignore` once at most, and with `--build-arg N=V` and `--image NAME=FILE` any number of times, each
 /// of which has a `=`.
 /// `why` is one with a word PATH once or more, and with `--bundle FILE` once at most.
-/// `llb` is one with a word FILE that may be left out, with `--unique TEXT` just once, and with `--platform P` and `--network N` once at most; P is
-/// `OS/ARCH` or `OS/ARCH/VARIANT`, and `linux/amd64` by default; N is `default`, `none` or `host`, and the first of these by default.
+/// `llb` is one with a word FILE that may be left out, with `--unique TEXT` just once, and with `--platform P`, `--network N`, `--merge M`
+/// and `--follow` once at most; P is `OS/ARCH` or `OS/ARCH/VARIANT`, and `linux/amd64` by default; N is `default`, `none` or `host`, and M is `native`
+/// or `chain`, and the first of these by default.
 /// `config`, `check` and `explain` are commands with a word FILE that may be left out, and `check` with `--json` once at most.
 /// `help` alone or before the name of a command, `--help` and `-h`, before a command or after it, ask for help, and `--version` or `-V`
 /// before it for the program's name and version.
@@ -231,7 +233,7 @@ pub(crate) fn text_of(
 }
 
 /// Whether the matches hold a flag of this id that is given.
-fn is_set(matches: &ArgMatches, id: &str) -> bool
+pub(crate) fn is_set(matches: &ArgMatches, id: &str) -> bool
     ensures { result ≡ is_set id.now (rows_of (found_of matches.now)) }
 {
     match matches.get_str(id) {

@@ -131,6 +131,10 @@ pub struct LlbOptions {
     pub platform: PlatformName,
     /// The network of every command.
     pub network: NetworkName,
+    /// What a merge of trees is.
+    pub merging: MergeName,
+    /// Whether the engine is given only the paths of the context that the graph names.
+    pub follow: bool,
     /// A text that no other build with other files has which runs at the same time.
     pub unique: Text,
 }
@@ -142,6 +146,8 @@ impl Drop for LlbOptions {
             file: _,
             platform: _,
             network: _,
+            merging: _,
+            follow: _,
             unique: _,
         } = self;
     }
@@ -176,4 +182,13 @@ pub enum NetworkName {
     Absent,
     /// `host`: that of the machine.
     Host,
+}
+
+/// What a merge of trees is, by the name that the words give it.
+#[derive(Clone, Copy, Debug, PartialEq, Eq)]
+pub enum MergeName {
+    /// `native`: the engine's own merge.
+    Native,
+    /// `chain`: copies of trees, one onto the other.
+    Chain,
 }
