@@ -32,7 +32,9 @@ use Rattle.exported.specs.declared.fault.Obstacle.TheVariants.{Unspeakable, Clas
 use Rattle.exported.specs.Places.{digest_of, number_of, with_once, inputs_after, inputs_of}
 use Rattle.exported.specs.Operations.{input_at, op_on, end_op}
 use Rattle.exported.specs.Merges.{trees_after, trees_at}
-use Rattle.exported.specs.Making.{places_at, source_made, merged, made_on, vertex_made}
+use Rattle.exported.specs.declared.making.Merging.{Merging}
+use Rattle.exported.specs.declared.making.Merging.TheVariants.{Native, Chain}
+use Rattle.exported.specs.Making.{places_at, source_made, laid, merged, made_on, vertex_made}
 use Rattle.exported.specs.Metadata.{vertex_name, metadata_of, end_metadata}
 use Rattle.exported.specs.Exporting.{and_then, is_speakable, op_at, with_last, with_found, with_op, placed, vertex_placed, all_placed, nothing, root_op, ended_at, ended, exported}
 use Rattle.exported.specs.Order.{IsOn, AreInOrder, AreApart, AreApartToTheEnd, IsSaid}
@@ -85,10 +87,14 @@ module _ (P : List ℕ → Type 0) where
   unfolding op_on
   on_all platform digests kind all = all_mapped digests all
 
-  merged_all : (digests : List (List ℕ)) → AllByRecursion P digests → IsMade (merged digests)
-  merged_all [] all = tt
-  merged_all (digest ∷ []) all = all.0
-  merged_all (first ∷ second ∷ digests) all = on_all _ (first ∷ second ∷ digests) _ all
+  laid_all : (merging : Merging) (platform : Platform) (digests : List (List ℕ)) → AllByRecursion P digests → IsMade (By (laid merging platform digests))
+  laid_all Native platform digests all = on_all _ digests _ all
+  laid_all Chain platform digests all = on_all _ digests _ all
+
+  merged_all : (options : Options) (digests : List (List ℕ)) → AllByRecursion P digests → IsMade (merged options digests)
+  merged_all options [] all = tt
+  merged_all options (digest ∷ []) all = all.0
+  merged_all options (first ∷ second ∷ digests) all = laid_all options.merging options.platform (first ∷ second ∷ digests) all
 
   source_all : (options : Options) (source : Source) → IsMade (source_made options source)
   source_all options Scratch = tt
@@ -101,7 +107,7 @@ module _ (P : List ℕ → Type 0) where
   made_all options places (CopyWork files) at = on_all _ (inputs_of places) _ (all_inputs [] places tt at)
   made_all options places (MakeDirsWork []) at = place_at places 0 at
   made_all options places (MakeDirsWork (name ∷ names)) at = on_all _ (inputs_of places) _ (all_inputs [] places tt at)
-  made_all options places MergeWork at = merged_all (trees_at places) (all_trees [] places tt at)
+  made_all options places MergeWork at = merged_all options (trees_at places) (all_trees [] places tt at)
 
   pub vertex_all : (options : Options) (known : List (Option (List ℕ))) (vertex : Vertex) → AllByRecursion AtPlace known → IsMade (vertex_made options known vertex)
   unfolding vertex_made

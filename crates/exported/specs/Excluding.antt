@@ -30,7 +30,11 @@ plain_from begins (c ∷ cs) = as_plain begins (length cs == 0) c ++ plain_from 
 unfoldable pub pattern_of : List (List ℕ) → List ℕ
 pattern_of path = encode_utf8_all (plain_from true (drop 1 (chars (text_of path))))
 
--- the list of the patterns of some paths, as JSON; nothing where there are none
+-- a list of patterns as JSON; nothing where there are none
+abbrev pub patterns_text : List (List ℕ) → Option (List ℕ)
+patterns_text [] = None
+patterns_text (pattern ∷ patterns) = Some (compact_text (list_data string (pattern ∷ patterns)))
+
+-- the list of the patterns of some paths
 abbrev pub exclude_list : List (List (List ℕ)) → Option (List ℕ)
-exclude_list [] = None
-exclude_list (path ∷ paths) = Some (compact_text (list_data string (map pattern_of (path ∷ paths))))
+exclude_list paths = patterns_text (map pattern_of paths)

@@ -57,10 +57,10 @@ abbrev pub can_exclude : Option (List ℕ) → Bool
 can_exclude None = true
 can_exclude (Some patterns) = are_carried false patterns
 
--- whether an operation can be said to BuildKit: the files of a build come without those of patterns
+-- whether an operation can be said to BuildKit: the files of a build come without those of patterns, and only those of others
 abbrev pub is_speakable : Options → Work → Bool
 is_speakable options (SourceWork Scratch) = true
-is_speakable options (SourceWork Context) = can_exclude options.excludes
+is_speakable options (SourceWork Context) = can_exclude options.excludes && can_exclude options.follows
 is_speakable options (SourceWork (Image name)) = true
 is_speakable options (ExecWork exec) = true
 is_speakable options (CopyWork files) = true

@@ -1,8 +1,10 @@
 pub mod Capabilities
+pub mod Chains
 pub mod Commands
 pub mod Excluding
 pub mod Exporting
 pub mod Files
+pub mod Following
 pub mod Making
 pub mod Merges
 pub mod Metadata

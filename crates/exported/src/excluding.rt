@@ -1,15 +1,16 @@
 // What BuildKit is told of the files that a build isn't given.
 
-ghost use Rattle.std.specs.Prelude.{◌≡◌, ◌++◌, ◌==◌, length, map, true, false, IfOk, OnOk};
+ghost use Rattle.std.specs.Prelude.{◌≡◌, ◌++◌, ◌==◌, length, true, false, IfOk, OnOk};
 ghost use Rattle.std.specs.Str.{chars, encode_utf8_all};
 ghost use Rattle.std.specs.String.{string_bytes};
 ghost use Rattle.serde_json.specs.Data.{string};
 ghost use Rattle.serde_json.specs.View.{view};
 ghost use Rattle.serde_json.specs.Written.{has_float};
 ghost use Rattle.strict.specs.Written.{list_data};
-ghost use Rattle.exported.specs.Excluding.{is_meant, as_plain, plain_from, pattern_of, exclude_list};
+ghost use Rattle.paths.specs.Path.{text_of};
+ghost use Rattle.exported.specs.Excluding.{is_meant, as_plain, plain_from, pattern_of, patterns_text, exclude_list};
 
-use crate::patterns::{first_and_rest, is_sign};
+use crate::patterns::{first_and_rest, is_sign, or_root};
 use paths::Path;
 use plain::{Items, Memory, Text};
 use serde_json::Value;
@@ -62,12 +63,24 @@ fn push_plain_path(pattern: &mut String, path: &str) -> Result<(), AllocError>
     Ok(())
 }
 
-/// The pattern that relates to a path alone.
-#[tactic(auto, unfolding(crate::specs::Excluding::pattern_of))]
-fn pattern_of(alloc: Global, path: &Path) -> Result<Text, Memory>
-    ensures { IfOk result (λ pattern. pattern ≡ pattern_of path.now) }
+/// The text of the path of these names.
+fn text_of(alloc: Global, names: &[Text]) -> Result<String, Memory>
+    ensures { IfOk result (λ text. string_bytes text ≡ text_of names.now) }
 {
-    let text = path.text(alloc)?;
+    let mut text = String::new(alloc);
+    for name in names {
+        text.push('/')?;
+        text.push_str(name.as_str())?;
+    }
+    or_root(text)
+}
+
+/// The pattern that relates to the path of these names alone.
+#[tactic(auto, unfolding(crate::specs::Excluding::pattern_of))]
+pub(crate) fn pattern_of(alloc: Global, names: &[Text]) -> Result<Text, Memory>
+    ensures { IfOk result (λ pattern. pattern ≡ pattern_of names.now) }
+{
+    let text = text_of(alloc, names)?;
     let mut pattern = String::new(alloc);
     if let Some((_, rest)) = first_and_rest(text.as_str()) {
         push_plain_path(&mut pattern, rest)?;
@@ -76,25 +89,32 @@ fn pattern_of(alloc: Global, path: &Path) -> Result<Text, Memory>
 }
 
 /// A list of patterns as JSON.
-fn list_of(alloc: Global, paths: &[Path]) -> Result<Value, Memory>
-    ensures list { IfOk result (λ list. view list ≡ list_data string (map pattern_of paths.now)) }
+fn list_of(alloc: Global, patterns: &[Text]) -> Result<Value, Memory>
+    ensures list { IfOk result (λ list. view list ≡ list_data string patterns.now) }
     ensures texts { IfOk result (λ list. has_float (view list) ≡ false) }
 {
-    let mut patterns = Items::new(alloc);
-    for path in paths {
-        patterns.push(pattern_of(alloc, path)?)?;
-    }
-    let list = list_to_json(alloc, patterns.as_slice())?;
+    let list = list_to_json(alloc, patterns)?;
     Ok(list)
+}
+
+/// The text of such a list, or nothing if there are no patterns.
+pub(crate) fn patterns_text(alloc: Global, patterns: &[Text]) -> Result<Option<Text>, Memory>
+    ensures { IfOk result (λ text. text ≡ patterns_text patterns.now) }
+{
+    if patterns.is_empty() {
+        return Ok(None);
+    }
+    let list = list_of(alloc, patterns)?;
+    Ok(Some(Text::from_string(list.to_string(alloc)?)))
 }
 
 /// The patterns of these paths, each of which leaves out one path with all below it: a JSON list, or nothing if there are no paths.
 pub fn exclude_list(alloc: Global, paths: &[Path]) -> Result<Option<Text>, Memory>
     ensures { IfOk result (λ list. list ≡ exclude_list paths.now) }
 {
-    if paths.is_empty() {
-        return Ok(None);
+    let mut patterns = Items::new(alloc);
+    for path in paths {
+        patterns.push(pattern_of(alloc, path.components())?)?;
     }
-    let list = list_of(alloc, paths)?;
-    Ok(Some(Text::from_string(list.to_string(alloc)?)))
+    patterns_text(alloc, patterns.as_slice())
 }

@@ -120,7 +120,9 @@ fn is_speakable(options: &Options, op: &Work) -> bool
     ensures { result ≡ is_speakable options.now op.now }
 {
     match op {
-        Work::Source(Source::Context) => can_exclude(&options.excludes),
+        Work::Source(Source::Context) => {
+            can_exclude(&options.excludes) && can_exclude(&options.follows)
+        }
         _ => true,
     }
 }
@@ -137,7 +139,7 @@ fn can_exclude(excludes: &Option<Text>) -> bool
 
 /// Whether a character is carried.
 #[tactic(auto, unfolding(crate::specs::Exporting::is_carried))]
-fn is_carried(byte: u8) -> bool
+pub(crate) fn is_carried(byte: u8) -> bool
     ensures { result ≡ is_carried byte }
 {
     32 <= byte && byte <= 126

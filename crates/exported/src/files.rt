@@ -259,7 +259,7 @@ fn push_source(
 }
 
 /// One more; so many actions fit no memory.
-fn after(number: usize) -> Result<usize, Memory>
+pub(crate) fn after(number: usize) -> Result<usize, Memory>
     ensures { IfOk result (λ next. next ≡ number + 1) }
 {
     match number.checked_add(1) {

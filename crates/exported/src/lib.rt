@@ -19,12 +19,14 @@
 #![tactic(auto)]
 
 mod capabilities;
+mod chains;
 mod commands;
 mod draft;
 mod excluding;
 mod exporting;
 mod fault;
 mod files;
+mod following;
 pub mod laws;
 mod making;
 mod merges;
@@ -36,12 +38,14 @@ mod patterns;
 mod places;
 mod sources;
 
+pub use chains::chain_op;
 pub use commands::exec_op;
 pub use excluding::exclude_list;
 pub use exporting::export;
 pub use fault::{ExportFault, Obstacle};
 pub use files::{copy_op, make_dir_op};
-pub use making::{Made, Options, vertex_made};
+pub use following::follow_list;
+pub use making::{Made, Merging, Options, vertex_made};
 pub use merges::{merge_op, trees_at};
 pub use operations::end_op;
 pub use places::digest_of;

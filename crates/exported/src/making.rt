@@ -4,8 +4,9 @@ ghost use Rattle.std.specs.Prelude.{◌≡◌, IfOk, None, slice_index_or};
 ghost use Rattle.llb.specs.declared.op.Source.TheVariants.{Context};
 ghost use Rattle.llb.specs.declared.op.Op.TheVariants.{MakeDirs};
 ghost use Rattle.exported.specs.Merges.{trees_at as trees_of};
-ghost use Rattle.exported.specs.Making.{places_at, merged, source_made, made_on, vertex_made};
+ghost use Rattle.exported.specs.Making.{places_at, laid, merged, source_made, made_on, vertex_made};
 
+use crate::chains::chain_op;
 use crate::commands::exec_op;
 use crate::files::{copy_op, make_dir_op};
 use crate::merges::{merge_op, trees_at};
@@ -25,8 +26,21 @@ pub struct Options {
     pub network: Network,
     /// A text that no other build has which may run at the same time with other files.
     pub unique: Text,
+    /// What a merge of trees is.
+    pub merging: Merging,
     /// The files that the build isn't given: a JSON list of patterns.
     pub excludes: Option<Text>,
+    /// Of the others, those that the build is given: a JSON list of patterns. `None` is all of them.
+    pub follows: Option<Text>,
+}
+
+/// What a merge of trees is.
+#[derive(Clone, Copy, Debug, PartialEq, Eq)]
+pub enum Merging {
+    /// BuildKit's own merge.
+    Native,
+    /// An operation of files, which any BuildKit knows: copies of trees, one onto the other.
+    Chain,
 }
 
 /// What a vertex is in a definition.
@@ -91,7 +105,13 @@ fn source_made(alloc: Global, options: &Options, source: &Source) -> Result<Made
 fn context_made(alloc: Global, options: &Options) -> Result<Made, Memory>
     ensures { IfOk result (λ made. made ≡ source_made options.now Context) }
 {
-    Ok(Made::By(context_op(alloc, options.unique.as_str(), &options.excludes)?))
+    let context = context_op(
+        alloc,
+        options.unique.as_str(),
+        &options.excludes,
+        &options.follows,
+    )?;
+    Ok(Made::By(context))
 }
 
 /// What a folder that is made is.
@@ -109,15 +129,25 @@ fn dir_made(
     Ok(Made::By(make_dir_op(alloc, &options.platform, places, path)?))
 }
 
+/// The operation that lays the trees of these digests over each other.
+fn laid(alloc: Global, options: &Options, digests: &[Text]) -> Result<Operation, Memory>
+    ensures { IfOk result (λ op. op ≡ laid options.now.merging options.now.platform digests.now) }
+{
+    match options.merging {
+        Merging::Native => merge_op(alloc, digests),
+        Merging::Chain => chain_op(alloc, &options.platform, digests),
+    }
+}
+
 /// What a merge is.
-fn merge_made(alloc: Global, places: &[Option<Text>]) -> Result<Made, Memory>
-    ensures { IfOk result (λ made. made ≡ merged (trees_of places.now)) }
+fn merge_made(alloc: Global, options: &Options, places: &[Option<Text>]) -> Result<Made, Memory>
+    ensures { IfOk result (λ made. made ≡ merged options.now (trees_of places.now)) }
 {
     let trees = trees_at(alloc, places)?;
     match trees.as_slice() {
         [] => Ok(Made::Same(None)),
         [digest] => Ok(Made::Same(Some(digest.copy(alloc)?))),
-        digests => Ok(Made::By(merge_op(alloc, digests)?)),
+        digests => Ok(Made::By(laid(alloc, options, digests)?)),
     }
 }
 
@@ -141,7 +171,7 @@ fn made_on(
         )?)),
         Op::Copy(files) => Ok(Made::By(copy_op(alloc, &options.platform, places, files)?)),
         Op::MakeDirs(path) => dir_made(alloc, options, places, path),
-        Op::Merge => merge_made(alloc, places),
+        Op::Merge => merge_made(alloc, options, places),
     }
 }
 

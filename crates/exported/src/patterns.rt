@@ -66,7 +66,7 @@ fn any_active(components: &[&str]) -> bool
 }
 
 /// The name that a component without a sign spells.
-fn name_of(alloc: Global, component: &str) -> Result<String, Memory>
+pub(crate) fn name_of(alloc: Global, component: &str) -> Result<String, Memory>
     ensures { IfOk result (λ name. string_bytes name ≡ name_of component.now) }
 {
     let mut name = String::new(alloc);
@@ -131,7 +131,7 @@ fn is_normal(name: &str) -> bool
 
 /// Whether a component, of which this is the name, begins the pattern.
 #[tactic(auto, unfolding(crate::specs::Patterns::begins))]
-fn begins(globs: bool, component: &str, name: &str) -> bool
+pub(crate) fn begins(globs: bool, component: &str, name: &str) -> bool
     requires { name.now ≡ name_of component.now }
     ensures { result ≡ begins globs component.now }
 {
@@ -202,7 +202,7 @@ pub(crate) fn source_path(alloc: Global, text: &str) -> Result<(Text, bool), Mem
 }
 
 /// A path; `/` where it has no component.
-fn or_root(path: String) -> Result<String, Memory>
+pub(crate) fn or_root(path: String) -> Result<String, Memory>
     ensures { IfOk result (λ whole. string_bytes whole ≡ or_root (string_bytes path)) }
 {
     let mut path = path;

@@ -6,7 +6,7 @@ ghost use Rattle.wire.specs.Maps.{IsAfter};
 ghost use Rattle.llbmessages.specs.declared.op.OpKind.TheVariants.{Source as SourceKind};
 ghost use Rattle.exported.specs.Names.{whole_name};
 ghost use Rattle.exported.specs.Operations.{op_on};
-ghost use Rattle.exported.specs.Sources.{image_source, exclude_entries, context_entries, context_source};
+ghost use Rattle.exported.specs.Sources.{image_source, exclude_entries, with_follows, context_entries, context_source};
 
 use crate::names::whole_name;
 use crate::operations::{op_for, op_for_any};
@@ -86,26 +86,47 @@ fn excluding(alloc: Global, excludes: &Option<Text>) -> Result<Map<Text>, Memory
     }
 }
 
+/// The attributes of patterns: of what isn't given, and of what alone is, if there are some.
+fn choosing(
+    alloc: Global,
+    excludes: &Option<Text>,
+    follows: &Option<Text>,
+) -> Result<Map<Text>, Memory>
+    ensures { IfOk result (λ attrs. attrs ≡ with_follows follows.now (exclude_entries excludes.now)) }
+{
+    let attrs = excluding(alloc, excludes)?;
+    match follows {
+        None => Ok(attrs),
+        Some(patterns) => with_attribute(alloc, attrs, "local.followpaths", patterns.as_str()),
+    }
+}
+
 /// The attributes of the files that a build is given.
 fn context_attributes(
     alloc: Global,
     unique: &str,
     excludes: &Option<Text>,
+    follows: &Option<Text>,
 ) -> Result<Map<Text>, Memory>
-    ensures { IfOk result (λ attrs. attrs ≡ context_entries unique.now excludes.now) }
+    ensures { IfOk result (λ attrs. attrs ≡ context_entries unique.now excludes.now follows.now) }
 {
-    let attrs = excluding(alloc, excludes)?;
+    let attrs = choosing(alloc, excludes, follows)?;
     let attrs = with_attribute(alloc, attrs, "local.sharedkeyhint", "context")?;
     with_attribute(alloc, attrs, "local.unique", unique)
 }
 
-/// The operation of the files that a build is given, without those of some patterns, a JSON list. Builds that may run at the same time with other
-/// files take another `unique` each.
+/// The operation of the files that a build is given, without those of some patterns, a JSON list, and of the others only those of some other
+/// patterns. Builds that may run at the same time with other files take another `unique` each.
 #[tactic(auto, unfolding(crate::specs::Sources::context_source))]
-pub fn context_op(alloc: Global, unique: &str, excludes: &Option<Text>) -> Result<Op, Memory>
-    ensures { IfOk result (λ op. op ≡ op_on None [] (SourceKind (context_source unique.now excludes.now))) }
+pub fn context_op(
+    alloc: Global,
+    unique: &str,
+    excludes: &Option<Text>,
+    follows: &Option<Text>,
+) -> Result<Op, Memory>
+    ensures { IfOk result (λ op. op ≡ op_on None [] (SourceKind (context_source unique.now excludes.now follows.now))) }
 {
-    let attrs = context_attributes(alloc, unique, excludes)?;
+    let attrs = context_attributes(alloc, unique, excludes, follows)?;
     match Text::from_str(alloc, "local://context") {
         Ok(identifier) => op_for_any(alloc, &[], OpKind::Source(SourceOp { identifier, attrs })),
         Err(memory) => {
