@@ -7,6 +7,8 @@
 //	    With FIXTURE, a folder with the program `fixture`, each command is handed to that program, which is mounted at /.dfsolve
 //	solve image SOCK CONTEXT NAME CONFIG < DEFINITION
 //	    leaves the result in that dockerd as the image NAME, with the configuration of the file CONFIG
+//
+// A SOCK that begins with unix:// is a buildkitd's own. With the tag `newer` it is built of BuildKit 0.13, and without of 0.8.
 package main
 
 import (
@@ -19,6 +21,7 @@ import (
 	"net"
 	"net/http"
 	"os"
+	"strings"
 
 	"github.com/moby/buildkit/client"
 	"github.com/moby/buildkit/client/llb"
@@ -34,6 +37,21 @@ func die(err error) {
 		fmt.Fprintln(os.Stderr, err)
 		os.Exit(1)
 	}
+}
+
+// excludes is the list that BuildKit would send to its client.
+func excludes(definition []byte) []string {
+	var def pb.Definition
+	die(def.Unmarshal(definition))
+	var list []string
+	for _, b := range def.Def {
+		var op pb.Op
+		die(op.Unmarshal(b))
+		if source := op.GetSource(); source != nil && source.Identifier == "local://context" && source.Attrs[pb.AttrExcludePatterns] != "" {
+			die(json.Unmarshal([]byte(source.Attrs[pb.AttrExcludePatterns]), &list))
+		}
+	}
+	return list
 }
 
 // report is what BuildKit's package makes of one definition.
@@ -93,12 +111,13 @@ type conn struct {
 
 func (c conn) Read(b []byte) (int, error) { return c.r.Read(b) }
 
-// dial is what docker's client does: a request on /grpc that becomes a connection.
+// dial is what docker's client does: a request on /grpc that becomes a connection. A buildkitd needs none.
 func dial(sock string) func(context.Context, string) (net.Conn, error) {
 	return func(ctx context.Context, _ string) (net.Conn, error) {
-		c, err := net.Dial("unix", sock)
-		if err != nil {
-			return nil, err
+		own := strings.TrimPrefix(sock, "unix://")
+		c, err := net.Dial("unix", own)
+		if err != nil || own != sock {
+			return c, err
 		}
 		req, _ := http.NewRequest("POST", "http://docker/grpc", nil)
 		req.Header.Set("Connection", "Upgrade")

@@ -1,3 +1,5 @@
+//go:build !newer
+
 package main
 
 import (
@@ -7,7 +9,6 @@ import (
 	"strings"
 
 	"github.com/docker/docker/pkg/fileutils"
-	"github.com/moby/buildkit/solver/pb"
 	"github.com/moby/patternmatcher"
 )
 
@@ -23,21 +24,6 @@ type verdict struct {
 	Fileutils      []bool // the matcher of BuildKit 0.8
 	Patternmatcher []bool // that of newer ones, from the root to the path as they walk a folder
 	Alone          []bool // the same, of the path alone
-}
-
-// excludes is the list that BuildKit would send to its client.
-func excludes(definition []byte) []string {
-	var def pb.Definition
-	die(def.Unmarshal(definition))
-	var list []string
-	for _, b := range def.Def {
-		var op pb.Op
-		die(op.Unmarshal(b))
-		if source := op.GetSource(); source != nil && source.Identifier == "local://context" && source.Attrs[pb.AttrExcludePatterns] != "" {
-			die(json.Unmarshal([]byte(source.Attrs[pb.AttrExcludePatterns]), &list))
-		}
-	}
-	return list
 }
 
 func walked(pm *patternmatcher.PatternMatcher, file string) bool {
