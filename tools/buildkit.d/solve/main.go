@@ -59,8 +59,8 @@ type report struct {
 	File       string
 	Operations int
 	Bytes      int
-	Same       bool     // the definition and each operation but a merge come out as the bytes that they were
-	Merges     int      // operations that this BuildKit's package has no message for
+	Same       bool     // the definition and each operation come out as the bytes that they were, but for a merge that this package has no message for
+	Merges     int
 	Named      bool     // each input and each entry of the metadata names an operation of the definition
 	Unknown    []string // capabilities that this BuildKit doesn't know
 	Excludes   int      // patterns of what the context leaves out
@@ -81,11 +81,11 @@ func look(file string) report {
 		die(op.Unmarshal(b))
 		same, err := op.Marshal()
 		die(err)
-		if _, ok := def.Metadata[digest.FromBytes(b)].Caps["mergeop"]; ok && op.Op == nil {
+		isMerge := def.Metadata[digest.FromBytes(b)].Caps["mergeop"]
+		if isMerge {
 			r.Merges++
-		} else {
-			r.Same = r.Same && bytes.Equal(b, same)
 		}
+		r.Same = r.Same && (bytes.Equal(b, same) || isMerge && op.Op == nil)
 		for _, in := range op.Inputs {
 			r.Named = r.Named && seen[in.Digest]
 		}
