@@ -1,4 +1,5 @@
 """The classes of differences between BuildKit's trees and those of `dfsolve build`, for tools/buildkit: which class explains one, by what it shows."""
+import fnmatch
 import re
 
 CLASSES = {
@@ -12,6 +13,7 @@ CLASSES = {
     "mode": "--chmod leaves the bits beyond 0777 as the source has them",
     "owner": "4294967295 means that the owner stays",
     "mount": "an empty folder is left at the target of a mount, and what would make a file there fails or goes below it",
+    "runtime": "a pattern takes an empty folder that a runtime left in a tree for its own mounts, as d* takes /dev",
     "target": "nothing can be mounted at a file or below one, and what holds a mount can't be removed",
     "environment": "a command has PATH and HOME in its environment",
     "directory": "a command's directory is made if it isn't there, and what would make a file there fails or goes below it",
@@ -43,6 +45,14 @@ def sources_of(graph):
 def above(path):
     parts = path.split("/")
     return ["/".join(parts[:n]) for n in range(2, len(parts) + 1)]
+
+
+def takes_runtimes(graph):
+    """Whether a pattern of a COPY matches what a runtime leaves."""
+    sources = [source.get("pattern", "") for copy in copies_of(graph) for source in copy["sources"]]
+    patterns = ["/" + pattern.lstrip("/") for pattern in sources if re.search(r"[*?[]", pattern)]
+    places = {place for target in RUNTIME for place in above(target)}
+    return bool(runs_of(graph)) and any(fnmatch.fnmatchcase(place, pattern) for place in places for pattern in patterns)
 
 
 def without_targets(theirs, ours, graph):
@@ -97,6 +107,8 @@ def class_of_cause(cause, graph):
         return ["bind of a file"]
     if cause == "exit 1" and not all(bind.get("rw") for bind in binds) and any((source or "").startswith("image:") for source in sources_of(graph)):
         return ["bind of an image"]
+    if cause == "F1" and takes_runtimes(graph):
+        return ["runtime"]
     if cause == "F4" and not all(copy["dir"] for copy in copies_of(graph)):
         return ["destination"]
     return {"F3": ["placed twice"], "F5": ["depth"]}.get(cause)
@@ -113,6 +125,8 @@ def class_of_command(ours, graph, message):
     """Why a command failed there alone."""
     if re.search("error mounting .*not a directory|fixture: .*device or resource busy", message):
         return ["target"]
+    if re.search("cannot (copy to non-directory|replace to directory)", message) and takes_runtimes(graph):
+        return ["runtime"]
     found = {name for place, name in left_folders(runs_of(graph)).items() if place in ours and ours[place][3] is not None}
     return sorted(found) if found and "is a directory" in message else None
 
