@@ -16,7 +16,7 @@ CLASSES = {
     "runtime": "a pattern takes an empty folder that a runtime left in a tree for its own mounts, as d* takes /dev",
     "target": "nothing can be mounted at a file or below one, and what holds a mount can't be removed",
     "environment": "a command has PATH and HOME in its environment",
-    "directory": "a command's directory is made if it isn't there, and what would make a file there fails or goes below it",
+    "directory": "a command's directory is made if it isn't there, and what would make a file there, or has one there, fails or goes below it",
     "name": "Go refuses the name of an image",
     "arguments": "a command's word or variable has a NUL, or is past the system's limits",
     "unprintable": "a path that is left out isn't printable ASCII, and `dfsolve llb` says so",
@@ -128,7 +128,7 @@ def class_of_command(ours, graph, message):
     if re.search("cannot (copy to non-directory|replace to directory)", message) and takes_runtimes(graph):
         return ["runtime"]
     found = {name for place, name in left_folders(runs_of(graph)).items() if place in ours and ours[place][3] is not None}
-    return sorted(found) if found and "is a directory" in message else None
+    return sorted(found) if found and re.search("is a directory|error during container init: mkdir .*not a directory", message) else None
 
 
 def gone_below(ours, theirs, places):
