@@ -59,8 +59,8 @@ type report struct {
 	File       string
 	Operations int
 	Bytes      int
-	Same       bool     // the definition and each operation come out as the bytes that they were, but for a merge that this package has no message for
-	Merges     int
+	Same       bool     // the definition and each operation come out as the bytes that they were, but for merges of which this package knows nothing
+	Merges     int      // operations that are merges
 	Named      bool     // each input and each entry of the metadata names an operation of the definition
 	Unknown    []string // capabilities that this BuildKit doesn't know
 	Excludes   int      // patterns of what the context leaves out
