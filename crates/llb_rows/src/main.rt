@@ -1,5 +1,5 @@
-// Writes operations of BuildKit's LLB, a definition, what four vertices of a graph are, and the definitions of two plans, each as a line: a
-// name, and the bytes as hexadecimal digits.
+// Writes operations of BuildKit's LLB, a definition, what four vertices of a graph are, the definitions of two plans, two merges as operations of
+// files, and the context of which a graph names parts, each as a line: a name, and the bytes as hexadecimal digits.
 //
 // What it has to print stands in `stdout`, which another program made: `protoc --deterministic_output --encode=pb.Op ops.proto` of Debian's
 // protobuf-compiler 3.21.12 in the folder `protoc`, from the texts there, in their order (`definition` is a `pb.Definition`); `xxd -p` made the

@@ -28,10 +28,13 @@ pub(crate) enum Row {
     Plan,
     EmptyPlan,
     VertexContext,
+    ChainOfTwo,
+    ChainOfThree,
+    FollowedContext,
 }
 
 /// The rows, in the order in which they are printed.
-pub(crate) const ROWS: [Row; 17] = [
+pub(crate) const ROWS: [Row; 20] = [
     Row::Image,
     Row::Context,
     Row::MakeDir,
@@ -49,6 +52,9 @@ pub(crate) const ROWS: [Row; 17] = [
     Row::Plan,
     Row::EmptyPlan,
     Row::VertexContext,
+    Row::ChainOfTwo,
+    Row::ChainOfThree,
+    Row::FollowedContext,
 ];
 
 impl Row {
@@ -71,6 +77,9 @@ impl Row {
             Row::Plan => "plan",
             Row::EmptyPlan => "empty-plan",
             Row::VertexContext => "vertex-context",
+            Row::ChainOfTwo => "chain-of-two",
+            Row::ChainOfThree => "chain-of-three",
+            Row::FollowedContext => "followed-context",
         }
     }
 
@@ -95,6 +104,8 @@ pub(crate) const A: &str =
 
 const B: &str = "sha256:bbbbbbbbbbbbbbbbbbbbbbbbbbbbbbbbbbbbbbbbbbbbbbbbbbbbbbbbbbbbbbbb";
 
+const C: &str = "sha256:cccccccccccccccccccccccccccccccccccccccccccccccccccccccccccccccc";
+
 /// A row's line.
 pub(crate) fn line(alloc: Global, row: Row) -> Result<String, Memory> {
     let bytes = match row {
@@ -105,6 +116,9 @@ pub(crate) fn line(alloc: Global, row: Row) -> Result<String, Memory> {
         Row::Plan => whole::plan(alloc)?,
         Row::EmptyPlan => whole::empty_plan(alloc)?,
         Row::VertexContext => bytes(alloc, vertices::context(alloc))?,
+        Row::ChainOfTwo => bytes(alloc, vertices::chain(alloc, &[A, B]))?,
+        Row::ChainOfThree => bytes(alloc, vertices::chain(alloc, &[B, C, A]))?,
+        Row::FollowedContext => bytes(alloc, whole::followed_context(alloc))?,
         row => operation(alloc, row)?,
     };
     let digits = hex::encode(alloc, bytes.as_slice())?;

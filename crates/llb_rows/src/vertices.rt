@@ -1,7 +1,7 @@
 // What vertices of a graph are.
 
-use crate::rows::{A, platform, text};
-use exported::{context_op, copy_op, exclude_list, image_op, make_dir_op};
+use crate::rows::{A, platform, text, texts};
+use exported::{chain_op, context_op, copy_op, exclude_list, image_op, make_dir_op};
 use llb::{CopyFiles, FileSource};
 use llbmessages::Op;
 use paths::{Name, Path};
@@ -104,5 +104,12 @@ fn left_out(alloc: Global) -> Result<Items<Path>, Memory> {
 pub(crate) fn context(alloc: Global) -> Result<Op, Memory> {
     let left = left_out(alloc)?;
     let excludes = exclude_list(alloc, left.as_slice())?;
-    context_op(alloc, "u1", &excludes)
+    context_op(alloc, "u1", &excludes, &None)
+}
+
+/// Trees that are laid over each other by copies.
+pub(crate) fn chain(alloc: Global, digests: &[&str]) -> Result<Op, Memory> {
+    let digests = texts(alloc, digests)?;
+    let platform = platform(alloc)?;
+    chain_op(alloc, &platform, digests.as_slice())
 }

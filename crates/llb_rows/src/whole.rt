@@ -1,8 +1,8 @@
 // The definitions of plans.
 
 use crate::rows::{platform, text};
-use exported::{Options, export};
-use llbmessages::{Network, Platform};
+use exported::{Merging, Options, context_op, export, follow_list};
+use llbmessages::{Network, Op, Platform};
 use plain::{Bytes, Fault, Items, Memory, Text};
 use plans::Plan;
 use samples::{Row, plan_of_rows};
@@ -37,6 +37,21 @@ pub(crate) fn plan(alloc: Global) -> Result<Bytes, Memory> {
 pub(crate) fn empty_plan(alloc: Global) -> Result<Bytes, Memory> {
     let rows: [Row; 2] = [("scratch", &[], 0), ("dirs /", &[0], 0)];
     exported(alloc, &rows, 1, &[])
+}
+
+/// The files of a build of which a graph names a folder by a pattern, a file by another one that has no sign, whose name isn't all ASCII below a folder
+/// whose name has signs, and a file.
+pub(crate) fn followed_context(alloc: Global) -> Result<Op, Memory> {
+    let rows: [Row; 4] = [
+        ("scratch", &[], 1),
+        ("context", &[], 2),
+        (r"copy ./src/*.c x/../lib\[1\]/é.c /srv/", &[0, 1], 2),
+        ("copy a.md /n", &[2, 1], 3),
+    ];
+    let plan = plan_of_rows(alloc, &rows, 3, &[])?;
+    let follows = follow_list(alloc, &plan);
+    drop(plan);
+    context_op(alloc, "u1", &None, &follows?)
 }
 
 /// The definition of the plan of these rows, whose lines have these names.
@@ -77,7 +92,9 @@ fn options(alloc: Global) -> Result<Options, Memory> {
             platform,
             network: Network::None,
             unique,
+            merging: Merging::Native,
             excludes: Some(excludes),
+            follows: None,
         }),
         Err(memory) => {
             drop(unique);
