@@ -3,7 +3,7 @@
 
 use clap::Error;
 use command::{
-    BuildOptions, CheckOptions, GraphOptions, LlbOptions, PackOptions, Task, WhyOptions,
+    BuildOptions, CheckOptions, GraphOptions, LlbOptions, MergeName, PackOptions, Task, WhyOptions,
     read_command,
 };
 use plain::{Memory, Text};
@@ -120,8 +120,8 @@ fn why_text(alloc: Global, options: &WhyOptions) -> Result<String, Memory> {
     Ok(told)
 }
 
-/// What `llb` is asked for: the three names of its platform, its network, the text that no other build has, and after them the bundle's file, if
-/// one is named.
+/// What `llb` is asked for: the three names of its platform, its network, the text that no other build has, and after them whether a merge is
+/// copies, whether only what is named is asked for, and the bundle's file, if one is named.
 fn llb_text(alloc: Global, options: &LlbOptions) -> Result<String, Memory> {
     let os = options.platform.os.as_str();
     let architecture = options.platform.architecture.as_str();
@@ -131,6 +131,13 @@ fn llb_text(alloc: Global, options: &LlbOptions) -> Result<String, Memory> {
     let mut told = format!(in alloc;
         "llb for [{os}] [{architecture}] [{variant}] with {network:?} unique [{unique}]"
     )?;
+    match options.merging {
+        MergeName::Native => {}
+        MergeName::Chain => told.push_str(" in chains")?,
+    }
+    if options.follow {
+        told.push_str(" following")?;
+    }
     add_text(alloc, &mut told, "of", &options.file)?;
     Ok(told)
 }
