@@ -1,8 +1,10 @@
 -- What is written of a bundle for BuildKit, and how that ends (own; BuildKit's LLB).
-use Rattle.std.specs.Prelude.{◌≡◌, ℕ, List, Result, Ok, Err}
+use Rattle.std.specs.Prelude.{◌≡◌, ℕ, Bool, List, Option, None, Result, Ok, Err, if◌then◌else◌}
 use Rattle.expand.specs.declared.reason.Rejection.{Rejection}
 use Rattle.counted.specs.Edges.{line_of}
 use Rattle.command.specs.declared.task.LlbOptions.{LlbOptions}
+use Rattle.command.specs.declared.task.MergeName.{MergeName}
+use Rattle.command.specs.declared.task.MergeName.TheVariants.{Native, Chain}
 use Rattle.command.specs.declared.task.NetworkName.{NetworkName}
 use Rattle.command.specs.declared.task.NetworkName.TheVariants.{Usual, Absent, Host}
 use Rattle.command.specs.declared.task.PlatformName.{PlatformName}
@@ -18,8 +20,11 @@ use Rattle.llbmessages.specs.declared.exec.Network.TheVariants as network
 use Rattle.llbmessages.specs.declared.op.Platform.{Platform}
 use Rattle.exported.specs.declared.fault.Obstacle.{Obstacle}
 use Rattle.exported.specs.declared.fault.Obstacle.TheVariants as way
+use Rattle.exported.specs.declared.making.Merging.{Merging}
+use Rattle.exported.specs.declared.making.Merging.TheVariants as merging
 use Rattle.exported.specs.declared.making.Options.{Options}
 use Rattle.exported.specs.Excluding.{exclude_list}
+use Rattle.exported.specs.Following.{follow_list}
 use Rattle.exported.specs.Exporting.{exported, IsExported}
 use Rattle.bundle.specs.Answer.{refused_text}
 use Rattle.build.specs.declared.status.Status.{Status}
@@ -42,10 +47,26 @@ network_of Host = network.Host
 abbrev pub platform_of : PlatformName → Platform
 platform_of names = record { architecture = names.architecture; os = names.os; variant = names.variant }
 
--- what the words choose of a definition, in which BuildKit isn't given these paths of the folder
-abbrev pub chosen : LlbOptions → List (List (List ℕ)) → Options
-chosen options left =
-    record { platform = platform_of options.platform; network = network_of options.network; unique = options.unique; excludes = exclude_list left }
+-- what a merge is by a name
+abbrev pub merging_of : MergeName → Merging
+merging_of Native = merging.Native
+merging_of Chain = merging.Chain
+
+-- the patterns of what a plan names of the folder, if BuildKit is to be given no more
+abbrev pub followed : Bool → PlanValue Config → Option (List ℕ)
+followed follow plan = if follow then follow_list plan.graph plan.target else None
+
+-- what the words choose of the definition of a plan, in which BuildKit isn't given these paths of the folder
+abbrev pub chosen : LlbOptions → List (List (List ℕ)) → PlanValue Config → Options
+chosen options left plan =
+    record {
+      platform = platform_of options.platform;
+      network = network_of options.network;
+      unique = options.unique;
+      merging = merging_of options.merging;
+      excludes = exclude_list left;
+      follows = followed options.follow plan;
+    }
 
 -- A plan is the one whose graph is drawn of what a file's stages give: that which stands for the file, with its links put into one and without
 -- what its target doesn't reach. Under every executor it has the target's tree, and none where the target has none.
@@ -67,7 +88,7 @@ pub record IsBeside (bytes : List ℕ) (beside : Beside) : Type 0 where
 pub record IsDefinitionOf (options : LlbOptions) (made : Evaluated) (beside : Beside) (text : List ℕ) : Type 0 where
   pub plan : PlanValue Config
   pub drawn : IsDrawnPlan made plan
-  pub written : IsExported (exported (chosen options beside.left) beside.titles plan.graph plan.target) (Ok text)
+  pub written : IsExported (exported (chosen options beside.left plan) beside.titles plan.graph plan.target) (Ok text)
 
 -- What is written of a bundle of these bytes: the definition of its graph, with the titles of its Dockerfile's steps and with the patterns of what its
 -- ignore file leaves out, whether or not a build of it would fail; or the refusal of the bundle as a line.
@@ -88,7 +109,7 @@ pub record HasObstacle (options : LlbOptions) (fault : BuildFault) (made : Evalu
   pub drawn : IsDrawnPlan made plan
   pub obstacle : Obstacle
   pub is : fault_of obstacle ≡ fault
-  pub told : exported (chosen options beside.left) beside.titles plan.graph plan.target ≡ Err obstacle
+  pub told : exported (chosen options beside.left plan) beside.titles plan.graph plan.target ≡ Err obstacle
 
 -- the same of what a bundle of these bytes asks for
 abbrev pub LlbStops : LlbOptions → Stops

@@ -4,15 +4,15 @@ ghost use Rattle.drawing.specs.Drawn.{IsSimplified};
 ghost use Rattle.exported.specs.Excluding.{exclude_list as patterns_of};
 ghost use Rattle.rewrite.specs.Pruned.{KeepsMeaning};
 ghost use Rattle.build.specs.Lowerable.{IsLowerable};
-ghost use Rattle.program.specs.Llb.{IsDrawnPlan, chosen, fault_of, network_of, platform_of};
+ghost use Rattle.program.specs.Llb.{IsDrawnPlan, chosen, fault_of, followed, merging_of, network_of, platform_of};
 ghost use Rattle.program.specs.PrivateLlb.{IsFileTold, IsLlbTold, IsPlanTold};
 
 use crate::telling::Teller;
 use crate::told::{Told, tell_refusal};
 use build::{Asked, BuildFault, Status, Titled, ask_titled};
-use command::{LlbOptions, NetworkName, PlatformName};
+use command::{LlbOptions, MergeName, NetworkName, PlatformName};
 use evaluation::Evaluated;
-use exported::{ExportFault, Obstacle, Options, exclude_list, export};
+use exported::{ExportFault, Merging, Obstacle, Options, exclude_list, export, follow_list};
 use imageconfig::Config;
 use llbmessages::{Network, Platform};
 use lowering::lower_program;
@@ -35,7 +35,7 @@ pub(crate) struct Beside {
 /// Tells a bundle's graph as a definition of BuildKit's LLB, or the bundle's refusal.
 ///
 /// The graph is the one that `graph` prints, and progress calls each of its steps by the title of its instruction. Of the folder that BuildKit is
-/// given, patterns leave out just what the ignore file does. `Built` if it was written, also if a build would fail, `Refused` if the refusal was,
+/// given, patterns leave out just what the ignore file does, and it is asked for all else, or for what the graph names. `Built` if it was written, also if a build would fail, `Refused` if the refusal was,
 /// and never `Failed`. `Clash` only if two different operations have one digest, and `Unspeakable` only if the graph has the folder and BuildKit
 /// can't be told a pattern.
 #[derive(Drop)]
@@ -161,21 +161,28 @@ fn tell_plan(
 ) -> Result<Bytes, ExportFault>
     ensures { IsPlanTold options.now plan.now beside.now result }
 {
-    let options = chosen(alloc, options, beside.left.as_slice())?;
+    let options = chosen(alloc, options, beside.left.as_slice(), plan)?;
     export(alloc, plan, &options, beside.titles.as_slice())
 }
 
-/// What the words choose of a definition, in which BuildKit isn't given these paths of the folder.
-fn chosen(alloc: Global, options: &LlbOptions, left: &[Path]) -> Result<Options, Memory>
-    ensures { IfOk result (λ made. made ≡ chosen options.now left.now) }
+/// What the words choose of the definition of a plan, in which BuildKit isn't given these paths of the folder.
+fn chosen(
+    alloc: Global,
+    options: &LlbOptions,
+    left: &[Path],
+    plan: &Plan<Config>,
+) -> Result<Options, Memory>
+    ensures { IfOk result (λ made. made ≡ chosen options.now left.now plan.now) }
 {
     let platform = platform_of(alloc, &options.platform)?;
-    match texts_of(alloc, options, left) {
-        Ok((unique, excludes)) => Ok(Options {
+    match texts_of(alloc, options, left, plan) {
+        Ok((unique, (excludes, follows))) => Ok(Options {
             platform,
             network: network_of(options.network),
             unique,
+            merging: merging_of(options.merging),
             excludes,
+            follows,
         }),
         Err(memory) => {
             drop(platform);
@@ -184,21 +191,61 @@ fn chosen(alloc: Global, options: &LlbOptions, left: &[Path]) -> Result<Options,
     }
 }
 
-/// The text that no other build has, and the patterns of these paths.
+/// The text that no other build has, and the patterns of these paths and of those that a plan names.
 fn texts_of(
     alloc: Global,
     options: &LlbOptions,
     left: &[Path],
-) -> Result<(Text, Option<Text>), Memory>
-    ensures { IfOk result (λ texts. texts ≡ (options.now.unique, patterns_of left.now)) }
+    plan: &Plan<Config>,
+) -> Result<(Text, (Option<Text>, Option<Text>)), Memory>
+    ensures { IfOk result (λ texts. texts ≡ (options.now.unique, (patterns_of left.now, followed options.now.follow plan.now))) }
 {
     let unique = options.unique.copy(alloc)?;
-    match exclude_list(alloc, left) {
-        Ok(excludes) => Ok((unique, excludes)),
+    match lists_of(alloc, options, left, plan) {
+        Ok(lists) => Ok((unique, lists)),
         Err(memory) => {
             drop(unique);
             Err(memory)
         }
+    }
+}
+
+/// The patterns of these paths and of those that a plan names.
+fn lists_of(
+    alloc: Global,
+    options: &LlbOptions,
+    left: &[Path],
+    plan: &Plan<Config>,
+) -> Result<(Option<Text>, Option<Text>), Memory>
+    ensures { IfOk result (λ lists. lists ≡ (patterns_of left.now, followed options.now.follow plan.now)) }
+{
+    let excludes = exclude_list(alloc, left)?;
+    match followed(alloc, options.follow, plan) {
+        Ok(follows) => Ok((excludes, follows)),
+        Err(memory) => {
+            drop(excludes);
+            Err(memory)
+        }
+    }
+}
+
+/// The patterns of what a plan names of the folder, if BuildKit is to be given no more.
+fn followed(alloc: Global, follow: bool, plan: &Plan<Config>) -> Result<Option<Text>, Memory>
+    ensures { IfOk result (λ follows. follows ≡ followed follow plan.now) }
+{
+    if !follow {
+        return Ok(None);
+    }
+    follow_list(alloc, plan)
+}
+
+/// What a merge is by a name.
+fn merging_of(name: MergeName) -> Merging
+    ensures { result ≡ merging_of name }
+{
+    match name {
+        MergeName::Native => Merging::Native,
+        MergeName::Chain => Merging::Chain,
     }
 }
 
