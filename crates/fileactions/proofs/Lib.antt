@@ -1,0 +1,13 @@
+mod Steps
+mod Paths
+mod Rows
+mod Found
+mod Texts
+mod Trees
+mod Chain
+mod Literal
+mod Gives
+mod Layers
+mod Merging
+mod Plans
+mod Placed

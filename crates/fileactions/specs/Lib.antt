@@ -1,0 +1,5 @@
+pub mod Copying
+pub mod Copies
+pub mod Actions
+pub mod Claims
+pub mod Engine
