@@ -17,6 +17,8 @@ CLASSES = {
     "target": "nothing can be mounted at a file or below one, and what holds a mount can't be removed",
     "environment": "a command has PATH and HOME in its environment",
     "directory": "a command's directory is made if it isn't there, and what would make a file there, or has one there, fails or goes below it",
+    "group": "what is made in a folder with the bit 02000 gets its group, and a folder that bit too",
+    "slash": "a class of a pattern takes a `/`, if it is negated or has a range around it, and so paths of more components",
     "name": "Go refuses the name of an image",
     "arguments": "a command's word or variable has a NUL, or is past the system's limits",
     "unprintable": "a path that is left out isn't printable ASCII, and `dfsolve llb` says so",
@@ -53,6 +55,18 @@ def takes_runtimes(graph):
     patterns = ["/" + pattern.lstrip("/") for pattern in sources if re.search(r"[*?[]", pattern)]
     places = {place for target in RUNTIME for place in above(target)}
     return bool(runs_of(graph)) and any(fnmatch.fnmatchcase(place, pattern) for place in places for pattern in patterns)
+
+
+def may_take_slashes(graph):
+    """Whether a pattern of a COPY has a class that takes a `/`."""
+    classes = [found for copy in copies_of(graph) for source in copy["sources"] for found in re.findall(r"\[(\^?)([^\]]*)\]", source.get("pattern", ""))]
+    return any(negated or re.search(r"[!-/]-[/-~]", items) for negated, items in classes)
+
+
+def takes_group(path, mine, other, theirs):
+    """Whether a difference is the group, or the bit, of a folder above that has the bit 02000."""
+    folders = [theirs[place] for place in above(path)[:-1] if place in theirs]
+    return bool(folders) and folders[-1][0] & 0o2000 and folders[-1][2] == other[2] and mine[1] == other[1] and mine[3] == other[3] and mine[0] == other[0] & ~0o2000
 
 
 def without_targets(theirs, ours, graph):
@@ -165,7 +179,10 @@ def classes_of_trees(ours, theirs, graph):
         if mine is None and other[3] is None and any(path.endswith(place) for place in places if places[place] == "directory"):
             found.add("directory")
             continue
-        name = mine and other and class_of_entries(mine, other, graph)
+        if mine is None and may_take_slashes(graph):
+            found.add("slash")
+            continue
+        name = mine and other and ("group" if takes_group(path, mine, other, theirs) else class_of_entries(mine, other, graph))
         if not name:
             return None
         found.add(name)
