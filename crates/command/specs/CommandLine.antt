@@ -31,13 +31,13 @@ bundle_argument = new_rule (codes "FILE")
 abbrev pub build_command : App
 build_command = with_rule (with_rule (new_app (codes "build")) workers_option) bundle_argument
 
--- `--dot` (own)
-abbrev pub dot_flag : Rule
-dot_flag = record (new_rule (codes "dot")) { long = Some (codes "dot"); action = Some SetTrue }
+-- a flag, as `--dot` (own)
+abbrev pub flag : Text → Rule
+flag name = record (new_rule name) { long = Some name; action = Some SetTrue }
 
 -- `graph [--dot] [FILE]` (own)
 abbrev pub graph_command : App
-graph_command = with_rule (with_rule (new_app (codes "graph")) dot_flag) bundle_argument
+graph_command = with_rule (with_rule (new_app (codes "graph")) (flag (codes "dot"))) bundle_argument
 
 -- DIR, which has to be given (own)
 abbrev pub folder_argument : Rule
@@ -55,10 +55,6 @@ argument_option = record (text_option (codes "build-arg")) { action = Some Appen
 abbrev pub pack_from : App
 pack_from = with_rule (with_rule (with_rule (new_app (codes "pack")) folder_argument) (text_option (codes "file"))) (text_option (codes "target"))
 
--- `--apply-ignore` (own)
-abbrev pub ignore_flag : Rule
-ignore_flag = record (new_rule (codes "apply-ignore")) { long = Some (codes "apply-ignore"); action = Some SetTrue }
-
 -- `--image NAME=FILE`, any number of times (own)
 abbrev pub image_option : Rule
 image_option = record (text_option (codes "image")) { action = Some Append }
@@ -73,7 +69,7 @@ pack_to = with_rule pack_with (text_option (codes "output"))
 
 -- the same with `--apply-ignore` (own)
 abbrev pub pack_command : App
-pack_command = with_rule pack_to ignore_flag
+pack_command = with_rule pack_to (flag (codes "apply-ignore"))
 
 -- `dfsolve COMMAND` with no command yet; one has to be given, and the program has a version to tell (own)
 abbrev pub bare_command : App
@@ -99,13 +95,9 @@ asking_command = with_subcommand (with_subcommand bundle_command pack_command.to
 abbrev pub llb_options : App
 llb_options = with_rule (with_rule (with_rule (new_app (codes "llb")) (text_option (codes "platform"))) (text_option (codes "network"))) (text_option (codes "unique"))
 
--- `--follow` (own)
-abbrev pub follow_flag : Rule
-follow_flag = record (new_rule (codes "follow")) { long = Some (codes "follow"); action = Some SetTrue }
-
 -- `llb [--platform P] [--network N] --unique TEXT [--merge M] [--follow]` (own)
 abbrev pub llb_choices : App
-llb_choices = with_rule (with_rule llb_options (text_option (codes "merge"))) follow_flag
+llb_choices = with_rule (with_rule llb_options (text_option (codes "merge"))) (flag (codes "follow"))
 
 -- `llb [--platform P] [--network N] --unique TEXT [--merge M] [--follow] [FILE]` (own)
 abbrev pub llb_command : App
@@ -115,13 +107,9 @@ llb_command = with_rule llb_choices bundle_argument
 abbrev pub config_command : App
 config_command = with_rule (new_app (codes "config")) bundle_argument
 
--- `--json` (own)
-abbrev pub json_flag : Rule
-json_flag = record (new_rule (codes "json")) { long = Some (codes "json"); action = Some SetTrue }
-
 -- `check [--json] [FILE]` (own)
 abbrev pub check_command : App
-check_command = with_rule (with_rule (new_app (codes "check")) json_flag) bundle_argument
+check_command = with_rule (with_rule (new_app (codes "check")) (flag (codes "json"))) bundle_argument
 
 -- `explain [FILE]` (own)
 abbrev pub explain_command : App

@@ -1,7 +1,7 @@
 ghost use Rattle.std.specs.Prelude.{◌≡◌, IfOk, IsOkAnd, false};
 ghost use Rattle.clap.specs.Words.{app_of, rule_of, with_subcommand};
 ghost use Rattle.clap.specs.declared.builder.command.Command.TheViews.{out-Command};
-ghost use Rattle.command.specs.CommandLine.{argument_option, asking_command, bare_command, build_command, bundle_argument, bundle_command, check_command, config_command, dot_flag, explain_command, folder_argument, follow_flag, graph_command, ignore_flag, image_option, json_flag, llb_choices, llb_command, llb_options, pack_command, pack_from, pack_to, pack_with, paths_argument, text_option, whole_command, why_command, workers_option};
+ghost use Rattle.command.specs.CommandLine.{argument_option, asking_command, bare_command, build_command, bundle_argument, bundle_command, check_command, config_command, explain_command, flag, folder_argument, graph_command, image_option, llb_choices, llb_command, llb_options, pack_command, pack_from, pack_to, pack_with, paths_argument, text_option, whole_command, why_command, workers_option};
 
 use clap::{Arg, ArgAction, Command, value_parser};
 use plain::limits::MOST_WORKERS;
@@ -170,7 +170,11 @@ fn graph_command<'a>(alloc: Global) -> Result<Command<'a>, AllocError>
             "Prints the graph of the bundle of a file, or on standard input, by content addresses",
         )
         .after_help(GRAPH_HELP)
-        .arg(dot_flag(alloc))?
+        .arg(flag(
+            alloc,
+            DOT,
+            "Print it in the DOT language of Graphviz, with the instructions and their lines",
+        ))?
         .arg(bundle_argument(alloc))
 }
 
@@ -180,7 +184,11 @@ fn pack_command<'a>(alloc: Global) -> Result<Command<'a>, AllocError>
     ensures local { IfOk result (λ command. (out-Command command).has_globals ≡ false) }
 {
     let command = pack_to(alloc)?;
-    command.arg(ignore_flag(alloc))
+    command.arg(flag(
+        alloc,
+        APPLY_IGNORE,
+        "Leave out what the ignore file leaves out",
+    ))
 }
 
 /// `pack DIR [--file F] [--target T] [--build-arg N=V].. [--image NAME=FILE].. [--output FILE]`.
@@ -260,7 +268,11 @@ fn llb_choices<'a>(alloc: Global) -> Result<Command<'a>, AllocError>
             "HOW",
             "What a merge of trees is: native, or chain, copies that any BuildKit can make [default: native]",
         ))?
-        .arg(follow_flag(alloc))
+        .arg(flag(
+            alloc,
+            FOLLOW,
+            "Ask for only the paths of the context that the graph names",
+        ))
 }
 
 /// `llb [--platform P] [--network N] --unique TEXT`.
@@ -310,7 +322,7 @@ fn check_command<'a>(alloc: Global) -> Result<Command<'a>, AllocError>
     Command::new(alloc, "check")
         .about("Prints all faults of a bundle, with what helps, and builds nothing")
         .after_help(CHECK_HELP)
-        .arg(json_flag(alloc))?
+        .arg(flag(alloc, JSON, "Print each fault as a line of JSON"))?
         .arg(bundle_argument(alloc))
 }
 
@@ -393,47 +405,14 @@ fn image_option<'a>(alloc: Global) -> Arg<'a>
     .action(ArgAction::Append)
 }
 
-/// `--apply-ignore`.
-fn ignore_flag<'a>(alloc: Global) -> Arg<'a>
-    ensures rule { rule_of result ≡ ignore_flag }
+/// `--NAME`, a flag.
+fn flag<'a>(alloc: Global, name: &'a str, help: &'a str) -> Arg<'a>
+    ensures rule { rule_of result ≡ flag name.now }
     ensures local { result.global ≡ false }
 {
-    Arg::new(alloc, APPLY_IGNORE)
-        .long(APPLY_IGNORE)
-        .help("Leave out what the ignore file leaves out")
-        .action(ArgAction::SetTrue)
-}
-
-/// `--dot`.
-fn dot_flag<'a>(alloc: Global) -> Arg<'a>
-    ensures rule { rule_of result ≡ dot_flag }
-    ensures local { result.global ≡ false }
-{
-    Arg::new(alloc, DOT)
-        .long(DOT)
-        .help("Print it in the DOT language of Graphviz, with the instructions and their lines")
-        .action(ArgAction::SetTrue)
-}
-
-/// `--follow`.
-fn follow_flag<'a>(alloc: Global) -> Arg<'a>
-    ensures rule { rule_of result ≡ follow_flag }
-    ensures local { result.global ≡ false }
-{
-    Arg::new(alloc, FOLLOW)
-        .long(FOLLOW)
-        .help("Ask for only the paths of the context that the graph names")
-        .action(ArgAction::SetTrue)
-}
-
-/// `--json`.
-fn json_flag<'a>(alloc: Global) -> Arg<'a>
-    ensures rule { rule_of result ≡ json_flag }
-    ensures local { result.global ≡ false }
-{
-    Arg::new(alloc, JSON)
-        .long(JSON)
-        .help("Print each fault as a line of JSON")
+    Arg::new(alloc, name)
+        .long(name)
+        .help(help)
         .action(ArgAction::SetTrue)
 }
 

@@ -35,9 +35,9 @@ pub(crate) struct Beside {
 /// Tells a bundle's graph as a definition of BuildKit's LLB, or the bundle's refusal.
 ///
 /// The graph is the one that `graph` prints, and progress calls each of its steps by the title of its instruction. Of the folder that BuildKit is
-/// given, patterns leave out just what the ignore file does, and it is asked for all else, or for what the graph names. `Built` if it was written, also if a build would fail, `Refused` if the refusal was,
-/// and never `Failed`. `Clash` only if two different operations have one digest, and `Unspeakable` only if the graph has the folder and BuildKit
-/// can't be told a pattern.
+/// given, patterns leave out just what the ignore file does, and it is asked for all else, or for what the graph names. `Built` if it was written,
+/// also if a build would fail, `Refused` if the refusal was, and never `Failed`. `Clash` only if two different operations have one digest, and
+/// `Unspeakable` only if the graph has the folder and BuildKit can't be told a pattern.
 #[derive(Drop)]
 pub(crate) struct DefinitionTeller<'a> {
     pub(crate) options: &'a LlbOptions,
