@@ -37,8 +37,11 @@ output = slice_index_or leaf.rules 5 (new_rule [])
 abbrev ignoring : Rule
 ignoring = slice_index_or leaf.rules 6 (new_rule [])
 
+abbrev naming : Rule
+naming = slice_index_or leaf.rules 7 (new_rule [])
+
 abbrev arguments : Arguments
-arguments = (true, folder) ∷ (true, file) ∷ (true, target) ∷ (true, argument) ∷ (true, image) ∷ (true, output) ∷ (false, ignoring) ∷ []
+arguments = (true, folder) ∷ (true, file) ∷ (true, target) ∷ (true, argument) ∷ (true, image) ∷ (true, output) ∷ (false, ignoring) ∷ (false, naming) ∷ []
 
 use_folder : Keeps Filled folder
 use_folder again [] rows e filled = absurd (some_kind _ _ (or_else-left (range_kinds 1 1 0) (set_fault again folder [] rows) e))
@@ -81,6 +84,11 @@ use_ignoring again values rows e filled =
     Filled-with_values (codes "apply-ignore") (reading_by ignoring) CommandLine (values_or_missing ignoring values) (without (codes "apply-ignore") rows)
     (not_folder (codes "apply-ignore") _ refl) (Filled-without (codes "apply-ignore") rows filled)
 
+use_naming : Keeps Filled naming
+use_naming again values rows e filled =
+    Filled-with_values (codes "names") (reading_by naming) CommandLine (values_or_missing naming values) (without (codes "names") rows)
+    (not_folder (codes "names") _ refl) (Filled-without (codes "names") rows filled)
+
 was_given : (b : Bool) → check_kinds false false (not b || false) ≡ [] → b ≡ true
 was_given true e = refl
 was_given false e = absurd (some_kind _ _ e)
@@ -89,6 +97,6 @@ pub folder_ok : (words : List Text) → level_fault leaf [] nothing_held words f
     → (text : Text) × (first_of (codes "DIR") (finished leaf.rules (walk leaf.rules [] nothing_held words).held) ≡ Some text)
 folder_ok words e =
     let end = (walk leaf.rules [] nothing_held words).held in
-    let held = leaf_holds leaf arguments Filled (use_folder, (use_file, (use_target, (use_argument, (use_image, (use_output, (use_ignoring, tt))))))) words tt e in
+    let held = leaf_holds leaf arguments Filled (use_folder, (use_file, (use_target, (use_argument, (use_image, (use_output, (use_ignoring, (use_naming, tt)))))))) words tt e in
     given_folder (finished leaf.rules end) (Filled-defaults leaf.rules (settled leaf.rules end).rows held.0)
     (was_given (is_given (codes "DIR") (finished leaf.rules end)) held.1)

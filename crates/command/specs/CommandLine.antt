@@ -67,9 +67,9 @@ pack_with = with_rule (with_rule pack_from argument_option) image_option
 abbrev pub pack_to : App
 pack_to = with_rule pack_with (text_option (codes "output"))
 
--- the same with `--apply-ignore` (own)
+-- the same with `--apply-ignore` and `--names` (own)
 abbrev pub pack_command : App
-pack_command = with_rule pack_to (flag (codes "apply-ignore"))
+pack_command = with_rule (with_rule pack_to (flag (codes "apply-ignore"))) (flag (codes "names"))
 
 -- `dfsolve COMMAND` with no command yet; one has to be given, and the program has a version to tell (own)
 abbrev pub bare_command : App

@@ -74,6 +74,7 @@ pack_with rows folder args images = record {
   images = images;
   output = first_of (codes "output") rows;
   apply_ignore = is_set (codes "apply-ignore") rows;
+  names = is_set (codes "names") rows;
 }
 
 -- the same, where there is a folder, and each build argument and each image has a `=` (own)

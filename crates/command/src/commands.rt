@@ -32,6 +32,8 @@ pub const OUTPUT: &str = "output";
 
 pub const APPLY_IGNORE: &str = "apply-ignore";
 
+pub const NAMES: &str = "names";
+
 /// The flag of `graph`.
 pub const DOT: &str = "dot";
 
@@ -178,17 +180,23 @@ fn graph_command<'a>(alloc: Global) -> Result<Command<'a>, AllocError>
         .arg(bundle_argument(alloc))
 }
 
-/// `pack DIR [--file F] [--target T] [--build-arg N=V].. [--image NAME=FILE].. [--output FILE] [--apply-ignore]`.
+/// `pack DIR [--file F] [--target T] [--build-arg N=V].. [--image NAME=FILE].. [--output FILE] [--apply-ignore] [--names]`.
 fn pack_command<'a>(alloc: Global) -> Result<Command<'a>, AllocError>
     ensures app { IfOk result (λ command. app_of command ≡ pack_command) }
     ensures local { IfOk result (λ command. (out-Command command).has_globals ≡ false) }
 {
     let command = pack_to(alloc)?;
-    command.arg(flag(
-        alloc,
-        APPLY_IGNORE,
-        "Leave out what the ignore file leaves out",
-    ))
+    command
+        .arg(flag(
+            alloc,
+            APPLY_IGNORE,
+            "Leave out what the ignore file leaves out",
+        ))?
+        .arg(flag(
+            alloc,
+            NAMES,
+            "Leave out the bytes of files: llb, graph, config, check and why don't need them",
+        ))
 }
 
 /// `pack DIR [--file F] [--target T] [--build-arg N=V].. [--image NAME=FILE].. [--output FILE]`.

@@ -11,7 +11,7 @@ ghost use Rattle.command.specs.declared.task.Task.{Task};
 
 use crate::commands::{
     APPLY_IGNORE, BUILD_ARGUMENT, BUNDLE, BUNDLE_FILE, DOT, FILE, FOLDER, IMAGE, JSON,
-    LEAST_WORKERS, OUTPUT, PATH, TARGET, whole_command,
+    LEAST_WORKERS, NAMES, OUTPUT, PATH, TARGET, whole_command,
 };
 use crate::llb::{llb_of, wrong_choice};
 use crate::{BuildOptions, CheckOptions, GraphOptions, PackOptions, Task, WhyOptions};
@@ -26,8 +26,8 @@ use std::alloc::{AllocError, Global};
 ///
 /// `graph` is a command with a word FILE that may be left out, and with `--dot` once at most. `build` is one with that word and `--workers N` or `--workers=N` once at most; N is
 /// decimal digits, of which a `+` may stand in front, and its value is 1 to 64; the default is 4. `pack` is one with a word DIR, with
-/// `--file F`, `--target T`, `--output FILE` and `--apply-ignore` once at most, and with `--build-arg N=V` and `--image NAME=FILE` any number of times, each
-/// of which has a `=`.
+/// `--file F`, `--target T`, `--output FILE`, `--apply-ignore` and `--names` once at most, and with `--build-arg N=V` and `--image NAME=FILE` any number
+/// of times, each of which has a `=`.
 /// `why` is one with a word PATH once or more, and with `--bundle FILE` once at most.
 /// `llb` is one with a word FILE that may be left out, with `--unique TEXT` just once, and with `--platform P`, `--network N`, `--merge M`
 /// and `--follow` once at most; P is `OS/ARCH` or `OS/ARCH/VARIANT`, and `linux/amd64` by default; N is `default`, `none` or `host`, and M is `native`
@@ -195,6 +195,7 @@ fn pack_of(alloc: Global, matches: &ArgMatches) -> Result<Option<PackOptions>, A
         images,
         output: text_of(alloc, matches, OUTPUT)?,
         apply_ignore: is_set(matches, APPLY_IGNORE),
+        names: is_set(matches, NAMES),
     }))
 }
 

@@ -73,6 +73,8 @@ pub struct PackOptions {
     pub output: Option<Text>,
     /// Whether what the ignore file leaves out isn't packed.
     pub apply_ignore: bool,
+    /// Whether files are packed without their bytes.
+    pub names: bool,
 }
 
 /// It ends by a call, so that no proof above goes by which of its fields are there at each place where one is let go.
@@ -86,6 +88,7 @@ impl Drop for PackOptions {
             images: _,
             output: _,
             apply_ignore: _,
+            names: _,
         } = self;
     }
 }

@@ -1,5 +1,5 @@
 -- What a folder's bundle leaves out (own).
-use Rattle.std.specs.Prelude.{◌≡◌, ◌⊎◌, ◌||◌, ◌&&◌, ℕ, Bool, true, false, List, [], ◌∷◌, Option, Some, None, bytes_eq, codes}
+use Rattle.std.specs.Prelude.{◌≡◌, ◌⊎◌, ◌||◌, ◌&&◌, ℕ, Bool, true, false, not, List, [], ◌∷◌, Option, Some, None, bytes_eq, codes}
 use Rattle.ignorefile.specs.declared.line.Line.{Line}
 use Rattle.ignorefile.specs.Kept.{Kept}
 use Rattle.packing.specs.declared.leaving.Leaving.{Leaving}
@@ -18,6 +18,10 @@ abbrev pub is_own : Bool → List (List ℕ) → Bool
 is_own dockerfile [] = false
 is_own dockerfile (name ∷ []) = bytes_eq name (codes ".dockerignore") || (dockerfile && bytes_eq name (codes "Dockerfile"))
 is_own dockerfile (name ∷ next ∷ names) = false
+
+-- a file of this path is packed with its bytes
+abbrev pub has_bytes : Leaving → List (List ℕ) → Bool
+has_bytes leaving path = not leaving.names || is_own leaving.dockerfile path
 
 -- what has this path is packed
 abbrev pub IsPacked : Leaving → List (List ℕ) → Type 0

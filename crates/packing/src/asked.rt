@@ -13,4 +13,6 @@ pub struct PackOptions<'a> {
     pub args: &'a [(Text, Text)],
     /// Whether what the ignore file leaves out isn't packed.
     pub apply_ignore: bool,
+    /// Whether files are packed without their bytes, but the ignore file and the folder's `Dockerfile` where that is the bundle's.
+    pub names: bool,
 }

@@ -1,6 +1,6 @@
-// What a folder's bundle leaves out: what its ignore file does.
+// What a folder's bundle leaves out: what its ignore file does, and bytes of files where names alone are packed.
 ghost use Rattle.std.specs.Prelude.{◌≡◌, ◌↔◌, IsTrue};
-ghost use Rattle.packing.specs.PrivateLeaving.{IsKept, IsPacked, is_own};
+ghost use Rattle.packing.specs.PrivateLeaving.{IsKept, IsPacked, has_bytes, is_own};
 
 use crate::folder::DOCKERFILE;
 use ignorefile::{Ignore, IgnoreFault};
@@ -10,7 +10,7 @@ use std::alloc::Global;
 /// The name of a context's ignore file, which also ends the name of a Dockerfile's own.
 pub(crate) const IGNORE_FILE: &str = ".dockerignore";
 
-/// The ignore file by whose lines entries are left out; none, and then all are packed.
+/// The ignore file by whose lines entries are left out; none, and then all are packed. And whether bytes are.
 #[derive(Drop)]
 pub(crate) struct Leaving {
     ignore: Option<Ignore>,
@@ -18,29 +18,34 @@ pub(crate) struct Leaving {
     dockerfile: bool,
     /// Whether a line may be an exception, by which something is kept in a folder that is left out.
     may_except: bool,
+    /// Whether files are packed without their bytes.
+    names: bool,
 }
 
 impl Leaving {
-    /// Nothing is left out. It takes no memory.
-    pub(crate) fn nothing() -> Leaving {
+    /// No entry is left out, where the folder's file `Dockerfile` is the bundle's or isn't. It takes no memory.
+    pub(crate) fn nothing(dockerfile: bool, names: bool) -> Leaving {
         Leaving {
             ignore: None,
-            dockerfile: true,
+            dockerfile,
             may_except: false,
+            names,
         }
     }
 
-    /// What an ignore file of these bytes leaves out, where the folder's file `Dockerfile` is the bundle's or isn't.
+    /// The same, but for the entries that an ignore file of these bytes leaves out.
     pub(crate) fn read(
         alloc: Global,
         bytes: &[u8],
         dockerfile: bool,
+        names: bool,
     ) -> Result<Leaving, IgnoreFault> {
         let ignore = Ignore::read(alloc, bytes)?;
         Ok(Leaving {
             ignore: Some(ignore),
             dockerfile,
             may_except: bytes.contains(&b'!'),
+            names,
         })
     }
 
@@ -71,6 +76,13 @@ impl Leaving {
             }
             _ => false,
         }
+    }
+
+    /// Whether the file of this path is packed with its bytes: each is, or of names alone the ignore file and the bundle's Dockerfile.
+    pub(crate) fn has_bytes(&self, path: &Path) -> bool
+        ensures { result ≡ has_bytes self.now path.now }
+    {
+        !self.names || self.is_own(path)
     }
 
     /// Whether nothing in the folder at this path can be packed, nor the folder itself.

@@ -50,6 +50,7 @@ pub fn run_pack<R: Files + AllocGlobal + Clone + Drop, W: CountedWrite>(
         target: None,
         args: args.as_slice(),
         apply_ignore: false,
+        names: false,
     };
     let mut why = Text::from_string(String::new(alloc));
     run_pack_with(rt, alloc, folder, options, output, &mut why)
@@ -64,6 +65,9 @@ pub fn run_pack<R: Files + AllocGlobal + Clone + Drop, W: CountedWrite>(
 /// If the ignore file is to be applied, what it leaves out isn't packed, and is looked at no further than for its name, or, below a folder that is
 /// left out, where a line may be an exception, for whether it is a folder. The ignore file itself is packed, and so is the folder's `Dockerfile` where
 /// that is the bundle's. A build sees the same context (`laws`). An ignore file with a bad line ends packing.
+///
+/// If names alone are to be packed, files aren't read and have no bytes in the bundle, but those two of which a bundle needs the bytes: the ignore file, and
+/// the folder's `Dockerfile` where that is the bundle's.
 ///
 /// Images stand in the bundle, each of a file that is read first of all, and may be given by a link. A file has an image as a bundle has it, an object
 /// with `config` and `tree`, which may have the key `result` of a build's answer; or, without the key `tree`, an image's configuration, and then the

@@ -86,8 +86,8 @@ fn find_files<R: Files + AllocGlobal + Clone + Drop>(
     ensures file { IfOk result (λ found. IfSome found (λ one. is_some one.file ≡ is_some options.entry.file)) }
 {
     match options.file {
-        Some(file) => find_with_file(rt, alloc, folder, file, options.apply_ignore, why),
-        None => find_folder(rt, alloc, folder, options.apply_ignore, why),
+        Some(file) => find_with_file(rt, alloc, folder, file, options, why),
+        None => find_folder(rt, alloc, folder, options, why),
     }
 }
 
@@ -96,7 +96,7 @@ fn find_folder<R: Files + AllocGlobal + Clone + Drop>(
     rt: &R,
     alloc: Global,
     folder: &str,
-    apply_ignore: bool,
+    options: PackOptions<'_>,
     why: &mut Text,
 ) -> Result<Option<FoundFiles>, PackFault>
     ensures before { IfErr result IsBefore }
@@ -106,11 +106,7 @@ fn find_folder<R: Files + AllocGlobal + Clone + Drop>(
     if !has_dockerfile(rt, alloc, folder, why)? {
         return Ok(None);
     }
-    let leaving = if apply_ignore {
-        folder_leaving(rt, alloc, folder, true, why)?
-    } else {
-        Leaving::nothing()
-    };
+    let leaving = folder_leaving(rt, alloc, folder, true, options, why)?;
     let found = read_folder(rt, alloc, folder, &leaving, why);
     drop(leaving);
     match found {
@@ -126,7 +122,7 @@ fn find_with_file<R: Files + AllocGlobal + Clone + Drop>(
     alloc: Global,
     folder: &str,
     file: &str,
-    apply_ignore: bool,
+    options: PackOptions<'_>,
     why: &mut Text,
 ) -> Result<Option<FoundFiles>, PackFault>
     ensures before { IfErr result IsBefore }
@@ -136,7 +132,7 @@ fn find_with_file<R: Files + AllocGlobal + Clone + Drop>(
     let Some(dockerfile) = read_file(rt, alloc, file, why)? else {
         return Ok(None);
     };
-    match read_ignoring(rt, alloc, folder, file, apply_ignore, why) {
+    match read_ignoring(rt, alloc, folder, file, options, why) {
         Ok(folder) => Ok(Some(FoundFiles {
             folder,
             file: Some(dockerfile),
@@ -154,7 +150,7 @@ fn read_ignoring<R: Files + AllocGlobal + Clone + Drop>(
     alloc: Global,
     folder: &str,
     file: &str,
-    apply_ignore: bool,
+    options: PackOptions<'_>,
     why: &mut Text,
 ) -> Result<Folder, PackFault>
     ensures { IfErr result IsBefore }
@@ -166,13 +162,9 @@ fn read_ignoring<R: Files + AllocGlobal + Clone + Drop>(
     let mut name = String::from_str(alloc, file)?;
     name.push_str(IGNORE_FILE)?;
     match own_ignore_file(rt, alloc, name.as_str(), why)? {
-        Some(bytes) => read_with_own(rt, alloc, folder, name.as_str(), bytes, apply_ignore, why),
+        Some(bytes) => read_with_own(rt, alloc, folder, name.as_str(), bytes, options, why),
         None => {
-            let leaving = if apply_ignore {
-                folder_leaving(rt, alloc, folder, false, why)?
-            } else {
-                Leaving::nothing()
-            };
+            let leaving = folder_leaving(rt, alloc, folder, false, options, why)?;
             let found = read_folder(rt, alloc, folder, &leaving, why);
             drop(leaving);
             found
@@ -187,15 +179,15 @@ fn read_with_own<R: Files + AllocGlobal + Clone + Drop>(
     folder: &str,
     name: &str,
     bytes: Bytes,
-    apply_ignore: bool,
+    options: PackOptions<'_>,
     why: &mut Text,
 ) -> Result<Folder, PackFault>
     ensures { IfErr result IsBefore }
 {
-    let leaving = if apply_ignore {
-        leaving_by(alloc, name, bytes.as_slice(), false, why)
+    let leaving = if options.apply_ignore {
+        leaving_by(alloc, name, bytes.as_slice(), false, options.names, why)
     } else {
-        Ok(Leaving::nothing())
+        Ok(Leaving::nothing(false, options.names))
     };
     let leaving = match leaving {
         Ok(leaving) => leaving,
@@ -268,26 +260,37 @@ fn put_at_root(
     }
 }
 
-/// What the ignore file of a folder leaves out; nothing if there is none.
+/// What is left out of a folder as the options ask, by the ignore file in it, if there is one.
 fn folder_leaving<R: Files + AllocGlobal>(
     rt: &R,
     alloc: Global,
     folder: &str,
     dockerfile: bool,
+    options: PackOptions<'_>,
     why: &mut Text,
 ) -> Result<Leaving, PackFault>
     ensures { IfErr result IsBefore }
 {
+    if !options.apply_ignore {
+        return Ok(Leaving::nothing(dockerfile, options.names));
+    }
     let mut place = String::from_str(alloc, folder)?;
     place.push('/')?;
     place.push_str(IGNORE_FILE)?;
     match read_file(rt, alloc, place.as_str(), why)? {
         Some(bytes) => {
-            let leaving = leaving_by(alloc, place.as_str(), bytes.as_slice(), dockerfile, why);
+            let leaving = leaving_by(
+                alloc,
+                place.as_str(),
+                bytes.as_slice(),
+                dockerfile,
+                options.names,
+                why,
+            );
             drop(bytes);
             leaving
         }
-        None => Ok(Leaving::nothing()),
+        None => Ok(Leaving::nothing(dockerfile, options.names)),
     }
 }
 
@@ -297,11 +300,12 @@ fn leaving_by(
     place: &str,
     bytes: &[u8],
     dockerfile: bool,
+    names: bool,
     why: &mut Text,
 ) -> Result<Leaving, PackFault>
     ensures { IfErr result IsBefore }
 {
-    match Leaving::read(alloc, bytes, dockerfile) {
+    match Leaving::read(alloc, bytes, dockerfile, names) {
         Ok(leaving) => Ok(leaving),
         Err(Fault::Memory) => Err(PackFault::Memory),
         Err(Fault::Because(bad)) => Err(refuse_line(alloc, why, place, bad.number)),
@@ -473,7 +477,7 @@ fn read_row<R: Files + AllocGlobal>(
                 add_directory(alloc, place, path, leaving, found, left, why)
             }
             Ok(_) if !leaving.packs(&path) => Ok(()),
-            Ok(kind) if kind.is_file() => add_file(rt, alloc, place, &path, found, why),
+            Ok(kind) if kind.is_file() => add_file(rt, alloc, place, &path, leaving, found, why),
             Ok(kind) => {
                 let what = if kind.is_symlink() { LINK } else { NO_FILE };
                 Err(refuse(alloc, why, place, what))
@@ -485,18 +489,23 @@ fn read_row<R: Files + AllocGlobal>(
     }
 }
 
-/// Adds a file.
+/// Adds a file, with its bytes where these are packed.
 fn add_file<R: Files + AllocGlobal>(
     rt: &R,
     alloc: Global,
     place: &str,
     path: &Path,
+    leaving: &Leaving,
     found: &mut Folder,
     why: &mut Text,
 ) -> Result<(), PackFault>
     ensures { IfErr result IsBefore }
 {
-    let bytes = bytes_of(rt, alloc, place, why)?;
+    let bytes = if leaving.has_bytes(path) {
+        bytes_of(rt, alloc, place, why)?
+    } else {
+        Bytes::from_vec(Vec::new(alloc))
+    };
     match found.add_file(alloc, path, bytes) {
         Ok(()) => Ok(()),
         Err(fault) => Err(refuse_entry(alloc, why, place, CHANGED, fault)),

@@ -108,7 +108,7 @@ pub record IsUnread (old new : Streams) : Type 0 where
 abbrev pub is_bare : PackOptions → Bool
 is_bare options =
     not (is_some options.file)
-    && (not (is_some options.target) && ((length options.args == 0) && ((length options.images == 0) && (not (is_some options.output) && not options.apply_ignore))))
+    && (not (is_some options.target) && ((length options.args == 0) && ((length options.images == 0) && (not (is_some options.output) && (not options.apply_ignore && not options.names)))))
 
 -- that a folder wasn't packed is said, and why, or as much of that as there was memory for
 pub record SaysWhy (fault : PackFault) (old new : Stream) : Type 0 where

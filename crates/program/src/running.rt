@@ -152,6 +152,7 @@ fn pack<F: Files + AllocGlobal + Clone + Drop, W: CountedWrite, S: CountedWrite>
         target: text_in(&options.target),
         args: options.args.as_slice(),
         apply_ignore: options.apply_ignore,
+        names: options.names,
     };
     let mut why = Text::from_string(String::new(alloc));
     let ended = match &options.output {
@@ -175,6 +176,7 @@ fn is_bare(options: &PackOptions) -> bool
         && options.images.is_empty()
         && !options.output.is_some()
         && !options.apply_ignore
+        && !options.names
 }
 
 /// A text that may be there, lent.

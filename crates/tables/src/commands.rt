@@ -107,6 +107,9 @@ fn pack_text(alloc: Global, options: &PackOptions) -> Result<String, Memory> {
     if options.apply_ignore {
         told.push_str(" without what is ignored")?;
     }
+    if options.names {
+        told.push_str(" by names alone")?;
+    }
     Ok(told)
 }
 
