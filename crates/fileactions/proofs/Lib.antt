@@ -11,3 +11,4 @@ mod Layers
 mod Merging
 mod Plans
 mod Placed
+mod Followed

@@ -78,6 +78,14 @@ cut-plain (d ∷ ds) items cut = by cut.1.1.1.0 (cut-plain ds cut.1.0 cut.1.1.1.
 
 -- ---- the one path
 
+-- a component without a sign relates to the name that it spells alone
+pub related-name : (component : List ℕ) (parts : List Part) (name : List ℕ) → Spell (chars component) parts → RelatesToName parts name → is_active component ≡ false → name ≡ name_of component
+related-name component parts name spell relate none =
+    let ds : List ℕ = unescaped false (chars component) in
+    let cut : CanBeCut takes_any (λ part c. holds part c ≡ true) (map (λ d. Exactly d) ds) (chars name) =
+    subst (λ (ps : List Part). CanBeCut takes_any (λ part c. holds part c ≡ true) ps (chars name)) (spell-plain parts (chars component) spell none) relate.1 in
+    sym (encodes-chars name relate.0) ∙ ap encode_utf8_all (cut-plain ds (chars name) cut)
+
 related-names : (components : List (List ℕ)) (glob : List (List Part)) (path : Path) → AllZip (λ component parts. Spell (chars component) parts) components glob
     → AllZip (λ parts name. RelatesToName parts name) glob path → list_any is_active components ≡ false → path ≡ map name_of components
 related-names [] [] [] spell relate none = refl
@@ -87,14 +95,11 @@ related-names (component ∷ components) [] path spell relate none = absurd spel
 related-names (component ∷ components) (parts ∷ glob) [] spell relate none = absurd relate
 related-names (component ∷ components) (parts ∷ glob) (name ∷ path) spell relate none =
     let both = both-false (is_active component) (list_any is_active components) none in
-    let ds : List ℕ = unescaped false (chars component) in
-    let cut : CanBeCut takes_any (λ part c. holds part c ≡ true) (map (λ d. Exactly d) ds) (chars name) =
-    subst (λ (ps : List Part). CanBeCut takes_any (λ part c. holds part c ≡ true) ps (chars name)) (spell-plain parts (chars component) spell.0 both.0) relate.0.1 in
-    let first : name ≡ name_of component = sym (encodes-chars name relate.0.0) ∙ ap encode_utf8_all (cut-plain ds (chars name) cut) in
+    let first = related-name component parts name spell.0 relate.0 both.0 in
     let rest = related-names components glob path spell.1 relate.1 both.1 in
     λ i. first i ∷ rest i
 
-no-sign : (globs : Bool) (component : List ℕ) → begins globs component ≡ false → is_active component ≡ false
+pub no-sign : (globs : Bool) (component : List ℕ) → begins globs component ≡ false → is_active component ≡ false
 unfolding begins
 no-sign globs component none = by (is_active component) refl none
   where

@@ -25,7 +25,9 @@ made_meta owner (negsuc n) = None
 -- a folder with those above it (`mkdir`); nothing for one without these
 unfoldable pub folder_by : MakeDirAction → TreeMap → Outcome
 folder_by dir tree =
-    if dir.make_parents && (can_be_set dir.owner && is_clean_text dir.path) then option_and_then (λ meta. with_folder meta (path_of dir.path) tree) (made_meta (owner_of dir.owner) dir.mode) else None
+    if dir.make_parents && (can_be_set dir.owner && is_clean_text dir.path)
+    then option_and_then (λ meta. with_folder meta (path_of dir.path) tree) (made_meta (owner_of dir.owner) dir.mode)
+    else None
 
 -- a file in a folder that is there (`mkfile`); nothing if something stands at its path, which isn't modelled
 unfoldable pub file_by : MakeFileAction → TreeMap → Outcome

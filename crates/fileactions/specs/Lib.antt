@@ -3,3 +3,4 @@ pub mod Copies
 pub mod Actions
 pub mod Claims
 pub mod Engine
+pub mod Followed

@@ -1,13 +1,14 @@
 // Laws of the model, each the contract of a function that does nothing, or only calls a law of a crate below.
 
-ghost use Rattle.std.specs.Prelude.{◌≡◌, ℕ, true, Option, Some, None, Ok, List, [], ◌∷◌, map, slice_index_or};
+ghost use Rattle.std.specs.Prelude.{◌≡◌, ℕ, true, Option, Some, None, Ok, List, [], ◌∷◌, map, slice_get, slice_index_or};
 ghost use Rattle.std.specs.FinMap.{get};
-ghost use Rattle.std.specs.List.{AllByRecursion};
-ghost use Rattle.paths.specs.Path.{IsClean};
+ghost use Rattle.std.specs.List.{AllByRecursion, list_any};
+ghost use Rattle.paths.specs.Path.{IsClean, is_at_or_under};
 ghost use Rattle.trees.specs.TreeMap.{TreeMap, IsTree};
 ghost use Rattle.trees.specs.Make.{made};
 ghost use Rattle.trees.specs.Over.{merged};
 ghost use Rattle.llb.specs.declared.op.CopyFiles.{CopyFiles};
+ghost use Rattle.llb.specs.declared.vertex.Vertex.{Vertex};
 ghost use Rattle.llb.specs.Graph.{GraphValue, AreVertices};
 ghost use Rattle.llb.specs.WellFormed.{is_well_formed_copy};
 ghost use Rattle.plans.specs.Value.{World, value_of, copied_files};
@@ -17,10 +18,12 @@ ghost use Rattle.exported.specs.Places.{inputs_of};
 ghost use Rattle.exported.specs.Exporting.{all_placed, nothing};
 ghost use Rattle.exported.specs.Files.{make_dir_actions, copied};
 ghost use Rattle.exported.specs.Chains.{chain_of};
+ghost use Rattle.exported.specs.Following.{is_context, paths_of};
 ghost use Rattle.fileactions.specs.Copies.{Finder};
 ghost use Rattle.fileactions.specs.Actions.{operation_by};
 ghost use Rattle.fileactions.specs.Claims.{place_tree, FindsAlike, HasName, IsSettable, AreAlike};
 ghost use Rattle.fileactions.specs.Engine.{AreMade, FindsAll, AreNamedOps, GivesTrees};
+ghost use Rattle.fileactions.specs.Followed.{Reads};
 
 /// Where a COPY has a tree, its operation gives this tree, if BuildKit finds what the patterns relate to.
 pub fn a_copy_gives_its_tree()
@@ -59,6 +62,18 @@ pub fn a_plan_gives_its_trees()
         → AreMade finder world trees graph.vertices places → FindsAll finder trees graph.vertices places
         → (k : ℕ) (tree : TreeMap) → value_of world.out world.sources graph.vertices k ≡ Some (Ok tree)
         → place_tree trees (slice_index_or places k None) ≡ tree }
+{
+    globs::laws::a_text_relates_by_grammar_and_cuts();
+}
+
+/// What an operation of a graph may look at of the files that a build is given is one of the paths that BuildKit is told of, or lies below one. So is
+/// each path, if those files are the result.
+pub fn what_is_read_is_followed()
+    ensures read { (graph : GraphValue) (wanted k number id : ℕ) (vertex : Vertex) (path : List (List ℕ)) → slice_get graph.vertices k ≡ Some vertex
+        → slice_get vertex.inputs number ≡ Some id → is_context graph.vertices id ≡ true → Reads vertex.op number path
+        → list_any (λ top. is_at_or_under path top) (paths_of graph wanted) ≡ true }
+    ensures resulting { (graph : GraphValue) (wanted : ℕ) (path : List (List ℕ)) → is_context graph.vertices wanted ≡ true
+        → list_any (λ top. is_at_or_under path top) (paths_of graph wanted) ≡ true }
 {
     globs::laws::a_text_relates_by_grammar_and_cuts();
 }
