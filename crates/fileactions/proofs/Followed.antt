@@ -1,9 +1,10 @@
 -- What operations may look at of the files of a build lies at or below what BuildKit is told.
 use Rattle.std.specs.Prelude.{◌≡◌, ◌==◌, ◌<◌, ◌+◌, ℕ, zero, suc, Bool, true, false, ◌||◌, cond, Option, Some, None, List, [], ◌∷◌, ◌++◌, ◌↔◌, is_some, length, slice_get, slice_index_or}
-use Rattle.std.proofs.Common.{sym, ap, refl, ◌∙◌, subst, true≢false, arith, append-nil}
+use Rattle.std.proofs.Common.{sym, ap, refl, ◌∙◌, subst, true≢false, arith}
 use Rattle.std.proofs.lemmas.Bool.{eqb-true}
 use Rattle.std.proofs.lemmas.List.{append_assoc}
 use Rattle.std.proofs.lemmas.List.Folds.{list_any-append}
+use Rattle.std.proofs.lemmas.Option.{same_Some}
 use Rattle.std.specs.List.{Any, AllZip, list_all, list_any}
 use Rattle.std.specs.Str.{chars}
 use Rattle.paths.specs.Path.{is_at_or_under}
@@ -30,15 +31,12 @@ use Rattle.fileactions.proofs.Literal.{related-name, no-sign}
 abbrev pub Covers : List Path → Path → Type 0
 Covers paths path = list_any (λ top. is_at_or_under path top) paths ≡ true
 
-same_Some : {A : Type 0} (a b : A) → Some a ≡ Some b → a ≡ b
-same_Some a b e = cc
-
 none-some : {A : Type 0} (a : A) → None ≡ Some a → ⊥
 none-some a e = true≢false (sym (ap is_some e))
 
 -- ---- fronts
 
-under-front : (front rest : Path) → is_at_or_under (front ++ rest) front ≡ true
+pub under-front : (front rest : Path) → is_at_or_under (front ++ rest) front ≡ true
 under-front front rest = (under_iff (front ++ rest) front).1 (rest, refl)
 
 -- what lies below what lies below

@@ -12,3 +12,5 @@ mod Merging
 mod Plans
 mod Placed
 mod Followed
+mod Alike
+mod Needed

@@ -54,7 +54,7 @@ ok tree = Ok tree
 same_Ok : (a b : TreeMap) → Some (ok a) ≡ Some (ok b) → a ≡ b
 same_Ok a b e = cc
 
-there : (xs : List Vertex) (k : ℕ) → k < length xs → (x : Vertex) × (slice_get xs k ≡ Some x)
+pub there : (xs : List Vertex) (k : ℕ) → k < length xs → (x : Vertex) × (slice_get xs k ≡ Some x)
 there [] k less = absurd (omega arith)
 there (x ∷ xs) zero less = (x, refl)
 there (x ∷ xs) (suc k) less = there xs k (omega arith)

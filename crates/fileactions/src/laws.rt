@@ -1,6 +1,6 @@
 // Laws of the model, each the contract of a function that does nothing, or only calls a law of a crate below.
 
-ghost use Rattle.std.specs.Prelude.{◌≡◌, ℕ, true, Option, Some, None, Ok, List, [], ◌∷◌, map, slice_get, slice_index_or};
+ghost use Rattle.std.specs.Prelude.{◌≡◌, ℕ, true, false, Option, Some, None, Ok, List, [], ◌∷◌, length, map, slice_get, slice_index_or};
 ghost use Rattle.std.specs.FinMap.{get};
 ghost use Rattle.std.specs.List.{AllByRecursion, list_any};
 ghost use Rattle.paths.specs.Path.{IsClean, is_at_or_under};
@@ -8,10 +8,12 @@ ghost use Rattle.trees.specs.TreeMap.{TreeMap, IsTree};
 ghost use Rattle.trees.specs.Make.{made};
 ghost use Rattle.trees.specs.Over.{merged};
 ghost use Rattle.llb.specs.declared.op.CopyFiles.{CopyFiles};
+ghost use Rattle.llb.specs.declared.op.Op.{Op};
 ghost use Rattle.llb.specs.declared.vertex.Vertex.{Vertex};
 ghost use Rattle.llb.specs.Graph.{GraphValue, AreVertices};
 ghost use Rattle.llb.specs.WellFormed.{is_well_formed_copy};
-ghost use Rattle.plans.specs.Value.{World, value_of, copied_files};
+ghost use Rattle.plans.specs.Sources.{SourcesValue};
+ghost use Rattle.plans.specs.Value.{Out, World, value_of, copied_files, result_of};
 ghost use Rattle.llbmessages.specs.declared.definition.Definition.{Definition};
 ghost use Rattle.exported.specs.declared.making.Options.{Options};
 ghost use Rattle.exported.specs.Places.{inputs_of};
@@ -66,6 +68,14 @@ pub fn a_plan_gives_its_trees()
     globs::laws::a_text_relates_by_grammar_and_cuts();
 }
 
+/// An operation gives the same on trees that are alike at each path at which it may look.
+pub fn what_is_not_read_changes_nothing()
+    ensures { (out : Out) (sources : SourcesValue) (op : Op) (ones others : List TreeMap) → length ones ≡ length others
+        → ((number : ℕ) (one other : TreeMap) (path : List (List ℕ)) → slice_get ones number ≡ Some one → slice_get others number ≡ Some other
+        → Reads op number path → get one path ≡ get other path)
+        → result_of out sources op ones ≡ result_of out sources op others }
+{}
+
 /// What an operation of a graph may look at of the files that a build is given is one of the paths that BuildKit is told of, or lies below one. So is
 /// each path, if those files are the result.
 pub fn what_is_read_is_followed()
@@ -74,6 +84,19 @@ pub fn what_is_read_is_followed()
         → list_any (λ top. is_at_or_under path top) (paths_of graph wanted) ≡ true }
     ensures resulting { (graph : GraphValue) (wanted : ℕ) (path : List (List ℕ)) → is_context graph.vertices wanted ≡ true
         → list_any (λ top. is_at_or_under path top) (paths_of graph wanted) ≡ true }
+{
+    globs::laws::a_text_relates_by_grammar_and_cuts();
+}
+
+/// Files that are alike at and below the paths that BuildKit is told of are as good as each other: of a graph, each vertex but these files has the same
+/// value on both, a tree or the cause of a failure, and so has the result.
+pub fn what_is_not_followed_changes_nothing()
+    ensures each { (graph : GraphValue) (wanted : ℕ) (out : Out) (ones others : SourcesValue) → AreVertices graph.vertices → ones.images ≡ others.images
+        → ((path : List (List ℕ)) → list_any (λ top. is_at_or_under path top) (paths_of graph wanted) ≡ true → get ones.context path ≡ get others.context path)
+        → (k : ℕ) → is_context graph.vertices k ≡ false → value_of out ones graph.vertices k ≡ value_of out others graph.vertices k }
+    ensures resulting { (graph : GraphValue) (wanted : ℕ) (out : Out) (ones others : SourcesValue) → AreVertices graph.vertices → ones.images ≡ others.images
+        → ((path : List (List ℕ)) → list_any (λ top. is_at_or_under path top) (paths_of graph wanted) ≡ true → get ones.context path ≡ get others.context path)
+        → value_of out ones graph.vertices wanted ≡ value_of out others graph.vertices wanted }
 {
     globs::laws::a_text_relates_by_grammar_and_cuts();
 }
