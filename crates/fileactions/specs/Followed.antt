@@ -1,5 +1,5 @@
--- What an operation may look at of the trees of its inputs, by what it gives and not by what BuildKit is told (Dockerfile reference, COPY and
--- RUN --mount=type=bind; BuildKit's LLB).
+-- What an operation may look at of the trees of its inputs, said by what the operation means and not by what BuildKit is told (Dockerfile reference,
+-- COPY and RUN --mount=type=bind; BuildKit's LLB).
 use Rattle.std.specs.Prelude.{◌≡◌, ℕ, suc, true, Some, List, slice_get}
 use Rattle.std.specs.List.{Any}
 use Rattle.paths.specs.Path.{is_at_or_under}

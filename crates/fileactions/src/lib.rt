@@ -6,6 +6,9 @@
 //
 // How BuildKit finds what a pattern relates to isn't modelled: a `Finder` stands for it, and a law asks that it finds the same (`FindsAlike`). Nor is how
 // it runs commands, fetches sources and merges layers: the law over a whole plan asks that it gives what the plan has (`IsMade` in specs/Engine.antt).
+//
+// Beside the model stands why `--follow` may name so little: `Reads` in specs/Followed.antt is what an operation may look at of its inputs, which lies at
+// or below the paths that BuildKit is told of. That BuildKit takes from its folder what lies there isn't modelled.
 #![tactic(auto)]
 
 pub mod laws;
