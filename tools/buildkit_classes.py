@@ -1,9 +1,14 @@
 """The classes of differences between BuildKit's trees and those of `dfsolve build`, for tools/buildkit: which class explains one, by what it shows."""
 import fnmatch
+import hashlib
+import json
 import re
 
 CLASSES = {
     "merge": "BuildKit before 0.10 knows no merge, and says so by the name mergeop",
+    "chain": "in a chain of copies a file can't come over a folder, and a folder can't come over a file",
+    "root": "a chain of copies keeps the mode and the owner of the lowest tree's root, and a COPY of that root shows them",
+    "cached": "BuildKit 0.8 takes a copy for one that it knows if what is copied differs in owners alone, but for what is sent by its client",
     "placed twice": "two entries on one path (F3): the last one counts",
     "destination": "a folder that a pattern takes makes the destination a folder, and files then go below it (F4)",
     "another failure": "of several instructions that fail any one is named",
@@ -17,6 +22,7 @@ CLASSES = {
     "target": "nothing can be mounted at a file or below one, and what holds a mount can't be removed",
     "environment": "a command has PATH and HOME in its environment",
     "directory": "a command's directory is made if it isn't there, and what would make a file there, or has one there, fails or goes below it",
+    "told": "what is told of a path by --follow is looked up as it is: a name may be too long with its escapes, and a file may stand there",
     "group": "what is made in a folder with the bit 02000 gets its group, and a folder that bit too",
     "slash": "a class of a pattern takes a `/`, if it is negated or has a range around it, and so paths of more components",
     "name": "Go refuses the name of an image",
@@ -38,6 +44,17 @@ def runs_of(graph):
 
 def copies_of(graph):
     return [op for op in graph["ops"] if op.get("action") == "copy"]
+
+
+def address_of(op):
+    text = json.dumps({key: held for key, held in op.items() if key != "places"}, sort_keys=True, separators=(",", ":"), ensure_ascii=False)
+    return "sha256:" + hashlib.sha256(text.encode()).hexdigest()
+
+
+def merges_of(graph):
+    """How many merges there are of several trees that aren't empty."""
+    empty = address_of({"inputs": [], "op": "source", "source": "scratch"})
+    return sum(op["op"] == "merge" and len(op["inputs"]) - op["inputs"].count(empty) > 1 for op in graph["ops"])
 
 
 def sources_of(graph):
@@ -87,7 +104,17 @@ def without_targets(theirs, ours, graph):
     return left, is_left
 
 
-def class_of(ours, theirs, graph, message):
+def is_told_wrongly(ours, message):
+    """Whether what is sent failed where a path that is told was looked up, which is no difference if a COPY has nothing to copy."""
+    return ours.get("cause") != "F1" and re.search("load build context; .*(file name too long|not a directory)$", message, re.S)
+
+
+def is_of_chain(message):
+    """Whether what failed is a linked COPY, by a file that stands where a folder comes, or the other way round."""
+    return re.search("failed at: .*COPY.*--link.*; .*cannot (copy to non-directory|replace to directory)", message, re.I | re.S)
+
+
+def class_of(ours, theirs, graph, message, options):
     """The classes that explain a difference, or none; an empty list if there is no difference."""
     runs = runs_of(graph)
     if re.match("no end in|the context can't", message):
@@ -96,13 +123,17 @@ def class_of(ours, theirs, graph, message):
         return ["merge"]
     if theirs is None and re.search("invalid reference|invalid repository|could not parse reference|repository name", message):
         return ["name"]
+    if theirs is None and options.follow and is_told_wrongly(ours, message):
+        return ["told"]
     if theirs is None and re.search("argument list too long|invalid argument.*(env|arg)|NUL|file name too long", message):
         return ["arguments"]
+    if theirs is None and options.chain and is_of_chain(message):
+        return ["chain"]
     if ours["result"] == "failed":
         return class_of_failure(ours["cause"], message, graph) if theirs is None else class_of_cause(ours["cause"], graph)
     if theirs is None:
         return class_of_command(tree_of(ours), graph, message)
-    return classes_of_trees(tree_of(ours), theirs, graph)
+    return classes_of_trees(tree_of(ours), theirs, graph, options)
 
 
 def class_of_failure(cause, message, graph):
@@ -167,7 +198,27 @@ def class_of_entries(mine, other, graph):
     return "environment" if runs_of(graph) and mine[:3] == other[:3] and mine[3] is not None and re.fullmatch(shown, other[3] or b"") else None
 
 
-def classes_of_trees(ours, theirs, graph):
+def copies_results(graph, is_chained):
+    """Whether something is copied that isn't of the context as it was sent: by a chain, or of a stage or an image."""
+    context = address_of({"inputs": [], "op": "source", "source": "context"})
+    return is_chained and merges_of(graph) or any(copy["inputs"][1] != context for copy in copies_of(graph))
+
+
+def shows_root(path, graph):
+    """Whether a COPY of a whole tree may have made this folder of a root."""
+    roots = [copy["dest"] for copy in copies_of(graph) if any(re.fullmatch("[/.]*", source.get("pattern", "-")) for source in copy["sources"])]
+    return any(path.endswith(root) for root in roots if root != "/")
+
+
+def class_of_option(path, mine, other, graph, options):
+    """The class of one path at which both have something, by the engine and by how a merge is made."""
+    if options.chain and merges_of(graph) and mine[3] is None and other[3] is None and shows_root(path, graph):
+        return "root"
+    is_of_owners = mine[0] == other[0] and mine[3] == other[3]
+    return "cached" if options.engine == "0.8" and is_of_owners and copies_results(graph, options.chain) else None
+
+
+def classes_of_trees(ours, theirs, graph, options):
     theirs, is_left = without_targets(theirs, ours, graph)
     places = left_folders(runs_of(graph))
     gone = gone_below(ours, theirs, places)
@@ -183,6 +234,7 @@ def classes_of_trees(ours, theirs, graph):
             found.add("slash")
             continue
         name = mine and other and ("group" if takes_group(path, mine, other, theirs) else class_of_entries(mine, other, graph))
+        name = name or mine and other and class_of_option(path, mine, other, graph, options)
         if not name:
             return None
         found.add(name)

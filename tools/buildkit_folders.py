@@ -91,7 +91,7 @@ class Folder:
 
     def bundle(self):
         entries = [{"path": path, **({"dir": True} if held is None else {"text": held})} for path, held in self.paths.items()]
-        return json.dumps({"context": entries, "dockerfile": {"text": DOCKERFILE}}).encode()
+        return json.dumps({"context": entries, "dockerfile": {"text": self.paths["/Dockerfile"]}}).encode()
 
     def write(self, at):
         """Makes the folder, with the modes that a bundle has."""

@@ -14,6 +14,7 @@ NESTED = {
     "nested-4": "FROM base AS a\nRUN rm /d\nFROM a\nCOPY --link dir /d\nRUN put /d/z 1\nCOPY --link dir /d/z\n",
     "nested-5": "FROM base\nRUN rm /d/old\nCOPY --link f /d/f\n",
     "nested-6": "FROM base\nRUN rm /e\nRUN put /e file\nCOPY --link dir /e/in\nCOPY --link f /e/in/a/b\n",
+    "nested-7": "FROM base AS a\nCOPY --link f /new/f\nFROM scratch\nCOPY --from=a / /m\n",
 }
 
 
@@ -21,10 +22,14 @@ def entry(path, text=None, **more):
     return {"path": path, **({"dir": True} if text is None else {"text": text}), **more}
 
 
-CONTEXT = [entry("/f", "f"), entry("/g", "g", mode="0755"), entry("/dir/a", "a"), entry("/dir/sub/b", "b", mode="0600"), entry("/dir/empty", mode="0711"),
-           entry("/odd", mode="0700"), entry("/odd/c", "c", mode="0640", uid=3, gid=4)]
 BASE = [entry("/", mode="0700", uid=5, gid=6), entry("/d", mode="0711", uid=7, gid=8), entry("/d/old", "old", mode="0604", uid=9, gid=10),
         entry("/file", "base", mode="0644", uid=1, gid=2), entry("/e", mode="0750"), entry("/e/deep", mode="0701", uid=2), entry("/e/deep/x", "x")]
+
+
+def context(name):
+    """A context whose files are those of this bundle alone: BuildKit 0.8 takes a copy for one that it knows if only owners differ."""
+    return [entry("/f", f"f {name}"), entry("/g", f"g {name}", mode="0755"), entry("/dir/a", f"a {name}"), entry("/dir/sub/b", f"b {name}", mode="0600"),
+            entry("/dir/empty", mode="0711"), entry("/odd", mode="0700"), entry("/odd/c", f"c {name}", mode="0640", uid=3, gid=4)]
 
 
 def texts():
@@ -46,4 +51,4 @@ def texts():
 
 def bundles():
     for name, text in texts():
-        yield name, {"dockerfile": {"text": text}, "context": CONTEXT, "images": {"base": {"config": CONFIG, "tree": BASE}}}
+        yield name, {"dockerfile": {"text": text}, "context": context(name), "images": {"base": {"config": CONFIG, "tree": BASE}}}

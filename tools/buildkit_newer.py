@@ -81,4 +81,7 @@ class Newer(packages.Packages):
         os.makedirs(self.made, exist_ok=True)
         for name in ("buildctl", "buildkitd"):
             self.go("build", "-ldflags", flags, "-o", f"{self.made}/{name}", f"./cmd/{name}", path=path, cwd=home)
+        # what nothing but BuildKit has got, for our program that isn't linked with BuildKit
+        os.makedirs(os.path.dirname(self.home("tonistiigi/fsutil")), exist_ok=True)
+        packages.link(f"{home}/vendor/github.com/tonistiigi/fsutil", self.home("tonistiigi/fsutil"))
         self.build_own(path)

@@ -110,7 +110,7 @@ class Packages:
         own = os.path.join(self.folder, "own")
         os.makedirs(own, exist_ok=True)
         link(HERE, f"{own}/src")
-        for name in ("solve", "fixture"):
+        for name in ("solve", "fixture", "sent"):
             os.makedirs(f"{self.made}/{name}", exist_ok=True)
             self.go("build", "-tags", self.tags, "-o", f"{self.made}/{name}/{name}", name, path=f"{own}:{theirs}", cwd=f"{own}/src/{name}")
 
@@ -124,6 +124,9 @@ class Packages:
 
     def solver(self):
         return f"{self.made}/solve/solve"
+
+    def sender(self):
+        return f"{self.made}/sent/sent"
 
     def fixture(self):
         return f"{self.made}/fixture"

@@ -39,16 +39,16 @@ func die(err error) {
 	}
 }
 
-// excludes is the list that BuildKit would send to its client.
-func excludes(definition []byte) []string {
+// told is a list that BuildKit would send to its client, by the name of its attribute.
+func told(definition []byte, attribute string) []string {
 	var def pb.Definition
 	die(def.Unmarshal(definition))
 	var list []string
 	for _, b := range def.Def {
 		var op pb.Op
 		die(op.Unmarshal(b))
-		if source := op.GetSource(); source != nil && source.Identifier == "local://context" && source.Attrs[pb.AttrExcludePatterns] != "" {
-			die(json.Unmarshal([]byte(source.Attrs[pb.AttrExcludePatterns]), &list))
+		if source := op.GetSource(); source != nil && source.Identifier == "local://context" && source.Attrs[attribute] != "" {
+			die(json.Unmarshal([]byte(source.Attrs[attribute]), &list))
 		}
 	}
 	return list
@@ -63,7 +63,8 @@ type report struct {
 	Merges     int      // operations that are merges
 	Named      bool     // each input and each entry of the metadata names an operation of the definition
 	Unknown    []string // capabilities that this BuildKit doesn't know
-	Excludes   int      // patterns of what the context leaves out
+	Excludes   []string // patterns of what the context leaves out
+	Follows    []string // patterns of what is named of the context
 }
 
 func look(file string) report {
@@ -73,7 +74,8 @@ func look(file string) report {
 	die(def.Unmarshal(dt))
 	again, err := def.Marshal()
 	die(err)
-	r := report{File: file, Operations: len(def.Def), Bytes: len(dt), Same: bytes.Equal(dt, again), Named: true, Unknown: []string{}, Excludes: len(excludes(dt))}
+	r := report{File: file, Operations: len(def.Def), Bytes: len(dt), Same: bytes.Equal(dt, again), Named: true, Unknown: []string{},
+		Excludes: told(dt, pb.AttrExcludePatterns), Follows: told(dt, pb.AttrFollowPaths)}
 	known := pb.Caps.CapSet(pb.Caps.All())
 	seen := map[digest.Digest]bool{}
 	for _, b := range def.Def {
@@ -184,6 +186,11 @@ func solve(sock, folder string, def *llb.Definition, opt client.SolveOpt, config
 		for s := range ch {
 			for _, l := range s.Logs {
 				os.Stderr.Write(l.Data)
+			}
+			for _, v := range s.Vertexes {
+				if v.Error != "" {
+					fmt.Fprintf(os.Stderr, "\nfailed at: %s\n", v.Name)
+				}
 			}
 		}
 		close(done)

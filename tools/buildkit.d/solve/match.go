@@ -9,6 +9,7 @@ import (
 	"strings"
 
 	"github.com/docker/docker/pkg/fileutils"
+	"github.com/moby/buildkit/solver/pb"
 	"github.com/moby/patternmatcher"
 )
 
@@ -38,7 +39,7 @@ func walked(pm *patternmatcher.PatternMatcher, file string) bool {
 }
 
 func judge(q question) verdict {
-	v := verdict{Patterns: excludes(q.Definition)}
+	v := verdict{Patterns: told(q.Definition, pb.AttrExcludePatterns)}
 	older, err := fileutils.NewPatternMatcher(v.Patterns)
 	die(err)
 	newer, err := patternmatcher.New(v.Patterns)
