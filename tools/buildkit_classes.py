@@ -7,14 +7,13 @@ import re
 CLASSES = {
     "merge": "BuildKit before 0.10 knows no merge, and says so by the name mergeop",
     "chain": "in a chain of copies a file can't come over a folder, and a folder can't come over a file",
-    "root": "a chain of copies keeps the mode and the owner of the lowest tree's root, and a COPY of that root shows them",
     "cached": "BuildKit 0.8 takes a copy for one that it knows if what is copied differs in owners alone, but for what is sent by its client",
     "placed twice": "two entries on one path (F3): the last one counts",
     "destination": "a folder that a pattern takes makes the destination a folder, and files then go below it (F4)",
     "another failure": "of several instructions that fail any one is named",
     "depth": "a path may have more than 64 components (F5)",
     "bind of a file": "a bind may be a file (F2)",
-    "bind of an image": "a bind of an image may be written to without rw: dockerd 20.10 mounts it so",
+    "bind written to": "a bind may be written to without rw if it is of an image, or of what something else is made of: dockerd 20.10 mounts it so",
     "mode": "--chmod leaves the bits beyond 0777 as the source has them",
     "owner": "4294967295 means that the owner stays",
     "mount": "an empty folder is left at the target of a mount, and what would make a file there fails or goes below it",
@@ -51,10 +50,12 @@ def address_of(op):
     return "sha256:" + hashlib.sha256(text.encode()).hexdigest()
 
 
+EMPTY, CONTEXT = (address_of({"inputs": [], "op": "source", "source": name}) for name in ("scratch", "context"))
+
+
 def merges_of(graph):
     """How many merges there are of several trees that aren't empty."""
-    empty = address_of({"inputs": [], "op": "source", "source": "scratch"})
-    return sum(op["op"] == "merge" and len(op["inputs"]) - op["inputs"].count(empty) > 1 for op in graph["ops"])
+    return sum(op["op"] == "merge" and len(op["inputs"]) - op["inputs"].count(EMPTY) > 1 for op in graph["ops"])
 
 
 def sources_of(graph):
@@ -145,13 +146,22 @@ def class_of_failure(cause, message, graph):
     return ["another failure"] if bool(asked_for) != bool(status) and copies_of(graph) else None
 
 
+def may_be_written(graph):
+    """Whether there is a bind without rw of an image, or of a tree on which another operation is made or that another bind may write to."""
+    images = {address_of(op) for op in graph["ops"] if (op.get("source") or "").startswith("image:")}
+    bases = {op["inputs"][0] for op in graph["ops"] if op["op"] != "end" and op["inputs"]} - {EMPTY}
+    bound = [(given, bind["rw"]) for run in runs_of(graph) for given, bind in zip(run["inputs"][1:], run["binds"], strict=True)]
+    written = images | bases | {given for given, may_write in bound if may_write}
+    return any(given in written and not may_write for given, may_write in bound)
+
+
 def class_of_cause(cause, graph):
     """Why something failed here alone."""
     binds = [bind for run in runs_of(graph) for bind in run["binds"]]
     if cause == "F2" and binds:
         return ["bind of a file"]
-    if cause == "exit 1" and not all(bind.get("rw") for bind in binds) and any((source or "").startswith("image:") for source in sources_of(graph)):
-        return ["bind of an image"]
+    if cause == "exit 1" and may_be_written(graph):
+        return ["bind written to"]
     if cause == "F1" and takes_runtimes(graph):
         return ["runtime"]
     if cause == "F4" and not all(copy["dir"] for copy in copies_of(graph)):
@@ -200,22 +210,12 @@ def class_of_entries(mine, other, graph):
 
 def copies_results(graph, is_chained):
     """Whether something is copied that isn't of the context as it was sent: by a chain, or of a stage or an image."""
-    context = address_of({"inputs": [], "op": "source", "source": "context"})
-    return is_chained and merges_of(graph) or any(copy["inputs"][1] != context for copy in copies_of(graph))
+    return is_chained and merges_of(graph) or any(copy["inputs"][1] != CONTEXT for copy in copies_of(graph))
 
 
-def shows_root(path, graph):
-    """Whether a COPY of a whole tree may have made this folder of a root."""
-    roots = [copy["dest"] for copy in copies_of(graph) if any(re.fullmatch("[/.]*", source.get("pattern", "-")) for source in copy["sources"])]
-    return any(path.endswith(root) for root in roots if root != "/")
-
-
-def class_of_option(path, mine, other, graph, options):
-    """The class of one path at which both have something, by the engine and by how a merge is made."""
-    if options.chain and merges_of(graph) and mine[3] is None and other[3] is None and shows_root(path, graph):
-        return "root"
-    is_of_owners = mine[0] == other[0] and mine[3] == other[3]
-    return "cached" if options.engine == "0.8" and is_of_owners and copies_results(graph, options.chain) else None
+def is_cached(mine, other, graph, options):
+    """Whether a difference is of owners alone, where this engine's cache may have taken a copy for another one."""
+    return options.engine == "0.8" and mine[0] == other[0] and mine[3] == other[3] and copies_results(graph, options.chain)
 
 
 def classes_of_trees(ours, theirs, graph, options):
@@ -234,7 +234,8 @@ def classes_of_trees(ours, theirs, graph, options):
             found.add("slash")
             continue
         name = mine and other and ("group" if takes_group(path, mine, other, theirs) else class_of_entries(mine, other, graph))
-        name = name or mine and other and class_of_option(path, mine, other, graph, options)
+        if not name and mine and other and is_cached(mine, other, graph, options):
+            name = "cached"
         if not name:
             return None
         found.add(name)

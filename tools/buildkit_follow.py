@@ -58,8 +58,8 @@ def named_by_input(operation, number):
 
 def named_of(graph):
     """The paths that a graph names of its context, in the order of its operations; none if nothing is told of them, since one is the root."""
-    contexts = {classes.address_of(op) for op in graph["ops"] if op.get("source") == "context"}
-    paths = [path for op in graph["ops"] for number, given in enumerate(op["inputs"]) if given in contexts for path in named_by_input(op, number)]
+    inputs = [(op, number) for op in graph["ops"] for number, given in enumerate(op["inputs"]) if given == classes.CONTEXT]
+    paths = [path for op, number in inputs for path in named_by_input(op, number)]
     return [] if "" in paths else paths
 
 

@@ -5,7 +5,7 @@ CONFIG = {"architecture": "amd64", "os": "linux", "rootfs": {"type": "layers", "
 ODD = "COPY --link --chown=5:6 odd /"
 STEPS = ["COPY --link f /d", "COPY --link dir /d", "COPY --link dir /d/q", "COPY --link f /d/q", ODD, "COPY f /d/z", "RUN put /d/r 1", "RUN rm /d",
          "WORKDIR /d", "COPY --link g /e/deep", "COPY --link --chmod=0700 g /e/deep/x"]
-# merges of merges, copies and a bind of a merge, and linked copies over what a command removed
+# merges of merges, copies and a bind of a merge, linked copies over what a command removed, and a copy of a root that was merged
 NESTED = {
     "nested-1": "FROM base AS a\nCOPY --link f /d\nCOPY --link dir /e\nFROM base\nCOPY --link --from=a /e /d\nCOPY --link --from=a / /m\nCOPY --from=a / /n\n",
     "nested-2": "FROM scratch AS a\nCOPY --link f /d\nCOPY --link dir /e\nFROM a\nCOPY --link --from=a / /\n"
