@@ -76,6 +76,14 @@ merge_named name = if bytes_eq name (codes "native") then Some Native else (if b
 abbrev pub merge_of : List Row → Option MergeName
 merge_of rows = merge_named (unwrap_or (first_of (codes "merge") rows) default_merge)
 
+-- a text that no other build has: any but the empty one, which is the text of each build that has none of its own
+abbrev pub unique_named : Text → Option Text
+unique_named text = if length text == 0 then None else Some text
+
+-- the one that the matches hold
+abbrev pub unique_of : List Row → Option Text
+unique_of rows = option_and_then unique_named (first_of (codes "unique") rows)
+
 -- what `llb` is asked for by its matches, with this text that no other build has, this platform, this network and such merges
 abbrev pub llb_with : List Row → Text → PlatformName → NetworkName → MergeName → LlbOptions
 llb_with rows unique platform network merging =
@@ -88,4 +96,4 @@ llb_on rows unique platform network = option_and_then (λ network. option_map (l
 -- the same, where there is such a text too
 abbrev pub llb_of : List Row → Option LlbOptions
 llb_of rows =
-    option_and_then (λ unique. option_and_then (λ platform. llb_on rows unique platform (network_of rows)) (platform_of rows)) (first_of (codes "unique") rows)
+    option_and_then (λ unique. option_and_then (λ platform. llb_on rows unique platform (network_of rows)) (platform_of rows)) (unique_of rows)

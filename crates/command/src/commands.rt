@@ -80,7 +80,7 @@ const WHY_HELP: &str =
     "Status: 0 if the paths were explained, 2 if the bundle or the command line is refused, 3 if there was no memory or a device failed.\nExample: dfsolve why --bundle bundle.json src/main.c README.md";
 
 const LLB_HELP: &str =
-    "Status: 0 if the definition was written, 2 if the bundle or the command line is refused, 3 if there was no memory, a device failed or two addresses are the same.\nExample: dfsolve llb --unique $(uuidgen) bundle.json | buildctl build --local context=.";
+    "Status: 0 if the definition was written, 2 if the bundle or the command line is refused, 3 if there was no memory, a device failed or two addresses are the same.\nExample: dfsolve llb --unique \"$(date +%s%N)\" bundle.json | buildctl build --local context=.";
 
 const CONFIG_HELP: &str =
     "Status: 0 if the configuration was printed, 2 if the bundle or the command line is refused, 3 if there was no memory or a device failed.\nExample: dfsolve config bundle.json";

@@ -1,7 +1,7 @@
 // What the matches of `llb` ask for.
 ghost use Rattle.std.specs.Prelude.{◌≡◌, IfOk, codes, unwrap_or};
 ghost use Rattle.clap.specs.Words.{first_of, found_of, rows_of};
-ghost use Rattle.command.specs.Llb.{after_slash, are_names, before_slash, ends_platform, llb_of, merge_named, merge_of, network_named, network_of, platform_named, platform_of};
+ghost use Rattle.command.specs.Llb.{after_slash, are_names, before_slash, ends_platform, llb_of, merge_named, merge_of, network_named, network_of, platform_named, platform_of, unique_named, unique_of};
 
 use crate::commands::{
     BUNDLE, DEFAULT_MERGE, DEFAULT_NETWORK, DEFAULT_PLATFORM, FOLLOW, MERGE, NETWORK, PLATFORM,
@@ -13,12 +13,12 @@ use clap::ArgMatches;
 use plain::Text;
 use std::alloc::{AllocError, Global};
 
-/// What the matches of `llb` ask for; `None` where they hold no text of `--unique`, no platform, no network, or no kind of
+/// What the matches of `llb` ask for; `None` where they hold no text of `--unique` or the empty one, no platform, no network, or no kind of
 /// merge.
 pub(crate) fn llb_of(alloc: Global, matches: &ArgMatches) -> Result<Option<LlbOptions>, AllocError>
     ensures { IfOk result (λ options. options ≡ llb_of (rows_of (found_of matches.now))) }
 {
-    let Some(unique) = text_of(alloc, matches, UNIQUE)? else {
+    let Some(unique) = unique_of(alloc, matches)? else {
         return Ok(None);
     };
     let Some(platform) = platform_of(alloc, matches)? else {
@@ -42,7 +42,7 @@ pub(crate) fn llb_of(alloc: Global, matches: &ArgMatches) -> Result<Option<LlbOp
 
 /// What is wrong with the matches of `llb`, where they ask for nothing.
 pub(crate) fn wrong_choice(alloc: Global, matches: &ArgMatches) -> Result<String, AllocError> {
-    if matches.get_str(UNIQUE).is_none() {
+    if chosen_text(matches, UNIQUE, "").is_empty() {
         return String::from_str(
             alloc,
             "--unique TEXT has to be given, a text that no other build with other files has which runs at the same time",
@@ -60,6 +60,26 @@ pub(crate) fn wrong_choice(alloc: Global, matches: &ArgMatches) -> Result<String
     }
     let platform = chosen_text(matches, PLATFORM, DEFAULT_PLATFORM);
     format!(in alloc; "a value of --platform is OS/ARCH or OS/ARCH/VARIANT, and not '{platform}'")
+}
+
+/// The text that the matches hold of a build; `None` where they hold none, or the empty one.
+fn unique_of(alloc: Global, matches: &ArgMatches) -> Result<Option<Text>, AllocError>
+    ensures { IfOk result (λ unique. unique ≡ unique_of (rows_of (found_of matches.now))) }
+{
+    match text_of(alloc, matches, UNIQUE)? {
+        Some(text) => Ok(unique_named(text)),
+        None => Ok(None),
+    }
+}
+
+/// A text that no other build has; `None` of the empty one.
+fn unique_named(text: Text) -> Option<Text>
+    ensures { result ≡ unique_named text }
+{
+    if text.len() == 0 {
+        return None;
+    }
+    Some(text)
 }
 
 /// The platform that the matches hold, or the usual one; `None` where it is none.

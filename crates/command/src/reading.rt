@@ -30,8 +30,8 @@ use std::alloc::{AllocError, Global};
 /// of times, each of which has a `=`.
 /// `why` is one with a word PATH once or more, and with `--bundle FILE` once at most.
 /// `llb` is one with a word FILE that may be left out, with `--unique TEXT` just once, and with `--platform P`, `--network N`, `--merge M`
-/// and `--follow` once at most; P is `OS/ARCH` or `OS/ARCH/VARIANT`, and `linux/amd64` by default; N is `default`, `none` or `host`, and M is `native`
-/// or `chain`, and the first of these by default.
+/// and `--follow` once at most; TEXT isn't empty; P is `OS/ARCH` or `OS/ARCH/VARIANT`, and `linux/amd64` by default; N is `default`, `none` or `host`,
+/// and M is `native` or `chain`, and the first of these by default.
 /// `config`, `check` and `explain` are commands with a word FILE that may be left out, and `check` with `--json` once at most.
 /// `help` alone or before the name of a command, `--help` and `-h`, before a command or after it, ask for help, and `--version` or `-V`
 /// before it for the program's name and version.
