@@ -12,6 +12,7 @@ use Rattle.exported.specs.declared.making.Merging.{Merging}
 use Rattle.exported.specs.declared.making.Merging.TheVariants.{Native, Chain}
 use Rattle.exported.specs.declared.making.Made.{Made}
 use Rattle.exported.specs.declared.making.Made.TheVariants.{Same, By}
+use Rattle.exported.specs.Names.{pinned_name}
 use Rattle.exported.specs.Places.{inputs_of}
 use Rattle.exported.specs.Operations.{op_on}
 use Rattle.exported.specs.Sources.{image_source, context_source}
@@ -26,11 +27,11 @@ use Rattle.llbmessages.specs.declared.op.Platform.{Platform}
 abbrev pub places_at : List (Option (List ℕ)) → List ℕ → List (Option (List ℕ))
 places_at known ids = map (λ id. slice_index_or known id None) ids
 
--- a source; images are of the platform, and the files of a build of none
+-- a source; images are of the platform and have names that may be pinned, and the files of a build are of no platform
 abbrev pub source_made : Options → Source → Made
 source_made options Scratch = Same None
 source_made options Context = By (op_on None [] (SourceKind (context_source options.unique options.excludes options.follows)))
-source_made options (Image name) = By (op_on (Some options.platform) [] (SourceKind (image_source name)))
+source_made options (Image name) = By (op_on (Some options.platform) [] (SourceKind (image_source (pinned_name options.digests name))))
 
 -- the operation that lays trees over each other: BuildKit's own merge, for which nothing is asked of the platform, or copies
 abbrev pub laid : Merging → Platform → List (List ℕ) → Operation

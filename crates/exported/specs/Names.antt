@@ -1,8 +1,9 @@
 -- The whole name of an image (Docker's distribution/reference, `ParseNormalizedNamed` and `TagNameOnly`): the host `docker.io` where none is
 -- named, `library/` before a name of one part there, and the tag `latest` where there is neither a tag nor a digest. A name that is no
 -- reference has a whole name too, which an engine refuses.
-use Rattle.std.specs.Prelude.{ℕ, Bool, true, false, ◌&&◌, ◌||◌, Option, Some, None, List, [], ◌∷◌, ◌++◌, codes, drop, nat_eq, nat_le, ◌==◌, if◌then◌else◌}
+use Rattle.std.specs.Prelude.{ℕ, Bool, true, false, ◌&&◌, ◌||◌, Option, Some, None, List, [], ◌∷◌, ◌++◌, bytes_eq, codes, drop, nat_eq, nat_le, ◌==◌, if◌then◌else◌}
 use Rattle.std.specs.List.{list_any, starts_with}
+use Rattle.std.specs.Map.{lookup}
 
 -- whether a byte is among some
 abbrev pub has_byte : ℕ → List ℕ → Bool
@@ -62,3 +63,18 @@ whole_of name None = with_tag (from_slash name) name
 
 unfoldable pub whole_name : List ℕ → List ℕ
 whole_name name = whole_of name (hub_rest name)
+
+-- ---- names that are pinned
+
+-- the digest that a name is given: that of the name among some, but none for a name that has a digest itself
+unfoldable pub digest_for : List (List ℕ × List ℕ) → List ℕ → Option (List ℕ)
+digest_for digests name = if has_byte 64 name then None else lookup (bytes_eq name) digests
+
+-- a name with a digest, if there is one (Docker's distribution/reference, `WithDigest`)
+abbrev pub with_digest : Option (List ℕ) → List ℕ → List ℕ
+with_digest None whole = whole
+with_digest (Some digest) whole = (whole ++ codes "@") ++ digest
+
+-- the whole name of an image, with the digest that pins it, if there is one (BuildKit, frontend/dockerfile/dockerfile2llb)
+unfoldable pub pinned_name : List (List ℕ × List ℕ) → List ℕ → List ℕ
+pinned_name digests name = with_digest (digest_for digests name) (whole_name name)

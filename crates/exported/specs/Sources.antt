@@ -1,11 +1,10 @@
 -- Trees that no operation makes (BuildKit's LLB, `SourceOp`; BuildKit, attributes of local sources).
 use Rattle.std.specs.Prelude.{ℕ, Option, Some, None, List, [], ◌∷◌, ◌++◌, codes}
 use Rattle.llbmessages.specs.declared.source.SourceOp.{SourceOp}
-use Rattle.exported.specs.Names.{whole_name}
 
--- an image, by its whole name
+-- an image, by its whole name, which may be pinned
 unfoldable pub image_source : List ℕ → SourceOp
-image_source name = record { identifier = codes "docker-image://" ++ whole_name name; attrs = [] }
+image_source name = record { identifier = codes "docker-image://" ++ name; attrs = [] }
 
 -- the attribute of patterns, if there are some: a JSON list of them
 abbrev pub exclude_entries : Option (List ℕ) → List (List ℕ × List ℕ)

@@ -9,7 +9,8 @@
 // The central definition is `exported` in specs/Exporting.antt, over `vertex_made` in specs/Making.antt and those of each kind: `copied` in
 // specs/Files.antt, `exec_of` in specs/Commands.antt. They speak of inputs by the numbers of specs/Places.antt. What is said of an operation is
 // `metadata_of` in specs/Metadata.antt, over `kind_caps` in specs/Capabilities.antt. What BuildKit is told of a pattern is `source_path` in
-// specs/Patterns.antt, of an image `whole_name` in specs/Names.antt, and of files that are left out `exclude_list` in specs/Excluding.antt. Bytes are the matter of `llbmessages`.
+// specs/Patterns.antt, of an image `pinned_name` in specs/Names.antt, and of files that are left out `exclude_list` in specs/Excluding.antt.
+// Bytes are the matter of `llbmessages`.
 //
 // ```
 // let op = make_dir_op(alloc, &platform, &places, &path)?;      // FROM a, WORKDIR /app: mkdir on the one input

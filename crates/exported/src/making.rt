@@ -13,6 +13,7 @@ use crate::merges::{merge_op, trees_at};
 use crate::sources::{context_op, image_op};
 use llb::{Op, Source, Vertex, VertexId};
 use llbmessages::{Network, Op as Operation, Platform};
+use named::NamedRows;
 use paths::Path;
 use plain::{Exact, Items, Memory, Text};
 use std::alloc::Global;
@@ -28,6 +29,8 @@ pub struct Options {
     pub unique: Text,
     /// What a merge of trees is.
     pub merging: Merging,
+    /// The digests that pin the names of images, by these names.
+    pub digests: NamedRows<Text>,
     /// The files that the build isn't given: a JSON list of patterns.
     pub excludes: Option<Text>,
     /// Of the others, those that the build is given: a JSON list of patterns. `None` is all of them.
@@ -97,7 +100,12 @@ fn source_made(alloc: Global, options: &Options, source: &Source) -> Result<Made
     match source {
         Source::Scratch => Ok(Made::Same(None)),
         Source::Context => context_made(alloc, options),
-        Source::Image(name) => Ok(Made::By(image_op(alloc, &options.platform, name)?)),
+        Source::Image(name) => Ok(Made::By(image_op(
+            alloc,
+            &options.platform,
+            &options.digests,
+            name,
+        )?)),
     }
 }
 

@@ -1,10 +1,11 @@
-// The whole name of an image.
+// The whole name of an image, and the same with the digest that pins it.
 
-ghost use Rattle.std.specs.Prelude.{◌≡◌, IfOk, MatchOption, None, Some};
+ghost use Rattle.std.specs.Prelude.{◌≡◌, ◌++◌, IfOk, MatchOption, None, Some, codes, option_map};
 ghost use Rattle.std.specs.String.{string_bytes};
-ghost use Rattle.exported.specs.Names.{has_byte, is_host_byte, has_host_byte, names_host, after_docker, after_index, without_host, hub_rest, in_hub, from_slash, with_tag, whole_name};
+ghost use Rattle.exported.specs.Names.{has_byte, is_host_byte, has_host_byte, names_host, after_docker, after_index, without_host, hub_rest, in_hub, from_slash, with_tag, whole_name, digest_for, pinned_name};
 
-use plain::Memory;
+use named::NamedRows;
+use plain::{Memory, Text};
 use std::alloc::Global;
 
 /// Whether a byte is among some.
@@ -149,5 +150,42 @@ pub(crate) fn whole_name(alloc: Global, name: &str) -> Result<String, Memory>
     match hub_rest(name) {
         Some(rest) => with_tag(in_hub(alloc, rest)?, rest.as_bytes()),
         None => with_tag(String::from_str(alloc, name)?, from_slash(name.as_bytes())),
+    }
+}
+
+/// The digest that a name is given, unless it has one itself.
+#[tactic(auto, unfolding(crate::specs::Names::digest_for))]
+fn digest_for<'a>(digests: &'a NamedRows<Text>, name: &str) -> Option<&'a Text>
+    ensures { option_map (λ digest. digest.now) result ≡ digest_for digests.now name.now }
+{
+    if has_byte(b'@', name.as_bytes()) {
+        return None;
+    }
+    digests.get(name)
+}
+
+/// A name with a digest.
+fn with_digest(whole: String, digest: &str) -> Result<String, Memory>
+    ensures { IfOk result (λ name. string_bytes name ≡ (string_bytes whole ++ codes "@") ++ digest.now) }
+{
+    let mut name = whole;
+    name.push_str("@")?;
+    name.push_str(digest)?;
+    Ok(name)
+}
+
+/// The whole name of an image, with the digest that pins it, if there is one.
+#[tactic(auto, unfolding(crate::specs::Names::pinned_name))]
+pub(crate) fn pinned_name(
+    alloc: Global,
+    digests: &NamedRows<Text>,
+    name: &str,
+) -> Result<String, Memory>
+    ensures { IfOk result (λ pinned. string_bytes pinned ≡ pinned_name digests.now name.now) }
+{
+    let whole = whole_name(alloc, name)?;
+    match digest_for(digests, name) {
+        Some(digest) => with_digest(whole, digest.as_str()),
+        None => Ok(whole),
     }
 }

@@ -4,33 +4,39 @@ ghost use Rattle.std.specs.Prelude.{◌≡◌, [], ◌∷◌, ◌++◌, IfOk, No
 ghost use Rattle.std.specs.String.{string_bytes};
 ghost use Rattle.wire.specs.Maps.{IsAfter};
 ghost use Rattle.llbmessages.specs.declared.op.OpKind.TheVariants.{Source as SourceKind};
-ghost use Rattle.exported.specs.Names.{whole_name};
+ghost use Rattle.exported.specs.Names.{pinned_name};
 ghost use Rattle.exported.specs.Operations.{op_on};
 ghost use Rattle.exported.specs.Sources.{image_source, exclude_entries, with_follows, context_entries, context_source};
 
-use crate::names::whole_name;
+use crate::names::pinned_name;
 use crate::operations::{op_for, op_for_any};
 use llbmessages::{Op, OpKind, Platform, SourceOp};
+use named::NamedRows;
 use plain::{Fault, Memory, Text};
 use std::alloc::Global;
 use wire::{Map, Unordered};
 
 /// How BuildKit is told of an image.
-fn identifier(alloc: Global, name: &str) -> Result<String, Memory>
-    ensures { IfOk result (λ text. string_bytes text ≡ codes "docker-image://" ++ whole_name name.now) }
+fn identifier(alloc: Global, digests: &NamedRows<Text>, name: &str) -> Result<String, Memory>
+    ensures { IfOk result (λ text. string_bytes text ≡ codes "docker-image://" ++ pinned_name digests.now name.now) }
 {
-    let name = whole_name(alloc, name)?;
+    let name = pinned_name(alloc, digests, name)?;
     let mut text = String::from_str(alloc, "docker-image://")?;
     text.push_str(name.as_str())?;
     Ok(text)
 }
 
-/// The operation of an image.
+/// The operation of an image. Its name is pinned by its digest among these, unless it has one itself.
 #[tactic(auto, unfolding(crate::specs::Sources::image_source))]
-pub fn image_op(alloc: Global, platform: &Platform, name: &Text) -> Result<Op, Memory>
-    ensures { IfOk result (λ op. op ≡ op_on (Some platform.now) [] (SourceKind (image_source name.now))) }
+pub fn image_op(
+    alloc: Global,
+    platform: &Platform,
+    digests: &NamedRows<Text>,
+    name: &Text,
+) -> Result<Op, Memory>
+    ensures { IfOk result (λ op. op ≡ op_on (Some platform.now) [] (SourceKind (image_source (pinned_name digests.now name.now)))) }
 {
-    let identifier = Text::from_string(identifier(alloc, name.as_str())?);
+    let identifier = Text::from_string(identifier(alloc, digests, name.as_str())?);
     let attrs = Map::new(alloc);
     let source = SourceOp { identifier, attrs };
     op_for(alloc, platform, &[], OpKind::Source(source))
