@@ -125,11 +125,20 @@ class Buildkitd:
     def __init__(self, sock, registry):
         self.sock, self.registry = f"unix://{sock}", registry
 
+    def place(self, name):
+        name = tagged(name.removeprefix("docker.io/"))
+        return name if "/" in name else f"library/{name}"
+
     def put_layer(self, name, layer, fields):
         """Puts an image of one layer where this buildkitd looks for those of docker.io."""
-        name = tagged(name.removeprefix("docker.io/"))
-        self.registry.put(name if "/" in name else f"library/{name}", layer, fields)
+        self.registry.put(self.place(name), layer, fields)
         return True
+
+    def pinned(self, name):
+        """The digest of the image of a name, whose tag is then that of another image, of an empty layer."""
+        digest = digest_of(self.registry.held[self.place(name)][1])
+        self.registry.put(self.place(name), bytes(1024), {})
+        return digest
 
 
 def environment(root, folder):
