@@ -3,7 +3,6 @@ use Rattle.std.proofs.Common.{◌≡◌, ℕ, false, List, ◌++◌, refl, codes
 use Rattle.serde_json.specs.Data.{Data}
 use Rattle.serde_json.specs.Written.{has_float, compact_text}
 use Rattle.serde_json.proofs.OnLiterals.{serde_json_on_literals}
-use Rattle.plain.specs.declared.refusal.Code.{Code}
 use Rattle.expand.specs.declared.reason.Reason.{Reason}
 use Rattle.expand.specs.declared.reason.Reason.TheVariants.{Coded, Required}
 use Rattle.expand.specs.declared.reason.Rejection.{Rejection}

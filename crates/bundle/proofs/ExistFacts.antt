@@ -31,10 +31,12 @@ use Rattle.entries.specs.Reading.{rows_of}
 use Rattle.entries.specs.Listing.{is_listing, listing_in}
 use Rattle.bundle.specs.declared.parts.Files.{Files}
 use Rattle.bundle.specs.declared.parts.ListedImage.{ListedImage}
+use Rattle.bundle.specs.declared.parts.ReadImages.{ReadImages}
 use Rattle.bundle.specs.declared.parts.Named.{Named}
 use Rattle.bundle.specs.declared.parts.Parts.{Parts}
 use Rattle.bundle.specs.declared.whole.Bundle.{Bundle}
-use Rattle.bundle.specs.Parts.{dockerfile_in, or_none, files_with, files_in, image_with, image_in, is_image_name, image_row, images_of, images_in, args_in, caches_in, named_with, named_in, parts_with, parts_in, parts_within, parts_of}
+use Rattle.bundle.specs.Digest.{digest_in}
+use Rattle.bundle.specs.Parts.{dockerfile_in, or_none, files_with, files_in, image_with, image_at, image_in, is_image_name, image_row, images_of, read_with, images_in, no_images, args_in, caches_in, named_with, named_in, parts_with, parts_in, parts_within, parts_of}
 use Rattle.bundle.specs.Reading.{ignore_bytes, told_line, Completes, ReadsBundle}
 use Rattle.bundle.proofs.ListingFacts.{listing}
 use Rattle.bundle.proofs.WholeFacts.{reads}
@@ -132,13 +134,14 @@ complete_by parts filtered are (Ok lines) e =
         dockerfile = parts.files.dockerfile;
         context = tree.0;
         images = parts.named.images;
+        digests = parts.named.digests;
         args = parts.named.args;
         caches = record { contents = map common_content parts.named.caches; holds = [] };
         target = parts.files.target;
       },
       (
         lines,
-        (e, record { listing = are; dockerfile = refl; context = tree.1; images = refl; args = refl; caches = refl; target = refl }),
+        (e, record { listing = are; dockerfile = refl; context = tree.1; images = refl; digests = refl; args = refl; caches = refl; target = refl }),
       ),
     )
 complete_by parts filtered are (Err number) e = inr (record { code = R19; line = told_line number }, (number, (e, refl)))
@@ -174,13 +177,16 @@ first_is (Some x) (Some xs) ys e more = more x xs refl refl (some_is (x ∷ xs) 
 image_is : {C : Type 0} (config : Data → Option C) (d : Data) (listed : ListedImage C) → image_in config d ≡ Some listed → IsReadSo config listed.config
 unfolding image_in
 image_is config d listed e =
-    option_and_then_some (λ c. option_map (λ tree. image_with c tree) (option_and_then listing_in (json.get (codes "tree") d)))
+    option_and_then_some
+    (λ c. option_and_then (λ digest. option_map (λ tree. image_with c digest tree) (option_and_then listing_in (json.get (codes "tree") d))) (at_most_one digest_in (json.get (codes "digest") d)))
     (option_and_then config (json.get (codes "config") d)) listed
-    (passed (is_some (strict (codes "config" ∷ codes "tree" ∷ []) d))
-    (option_and_then (λ c. option_map (λ tree. image_with c tree) (option_and_then listing_in (json.get (codes "tree") d))) (option_and_then config (json.get (codes "config") d))) listed e)
-    (λ c at_config by_config. mapped (λ tree. image_with c tree) (option_and_then listing_in (json.get (codes "tree") d)) listed by_config
+    (passed (is_some (strict (codes "config" ∷ codes "digest" ∷ codes "tree" ∷ []) d))
+    (image_at config (json.get (codes "config") d) (json.get (codes "digest") d) (json.get (codes "tree") d)) listed e)
+    (λ c at_config by_config. option_and_then_some
+    (λ digest. option_map (λ tree. image_with c digest tree) (option_and_then listing_in (json.get (codes "tree") d))) (at_most_one digest_in (json.get (codes "digest") d)) listed by_config
+    (λ digest at_digest by_digest. mapped (λ tree. image_with c digest tree) (option_and_then listing_in (json.get (codes "tree") d)) listed by_digest
     (λ tree at_tree made. option_and_then_some config (json.get (codes "config") d) c at_config
-    (λ from there is. (from, is ∙ ap (λ (l : ListedImage _). Some l.config) made))))
+    (λ from there is. (from, is ∙ ap (λ (l : ListedImage _). Some l.config) made)))))
 
 abbrev RowIsRead : {C : Type 0} → (Data → Option C) → List ℕ × ListedImage C → Type 0
 RowIsRead config row = IsReadSo config row.1.config
@@ -207,35 +213,36 @@ found_is config (row ∷ rows) R name found are e =
     by true there more = subst (λ (i : image.Image _). IsReadSo config i.config) (some_is (image_row row).1 found there) (All-head (RowIsRead config) row rows are)
     by false there more = more there
 
-images_read : {C : Type 0} (config : Data → Option C) (d : Data) (images : ImagesValue C) → images_in config d ≡ Some images
-    → (name : List ℕ) (found : image.Image C) → get images name ≡ Some found → IsReadSo config found.config
+images_read : {C : Type 0} (config : Data → Option C) (d : Data) (read : ReadImages C) → images_in config d ≡ Some read
+    → (name : List ℕ) (found : image.Image C) → get read.images name ≡ Some found → IsReadSo config found.config
 unfolding images_in rows_in
-images_read config d images e name found at =
-    option_and_then_some (λ rows. cond (list_all (λ row. is_image_name row.0) rows) (Some (images_of rows)) None) (rows_in (image_in config) d) images e
+images_read config d read e name found at =
+    option_and_then_some (λ rows. cond (list_all (λ row. is_image_name row.0) rows) (Some (read_with rows)) None) (rows_in (image_in config) d) read e
     (λ rows from kept. option_and_then_some (members_in (image_in config)) (as_object d) rows from
     (λ members there all.
-    let made : images_of rows ≡ images = some_is (images_of rows) images (passed (list_all (λ row. is_image_name row.0) rows) (Some (images_of rows)) images kept) in
+    let made : images_of rows ≡ read.images =
+    ap (λ (r : ReadImages _). r.images) (some_is (read_with rows) read (passed (list_all (λ row. is_image_name row.0) rows) (Some (read_with rows)) read kept)) in
     found_is config rows name_cmp name found (rows_are config members rows all)
     (sym (get-from_entries nat_list_cmp_total (map image_row rows) name) ∙ (ap (λ (i : ImagesValue _). get i name) made ∙ at))))
 
-images_at : {C : Type 0} (config : Data → Option C) (o : Option Data) (images : ImagesValue C) → or_none empty (images_in config) o ≡ Some images
-    → (name : List ℕ) (found : image.Image C) → get images name ≡ Some found → IsReadSo config found.config
-images_at config None images e name found at =
-    let none = sym (get-empty name_cmp name) ∙ (ap (λ (i : ImagesValue _). get i name) (some_is empty images e) ∙ at) in absurd cc
-images_at config (Some d) images e name found at = images_read config d images e name found at
+images_at : {C : Type 0} (config : Data → Option C) (o : Option Data) (read : ReadImages C) → or_none no_images (images_in config) o ≡ Some read
+    → (name : List ℕ) (found : image.Image C) → get read.images name ≡ Some found → IsReadSo config found.config
+images_at config None read e name found at =
+    let none = sym (get-empty name_cmp name) ∙ (ap (λ (r : ReadImages _). get r.images name) (some_is no_images read e) ∙ at) in absurd cc
+images_at config (Some d) read e name found at = images_read config d read e name found at
 
 named_read : {C : Type 0} (config : Data → Option C) (d : Data) (named : Named C) → named_in config d ≡ Some named
     → (name : List ℕ) (found : image.Image C) → get named.images name ≡ Some found → IsReadSo config found.config
 unfolding named_in
 named_read config d named e name found at =
     option_and_then_some
-    (λ images. option_and_then (λ args. option_map (λ caches. named_with images args caches) (or_none [] caches_in (json.get (codes "caches") d))) (or_none empty args_in (json.get (codes "args") d)))
-    (or_none empty (images_in config) (json.get (codes "images") d)) named e
-    (λ images at_images by_images. option_and_then_some
-    (λ args. option_map (λ caches. named_with images args caches) (or_none [] caches_in (json.get (codes "caches") d)))
+    (λ read. option_and_then (λ args. option_map (λ caches. named_with read args caches) (or_none [] caches_in (json.get (codes "caches") d))) (or_none empty args_in (json.get (codes "args") d)))
+    (or_none no_images (images_in config) (json.get (codes "images") d)) named e
+    (λ read at_images by_images. option_and_then_some
+    (λ args. option_map (λ caches. named_with read args caches) (or_none [] caches_in (json.get (codes "caches") d)))
     (or_none empty args_in (json.get (codes "args") d)) named by_images
-    (λ args at_args by_args. mapped (λ caches. named_with images args caches) (or_none [] caches_in (json.get (codes "caches") d)) named by_args
-    (λ caches at_caches made. images_at config (json.get (codes "images") d) images at_images name found (ap (λ (n : Named _). get n.images name) made ∙ at))))
+    (λ args at_args by_args. mapped (λ caches. named_with read args caches) (or_none [] caches_in (json.get (codes "caches") d)) named by_args
+    (λ caches at_caches made. images_at config (json.get (codes "images") d) read at_images name found (ap (λ (n : Named _). get n.images name) made ∙ at))))
 
 pub image_read : {C : Type 0} (config : Data → Option C) (bytes : List ℕ) (bundle : Bundle C) → ReadsBundle config bytes (Ok bundle)
     → (name : List ℕ) (found : image.Image C) → get bundle.images name ≡ Some found → IsReadSo config found.config

@@ -1,4 +1,5 @@
 pub mod Answer
+pub mod Digest
 pub mod IgnoreFile
 pub mod LeftOut
 pub mod Parts

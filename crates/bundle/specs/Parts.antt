@@ -9,6 +9,7 @@ use Rattle.serde_json.specs.Data.{Data}
 use Rattle.serde_json.specs.Find.{get, as_str}
 use Rattle.serde_json.specs.Read.{read}
 use Rattle.plain.specs.Limits.{most_bundle_bytes}
+use Rattle.named.specs.Rows.{put_row}
 use Rattle.strict.specs.Strict.{strict, at_most_one, rows_in}
 use Rattle.trees.specs.TreeMap.{TreeMap}
 use Rattle.trees.specs.Row.{Row}
@@ -22,6 +23,8 @@ use Rattle.bundle.specs.declared.parts.Files.{Files}
 use Rattle.bundle.specs.declared.parts.Named.{Named}
 use Rattle.bundle.specs.declared.parts.Parts.{Parts}
 use Rattle.bundle.specs.declared.parts.ListedImage.{ListedImage}
+use Rattle.bundle.specs.declared.parts.ReadImages.{ReadImages}
+use Rattle.bundle.specs.Digest.{digest_in}
 
 -- the bytes of a Dockerfile `{"text":T}` or `{"hex":H}`
 unfoldable pub dockerfile_in : Data → Option (List ℕ)
@@ -45,14 +48,20 @@ files_at dockerfile context target =
 unfoldable pub files_in : Data → Option Files
 files_in d = files_at (get (codes "dockerfile") d) (get (codes "context") d) (get (codes "target") d)
 
--- an image: its configuration, read as `config` reads it, and the list of its tree's entries
-abbrev pub image_with : {C : Type 0} → C → List Row → ListedImage C
-image_with config tree = record { config = config; tree = tree }
+-- an image: its configuration, read as `config` reads it, its digest, if one is given, and the list of its tree's entries
+abbrev pub image_with : {C : Type 0} → C → Option (List ℕ) → List Row → ListedImage C
+image_with config digest tree = record { config = config; digest = digest; tree = tree }
+
+-- the same, by what stands at their keys
+abbrev pub image_at : {C : Type 0} → (Data → Option C) → Option Data → Option Data → Option Data → Option (ListedImage C)
+image_at config c digest tree =
+    option_and_then (λ c. option_and_then (λ digest. option_map (λ tree. image_with c digest tree) (option_and_then listing_in tree)) (at_most_one digest_in digest))
+    (option_and_then config c)
 
 unfoldable pub image_in : {C : Type 0} → (Data → Option C) → Data → Option (ListedImage C)
 image_in config d =
-    if is_some (strict (codes "config" ∷ codes "tree" ∷ []) d)
-    then option_and_then (λ c. option_map (λ tree. image_with c tree) (option_and_then listing_in (get (codes "tree") d))) (option_and_then config (get (codes "config") d))
+    if is_some (strict (codes "config" ∷ codes "digest" ∷ codes "tree" ∷ []) d)
+    then image_at config (get (codes "config") d) (get (codes "digest") d) (get (codes "tree") d)
     else None
 
 -- the name of an image: neither empty nor `scratch`, which is the empty tree (Dockerfile reference, FROM)
@@ -66,10 +75,31 @@ image_row row = (row.0, record { config = row.1.config; tree = tree_of row.1.tre
 abbrev pub images_of : {C : Type 0} → List (List ℕ × ListedImage C) → ImagesValue C
 images_of rows = from_entries (map image_row rows)
 
--- an object of images, each under its name
-unfoldable pub images_in : {C : Type 0} → (Data → Option C) → Data → Option (ImagesValue C)
+-- digests by names, with that of a name more, if there is one
+abbrev pub with_digest : List (List ℕ × List ℕ) → List ℕ → Option (List ℕ) → List (List ℕ × List ℕ)
+with_digest digests name None = digests
+with_digest digests name (Some digest) = put_row digests name digest
+
+-- digests by names, with those of images
+abbrev pub with_digests : {C : Type 0} → List (List ℕ × List ℕ) → List (List ℕ × ListedImage C) → List (List ℕ × List ℕ)
+with_digests digests [] = digests
+with_digests digests (row ∷ rows) = with_digests (with_digest digests row.0 row.1.digest) rows
+
+-- the digests of images by the images' names, of those that have one
+abbrev pub digests_of : {C : Type 0} → List (List ℕ × ListedImage C) → List (List ℕ × List ℕ)
+digests_of rows = with_digests [] rows
+
+-- an object of images, each under its name: the images, and their digests
+abbrev pub read_with : {C : Type 0} → List (List ℕ × ListedImage C) → ReadImages C
+read_with rows = record { images = images_of rows; digests = digests_of rows }
+
+unfoldable pub images_in : {C : Type 0} → (Data → Option C) → Data → Option (ReadImages C)
 images_in config d =
-    option_and_then (λ rows. if list_all (λ row. is_image_name row.0) rows then Some (images_of rows) else None) (rows_in (image_in config) d)
+    option_and_then (λ rows. if list_all (λ row. is_image_name row.0) rows then Some (read_with rows) else None) (rows_in (image_in config) d)
+
+-- no image
+abbrev pub no_images : {C : Type 0} → ReadImages C
+no_images = record { images = empty; digests = [] }
 
 -- an object of texts: build arguments by their names, which aren't tested
 unfoldable pub args_in : Data → Option BuildArguments
@@ -84,14 +114,14 @@ unfoldable pub caches_in : Data → Option (List (List ℕ × TreeMap))
 caches_in d = option_map (λ rows. map cache_row rows) (rows_in listing_in d)
 
 -- what a build may name
-abbrev pub named_with : {C : Type 0} → ImagesValue C → BuildArguments → List (List ℕ × TreeMap) → Named C
-named_with images args caches = record { images = images; args = args; caches = caches }
+abbrev pub named_with : {C : Type 0} → ReadImages C → BuildArguments → List (List ℕ × TreeMap) → Named C
+named_with read args caches = record { images = read.images; digests = read.digests; args = args; caches = caches }
 
 -- the same, by what stands at their keys, each of which may be missing
 abbrev pub named_at : {C : Type 0} → (Data → Option C) → Option Data → Option Data → Option Data → Option (Named C)
 named_at config images args caches =
     option_and_then (λ images. option_and_then (λ args. option_map (λ caches. named_with images args caches) (or_none [] caches_in caches)) (or_none empty args_in args))
-    (or_none empty (images_in config) images)
+    (or_none no_images (images_in config) images)
 
 unfoldable pub named_in : {C : Type 0} → (Data → Option C) → Data → Option (Named C)
 named_in config d = named_at config (get (codes "images") d) (get (codes "args") d) (get (codes "caches") d)

@@ -44,6 +44,7 @@ pub record IsBundle {C : Type 0} (parts : Parts C) (lines : List Line) (bundle :
   pub dockerfile : bundle.dockerfile ≡ parts.files.dockerfile
   pub context : IsContext parts.files.context lines bundle.context
   pub images : bundle.images ≡ parts.named.images
+  pub digests : bundle.digests ≡ parts.named.digests
   pub args : bundle.args ≡ parts.named.args
   pub caches : bundle.caches ≡ record { contents = map common_content parts.named.caches; holds = [] }
   pub target : bundle.target ≡ parts.files.target

@@ -13,11 +13,13 @@
 #![tactic(auto)]
 
 mod answering;
+mod digest;
 mod filtering;
 pub mod laws;
 mod parts;
 mod whole;
 
 pub use answering::{failed_answer, put_built, refused_answer};
+pub use digest::read_digest;
 pub use filtering::read_with_left_out;
 pub use whole::{Bundle, IgnoreFile, read_bundle, read_ignore_bytes, read_ignore_file};

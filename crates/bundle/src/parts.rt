@@ -1,7 +1,7 @@
 // What a bundle says, key by key. Its context is a list of entries here, which its ignore file filters later. The JSON is lent, and what is read
 // of it is copied: a part holds nothing that is lent.
 
-ghost use Rattle.std.specs.Prelude.{◌≡◌, [], codes, map, IfOk};
+ghost use Rattle.std.specs.Prelude.{◌≡◌, [], codes, map, IfOk, OnOk};
 ghost use Rattle.std.specs.List.{list_all};
 ghost use Rattle.std.specs.Option.{option_and_then};
 ghost use Rattle.std.specs.FinMap.{empty, from_entries};
@@ -10,11 +10,14 @@ ghost use Rattle.strict.specs.Gives.{Gives};
 ghost use Rattle.strict.specs.Strict.{at_most_one};
 ghost use Rattle.borrowed.specs.Seen.{data_of};
 ghost use Rattle.entries.specs.Listing.{listing_in};
-ghost use Rattle.bundle.specs.Parts.{or_none, dockerfile_in, files_in, is_image_name, images_of, images_in, args_in, cache_row, caches_in, named_in, parts_in};
+ghost use Rattle.bundle.specs.Digest.{digest_in};
+ghost use Rattle.bundle.specs.Parts.{or_none, dockerfile_in, files_in, is_image_name, images_of, with_digest, digests_of, read_with, images_in, no_images, args_in, cache_row, caches_in, named_in, parts_in};
 
+use crate::digest::read_digest;
 use borrowed::{FromLent, at, is_strict, one_at, optional_at, owned, read_rows};
 use entries::{Listing, read_content};
 use json::Value;
+use named::NamedRows;
 use plain::{Bytes, Exact, Fault, Items, Memory, Text};
 use plans::{Image, Images};
 use scopes::Args;
@@ -37,6 +40,8 @@ pub struct Files {
 #[derive(Drop)]
 pub struct Named<C> {
     pub images: Images<C>,
+    /// The digests that pin images' names, by these names.
+    pub digests: NamedRows<Text>,
     pub args: Args,
     /// The trees of the common contents of caches, by the caches' ids.
     pub caches: Items<(Text, Tree)>,
@@ -53,7 +58,17 @@ pub struct Parts<C> {
 #[derive(Drop)]
 pub struct ListedImage<C> {
     pub config: C,
+    /// The digest that pins its name, if one is given.
+    pub digest: Option<Text>,
     pub tree: Listing,
+}
+
+/// The images of a bundle.
+#[derive(Drop)]
+pub struct ReadImages<C> {
+    pub images: Images<C>,
+    /// The digests that pin their names, by these names.
+    pub digests: NamedRows<Text>,
 }
 
 impl<C: FromJson> FromLent for ListedImage<C> {
@@ -63,12 +78,17 @@ impl<C: FromJson> FromLent for ListedImage<C> {
 
     #[tactic(auto, unfolding(crate::specs::Parts::image_in))]
     fn from_lent(alloc: Global, value: &Value<'_>) -> Result<ListedImage<C>, ReadFault> {
-        if !is_strict(value, &["config", "tree"]) {
+        if !is_strict(value, &["config", "digest", "tree"]) {
             return Err(Fault::Because(NotRead));
         }
         let config: C = config_at(alloc, value)?;
+        let digest = digest_at(alloc, value)?;
         let tree: Listing = one_at(alloc, value, "tree")?;
-        Ok(ListedImage { config, tree })
+        Ok(ListedImage {
+            config,
+            digest,
+            tree,
+        })
     }
 }
 
@@ -82,6 +102,16 @@ fn config_at<C: FromJson>(alloc: Global, value: &Value<'_>) -> Result<C, ReadFau
             C::from_json(alloc, &config)
         }
         None => Err(Fault::Because(NotRead)),
+    }
+}
+
+/// The digest that stands in an image, if one does.
+fn digest_at(alloc: Global, value: &Value<'_>) -> Result<Option<Text>, ReadFault>
+    ensures { Gives result (at_most_one digest_in (get (codes "digest") (data_of value.now))) }
+{
+    match at(value, "digest") {
+        Some(value) => Ok(Some(read_digest(alloc, value)?)),
+        None => Ok(None),
     }
 }
 
@@ -160,23 +190,72 @@ fn images_of<C: Drop>(
     let mut left = rows.into_vec();
     let mut images = Images::new(alloc);
     while let Some((name, image)) = left.pop() {
-        let ListedImage { config, tree } = image;
+        let ListedImage {
+            config,
+            digest: _,
+            tree,
+        } = image;
         let tree = tree.into_tree(alloc)?;
         let _none = images.insert(name, Image { config, tree })?;
     }
     Ok(images)
 }
 
+/// Gives a name its digest, if it has one.
+fn put_digest(
+    alloc: Global,
+    digests: &mut NamedRows<Text>,
+    name: &Text,
+    digest: &Option<Text>,
+) -> Result<(), Memory>
+    ensures { OnOk result (digests.new ≡ with_digest digests.old name.now digest.now) }
+{
+    let Some(digest) = digest else {
+        return Ok(());
+    };
+    let name = name.copy(alloc)?;
+    let digest = digest.copy(alloc)?;
+    digests.set(alloc, name, digest)
+}
+
+/// The digests of images by the images' names, of those that have one.
+fn digests_of<C>(alloc: Global, rows: &[(Text, ListedImage<C>)]) -> Result<NamedRows<Text>, Memory>
+    ensures { IfOk result (λ digests. digests ≡ digests_of rows.now) }
+{
+    let mut digests = NamedRows::new(alloc);
+    for row in rows {
+        put_digest(alloc, &mut digests, &row.0, &row.1.digest)?;
+    }
+    Ok(digests)
+}
+
+/// The images of these rows, with their digests.
+fn read_with<C: Drop>(
+    alloc: Global,
+    rows: Items<(Text, ListedImage<C>)>,
+) -> Result<ReadImages<C>, Memory>
+    ensures { IfOk result (λ read. read ≡ read_with rows) }
+{
+    let digests = digests_of(alloc, rows.as_slice())?;
+    match images_of(alloc, rows) {
+        Ok(images) => Ok(ReadImages { images, digests }),
+        Err(memory) => {
+            drop(digests);
+            Err(memory)
+        }
+    }
+}
+
 /// The images that a value is, each under its name.
 #[tactic(auto, unfolding(crate::specs::Parts::images_in))]
-fn read_images<C: FromJson>(alloc: Global, value: &Value<'_>) -> Result<Images<C>, ReadFault>
+fn read_images<C: FromJson>(alloc: Global, value: &Value<'_>) -> Result<ReadImages<C>, ReadFault>
     ensures { Gives result (images_in C.reading (data_of value.now)) }
 {
     let rows: Items<(Text, ListedImage<C>)> = read_rows(alloc, value)?;
     if !are_image_names(rows.as_slice()) {
         return Err(Fault::Because(NotRead));
     }
-    Ok(images_of(alloc, rows)?)
+    Ok(read_with(alloc, rows)?)
 }
 
 /// Build arguments by their names.
@@ -221,12 +300,15 @@ fn read_caches(alloc: Global, value: &Value<'_>) -> Result<Items<(Text, Tree)>, 
 }
 
 /// The images that stand in an object, none where there is no such key.
-fn images_at<C: FromJson>(alloc: Global, value: &Value<'_>) -> Result<Images<C>, ReadFault>
-    ensures { Gives result (or_none empty (images_in C.reading) (get (codes "images") (data_of value.now))) }
+fn images_at<C: FromJson>(alloc: Global, value: &Value<'_>) -> Result<ReadImages<C>, ReadFault>
+    ensures { Gives result (or_none no_images (images_in C.reading) (get (codes "images") (data_of value.now))) }
 {
     match at(value, "images") {
         Some(value) => read_images(alloc, value),
-        None => Ok(Images::new(alloc)),
+        None => Ok(ReadImages {
+            images: Images::new(alloc),
+            digests: NamedRows::new(alloc),
+        }),
     }
 }
 
@@ -255,11 +337,12 @@ fn caches_at(alloc: Global, value: &Value<'_>) -> Result<Items<(Text, Tree)>, Re
 fn read_named<C: FromJson>(alloc: Global, value: &Value<'_>) -> Result<Named<C>, ReadFault>
     ensures { Gives result (named_in C.reading (data_of value.now)) }
 {
-    let images = images_at(alloc, value)?;
+    let ReadImages { images, digests } = images_at(alloc, value)?;
     let args = args_at(alloc, value)?;
     let caches = caches_at(alloc, value)?;
     Ok(Named {
         images,
+        digests,
         args,
         caches,
     })

@@ -15,6 +15,7 @@ use contexts::Context;
 use entries::Listing;
 use ignorefile::Ignore;
 use json::Scratch;
+use named::NamedRows;
 use paths::Path;
 use plain::limits::MOST_BUNDLE_BYTES;
 use plain::{Bytes, Code, Fault, Memory, Refusal, Text};
@@ -33,6 +34,8 @@ pub struct Bundle<C> {
     /// The build's own folder, filtered by its ignore file.
     pub context: Tree,
     pub images: Images<C>,
+    /// The digests that pin images' names, by these names.
+    pub digests: NamedRows<Text>,
     pub args: Args,
     /// What caches hold at first; nobody holds any of them.
     pub caches: CacheStore,
@@ -125,6 +128,7 @@ fn complete_filtered<C: Drop>(
     } = files;
     let Named {
         images,
+        digests,
         args,
         caches,
     } = named;
@@ -134,6 +138,7 @@ fn complete_filtered<C: Drop>(
                 dockerfile,
                 context,
                 images,
+                digests,
                 args,
                 caches,
                 target,
@@ -142,6 +147,7 @@ fn complete_filtered<C: Drop>(
                 drop(dockerfile);
                 drop(context);
                 drop(images);
+                drop(digests);
                 drop(args);
                 drop(target);
                 Err(memory)
@@ -150,6 +156,7 @@ fn complete_filtered<C: Drop>(
         Err(memory) => {
             drop(dockerfile);
             drop(images);
+            drop(digests);
             drop(args);
             drop(caches);
             drop(target);
