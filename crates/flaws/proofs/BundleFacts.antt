@@ -10,7 +10,8 @@ use Rattle.serde_json.specs.Find.{get, as_str, as_object}
 use Rattle.serde_json.specs.Read.{read}
 use Rattle.strict.specs.Strict.{has_only, strict, at_most_one, with_first, members_in, rows_in}
 use Rattle.entries.specs.Listing.{listing_in}
-use Rattle.bundle.specs.Parts.{or_none, dockerfile_in, files_with, files_in, image_with, image_in, is_image_name, images_of, images_in, args_in, cache_row, caches_in, named_with, named_in, parts_with, parts_in, parts_within}
+use Rattle.bundle.specs.Digest.{digest_in}
+use Rattle.bundle.specs.Parts.{or_none, dockerfile_in, files_with, files_in, image_with, image_at, image_in, is_image_name, read_with, images_in, no_images, args_in, cache_row, caches_in, named_with, named_in, parts_with, parts_in, parts_within}
 use Rattle.bundle.specs.declared.parts.Parts.{Parts}
 use Rattle.flaws.specs.Looks.{Looks, read_as, optional, required, keys_in, keys, no_other, members_in as found_in, rows}
 use Rattle.flaws.specs.Flaws.{listing_flaw, dockerfile_flaw, image_flaw, images_flaw, files_flaw, named_flaw, bundle_flaw, json_flaw, flaw_within}
@@ -70,6 +71,10 @@ image-some true None tree f = refl
 image-some true (Some c) None f = refl
 image-some true (Some c) (Some t) f = refl
 
+tested-some : {A : Type 0} → (s : Bool) (o : Option A) → is_some (cond s o None) ≡ s && is_some o
+tested-some true o = refl
+tested-some false o = refl
+
 three-some : {X Y Z A : Type 0} → (x : Option X) (y : Option Y) (z : Option Z) (f : X → Y → Z → A)
     → is_some (option_and_then (λ a. option_and_then (λ b. option_map (λ c. f a b c) z) y) x) ≡ is_some x && (is_some y && is_some z)
 three-some None y z f = refl
@@ -78,7 +83,7 @@ three-some (Some a) (Some b) None f = refl
 three-some (Some a) (Some b) (Some c) f = refl
 
 abbrev image_keys : List (List ℕ)
-image_keys = codes "config" ∷ codes "tree" ∷ []
+image_keys = codes "config" ∷ codes "digest" ∷ codes "tree" ∷ []
 
 abbrev bundle_keys : List (List ℕ)
 bundle_keys = codes "args" ∷ codes "caches" ∷ codes "context" ∷ codes "dockerfile" ∷ codes "images" ∷ codes "target" ∷ []
@@ -101,24 +106,27 @@ module _ {C : Type 0} (config : Data → Option C) where
       ∙ both (fine-no_other image_keys d)
       (fine-or_else (required (codes "config") (read_as config) d) _
       ∙ both (fine-required (read_as config) config (fine-read_as config) (codes "config") (get (codes "config") d))
+      (fine-or_else (optional (codes "digest") (read_as digest_in) d) _
+      ∙ both (fine-optional (read_as digest_in) digest_in (fine-read_as digest_in) (codes "digest") (get (codes "digest") d))
       (fine-last (required (codes "tree") listing_flaw d) ∙ fine-required listing_flaw listing_in fine-listing (codes "tree") (get (codes "tree") d)))
-      ∙ sym (image-some (is_some (strict image_keys d)) (option_and_then config (get (codes "config") d)) (option_and_then listing_in (get (codes "tree") d)) image_with)
+      ∙ sym (three-some (option_and_then config (get (codes "config") d)) (at_most_one digest_in (get (codes "digest") d)) (option_and_then listing_in (get (codes "tree") d)) image_with))
+      ∙ sym (tested-some (is_some (strict image_keys d)) (image_at config (get (codes "config") d) (get (codes "digest") d) (get (codes "tree") d)))
 
   fine-images : Suits (images_flaw config) (images_in config)
   unfolding images_in rows_in
   fine-images d =
       fine-or_else (keys is_image_name d) _ ∙ ap (λ b. fine (keys is_image_name d) && b) (fine-last (rows (image_flaw config) d))
-      ∙ fine-keyed is_image_name (image_in config) (image_flaw config) fine-image images_of (as_object d)
+      ∙ fine-keyed is_image_name (image_in config) (image_flaw config) fine-image read_with (as_object d)
 
   fine-named : Suits (named_flaw config) (named_in config)
   unfolding named_in
   fine-named d =
       fine-or_else (optional (codes "images") (images_flaw config) d) _
-      ∙ both (fine-or_none (images_flaw config) (images_in config) fine-images (codes "images") empty (get (codes "images") d))
+      ∙ both (fine-or_none (images_flaw config) (images_in config) fine-images (codes "images") no_images (get (codes "images") d))
       (fine-or_else (optional (codes "args") (rows (read_as as_str)) d) _
       ∙ both (fine-or_none (rows (read_as as_str)) args_in fine-args (codes "args") empty (get (codes "args") d))
       (fine-last (optional (codes "caches") (rows listing_flaw) d) ∙ fine-or_none (rows listing_flaw) caches_in fine-caches (codes "caches") [] (get (codes "caches") d)))
-      ∙ sym (three-some (or_none empty (images_in config) (get (codes "images") d)) (or_none empty args_in (get (codes "args") d)) (or_none [] caches_in (get (codes "caches") d)) named_with)
+      ∙ sym (three-some (or_none no_images (images_in config) (get (codes "images") d)) (or_none empty args_in (get (codes "args") d)) (or_none [] caches_in (get (codes "caches") d)) named_with)
 
   fine-bundle : Suits (bundle_flaw config) (parts_in config)
   unfolding parts_in

@@ -11,6 +11,7 @@ use Rattle.plain.specs.Limits.{most_bundle_bytes}
 use Rattle.strict.specs.Strict.{path_in, short_number_in}
 use Rattle.entries.specs.Reading.{mode_in, content_in}
 use Rattle.entries.specs.Listing.{listing_in}
+use Rattle.bundle.specs.Digest.{digest_in}
 use Rattle.bundle.specs.Parts.{is_image_name}
 use Rattle.flaws.specs.Looks.{Way, Looks, whole, read_as, first_of, optional, required, keys, no_other, items, rows}
 use Rattle.flaws.specs.declared.flaw.Step.TheVariants.{Key}
@@ -73,10 +74,11 @@ dockerfile_flaw = first_of (no_other (codes "hex" ∷ codes "text" ∷ []) ∷ (
 -- an image, whose configuration has to be read by `config`
 abbrev pub image_flaw : {C : Type 0} → (Data → Option C) → Looks
 image_flaw config = first_of
-    (no_other (codes "config" ∷ codes "tree" ∷ [])
+    (no_other (codes "config" ∷ codes "digest" ∷ codes "tree" ∷ [])
     ∷ (required (codes "config") (read_as config)
+    ∷ (optional (codes "digest") (read_as digest_in)
     ∷ (required (codes "tree") listing_flaw
-    ∷ [])))
+    ∷ []))))
 
 -- images by their names: first a wrong name, then a wrong image
 abbrev pub images_flaw : {C : Type 0} → (Data → Option C) → Looks

@@ -9,6 +9,7 @@ use crate::flaw::Step;
 use crate::keys::{image_names, no_other};
 use crate::looking::{Look, optional, read_as, required, rows};
 use borrowed::owned;
+use bundle::read_digest;
 use json::Value;
 use plain::{Fault, Items, Memory, Text};
 use std::alloc::Global;
@@ -68,6 +69,27 @@ impl<C: FromJson> Look for Configuration<C> {
     }
 }
 
+/// The digest of an image.
+struct Digest;
+
+impl Look for Digest {
+    ghost use Rattle.bundle.specs.Digest.{digest_in};
+    ghost use Rattle.flaws.specs.Looks.{read_as};
+
+    ghost looks = { read_as digest_in };
+
+    fn look(alloc: Global, value: &Value<'_>) -> Result<Option<Items<Step>>, Memory> {
+        match read_digest(alloc, value) {
+            Ok(digest) => {
+                drop(digest);
+                Ok(None)
+            }
+            Err(Fault::Because(_)) => Ok(Some(Items::new(alloc))),
+            Err(Fault::Memory) => Err(Memory),
+        }
+    }
+}
+
 /// An image.
 struct ImageObject<C> {
     kind: PhantomData<C>,
@@ -79,10 +101,13 @@ impl<C: FromJson> Look for ImageObject<C> {
     ghost looks = { image_flaw C.reading };
 
     fn look(alloc: Global, value: &Value<'_>) -> Result<Option<Items<Step>>, Memory> {
-        if let Some(way) = no_other(alloc, value, &["config", "tree"])? {
+        if let Some(way) = no_other(alloc, value, &["config", "digest", "tree"])? {
             return Ok(Some(way));
         }
         if let Some(way) = required::<Configuration<C>>(alloc, value, "config")? {
+            return Ok(Some(way));
+        }
+        if let Some(way) = optional::<Digest>(alloc, value, "digest")? {
             return Ok(Some(way));
         }
         required::<EntryList>(alloc, value, "tree")
