@@ -13,13 +13,15 @@ use Rattle.serde_json.proofs.Views.{view-Array}
 use Rattle.plain.specs.declared.fault.Fault.{Fault}
 use Rattle.plain.specs.declared.fault.Fault.TheVariants.{Because, Memory}
 use Rattle.strict.specs.Gives.{TellsFault}
-use Rattle.strict.specs.Strict.{list_in}
+use Rattle.strict.specs.Strict.{at_most_one, list_in}
 use Rattle.strict.specs.declared.fault.NotRead.{NotRead}
 use Rattle.trees.specs.Row.{Row}
 use Rattle.entries.specs.Listing.{is_listing, listing_in}
 use Rattle.imageconfig.specs.Reading.{config_in}
 use Rattle.imageconfig.specs.declared.config.Config.{Config}
 use Rattle.scopes.specs.Scope.{names_differ}
+use Rattle.bundle.specs.declared.parts.ListedImage.{ListedImage}
+use Rattle.bundle.specs.Digest.{digest_in}
 use Rattle.bundle.specs.Parts.{image_in, image_with, is_image_name}
 use Rattle.packing.specs.Images.{are_names, given_in, if_image, image_data, image_of, is_even, is_image, most_depth, names_of}
 use Rattle.packing.specs.PrivateImages.{GivesJson, given_names, if_even, image_rows, is_among}
@@ -30,59 +32,75 @@ pub image_even : (d : Data) → is_image d ≡ true → (has_float d ≡ false) 
 unfolding is_image
 image_even d e = even_parts most_depth d (and_parts (is_some (image_in config_in d)) (is_even most_depth d) e).1
 
--- ---- an image of a configuration and a tree
+-- ---- an image of a configuration, of a digest, if it has one, and of a tree
 
-read_at : (c : Option Config) (t : Option (List Row)) → is_some c ≡ true → is_some t ≡ true
-    → is_some (option_and_then (λ config. option_map (λ tree. image_with config tree) t) c) ≡ true
-read_at None t e f = e
-read_at (Some c) None e f = f
-read_at (Some c) (Some t) e f = refl
+-- what is read of all three
+abbrev parts_read : Option Config → Option (Option (List ℕ)) → Option (List Row) → Option (ListedImage Config)
+parts_read c d t = option_and_then (λ config. option_and_then (λ digest. option_map (λ tree. image_with config digest tree) t) d) c
 
-is_read : (config tree : Data) → is_some (config_in config) ≡ true → is_some (listing_in tree) ≡ true → is_some (image_in config_in (image_data config tree)) ≡ true
+all_parts : (config : Data) (digest : Option Data) (tree : Data)
+    → image_in config_in (image_data config digest tree) ≡ parts_read (config_in config) (at_most_one digest_in digest) (listing_in tree)
 unfolding image_in
-is_read config tree e f = read_at (config_in config) (listing_in tree) e f
+all_parts config None tree = refl
+all_parts config (Some digest) tree = refl
 
--- both are read, and the rest is told by whether it is even
-pub read_image : (config tree : Data) → is_some (config_in config) ≡ true → is_some (listing_in tree) ≡ true → if_image (image_data config tree) ≡ if_even (image_data config tree)
+read_at : (c : Option Config) (d : Option (Option (List ℕ))) (t : Option (List Row)) → is_some c ≡ true → is_some d ≡ true → is_some t ≡ true
+    → is_some (parts_read c d t) ≡ true
+read_at None d t e f g = e
+read_at (Some c) None t e f g = f
+read_at (Some c) (Some d) None e f g = g
+read_at (Some c) (Some d) (Some t) e f g = refl
+
+is_read : (config : Data) (digest : Option Data) (tree : Data) → is_some (config_in config) ≡ true → is_some (at_most_one digest_in digest) ≡ true
+    → is_some (listing_in tree) ≡ true → is_some (image_in config_in (image_data config digest tree)) ≡ true
+is_read config digest tree e f g = ap is_some (all_parts config digest tree) ∙ read_at (config_in config) (at_most_one digest_in digest) (listing_in tree) e f g
+
+-- all are read, and the rest is told by whether it is even
+pub read_image : (config : Data) (digest : Option Data) (tree : Data) → is_some (config_in config) ≡ true → is_some (at_most_one digest_in digest) ≡ true
+    → is_some (listing_in tree) ≡ true → if_image (image_data config digest tree) ≡ if_even (image_data config digest tree)
 unfolding is_image
-read_image config tree e f = rw (is_read config tree e f) refl
+read_image config digest tree e f g = rw (is_read config digest tree e f g) refl
 
-unread_config : (config tree : Data) → config_in config ≡ None → is_some (image_in config_in (image_data config tree)) ≡ false
-unfolding image_in
-unread_config config tree e = rw e refl
-
-unread_at : (c : Option Config) (t : Option (List Row)) → t ≡ None → is_some (option_and_then (λ config. option_map (λ tree. image_with config tree) t) c) ≡ false
-unread_at None t e = refl
-unread_at (Some c) t e = rw e refl
-
-unread_tree : (config tree : Data) → listing_in tree ≡ None → is_some (image_in config_in (image_data config tree)) ≡ false
-unfolding image_in
-unread_tree config tree e = unread_at (config_in config) (listing_in tree) e
-
--- the configuration isn't read, or the tree isn't
-pub no_config : (config tree : Data) → config_in config ≡ None → if_image (image_data config tree) ≡ None
+-- what isn't read is no image
+unread : (d : Data) → is_some (image_in config_in d) ≡ false → if_image d ≡ None
 unfolding is_image
-no_config config tree e = rw (unread_config config tree e) refl
+unread d e = rw e refl
 
-pub no_tree : (config tree : Data) → listing_in tree ≡ None → if_image (image_data config tree) ≡ None
-unfolding is_image
-no_tree config tree e = rw (unread_tree config tree e) refl
+unread_config : (c : Option Config) (d : Option (Option (List ℕ))) (t : Option (List Row)) → c ≡ None → is_some (parts_read c d t) ≡ false
+unread_config c d t e = rw e refl
 
--- a fault of either reader is one of both
-pub tells_config : (e : Fault NotRead) (config tree : Data) → TellsFault e (config_in config) → TellsFault e (if_image (image_data config tree))
-tells_config (Because fault) config tree none = no_config config tree none
-tells_config Memory config tree none = tt
+unread_digest : (c : Option Config) (d : Option (Option (List ℕ))) (t : Option (List Row)) → d ≡ None → is_some (parts_read c d t) ≡ false
+unread_digest None d t e = refl
+unread_digest (Some c) d t e = rw e refl
 
-pub tells_tree : (e : Fault NotRead) (config tree : Data) → TellsFault e (listing_in tree) → TellsFault e (if_image (image_data config tree))
-tells_tree (Because fault) config tree none = no_tree config tree none
-tells_tree Memory config tree none = tt
+unread_tree : (c : Option Config) (d : Option (Option (List ℕ))) (t : Option (List Row)) → t ≡ None → is_some (parts_read c d t) ≡ false
+unread_tree None d t e = refl
+unread_tree (Some c) None t e = refl
+unread_tree (Some c) (Some d) t e = rw e refl
 
-some_read : {A : Type 0} (o : Option A) (x : A) → o ≡ Some x → is_some o ≡ true
-some_read o x e = ap is_some e
+-- a fault of one of the readers is one of all
+module _ (config : Data) (digest : Option Data) (tree : Data) where
+  pub tells_config : (e : Fault NotRead) → TellsFault e (config_in config) → TellsFault e (if_image (image_data config digest tree))
+  tells_config (Because fault) none =
+      unread (image_data config digest tree) (ap is_some (all_parts config digest tree) ∙ unread_config (config_in config) (at_most_one digest_in digest) (listing_in tree) none)
+  tells_config Memory none = tt
 
-pub gives_read : (result : Result Value (Fault NotRead)) (config tree : Data) (c : Config) → config_in config ≡ Some c → is_some (listing_in tree) ≡ true
-    → GivesJson result (if_even (image_data config tree)) → GivesJson result (if_image (image_data config tree))
-gives_read result config tree c e f gives = subst (GivesJson result) (sym (read_image config tree (some_read (config_in config) c e) f)) gives
+  pub tells_digest : (e : Fault NotRead) → TellsFault e (at_most_one digest_in digest) → TellsFault e (if_image (image_data config digest tree))
+  tells_digest (Because fault) none =
+      unread (image_data config digest tree) (ap is_some (all_parts config digest tree) ∙ unread_digest (config_in config) (at_most_one digest_in digest) (listing_in tree) none)
+  tells_digest Memory none = tt
+
+  pub tells_tree : (e : Fault NotRead) → TellsFault e (listing_in tree) → TellsFault e (if_image (image_data config digest tree))
+  tells_tree (Because fault) none =
+      unread (image_data config digest tree) (ap is_some (all_parts config digest tree) ∙ unread_tree (config_in config) (at_most_one digest_in digest) (listing_in tree) none)
+  tells_tree Memory none = tt
+
+  some_read : {A : Type 0} (o : Option A) (x : A) → o ≡ Some x → is_some o ≡ true
+  some_read o x e = ap is_some e
+
+  pub gives_read : (result : Result Value (Fault NotRead)) (c : Config) → config_in config ≡ Some c → is_some (at_most_one digest_in digest) ≡ true
+      → is_some (listing_in tree) ≡ true → GivesJson result (if_even (image_data config digest tree)) → GivesJson result (if_image (image_data config digest tree))
+  gives_read result c e f g gives = subst (GivesJson result) (sym (read_image config digest tree (some_read (config_in config) c e) f g)) gives
 
 -- the empty list is that of the empty tree
 pub empty_is_read : is_some (listing_in (array no_items)) ≡ true

@@ -1,7 +1,7 @@
 -- What a build reads at the key `images` of a bundle that is packed.
 use Rattle.std.proofs.Common.{◌≡◌, ◌∙◌, ℕ, Bool, true, false, not, cond, List, [], ◌∷◌, map, Option, Some, None, Ordering, Less, Equal, Greater, refl, sym, ap, subst, codes, bytes_eq, is_some, true≢false}
 use Rattle.std.specs.Prelude.{◌||◌}
-use Rattle.std.specs.FinMap.{empty, find, get-empty, get-from_entries}
+use Rattle.std.specs.FinMap.{find, get-empty, get-from_entries}
 use Rattle.std.specs.List.{list_all, list_any}
 use Rattle.std.specs.Option.{option_and_then, option_or}
 use Rattle.std.specs.Ordering.{is_eq, match_ordering, nat_cmp}
@@ -18,9 +18,9 @@ use Rattle.trees.specs.Row.{Row}
 use Rattle.scopes.specs.Scope.{names_differ}
 use Rattle.imageconfig.specs.Reading.{config_in}
 use Rattle.imageconfig.specs.declared.config.Config.{Config}
-use Rattle.plans.specs.Images.{ImagesValue}
 use Rattle.bundle.specs.declared.parts.ListedImage.{ListedImage}
-use Rattle.bundle.specs.Parts.{image_in, image_row, images_in, images_of, is_image_name, or_none}
+use Rattle.bundle.specs.declared.parts.ReadImages.{ReadImages}
+use Rattle.bundle.specs.Parts.{image_in, image_row, images_in, is_image_name, no_images, or_none, read_with}
 use Rattle.packing.specs.Images.{AreRead, ImageRow, are_images, are_names, image_value, is_even, is_image, most_depth, names_of}
 use Rattle.packing.specs.Packed.{Given, files_members, members_beside, packed_data, put_args, put_images, put_target, put_values}
 
@@ -124,13 +124,13 @@ or_nothing (Some x) = refl
 -- ---- the key `images`
 
 values_read : (images : List ImageRow) → are_images images ≡ true
-    → (found : ImagesValue Config) × ((images_in config_in (object (put_values images no_members)) ≡ Some found) × AreRead images found)
+    → (found : ReadImages Config) × ((images_in config_in (object (put_values images no_members)) ≡ Some found) × AreRead images found.images)
 unfolding images_in rows_in
 values_read images are =
     let parts = and_parts (are_names (names_of images)) (list_all (λ image. is_image image.1) images) are in
     let names = and_parts (list_all is_image_name (names_of images)) (names_differ (names_of images)) parts.0 in
     let rows = rows_read (put_values images no_members) (fine_values images no_members names.0 parts.1 tt) in (
-      images_of rows.0,
+      read_with rows.0,
       (
         rw (rows.1.read, rows.1.named) refl,
         record {
@@ -157,12 +157,12 @@ without_images : (rows : List Row) (dockerfile : List ℕ) (target : Option (Lis
 without_images rows dockerfile target args = without_target target (put_args args (files_members rows dockerfile)) ∙ without_args args (files_members rows dockerfile)
 
 abbrev IsReadAs : List ImageRow → Option Data → Type 0
-IsReadAs images d = (found : ImagesValue Config) × ((or_none empty (images_in config_in) d ≡ Some found) × AreRead images found)
+IsReadAs images d = (found : ReadImages Config) × ((or_none no_images (images_in config_in) d ≡ Some found) × AreRead images found.images)
 
 put_read : (images : List ImageRow) (ms : Members) → are_images images ≡ true → get_member (codes "images") ms ≡ None
     → IsReadAs images (get_member (codes "images") (put_images images ms))
 put_read [] ms are none =
-    subst (IsReadAs []) (sym none) (empty, (refl, record { each = λ name. get-empty name_cmp name }))
+    subst (IsReadAs []) (sym none) (no_images, (refl, record { each = λ name. get-empty name_cmp name }))
 put_read (image ∷ images) ms are none =
     subst (IsReadAs (image ∷ images)) (sym (get_member-put (codes "images") (object (put_values (image ∷ images) no_members)) ms)) (values_read (image ∷ images) are)
 

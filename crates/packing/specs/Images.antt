@@ -21,20 +21,24 @@ use Rattle.bundle.specs.Parts.{image_in, is_image_name}
 abbrev pub ImageRow : Type 0
 ImageRow = List ℕ × Data
 
--- an image as a bundle has it, of the JSON of its configuration and of its tree
-abbrev pub image_data : Data → Data → Data
-image_data config tree = object (member (codes "config") config (member (codes "tree") tree no_members))
+-- an image as a bundle has it, of the JSON of its configuration, of its digest, if it has one, and of its tree
+abbrev pub image_data : Data → Option Data → Data → Data
+image_data config None tree = object (member (codes "config") config (member (codes "tree") tree no_members))
+image_data config (Some digest) tree =
+    object (member (codes "config") config (member (codes "digest") digest (member (codes "tree") tree no_members)))
 
--- the same, by what stands at these keys
-abbrev pub image_at : Option Data → Option Data → Option Data
-image_at config tree = option_and_then (λ config. option_map (λ tree. image_data config tree) tree) config
+-- the same, by what stands at these keys, of which the digest's may be missing
+abbrev pub image_at : Option Data → Option Data → Option Data → Option Data
+image_at config digest tree = option_and_then (λ config. option_map (λ tree. image_data config digest tree) tree) config
 
--- The JSON of the image that a file's JSON gives. With the key `tree` it has the configuration and the tree, as a bundle's image has, and may have
--- the key `result`, as the answer of a build has. Without that key it is a configuration, and the tree is empty.
+-- The JSON of the image that a file's JSON gives. With the key `tree` it has the configuration, the tree and the digest, if there is one, as a
+-- bundle's image has, and may have the key `result`, as the answer of a build has. Without that key it is a configuration, and the tree is empty.
 abbrev pub given_at : Data → Option Data → Option Data
-given_at d None = Some (image_data d (array no_items))
+given_at d None = Some (image_data d None (array no_items))
 given_at d (Some tree) =
-    if is_some (strict (codes "config" ∷ codes "result" ∷ codes "tree" ∷ []) d) then image_at (get (codes "config") d) (Some tree) else None
+    if is_some (strict (codes "config" ∷ codes "digest" ∷ codes "result" ∷ codes "tree" ∷ []) d)
+    then image_at (get (codes "config") d) (get (codes "digest") d) (Some tree)
+    else None
 
 unfoldable pub given_in : Data → Option Data
 given_in d = given_at d (get (codes "tree") d)

@@ -1,19 +1,31 @@
 -- What the functions that read an image answer (own).
-use Rattle.std.specs.Prelude.{◌≡◌, ℕ, ◌-◌, ◌==◌, Bool, true, not, ◌&&◌, List, Option, Some, None, Result, Ok, Err, bytes_eq, map, if◌then◌else◌}
+use Rattle.std.specs.Prelude.{◌≡◌, ℕ, ◌-◌, ◌==◌, Bool, true, not, ◌&&◌, List, Option, Some, None, Result, Ok, Err, bytes_eq, is_some, map, if◌then◌else◌}
 use Rattle.std.specs.List.{list_any}
+use Rattle.std.specs.Option.{option_map}
 use Rattle.plain.specs.declared.fault.Fault.{Fault}
 use Rattle.serde_json.specs.Data.{Data, null, boolean, number, string, array, object, Items, no_items, item, Members, no_members, member}
 use Rattle.serde_json.specs.Find.{is_float}
 use Rattle.serde_json.specs.View.{view}
 use Rattle.serde_json.specs.declared.value.Value.{Value}
 use Rattle.strict.specs.Gives.{TellsFault}
+use Rattle.strict.specs.Strict.{at_most_one}
 use Rattle.strict.specs.declared.fault.NotRead.{NotRead}
+use Rattle.bundle.specs.Digest.{digest_in}
 use Rattle.packing.specs.Images.{ImageRow, is_even, most_depth}
+
+-- JSON is that of a digest, if there is some
+abbrev pub IsDigestRead : Option Value → Type 0
+IsDigestRead digest = is_some (at_most_one digest_in (option_map view digest)) ≡ true
 
 -- a reader answers the JSON that the definition gives, and a fault where it gives none
 abbrev pub GivesJson : Result Value (Fault NotRead) → Option Data → Type 0
 GivesJson (Ok v) reading = reading ≡ Some (view v)
 GivesJson (Err e) reading = TellsFault e reading
+
+-- the JSON of a digest that is read, where one is given
+abbrev pub GivesDigest : Result (Option Value) (Fault NotRead) → Option Data → Type 0
+GivesDigest (Ok digest) given = (given ≡ option_map view digest) × IsDigestRead digest
+GivesDigest (Err e) given = TellsFault e (at_most_one digest_in given)
 
 -- JSON has no float, and nests at most so deep, part by part
 abbrev mutual

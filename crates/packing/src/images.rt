@@ -1,8 +1,9 @@
 // The JSON of an image, as a file of the machine holds it. It is read from the text of the file, which is lent, and what goes into the bundle is the
 // one copy of it.
-ghost use Rattle.std.specs.Prelude.{◌≡◌, true, is_some, IfOk};
-ghost use Rattle.std.specs.Option.{option_and_then};
+ghost use Rattle.std.specs.Prelude.{◌≡◌, None, Some, true, codes, is_some, IfOk};
+ghost use Rattle.std.specs.Option.{option_and_then, option_map};
 ghost use Rattle.serde_json.specs.Data.{array, no_items};
+ghost use Rattle.serde_json.specs.Find.{get};
 ghost use Rattle.serde_json.specs.Read.{read};
 ghost use Rattle.serde_json.specs.View.{view};
 ghost use Rattle.strict.specs.Gives.{Gives};
@@ -10,10 +11,11 @@ ghost use Rattle.borrowed.specs.Seen.{data_of};
 ghost use Rattle.entries.specs.Listing.{listing_in};
 ghost use Rattle.bundle.specs.Parts.{is_image_name};
 ghost use Rattle.packing.specs.Images.{given_in, if_image, image_data, image_of};
-ghost use Rattle.packing.specs.PrivateImages.{GivesJson, if_even, is_among};
+ghost use Rattle.packing.specs.PrivateImages.{GivesDigest, GivesJson, IsDigestRead, if_even, is_among};
 
 use crate::even::is_even;
 use borrowed::{FromLent, at, is_strict, owned};
+use bundle::read_digest;
 use entries::Listing;
 use imageconfig::Config;
 use json::{Scratch, Value as Lent};
@@ -63,11 +65,11 @@ fn image_given(alloc: Global, value: &Lent<'_>) -> Result<Value, ReadFault>
 {
     match at(value, "tree") {
         Some(tree) => {
-            if !is_strict(value, &["config", "result", "tree"]) {
+            if !is_strict(value, &["config", "digest", "result", "tree"]) {
                 return Err(Fault::Because(NotRead));
             }
             match at(value, "config") {
-                Some(config) => image_with_tree(alloc, config, tree),
+                Some(config) => image_with_members(alloc, value, config, tree),
                 None => Err(Fault::Because(NotRead)),
             }
         }
@@ -75,56 +77,113 @@ fn image_given(alloc: Global, value: &Lent<'_>) -> Result<Value, ReadFault>
     }
 }
 
-/// The image of a configuration and a tree.
-fn image_with_tree(alloc: Global, config: &Lent<'_>, tree: &Lent<'_>) -> Result<Value, ReadFault>
-    ensures { GivesJson result (if_image (image_data (data_of config.now) (data_of tree.now))) }
+/// The image of a configuration and a tree, with the digest that stands beside them, if one does.
+fn image_with_members(
+    alloc: Global,
+    value: &Lent<'_>,
+    config: &Lent<'_>,
+    tree: &Lent<'_>,
+) -> Result<Value, ReadFault>
+    ensures { GivesJson result (if_image (image_data (data_of config.now) (get (codes "digest") (data_of value.now)) (data_of tree.now))) }
+{
+    match digest_given(alloc, value) {
+        Ok(digest) => image_with_tree(alloc, config, digest, tree),
+        Err(fault) => Err(fault),
+    }
+}
+
+/// The digest that stands in an object, if one does.
+fn digest_given(alloc: Global, value: &Lent<'_>) -> Result<Option<Value>, ReadFault>
+    ensures { GivesDigest result (get (codes "digest") (data_of value.now)) }
+{
+    match at(value, "digest") {
+        Some(digest) => {
+            drop(read_digest(alloc, digest)?);
+            Ok(Some(owned(alloc, digest)?))
+        }
+        None => Ok(None),
+    }
+}
+
+/// The image of a configuration, of a digest that is read, if there is one, and of a tree.
+fn image_with_tree(
+    alloc: Global,
+    config: &Lent<'_>,
+    digest: Option<Value>,
+    tree: &Lent<'_>,
+) -> Result<Value, ReadFault>
+    requires { IsDigestRead digest }
+    ensures { GivesJson result (if_image (image_data (data_of config.now) (option_map view digest) (data_of tree.now))) }
 {
     let listing: Result<Listing, ReadFault> = Listing::from_lent(alloc, tree);
     match listing {
         Ok(listing) => {
             drop(listing);
-            image_of_lent(alloc, config, tree)
+            image_of_lent(alloc, config, digest, tree)
         }
-        Err(fault) => Err(fault),
+        Err(fault) => {
+            drop(digest);
+            Err(fault)
+        }
     }
 }
 
-/// The image of a configuration and a tree that is read, both lent.
-fn image_of_lent(alloc: Global, config: &Lent<'_>, tree: &Lent<'_>) -> Result<Value, ReadFault>
-    requires { is_some (listing_in (data_of tree.now)) ≡ true }
-    ensures { GivesJson result (if_image (image_data (data_of config.now) (data_of tree.now))) }
+/// The image of a configuration and a tree that is read, both lent, and of a digest that is read, if there is one.
+fn image_of_lent(
+    alloc: Global,
+    config: &Lent<'_>,
+    digest: Option<Value>,
+    tree: &Lent<'_>,
+) -> Result<Value, ReadFault>
+    requires digest { IsDigestRead digest }
+    requires tree { is_some (listing_in (data_of tree.now)) ≡ true }
+    ensures { GivesJson result (if_image (image_data (data_of config.now) (option_map view digest) (data_of tree.now))) }
 {
-    let config = owned(alloc, config)?;
+    let config = match owned(alloc, config) {
+        Ok(config) => config,
+        Err(Memory) => {
+            drop(digest);
+            return Err(Fault::Memory);
+        }
+    };
     match owned(alloc, tree) {
-        Ok(tree) => image_of_parts(alloc, config, tree),
+        Ok(tree) => image_of_parts(alloc, config, digest, tree),
         Err(Memory) => {
             drop(config);
+            drop(digest);
             Err(Fault::Memory)
         }
     }
 }
 
-/// The image of a configuration, with the empty tree.
+/// The image of a configuration, without a digest and with the empty tree.
 fn image_without_tree(alloc: Global, config: &Lent<'_>) -> Result<Value, ReadFault>
-    ensures { GivesJson result (if_image (image_data (data_of config.now) (array no_items))) }
+    ensures { GivesJson result (if_image (image_data (data_of config.now) None (array no_items))) }
 {
     let config = owned(alloc, config)?;
-    image_of_parts(alloc, config, Value::Array(Vec::new(alloc)))
+    image_of_parts(alloc, config, None, Value::Array(Vec::new(alloc)))
 }
 
-/// The image of a configuration and a tree that is read.
-fn image_of_parts(alloc: Global, config: Value, tree: Value) -> Result<Value, ReadFault>
-    requires { is_some (listing_in (view tree)) ≡ true }
-    ensures { GivesJson result (if_image (image_data (view config) (view tree))) }
+/// The image of a configuration, and of a digest and a tree that are read.
+fn image_of_parts(
+    alloc: Global,
+    config: Value,
+    digest: Option<Value>,
+    tree: Value,
+) -> Result<Value, ReadFault>
+    requires digest { IsDigestRead digest }
+    requires tree { is_some (listing_in (view tree)) ≡ true }
+    ensures { GivesJson result (if_image (image_data (view config) (option_map view digest) (view tree))) }
 {
     let read: Result<Config, ReadFault> = Config::from_json(alloc, &config);
     match read {
         Ok(read) => {
             drop(read);
-            even_image(alloc, config, tree)
+            even_image(alloc, config, digest, tree)
         }
         Err(fault) => {
             drop(config);
+            drop(digest);
             drop(tree);
             Err(fault)
         }
@@ -133,10 +192,15 @@ fn image_of_parts(alloc: Global, config: Value, tree: Value) -> Result<Value, Re
 
 /// An image that is read, if it can be written in a bundle and read again.
 #[tactic(auto, using(crate::proofs::EvenFacts::even_is))]
-fn even_image(alloc: Global, config: Value, tree: Value) -> Result<Value, ReadFault>
-    ensures { GivesJson result (if_even (image_data (view config) (view tree))) }
+fn even_image(
+    alloc: Global,
+    config: Value,
+    digest: Option<Value>,
+    tree: Value,
+) -> Result<Value, ReadFault>
+    ensures { GivesJson result (if_even (image_data (view config) (option_map view digest) (view tree))) }
 {
-    let image = image_value(alloc, config, tree)?;
+    let image = image_value(alloc, config, digest, tree)?;
     if is_even(&image, MOST_DEPTH) {
         return Ok(image);
     }
@@ -145,8 +209,34 @@ fn even_image(alloc: Global, config: Value, tree: Value) -> Result<Value, ReadFa
 }
 
 /// The object of an image.
-fn image_value(alloc: Global, config: Value, tree: Value) -> Result<Value, Memory>
-    ensures { IfOk result (λ image. view image ≡ image_data (view config) (view tree)) }
+fn image_value(
+    alloc: Global,
+    config: Value,
+    digest: Option<Value>,
+    tree: Value,
+) -> Result<Value, Memory>
+    ensures { IfOk result (λ image. view image ≡ image_data (view config) (option_map view digest) (view tree)) }
+{
+    match digest {
+        Some(digest) => pinned_image(alloc, config, digest, tree),
+        None => free_image(alloc, config, tree),
+    }
+}
+
+/// The object of an image with a digest.
+fn pinned_image(alloc: Global, config: Value, digest: Value, tree: Value) -> Result<Value, Memory>
+    ensures { IfOk result (λ image. view image ≡ image_data (view config) (Some (view digest)) (view tree)) }
+{
+    let mut members = Map::new(alloc);
+    put(alloc, &mut members, "config", config)?;
+    put(alloc, &mut members, "digest", digest)?;
+    put(alloc, &mut members, "tree", tree)?;
+    Ok(Value::Object(members))
+}
+
+/// The object of an image without a digest.
+fn free_image(alloc: Global, config: Value, tree: Value) -> Result<Value, Memory>
+    ensures { IfOk result (λ image. view image ≡ image_data (view config) None (view tree)) }
 {
     let mut members = Map::new(alloc);
     put(alloc, &mut members, "config", config)?;

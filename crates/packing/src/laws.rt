@@ -1,15 +1,14 @@
 // Of a bundle that leaves out what its ignore file leaves out, and of one with images.
 ghost use Rattle.std.specs.Prelude.{◌≡◌, ℕ, true, List, Some, codes};
-ghost use Rattle.std.specs.FinMap.{empty};
 ghost use Rattle.serde_json.specs.Find.{get};
 ghost use Rattle.trees.specs.Row.{Row};
 ghost use Rattle.trees.specs.TreeMap.{TreeMap};
 ghost use Rattle.ignorefile.specs.declared.line.Line.{Line};
 ghost use Rattle.contexts.specs.Context.{IsContext, IsListing};
-ghost use Rattle.plans.specs.Images.{ImagesValue};
 ghost use Rattle.imageconfig.specs.Reading.{config_in};
 ghost use Rattle.imageconfig.specs.declared.config.Config.{Config};
-ghost use Rattle.bundle.specs.Parts.{images_in, or_none};
+ghost use Rattle.bundle.specs.declared.parts.ReadImages.{ReadImages};
+ghost use Rattle.bundle.specs.Parts.{images_in, no_images, or_none};
 ghost use Rattle.packing.specs.Images.{AreRead, are_images};
 ghost use Rattle.packing.specs.Leaving.{Suffices};
 ghost use Rattle.packing.specs.Packed.{Given, packed_data};
@@ -26,5 +25,5 @@ pub fn rows_that_suffice_have_the_same_context()
 /// A build reads the images that are packed: what stands at the key `images` of a bundle that is packed is read, as just these.
 pub fn a_build_reads_the_images_that_are_packed()
     ensures { (rows : List Row) (dockerfile : List ℕ) (given : Given) → are_images given.images ≡ true
-        → (found : ImagesValue Config) × ((or_none empty (images_in config_in) (get (codes "images") (packed_data rows dockerfile given)) ≡ Some found) × AreRead given.images found) }
+        → (found : ReadImages Config) × ((or_none no_images (images_in config_in) (get (codes "images") (packed_data rows dockerfile given)) ≡ Some found) × AreRead given.images found.images) }
 {}
