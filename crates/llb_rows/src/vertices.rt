@@ -4,6 +4,7 @@ use crate::rows::{A, platform, text, texts};
 use exported::{chain_op, context_op, copy_op, exclude_list, image_op, make_dir_op};
 use llb::{CopyFiles, FileSource};
 use llbmessages::Op;
+use named::NamedRows;
 use paths::{Name, Path};
 use plain::{Bytes, Fault, Items, Memory, Owner, Text};
 use std::alloc::Global;
@@ -36,7 +37,7 @@ fn path(alloc: Global, path: &str) -> Result<Path, Memory> {
 pub(crate) fn image(alloc: Global) -> Result<Op, Memory> {
     let platform = platform(alloc)?;
     let name = text(alloc, "busybox")?;
-    image_op(alloc, &platform, &name)
+    image_op(alloc, &platform, &NamedRows::new(alloc), &name)
 }
 
 /// A folder in another one.

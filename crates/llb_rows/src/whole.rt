@@ -3,6 +3,7 @@
 use crate::rows::{platform, text};
 use exported::{Merging, Options, context_op, export, follow_list};
 use llbmessages::{Network, Op, Platform};
+use named::NamedRows;
 use plain::{Bytes, Fault, Items, Memory, Text};
 use plans::Plan;
 use samples::{Row, plan_of_rows};
@@ -93,6 +94,7 @@ fn options(alloc: Global) -> Result<Options, Memory> {
             network: Network::None,
             unique,
             merging: Merging::Native,
+            digests: NamedRows::new(alloc),
             excludes: Some(excludes),
             follows: None,
         }),
