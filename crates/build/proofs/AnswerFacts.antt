@@ -130,21 +130,22 @@ one_of_file unique bundle a b (inr these) (inr those) =
 abbrev OneContext : Type 0
 OneContext = (rows : List Row) (lines : List Line) (a b : TreeMap) → IsListing rows → IsContext rows lines a → IsContext rows lines b → a ≡ b
 
-abbrev bundle_of : List ℕ → TreeMap → ImagesValue Config → BuildArguments → StoreValue → Option (List ℕ) → Bundle Config
-bundle_of dockerfile context images args caches target =
-    record { dockerfile = dockerfile; context = context; images = images; args = args; caches = caches; target = target }
+abbrev bundle_of : List ℕ → TreeMap → ImagesValue Config → List (List ℕ × List ℕ) → BuildArguments → StoreValue → Option (List ℕ) → Bundle Config
+bundle_of dockerfile context images digests args caches target =
+    record { dockerfile = dockerfile; context = context; images = images; digests = digests; args = args; caches = caches; target = target }
 
-bundle_is : (d e : List ℕ) (c k : TreeMap) (i j : ImagesValue Config) (a b : BuildArguments) (s t : StoreValue) (g h : Option (List ℕ))
-    → d ≡ e → c ≡ k → i ≡ j → a ≡ b → s ≡ t → g ≡ h → bundle_of d c i a s g ≡ bundle_of e k j b t h
-bundle_is d e c k i j a b s t g h de ck ij ab st gh =
-    ap (λ x. bundle_of x c i a s g) de ∙ (ap (λ x. bundle_of e x i a s g) ck ∙ (ap (λ x. bundle_of e k x a s g) ij
-    ∙ (ap (λ x. bundle_of e k j x s g) ab ∙ (ap (λ x. bundle_of e k j b x g) st ∙ ap (λ x. bundle_of e k j b t x) gh))))
+bundle_is : (d e : List ℕ) (c k : TreeMap) (i j : ImagesValue Config) (p q : List (List ℕ × List ℕ)) (a b : BuildArguments) (s t : StoreValue) (g h : Option (List ℕ))
+    → d ≡ e → c ≡ k → i ≡ j → p ≡ q → a ≡ b → s ≡ t → g ≡ h → bundle_of d c i p a s g ≡ bundle_of e k j q b t h
+bundle_is d e c k i j p q a b s t g h de ck ij pq ab st gh =
+    ap (λ x. bundle_of x c i p a s g) de ∙ (ap (λ x. bundle_of e x i p a s g) ck ∙ (ap (λ x. bundle_of e k x p a s g) ij
+    ∙ (ap (λ x. bundle_of e k j x a s g) pq
+    ∙ (ap (λ x. bundle_of e k j q x s g) ab ∙ (ap (λ x. bundle_of e k j q b x g) st ∙ ap (λ x. bundle_of e k j q b t x) gh)))))
 
 same_bundle : OneContext → (parts : Parts Config) (lines : List Line) (a b : Bundle Config) → IsBundle parts lines a → IsBundle parts lines b → a ≡ b
 same_bundle one parts lines a b these those =
-    bundle_is a.dockerfile b.dockerfile a.context b.context a.images b.images a.args b.args a.caches b.caches a.target b.target
+    bundle_is a.dockerfile b.dockerfile a.context b.context a.images b.images a.digests b.digests a.args b.args a.caches b.caches a.target b.target
     (these.dockerfile ∙ sym those.dockerfile) (one parts.files.context lines a.context b.context these.listing these.context those.context)
-    (these.images ∙ sym those.images) (these.args ∙ sym those.args) (these.caches ∙ sym those.caches) (these.target ∙ sym those.target)
+    (these.images ∙ sym those.images) (these.digests ∙ sym those.digests) (these.args ∙ sym those.args) (these.caches ∙ sym those.caches) (these.target ∙ sym those.target)
 
 same_some : (held : Option (Parts Config)) (a b : Parts Config) → held ≡ Some a → held ≡ Some b → a ≡ b
 same_some held a b p q = cc

@@ -4,7 +4,6 @@ use Rattle.std.specs.FinMap.{get}
 use Rattle.plain.specs.declared.fault.Fault.{Fault}
 use Rattle.plain.specs.declared.fault.Fault.TheVariants.{Because, Memory}
 use Rattle.plain.specs.declared.refusal.Refusal.{Refusal}
-use Rattle.expand.specs.Reasons.{rejection_of}
 use Rattle.expand.specs.declared.reason.Rejection.{Rejection}
 use Rattle.instructions.specs.declared.instruction.Instruction.{Instruction}
 use Rattle.dockerfile.specs.Dockerfile.{IsRead}

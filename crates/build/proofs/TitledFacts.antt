@@ -1,5 +1,5 @@
 -- What a bundle asks for, with the titles of its steps.
-use Rattle.std.proofs.Common.{◌≡◌, ℕ, List, Option, Result, Ok, Err, IfOk}
+use Rattle.std.proofs.Common.{◌≡◌, ℕ, List, Option, Result, Ok, Err, IfOk, subst, sym}
 use Rattle.std.specs.FinMap.{get}
 use Rattle.plain.specs.declared.fault.Fault.{Fault}
 use Rattle.plain.specs.declared.fault.Fault.TheVariants.{Because, Memory}
@@ -17,14 +17,30 @@ use Rattle.titles.specs.Titles.{titles_of}
 use Rattle.imageconfig.specs.Reading.{config_in}
 use Rattle.imageconfig.specs.declared.config.Config.{Config}
 use Rattle.bundle.specs.declared.whole.Bundle.{Bundle}
+use Rattle.bundle.specs.LeftOut.{LeavesOut}
 use Rattle.bundle.specs.Reading.{ReadsBundle}
 use Rattle.build.specs.declared.asking.Asked.{Asked}
-use Rattle.build.specs.Titled.{AreTitlesOf, HasTitlesOf}
+use Rattle.build.specs.declared.titled.Titled.{Titled}
+use Rattle.build.specs.Titled.{AreTitlesOf, HasTitlesOf, HasLeftOut, HasDigests}
 
 -- the titles of a bundle are those of its bytes
 pub bundle_titled : (bytes : List ℕ) (bundle : Bundle Config) (titles : List (Option (List ℕ))) → ReadsBundle config_in bytes (Ok bundle)
     → AreTitlesOf bundle titles → HasTitlesOf bytes titles
 bundle_titled bytes bundle titles read are = (bundle, read, are)
+
+-- what a bundle has, its bytes have
+module _ (bytes : List ℕ) (bundle : Bundle Config) (left : List (List (List ℕ))) (leaves : LeavesOut config_in bytes (Ok (bundle, left))) where
+  pub titles_told : (result : Result Titled (Fault Rejection)) → IfOk result (λ titled. AreTitlesOf bundle titled.titles) → IfOk result (λ titled. HasTitlesOf bytes titled.titles)
+  titles_told (Ok titled) are = bundle_titled bytes bundle titled.titles leaves.reads are
+  titles_told (Err fault) are = tt
+
+  pub left_told : (result : Result Titled (Fault Rejection)) → IfOk result (λ titled. titled.left_out ≡ left) → IfOk result (λ titled. HasLeftOut bytes titled.left_out)
+  left_told (Ok titled) same = (bundle, subst (λ (l : List (List (List ℕ))). LeavesOut config_in bytes (Ok (bundle, l))) (sym same) leaves)
+  left_told (Err fault) same = tt
+
+  pub digests_told : (result : Result Titled (Fault Rejection)) → IfOk result (λ titled. titled.digests ≡ bundle.digests) → IfOk result (λ titled. HasDigests bytes titled.digests)
+  digests_told (Ok titled) same = (bundle, leaves.reads, same)
+  digests_told (Err fault) same = tt
 
 -- a text whose lines aren't given is refused
 pub unread : (text : List ℕ) (fault : Fault Refusal) → IsReadWithLines text (Err fault) → IsRead text (Err fault)

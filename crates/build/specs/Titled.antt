@@ -1,4 +1,4 @@
--- What an engine's progress calls the steps of a bundle's Dockerfile, and what its ignore file leaves out of its context.
+-- What an engine's progress calls the steps of a bundle's Dockerfile, what its ignore file leaves out of its context, and which digests pin names.
 use Rattle.std.specs.Prelude.{◌≡◌, ℕ, List, Option, Result, Ok, Err}
 use Rattle.std.specs.FinMap.{get}
 use Rattle.plain.specs.declared.fault.Fault.{Fault}
@@ -42,3 +42,7 @@ HasTitlesOf bytes titles = (bundle : Bundle Config) × ReadsBundle config_in byt
 -- the ignore file of the bundle that these bytes are leaves out these paths of its context
 abbrev pub HasLeftOut : List ℕ → List (List (List ℕ)) → Type 0
 HasLeftOut bytes left = (bundle : Bundle Config) × LeavesOut config_in bytes (Ok (bundle, left))
+
+-- the bundle that these bytes are has these digests of images
+abbrev pub HasDigests : List ℕ → List (List ℕ × List ℕ) → Type 0
+HasDigests bytes digests = (bundle : Bundle Config) × ReadsBundle config_in bytes (Ok bundle) × (digests ≡ bundle.digests)

@@ -12,7 +12,7 @@ ghost use Rattle.build.specs.Lowerable.{IsLowerable};
 ghost use Rattle.build.specs.PrivateAsking.{IsFileAsked, IsTableAsked};
 ghost use Rattle.build.specs.Telling.{IsAsked};
 ghost use Rattle.build.specs.PrivateTitled.{asked_of};
-ghost use Rattle.build.specs.Titled.{asked_in, AreTitlesOf, HasTitlesOf, HasLeftOut};
+ghost use Rattle.build.specs.Titled.{asked_in, AreTitlesOf, HasTitlesOf, HasLeftOut, HasDigests};
 
 use crate::asking::{Asked, ask_table, rejection_fault};
 use bundle::{Bundle, read_with_left_out};
@@ -20,6 +20,7 @@ use dockerfile::Dockerfile;
 use expand::RejectionFault;
 use imageconfig::Config;
 use lines::Line;
+use named::NamedRows;
 use paths::Path;
 use plain::{Fault, Items, Memory, Text};
 use stages::{StageTable, stage_names};
@@ -27,7 +28,7 @@ use std::alloc::Global;
 use std::thread::Threads;
 use titles::titles_of;
 
-/// What a bundle asks for, with what an engine's progress calls its steps, and what its ignore file leaves out.
+/// What a bundle asks for, with what an engine's progress calls its steps, what its ignore file leaves out, and which digests its images have.
 #[derive(Drop)]
 pub struct Titled {
     pub asked: Asked,
@@ -36,10 +37,12 @@ pub struct Titled {
     /// The paths that the ignore file leaves out of the context: of those that are left out the ones that lie below no other, each once, in
     /// their order.
     pub left_out: Items<Path>,
+    /// The digests that pin the names of images, by these names.
+    pub digests: NamedRows<Text>,
 }
 
-/// What the bytes of a bundle ask for, what an engine's progress calls the steps of its Dockerfile, by the lines of their instructions, and what
-/// its ignore file leaves out of its context.
+/// What the bytes of a bundle ask for, what an engine's progress calls the steps of its Dockerfile, by the lines of their instructions, what
+/// its ignore file leaves out of its context, and which digests its images have.
 /// The refusals are those of `ask`.
 pub fn ask_titled(
     alloc: Global,
@@ -50,17 +53,47 @@ pub fn ask_titled(
     ensures lowerable { IfOk result (λ titled. IsLowerable titled.asked.evaluated) }
     ensures titles { IfOk result (λ titled. HasTitlesOf bytes.now titled.titles) }
     ensures left_out { IfOk result (λ titled. HasLeftOut bytes.now titled.left_out) }
+    ensures digests { IfOk result (λ titled. HasDigests bytes.now titled.digests) }
 {
     match read_with_left_out(alloc, rt, bytes) {
-        Ok((bundle, left_out)) => match titled_file(alloc, bundle) {
-            Ok((asked, titles)) => Ok(Titled {
-                asked,
-                titles,
-                left_out,
-            }),
-            Err(fault) => Err(fault),
-        },
+        Ok((bundle, left_out)) => titled_bundle(alloc, bundle, left_out),
         Err(fault) => Err(rejection_fault(fault)),
+    }
+}
+
+/// What a bundle asks for, with the titles of its Dockerfile, what its ignore file leaves out, and its digests.
+fn titled_bundle(
+    alloc: Global,
+    bundle: Bundle<Config>,
+    left_out: Items<Path>,
+) -> Result<Titled, RejectionFault>
+    requires { bundle.caches.holds ≡ [] }
+    ensures asked { IsFileAsked bundle (asked_in result) }
+    ensures lowerable { IfOk result (λ titled. IsLowerable titled.asked.evaluated) }
+    ensures titles { IfOk result (λ titled. AreTitlesOf bundle titled.titles) }
+    ensures left_out { IfOk result (λ titled. titled.left_out ≡ left_out) }
+    ensures digests { IfOk result (λ titled. titled.digests ≡ bundle.digests) }
+{
+    let digests = match bundle.digests.copy(alloc) {
+        Ok(digests) => digests,
+        Err(_) => {
+            drop(bundle);
+            drop(left_out);
+            return Err(Fault::Memory);
+        }
+    };
+    match titled_file(alloc, bundle) {
+        Ok((asked, titles)) => Ok(Titled {
+            asked,
+            titles,
+            left_out,
+            digests,
+        }),
+        Err(fault) => {
+            drop(left_out);
+            drop(digests);
+            Err(fault)
+        }
     }
 }
 
