@@ -32,7 +32,7 @@ use Rattle.build.specs.declared.status.Status.TheVariants.{Built, Failed, Refuse
 use Rattle.build.specs.declared.status.BuildFault.{BuildFault}
 use Rattle.build.specs.declared.status.BuildFault.TheVariants.{Clash, Unspeakable}
 use Rattle.build.specs.Meaning.{Asks}
-use Rattle.build.specs.Titled.{HasTitlesOf, HasLeftOut}
+use Rattle.build.specs.Titled.{HasTitlesOf, HasLeftOut, HasDigests}
 use Rattle.build.specs.Ends.{Devices}
 use Rattle.program.specs.declared.exporting.Beside.{Beside}
 use Rattle.program.specs.Telling.{Stops, TellingEnds}
@@ -56,14 +56,15 @@ merging_of Chain = merging.Chain
 abbrev pub followed : Bool → PlanValue Config → Option (List ℕ)
 followed follow plan = if follow then follow_list plan.graph plan.target else None
 
--- what the words choose of the definition of a plan, in which BuildKit isn't given these paths of the folder
-abbrev pub chosen : LlbOptions → List (List (List ℕ)) → PlanValue Config → Options
-chosen options left plan =
+-- what the words choose of the definition of a plan, in which BuildKit isn't given these paths of the folder, and names of images have these digests
+abbrev pub chosen : LlbOptions → List (List (List ℕ)) → List (List ℕ × List ℕ) → PlanValue Config → Options
+chosen options left digests plan =
     record {
       platform = platform_of options.platform;
       network = network_of options.network;
       unique = options.unique;
       merging = merging_of options.merging;
+      digests = digests;
       excludes = exclude_list left;
       follows = followed options.follow plan;
     }
@@ -78,20 +79,21 @@ pub record IsDrawnPlan (made : Evaluated) (simple : PlanValue Config) : Type 0 w
   pub tree : (out : Out)
       → tree_of (value_of out made.sources simple.graph.vertices simple.target) ≡ tree_of_stage (world out made.sources) made.rows made.target
 
--- the titles of a bundle's lines, and what its ignore file leaves out
+-- the titles of a bundle's lines, what its ignore file leaves out, and the digests of its images
 pub record IsBeside (bytes : List ℕ) (beside : Beside) : Type 0 where
   pub titles : HasTitlesOf bytes beside.titles
   pub left : HasLeftOut bytes beside.left
+  pub digests : HasDigests bytes beside.digests
 
--- bytes are the definition of the plan that is drawn of what a file's stages give, whose lines have these titles, by the patterns of what is left out,
--- and are read as it and nothing else
+-- bytes are the definition of the plan that is drawn of what a file's stages give, whose lines have these titles, by the patterns of what is left out
+-- and the digests that names of images have, and are read as it and nothing else
 pub record IsDefinitionOf (options : LlbOptions) (made : Evaluated) (beside : Beside) (text : List ℕ) : Type 0 where
   pub plan : PlanValue Config
   pub drawn : IsDrawnPlan made plan
-  pub written : IsExported (exported (chosen options beside.left plan) beside.titles plan.graph plan.target) (Ok text)
+  pub written : IsExported (exported (chosen options beside.left beside.digests plan) beside.titles plan.graph plan.target) (Ok text)
 
 -- What is written of a bundle of these bytes: the definition of its graph, with the titles of its Dockerfile's steps and with the patterns of what its
--- ignore file leaves out, whether or not a build of it would fail; or the refusal of the bundle as a line.
+-- ignore file leaves out, and with the digests of its images, whether or not a build of it would fail; or the refusal of the bundle as a line.
 abbrev pub TellsLlb : LlbOptions → List ℕ → Status → List ℕ → Type 0
 TellsLlb options bytes Built text =
     (made : Evaluated) × Asks bytes (Ok made) × ((beside : Beside) × IsBeside bytes beside × IsDefinitionOf options made beside text)
@@ -109,7 +111,7 @@ pub record HasObstacle (options : LlbOptions) (fault : BuildFault) (made : Evalu
   pub drawn : IsDrawnPlan made plan
   pub obstacle : Obstacle
   pub is : fault_of obstacle ≡ fault
-  pub told : exported (chosen options beside.left plan) beside.titles plan.graph plan.target ≡ Err obstacle
+  pub told : exported (chosen options beside.left beside.digests plan) beside.titles plan.graph plan.target ≡ Err obstacle
 
 -- the same of what a bundle of these bytes asks for
 abbrev pub LlbStops : LlbOptions → Stops

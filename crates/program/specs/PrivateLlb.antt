@@ -25,7 +25,7 @@ IsFileTold options made beside (Err Unspeakable) = HasObstacle options Unspeakab
 
 -- what is written of a plan, whose lines have these titles
 abbrev pub IsPlanTold : LlbOptions → PlanValue Config → Beside → Result (List ℕ) (Fault Obstacle) → Type 0
-IsPlanTold options plan beside result = IsExported (exported (chosen options beside.left plan) beside.titles plan.graph plan.target) result
+IsPlanTold options plan beside result = IsExported (exported (chosen options beside.left beside.digests plan) beside.titles plan.graph plan.target) result
 
 -- what is written of a bundle's bytes
 abbrev pub IsLlbTold : LlbOptions → List ℕ → Result Told BuildFault → Type 0

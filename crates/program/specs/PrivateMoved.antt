@@ -23,7 +23,7 @@ use Rattle.checks.specs.declared.form.Form.TheVariants.{Plain}
 use Rattle.build.specs.declared.status.Status.{Status}
 use Rattle.build.specs.declared.status.Status.TheVariants.{Built, Failed, Refused}
 use Rattle.build.specs.Meaning.{Answers, Asks}
-use Rattle.build.specs.Titled.{HasTitlesOf, HasLeftOut}
+use Rattle.build.specs.Titled.{HasTitlesOf, HasLeftOut, HasDigests}
 use Rattle.explains.specs.Explained.{Explains, IsLeftOutBy, ShowsMissed}
 use Rattle.lacking.specs.Missing.{missed_source}
 use Rattle.lacking.specs.declared.missing.Missed.{Missed}
@@ -89,8 +89,16 @@ left_moved bytes bundle left same has =
     let reads = has.1.reads in
     (has.0, record { reads = (reads.0, (sym same ∙ reads.1.0, reads.1.1)); leaves = λ parts e. has.1.leaves parts (same ∙ e) })
 
+-- the same digests
+digests_moved : (bytes bundle : List ℕ) (digests : List (List ℕ × List ℕ)) → held bytes ≡ held bundle → HasDigests bytes digests → HasDigests bundle digests
+digests_moved bytes bundle digests same has = (has.0, (has.1.0, (sym same ∙ has.1.1.0, has.1.1.1)), has.2)
+
 beside_moved : (bytes bundle : List ℕ) (beside : Beside) → held bytes ≡ held bundle → IsBeside bytes beside → IsBeside bundle beside
-beside_moved bytes bundle beside same has = record { titles = titles_moved bytes bundle beside.titles same has.titles; left = left_moved bytes bundle beside.left same has.left }
+beside_moved bytes bundle beside same has = record {
+  titles = titles_moved bytes bundle beside.titles same has.titles;
+  left = left_moved bytes bundle beside.left same has.left;
+  digests = digests_moved bytes bundle beside.digests same has.digests;
+}
 
 -- the same definition, or none
 pub llb_moves : (options : LlbOptions) → Moves (TellsLlb options)

@@ -16,6 +16,7 @@ use exported::{ExportFault, Merging, Obstacle, Options, exclude_list, export, fo
 use imageconfig::Config;
 use llbmessages::{Network, Platform};
 use lowering::lower_program;
+use named::NamedRows;
 use paths::Path;
 use plain::{Bytes, Exact, Fault, Items, Memory, Text};
 use plans::Plan;
@@ -30,6 +31,8 @@ pub(crate) struct Beside {
     pub(crate) titles: Items<Option<Text>>,
     /// The paths that BuildKit isn't given.
     pub(crate) left: Items<Path>,
+    /// The digests that pin the names of images, by these names.
+    pub(crate) digests: NamedRows<Text>,
 }
 
 /// Tells a bundle's graph as a definition of BuildKit's LLB, or the bundle's refusal.
@@ -80,12 +83,17 @@ fn tell_llb(
                 asked,
                 titles,
                 left_out: left,
+                digests,
             } = titled;
             let Asked {
                 evaluated,
                 caches: _,
             } = asked;
-            let beside = Beside { titles, left };
+            let beside = Beside {
+                titles,
+                left,
+                digests,
+            };
             tell_file(alloc, evaluated, &beside, options)
         }
         Err(Fault::Because(refusal)) => Ok(tell_refusal(alloc, refusal)?),
@@ -161,29 +169,56 @@ fn tell_plan(
 ) -> Result<Bytes, ExportFault>
     ensures { IsPlanTold options.now plan.now beside.now result }
 {
-    let options = chosen(alloc, options, beside.left.as_slice(), plan)?;
+    let options = chosen(
+        alloc,
+        options,
+        beside.left.as_slice(),
+        &beside.digests,
+        plan,
+    )?;
     export(alloc, plan, &options, beside.titles.as_slice())
 }
 
-/// What the words choose of the definition of a plan, in which BuildKit isn't given these paths of the folder.
+/// What the words choose of the definition of a plan, in which BuildKit isn't given these paths of the folder, and names have these digests.
 fn chosen(
     alloc: Global,
     options: &LlbOptions,
     left: &[Path],
+    digests: &NamedRows<Text>,
     plan: &Plan<Config>,
 ) -> Result<Options, Memory>
-    ensures { IfOk result (λ made. made ≡ chosen options.now left.now plan.now) }
+    ensures { IfOk result (λ made. made ≡ chosen options.now left.now digests.now plan.now) }
 {
-    let platform = platform_of(alloc, &options.platform)?;
+    let (platform, digests) = images_of(alloc, &options.platform, digests)?;
     match texts_of(alloc, options, left, plan) {
         Ok((unique, (excludes, follows))) => Ok(Options {
             platform,
             network: network_of(options.network),
             unique,
             merging: merging_of(options.merging),
+            digests,
             excludes,
             follows,
         }),
+        Err(memory) => {
+            drop(platform);
+            drop(digests);
+            Err(memory)
+        }
+    }
+}
+
+/// What images are taken of: the platform of these names, and the digests.
+fn images_of(
+    alloc: Global,
+    names: &PlatformName,
+    digests: &NamedRows<Text>,
+) -> Result<(Platform, NamedRows<Text>), Memory>
+    ensures { IfOk result (λ images. images ≡ (platform_of names.now, digests.now)) }
+{
+    let platform = platform_of(alloc, names)?;
+    match digests.copy(alloc) {
+        Ok(digests) => Ok((platform, digests)),
         Err(memory) => {
             drop(platform);
             Err(memory)

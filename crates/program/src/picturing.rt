@@ -55,6 +55,7 @@ fn tell_dot(alloc: Global, rt: &(impl Threads + Sync), bundle: &[u8]) -> Result<
                 asked,
                 titles,
                 left_out: _,
+                digests: _,
             } = titled;
             let Asked {
                 evaluated,
