@@ -1,0 +1,2 @@
+#!/bin/sh
+mkdir -p "$LOG"; echo "lib is $LIB" > "$LOG/started"
