@@ -213,11 +213,11 @@ DRAWN = {values_drawn, environments}
 # sizes near the limits: a Dockerfile of 1 MiB, 4,096 lines, 256 stages, 8,000 images, a bundle of 64 MiB. Of values of 1 MiB there are fewer than the limits take
 LARGEST = {
     env_names: 30000, other_env_names: 30000, label_names: 30000, image_labels: 1700000, image_env: 1800000, image_volumes: 1600000,
-    labels_of_stages: 4000000, stages_of_labels: 255,
+    labels_of_stages: 3750000, stages_of_labels: 255,
     values_kept: 1000, values_answered: 1000, values_replaced: 4000, values_drawn: 1000,
     stars: 500000, patterns_and_names: 20000, ignore_lines: 70000, ignore_stars: 130000,
     images: 8000, nests: 270000, nest_too_deep: 64 << 20, numbers: 33000000, environments: 2000,
-    doubled_trees: 60, deep_paths: 440000, words_in_words: 4000, continued: 110000, heredocs: 50000,
+    doubled_trees: 60, deep_paths: 430000, words_in_words: 4000, continued: 110000, heredocs: 50000,
     bumps: 116000, cats: 4000,
 }
 
@@ -271,7 +271,7 @@ def print_table(options):
     print("|---|---|---|---|---|---|---|---|---|---|---|")
     for make, sizes in KINDS.items():
         if not options.kinds or make.__name__ in options.kinds:
-            sizes = (*sizes, LARGEST[make]) if options.largest else sizes
+            sizes = (*sizes, LARGEST[make]) if options.largest and LARGEST[make] not in sizes else sizes
             if make is not values_drawn:
                 print_kind(options, make, sizes, ["build", "--workers", "1"])
             if make in DRAWN:
