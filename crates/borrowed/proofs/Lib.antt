@@ -1,4 +1,6 @@
 pub mod SeenFacts
-mod LookFacts
+pub mod PulledFacts
+pub mod LookFacts
+pub mod PutFacts
 mod NumberFacts
 mod RowFacts

@@ -29,7 +29,7 @@ later (Some i) b j before = refl
 differ : (l k : List ℕ) → bytes_eq l k ≡ false → k ≡ l → ⊥
 differ l k e same = let yes = (bytes_eq-Decides l k).1 (sym same) in absurd (cc)
 
-get-put_at : (b : Bool) (k l : List ℕ) (d : Data) (found : Members) → bytes_eq l k ≡ b → get_member k (put l d found) ≡ cond b (Some d) (get_member k found)
+pub get-put_at : (b : Bool) (k l : List ℕ) (d : Data) (found : Members) → bytes_eq l k ≡ b → get_member k (put l d found) ≡ cond b (Some d) (get_member k found)
 get-put_at true k l d found e = ap (λ q. get_member q (put l d found)) (sym ((bytes_eq-Decides l k).0 e)) ∙ get_member-put l d found
 get-put_at false k l d found e = get_member-put_other k l d found (differ l k e)
 
@@ -90,7 +90,7 @@ module _ (test : List ℕ → Bool) where
       again (test l) (has_only test ms) ∙ ap (λ q. test q && (test l && has_only test ms)) (sym same)
   has_only-put_at Greater k l d e ms is h = ap (λ b. test l && b) h ∙ swapped (test l) (test k) (has_only test ms)
 
-  has_only-put : (k : List ℕ) (d : Data) (ms : Members) → has_only test (put k d ms) ≡ test k && has_only test ms
+  pub has_only-put : (k : List ℕ) (d : Data) (ms : Members) → has_only test (put k d ms) ≡ test k && has_only test ms
   has_only-put k d no_members = refl
   has_only-put k d (member l e ms) = has_only-put_at (slice_cmp nat_cmp k l) k l d e ms refl (has_only-put k d ms)
 

@@ -1,5 +1,6 @@
 -- What a reader of a text tells, where it answers a lent value (own).
-use Rattle.std.specs.Prelude.{◌≡◌, List, map, Option, Some, Result, Ok, Err}
+use Rattle.std.specs.Prelude.{◌≡◌, List, map, Option, Some, Result, Ok, Err, option_map}
+use Rattle.std.specs.Borrow.{Bor}
 use Rattle.json.specs.declared.value.Value.{Value}
 use Rattle.plain.specs.declared.fault.Fault.{Fault}
 use Rattle.serde_json.specs.Data.{Data, Items}
@@ -16,3 +17,10 @@ GivesData (Err e) reading = TellsFault e reading
 -- what some lent values stand for, as items
 abbrev pub items_data : {A : Type 0} → List (Value A) → Items
 items_data vs = items_of (map data_of vs)
+
+-- what a lent value stands for, if there is one
+abbrev pub data_at : {A : Type 0} → Option (Bor (Value A)) → Option Data
+data_at o = option_map (λ v. data_of v.now) o
+
+abbrev pub data_in : {A : Type 0} → Option (Value A) → Option Data
+data_in o = option_map data_of o

@@ -1,5 +1,6 @@
 pub mod Seen
 pub mod Lent
+pub mod Pulled
 pub mod PrivateRows
 pub mod PrivateText
 pub mod PrivateRange

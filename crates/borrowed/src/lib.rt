@@ -19,11 +19,15 @@ mod lists;
 mod looking;
 mod numbers;
 mod owning;
+mod pulling;
 mod reading;
 mod whole;
 
 pub use lists::read_rows;
 pub use looking::{at, is_strict, list_of, text_of};
 pub use owning::owned;
-pub use reading::{FromLent, one_at, optional_at};
+pub use pulling::{
+    FromTokens, below, next_key, open_list, open_object, pull, pull_rows, pull_value,
+};
+pub use reading::{FromLent, one_at, one_of, optional_at, optional_of};
 pub use whole::read;

@@ -4,6 +4,7 @@ ghost use Rattle.serde_json.specs.Find.{get};
 ghost use Rattle.strict.specs.Gives.{Gives};
 ghost use Rattle.strict.specs.Strict.{at_most_one};
 ghost use Rattle.borrowed.specs.Seen.{data_of};
+ghost use Rattle.borrowed.specs.Lent.{data_at};
 
 use crate::looking::{at, text_of};
 use crate::numbers::whole_number_of;
@@ -83,14 +84,34 @@ impl FromLent for Path {
     }
 }
 
+/// What a value is that may be missing. `NotRead` where it is, and where it is nothing of this kind.
+pub fn one_of<T: FromLent>(alloc: Global, value: Option<&Value<'_>>) -> Result<T, ReadFault>
+    ensures { Gives result (option_and_then T.reading (data_at value.entry)) }
+{
+    match value {
+        Some(value) => T::from_lent(alloc, value),
+        None => Err(Fault::Because(NotRead)),
+    }
+}
+
+/// What a value is, if there is one. `NotRead` where it is nothing of this kind, as `null` may be.
+pub fn optional_of<T: FromLent>(
+    alloc: Global,
+    value: Option<&Value<'_>>,
+) -> Result<Option<T>, ReadFault>
+    ensures { Gives result (at_most_one T.reading (data_at value.entry)) }
+{
+    match value {
+        Some(value) => Ok(Some(T::from_lent(alloc, value)?)),
+        None => Ok(None),
+    }
+}
+
 /// What stands at a key. `NotRead` where nothing does, or nothing of this kind.
 pub fn one_at<T: FromLent>(alloc: Global, value: &Value<'_>, key: &str) -> Result<T, ReadFault>
     ensures { Gives result (option_and_then T.reading (get key.now (data_of value.now))) }
 {
-    match at(value, key) {
-        Some(value) => T::from_lent(alloc, value),
-        None => Err(Fault::Because(NotRead)),
-    }
+    one_of(alloc, at(value, key))
 }
 
 /// What stands at a key that may be missing. `NotRead` where something stands there that is nothing of this kind, as `null` may be.
@@ -101,8 +122,5 @@ pub fn optional_at<T: FromLent>(
 ) -> Result<Option<T>, ReadFault>
     ensures { Gives result (at_most_one T.reading (get key.now (data_of value.now))) }
 {
-    match at(value, key) {
-        Some(value) => Ok(Some(T::from_lent(alloc, value)?)),
-        None => Ok(None),
-    }
+    optional_of(alloc, at(value, key))
 }

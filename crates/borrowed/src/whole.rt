@@ -12,7 +12,7 @@ use std::alloc::Global;
 use strict::{NotRead, ReadFault};
 
 /// How deep arrays and objects may nest, as in `serde_json`.
-const MAX_DEPTH: usize = 127;
+pub(crate) const MAX_DEPTH: usize = 127;
 
 /// The value that a text is. `NotRead` where it is none: no JSON, nested too deep, or with a number that is out of range. The value's
 /// strings are parts of the text, or of `scratch` where they were written with escapes.
@@ -57,7 +57,7 @@ fn read_any<'a>(
 
 /// Whether each number in a value has a value.
 #[cycle(range)]
-fn is_in_range(value: &Value<'_>) -> bool
+pub(crate) fn is_in_range(value: &Value<'_>) -> bool
     ensures { result ≡ in_range (value_view value.now) }
 {
     match value {

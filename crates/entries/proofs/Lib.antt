@@ -6,3 +6,4 @@ mod FingerprintFacts
 pub mod WrittenFacts
 mod PrintingFacts
 mod HeldFacts
+mod KeyFacts

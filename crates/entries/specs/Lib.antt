@@ -1,5 +1,6 @@
 pub mod Row
 pub mod Reading
+pub mod PrivateKeys
 pub mod PrivateDigits
 pub mod Listing
 pub mod PrivateOrder

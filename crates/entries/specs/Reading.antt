@@ -33,11 +33,10 @@ mode_in d = option_and_then mode_of (as_str d)
 abbrev pub meta_with : Meta → Option ℕ → Option ℕ → Option ℕ → Meta
 meta_with default mode uid gid = record { mode = unwrap_or mode default.mode; uid = unwrap_or uid default.uid; gid = unwrap_or gid default.gid }
 
--- the mode and the owner that stand in an object, whose numbers are of 32 bits; what isn't there is as in `default`
-unfoldable pub meta_in : Meta → Data → Option Meta
-meta_in default d =
-    option_and_then (λ mode. option_and_then (λ uid. option_map (λ gid. meta_with default mode uid gid) (at_most_one short_number_in (get (codes "gid") d)))
-    (at_most_one short_number_in (get (codes "uid") d))) (at_most_one mode_in (get (codes "mode") d))
+-- the same, by what stands at their keys: the numbers are of 32 bits, and what isn't there is as in `default`
+abbrev pub meta_at : Meta → Option Data → Option Data → Option Data → Option Meta
+meta_at default mode uid gid =
+    option_and_then (λ mode. option_and_then (λ uid. option_map (λ gid. meta_with default mode uid gid) (at_most_one short_number_in gid)) (at_most_one short_number_in uid)) (at_most_one mode_in mode)
 
 -- the bytes that a text spells in hexadecimal, whose letters are of either case
 abbrev pub bytes_of : List ℕ → Option (List ℕ)
@@ -53,19 +52,27 @@ content_of (Some text) (Some hex) = None
 unfoldable pub content_in : Data → Option (List ℕ)
 content_in d = content_of (get (codes "text") d) (get (codes "hex") d)
 
--- a directory with its path
+-- a directory with its path, by what stands at `dir`, `path`, `mode`, `uid` and `gid`
+abbrev pub directory_at : Option Data → Option Data → Option Data → Option Data → Option Data → Option Row
+directory_at dir path mode uid gid =
+    option_and_then (λ flag. if flag then option_and_then (λ path. option_map (λ meta. (path, Directory meta)) (meta_at directory_meta mode uid gid)) (option_and_then path_in path) else None)
+    (option_and_then as_bool dir)
+
 unfoldable pub directory_in : Data → Option Row
 directory_in d =
     if is_some (strict (codes "dir" ∷ codes "gid" ∷ codes "mode" ∷ codes "path" ∷ codes "uid" ∷ []) d)
-    then option_and_then (λ flag. if flag then option_and_then (λ path. option_map (λ meta. (path, Directory meta)) (meta_in directory_meta d)) (option_and_then path_in (get (codes "path") d)) else None)
-    (option_and_then as_bool (get (codes "dir") d))
+    then directory_at (get (codes "dir") d) (get (codes "path") d) (get (codes "mode") d) (get (codes "uid") d) (get (codes "gid") d)
     else None
 
--- a file with its path
+-- a file with its path, by what stands at `path`, `mode`, `uid`, `gid`, `text` and `hex`
+abbrev pub file_at : Option Data → Option Data → Option Data → Option Data → Option Data → Option Data → Option Row
+file_at path mode uid gid text hex =
+    option_and_then (λ path. option_and_then (λ meta. option_map (λ content. (path, File meta content)) (content_of text hex)) (meta_at file_meta mode uid gid)) (option_and_then path_in path)
+
 unfoldable pub file_in : Data → Option Row
 file_in d =
     if is_some (strict (codes "gid" ∷ codes "hex" ∷ codes "mode" ∷ codes "path" ∷ codes "text" ∷ codes "uid" ∷ []) d)
-    then option_and_then (λ path. option_and_then (λ meta. option_map (λ content. (path, File meta content)) (content_in d)) (meta_in file_meta d)) (option_and_then path_in (get (codes "path") d))
+    then file_at (get (codes "path") d) (get (codes "mode") d) (get (codes "uid") d) (get (codes "gid") d) (get (codes "text") d) (get (codes "hex") d)
     else None
 
 -- an entry with its path: a directory where `dir` is there, else a file

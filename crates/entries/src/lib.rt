@@ -17,6 +17,7 @@ mod front;
 pub mod laws;
 mod listing;
 mod printing;
+mod pulling;
 mod reading;
 mod sought;
 mod writing;

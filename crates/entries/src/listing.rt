@@ -3,9 +3,10 @@ ghost use Rattle.entries.specs.Listing.{is_listing};
 ghost use Rattle.entries.specs.Whole.{tree_of};
 
 use crate::apart::is_listing;
+use crate::pulling::pull_rows;
 use crate::reading::read_rows;
-use borrowed::FromLent;
-use json::Value;
+use borrowed::{FromLent, FromTokens};
+use json::{Reader, Value};
 use paths::Path;
 use plain::{Fault, Items, Memory};
 use std::alloc::Global;
@@ -44,6 +45,27 @@ impl FromLent for Listing {
     #[tactic(auto, unfolding(crate::specs::Listing::listing_in))]
     fn from_lent(alloc: Global, value: &Value<'_>) -> Result<Listing, ReadFault> {
         let rows = read_rows(alloc, value)?;
+        if is_listing(alloc, rows.as_slice())? {
+            Ok(Listing { rows })
+        } else {
+            Err(Fault::Because(NotRead))
+        }
+    }
+}
+
+impl FromTokens for Listing {
+    ghost use Rattle.entries.specs.Listing.{listing_in};
+
+    ghost reading = { listing_in };
+
+    /// The list that comes next.
+    #[tactic(auto, unfolding(crate::specs::Listing::listing_in))]
+    fn from_tokens(
+        alloc: Global,
+        reader: &mut Reader<'_>,
+        depth: usize,
+    ) -> Result<Listing, ReadFault> {
+        let rows = pull_rows(alloc, reader, depth)?;
         if is_listing(alloc, rows.as_slice())? {
             Ok(Listing { rows })
         } else {

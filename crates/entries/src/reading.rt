@@ -1,15 +1,16 @@
-ghost use Rattle.std.specs.Prelude.{◌≡◌, ◌<◌, IfOk, Some, None, codes, length, option_map, true};
+ghost use Rattle.std.specs.Prelude.{◌≡◌, ◌<◌, IfOk, Some, None, length, true};
 ghost use Rattle.std.specs.List.{list_all};
 ghost use Rattle.std.specs.Option.{option_and_then};
 ghost use Rattle.serde_json.specs.Find.{get, as_str};
 ghost use Rattle.strict.specs.Gives.{Gives};
 ghost use Rattle.strict.specs.Strict.{at_most_one, all_in};
 ghost use Rattle.borrowed.specs.Seen.{data_of};
-ghost use Rattle.borrowed.specs.Lent.{items_data};
-ghost use Rattle.entries.specs.Reading.{is_octal, digit_at, mode_of, mode_in, meta_in, bytes_of, content_of, content_in, directory_in, file_in, row_in, rows_of};
+ghost use Rattle.borrowed.specs.Lent.{data_at, items_data};
+ghost use Rattle.entries.specs.Reading.{is_octal, digit_at, mode_of, mode_in, meta_at, bytes_of, content_of, content_in, directory_at, directory_in, file_at, file_in, row_in, rows_of};
+ghost use Rattle.entries.specs.PrivateKeys.{AreKeys};
 
 use crate::digits::read_digits;
-use borrowed::{at, is_strict, list_of, one_at, optional_at, text_of};
+use borrowed::{at, is_strict, list_of, one_of, optional_of, text_of};
 use json::Value;
 use paths::Path;
 use plain::{Bytes, Fault, Items, Mode};
@@ -68,24 +69,29 @@ fn read_mode(value: &Value<'_>) -> Result<Mode, ReadFault>
     }
 }
 
-/// The mode that stands in an object, if one does.
-fn mode_at(value: &Value<'_>) -> Result<Option<Mode>, ReadFault>
-    ensures { Gives result (at_most_one mode_in (get (codes "mode") (data_of value.now))) }
+/// A mode that may be missing.
+fn mode_of_value(value: Option<&Value<'_>>) -> Result<Option<Mode>, ReadFault>
+    ensures { Gives result (at_most_one mode_in (data_at value.entry)) }
 {
-    match at(value, "mode") {
+    match value {
         Some(value) => Ok(Some(read_mode(value)?)),
         None => Ok(None),
     }
 }
 
-/// The mode and the owner that stand in an object; what isn't there is as in `default`.
-#[tactic(auto, unfolding(crate::specs::Reading::meta_in))]
-fn read_meta(alloc: Global, value: &Value<'_>, default: Meta) -> Result<Meta, ReadFault>
-    ensures { Gives result (meta_in default (data_of value.now)) }
+/// A mode and an owner, each of which may be missing; what is missing is as in `default`.
+pub(crate) fn meta_of(
+    alloc: Global,
+    mode: Option<&Value<'_>>,
+    uid: Option<&Value<'_>>,
+    gid: Option<&Value<'_>>,
+    default: Meta,
+) -> Result<Meta, ReadFault>
+    ensures { Gives result (meta_at default (data_at mode.entry) (data_at uid.entry) (data_at gid.entry)) }
 {
-    let mode = mode_at(value)?;
-    let uid: Option<u32> = optional_at(alloc, value, "uid")?;
-    let gid: Option<u32> = optional_at(alloc, value, "gid")?;
+    let mode = mode_of_value(mode)?;
+    let uid: Option<u32> = optional_of(alloc, uid)?;
+    let gid: Option<u32> = optional_of(alloc, gid)?;
     Ok(Meta {
         mode: mode.unwrap_or(default.mode),
         uid: uid.unwrap_or(default.uid),
@@ -119,12 +125,73 @@ fn read_text(alloc: Global, value: &Value<'_>) -> Result<Bytes, ReadFault>
 pub fn read_content(alloc: Global, value: &Value<'_>) -> Result<Bytes, ReadFault>
     ensures { Gives result (content_in (data_of value.now)) }
 {
-    match (at(value, "text"), at(value, "hex")) {
+    content_of(alloc, at(value, "text"), at(value, "hex"))
+}
+
+/// Bytes that a text spells, or hexadecimal digits. `NotRead` where there are neither, or both, or they can't be read.
+pub(crate) fn content_of(
+    alloc: Global,
+    text: Option<&Value<'_>>,
+    hex: Option<&Value<'_>>,
+) -> Result<Bytes, ReadFault>
+    ensures { Gives result (content_of (data_at text.entry) (data_at hex.entry)) }
+{
+    match (text, hex) {
         (Some(text), None) => read_text(alloc, text),
         (None, Some(hex)) => read_hex(alloc, hex),
         (None, None) => Err(Fault::Because(NotRead)),
         (Some(_), Some(_)) => Err(Fault::Because(NotRead)),
     }
+}
+
+/// What stands at the keys that an entry may have, lent.
+#[derive(Clone, Copy)]
+pub(crate) struct Keys<'v, 'a> {
+    pub(crate) dir: Option<&'v Value<'a>>,
+    pub(crate) gid: Option<&'v Value<'a>>,
+    pub(crate) hex: Option<&'v Value<'a>>,
+    pub(crate) mode: Option<&'v Value<'a>>,
+    pub(crate) path: Option<&'v Value<'a>>,
+    pub(crate) text: Option<&'v Value<'a>>,
+    pub(crate) uid: Option<&'v Value<'a>>,
+}
+
+/// What stands at these keys in an object.
+fn keys_of<'v, 'a>(value: &'v Value<'a>) -> Keys<'v, 'a>
+    ensures { AreKeys result (λ key. get key (data_of value.now)) }
+{
+    Keys {
+        dir: at(value, "dir"),
+        gid: at(value, "gid"),
+        hex: at(value, "hex"),
+        mode: at(value, "mode"),
+        path: at(value, "path"),
+        text: at(value, "text"),
+        uid: at(value, "uid"),
+    }
+}
+
+/// A directory with its path.
+pub(crate) fn directory_of(alloc: Global, keys: Keys<'_, '_>) -> Result<(Path, Entry), ReadFault>
+    ensures { Gives result (directory_at (data_at keys.entry.dir) (data_at keys.entry.path) (data_at keys.entry.mode) (data_at keys.entry.uid) (data_at keys.entry.gid)) }
+{
+    let flag: bool = one_of(alloc, keys.dir)?;
+    if !flag {
+        return Err(Fault::Because(NotRead));
+    }
+    let path: Path = one_of(alloc, keys.path)?;
+    let meta = meta_of(alloc, keys.mode, keys.uid, keys.gid, Meta::directory())?;
+    Ok((path, Entry::Directory(meta)))
+}
+
+/// A file with its path.
+pub(crate) fn file_of(alloc: Global, keys: Keys<'_, '_>) -> Result<(Path, Entry), ReadFault>
+    ensures { Gives result (file_at (data_at keys.entry.path) (data_at keys.entry.mode) (data_at keys.entry.uid) (data_at keys.entry.gid) (data_at keys.entry.text) (data_at keys.entry.hex)) }
+{
+    let path: Path = one_of(alloc, keys.path)?;
+    let meta = meta_of(alloc, keys.mode, keys.uid, keys.gid, Meta::file())?;
+    let content = content_of(alloc, keys.text, keys.hex)?;
+    Ok((path, Entry::File(meta, Content::new(alloc, content)?)))
 }
 
 /// A directory with its path.
@@ -135,13 +202,7 @@ fn read_directory(alloc: Global, value: &Value<'_>) -> Result<(Path, Entry), Rea
     if !is_strict(value, &["dir", "gid", "mode", "path", "uid"]) {
         return Err(Fault::Because(NotRead));
     }
-    let flag: bool = one_at(alloc, value, "dir")?;
-    if !flag {
-        return Err(Fault::Because(NotRead));
-    }
-    let path: Path = one_at(alloc, value, "path")?;
-    let meta = read_meta(alloc, value, Meta::directory())?;
-    Ok((path, Entry::Directory(meta)))
+    directory_of(alloc, keys_of(value))
 }
 
 /// A file with its path.
@@ -152,10 +213,7 @@ fn read_file(alloc: Global, value: &Value<'_>) -> Result<(Path, Entry), ReadFaul
     if !is_strict(value, &["gid", "hex", "mode", "path", "text", "uid"]) {
         return Err(Fault::Because(NotRead));
     }
-    let path: Path = one_at(alloc, value, "path")?;
-    let meta = read_meta(alloc, value, Meta::file())?;
-    let content = read_content(alloc, value)?;
-    Ok((path, Entry::File(meta, Content::new(alloc, content)?)))
+    file_of(alloc, keys_of(value))
 }
 
 /// An entry with its path: a directory where `dir` is there, else a file.

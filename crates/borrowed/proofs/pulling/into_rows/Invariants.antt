@@ -1,0 +1,10 @@
+use Rattle.std.proofs.Common.{◌≡◌, ◌++◌, length}
+use Rattle.borrowed.specs.PrivateRows.{owned_rows}
+use Rattle.borrowed.proofs.pulling.into_rows.Given as goal
+
+-- the rows that were made, and those that are left, are all
+abbrev pub invariant-loop-key : goal.invariant-loop-key
+invariant-loop-key g l = l.rows ++ owned_rows l.found.entries ≡ owned_rows l.initial.found.entries
+
+abbrev pub decreases-loop-key : goal.decreases-loop-key
+decreases-loop-key g l = length l.found.entries

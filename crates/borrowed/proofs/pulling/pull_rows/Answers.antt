@@ -1,0 +1,40 @@
+use Rattle.std.proofs.Common.{◌≡◌, ◌<◌, Some, None, option_map, length, ap, sym, ◌∙◌, subst, arith, rules}
+use Rattle.json.specs.Json.{read_key}
+use Rattle.json.proofs.Grammar.{left, read_key-shorter, skip_value-shorter}
+use Rattle.serde_json.specs.Data.{object, no_members, put}
+use Rattle.strict.specs.Strict.{members_in, rows_in}
+use Rattle.borrowed.specs.PrivateRows.{owned_rows}
+use Rattle.borrowed.proofs.PulledFacts.{begins, goes_on, ends, object_is_next}
+use Rattle.borrowed.proofs.RowFacts.{members_in-put}
+use Rattle.borrowed.proofs.pulling.pull_rows.Goals as goal
+
+pub loop-found-init : goal.loop-found-init
+loop-found-init g c = (no_members, begins c.in_ok-inner.inner c.open_object.new.reader, ap (λ es. Some (owned_rows es)) (sym c.new-found.ensures.empty))
+
+pub loop-found-smaller : goal.loop-found-smaller
+loop-found-smaller g c =
+    let key : read_key c.loop-found.reader ≡ Some (Some c.in-Some.key.now, c.next_key.new.reader) = c.in_ok-key.ensures ∙ ap (λ k. Some (option_map (λ k. k.now) k, c.next_key.new.reader)) c.in-Some.is in
+    let next = c.in_ok-value.ensures.1 in
+    omega (arith, read_key-shorter _ _ _ key, skip_value-shorter c.in_ok-inner.inner _ _ (ap left next.1))
+
+pub loop-found-preserved : goal.loop-found-preserved
+loop-found-preserved g c =
+    let reading = g.T.FromTokens.reading in
+    let found = c.loop-found.invariant.0 in
+    let key : read_key c.loop-found.reader ≡ Some (Some c.in-Some.key.now, c.next_key.new.reader) = c.in_ok-key.ensures ∙ ap (λ k. Some (option_map (λ k. k.now) k, c.next_key.new.reader)) c.in-Some.is in
+    let pulled = c.in_ok-value.ensures in (
+      put c.in-Some.key.now pulled.0 found,
+      goes_on c.in_ok-inner.inner c.open_object.new.reader _ _ _ c.in-Some.key.now pulled.0 found c.loop-found.invariant.1 key pulled.1,
+      members_in-put reading found c.loop-found.found.entries c.in-Some.key pulled.0 c.in_ok-value.value c.loop-found.invariant.2 pulled.2 ∙ ap (λ es. Some (owned_rows es)) (sym c.in_ok-insert.ensures.entries),
+    )
+
+pub returns : goal.returns
+unfolding rows_in
+returns g c =
+    let found = c.loop-found.invariant.0 in
+    let key : read_key c.loop-found.reader ≡ Some (None, c.next_key.new.reader) = search rules in
+    let has = ends c.in_ok-inner.inner c.open_object.new.reader _ _ found c.loop-found.invariant.1 key in (
+      object found,
+      object_is_next c.args.depth c.in_ok-inner.inner _ c.open_object.new.reader _ found c.in_ok-inner.ensures c.in_ok-open_object.ensures has,
+      c.loop-found.invariant.2 ∙ ap Some (sym c.in_ok-into_rows.ensures),
+    )

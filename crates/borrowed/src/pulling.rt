@@ -1,0 +1,144 @@
+// Reading token by token: what is read of a text is made while its tokens come, and no value of the text stands in memory in between. So a
+// list of a million entries costs what the entries cost.
+//
+// Such a reader says only what it read. Where it gives `NotRead`, the text may still be read: a key may stand twice, and only the last
+// value counts. So whoever pulls a text reads it as a value where that fails.
+
+ghost use Rattle.std.specs.Prelude.{◌≡◌, ◌∷◌, ◌+◌, Some, IfOk, OnOk, option_map};
+ghost use Rattle.std.specs.Option.{option_and_then};
+ghost use Rattle.json.specs.Json.{read_key};
+ghost use Rattle.json.specs.Token.{begin_object, begin_array};
+ghost use Rattle.serde_json.specs.Read.{read};
+ghost use Rattle.strict.specs.Strict.{rows_in};
+ghost use Rattle.borrowed.specs.Seen.{data_of};
+ghost use Rattle.borrowed.specs.Pulled.{IsNext, Pulls};
+ghost use Rattle.borrowed.specs.PrivateRows.{owned_rows};
+
+use crate::whole::{MAX_DEPTH, is_in_range};
+use json::{Error, Reader, Scratch, Token, Value};
+use plain::{Fault, Items, Memory, Text};
+use std::alloc::Global;
+use std::collections::BTreeMap;
+use strict::{NotRead, ReadFault};
+
+/// Values of a kind that is read token by token.
+pub trait FromTokens: Sized + Drop {
+    ghost use Rattle.std.specs.Prelude.{Option, IfOk};
+    ghost use Rattle.serde_json.specs.Data.{Data};
+    ghost use Rattle.borrowed.specs.Pulled.{Pulls};
+
+    ghost reading: { Data → Option Self };
+
+    /// What the value is that comes next. `NotRead` where it is nothing of this kind, and where it can't be told without what comes later.
+    fn from_tokens(alloc: Global, reader: &mut Reader<'_>, depth: usize) -> Result<Self, ReadFault>
+        ensures { IfOk result (λ x. Pulls depth reading reader.old reader.new x) };
+}
+
+/// What a text is, read token by token. `NotRead` says nothing of the text.
+pub fn pull<T: FromTokens>(alloc: Global, text: &str) -> Result<T, ReadFault>
+    ensures { IfOk result (λ x. option_and_then T.reading (read text.now) ≡ Some x) }
+{
+    let mut scratch = Scratch::new(alloc);
+    let Ok(mut reader) = Reader::new(text, &mut scratch) else {
+        return Err(Fault::Memory);
+    };
+    let found = T::from_tokens(alloc, &mut reader, MAX_DEPTH)?;
+    if reader.next().is_none() {
+        return Ok(found);
+    }
+    drop(found);
+    Err(Fault::Because(NotRead))
+}
+
+/// The value that comes next, as it is lent.
+pub fn pull_value<'a>(
+    alloc: Global,
+    reader: &mut Reader<'a>,
+    depth: usize,
+) -> Result<Value<'a>, ReadFault>
+    ensures { IfOk result (λ value. IsNext depth reader.old reader.new (data_of value)) }
+{
+    match Value::read(alloc, reader, depth) {
+        Ok(value) => {
+            if is_in_range(&value) {
+                return Ok(value);
+            }
+            drop(value);
+            Err(Fault::Because(NotRead))
+        }
+        Err(Error::OutOfMemory) => Err(Fault::Memory),
+        Err(_) => Err(Fault::Because(NotRead)),
+    }
+}
+
+/// Passes the brace that opens an object.
+pub fn open_object(reader: &mut Reader<'_>) -> Result<(), ReadFault>
+    ensures { OnOk result (reader.old ≡ begin_object ∷ reader.new) }
+{
+    match reader.next() {
+        Some(Token::BeginObject) => Ok(()),
+        _ => Err(Fault::Because(NotRead)),
+    }
+}
+
+/// Passes the bracket that opens a list.
+pub fn open_list(reader: &mut Reader<'_>) -> Result<(), ReadFault>
+    ensures { OnOk result (reader.old ≡ begin_array ∷ reader.new) }
+{
+    match reader.next() {
+        Some(Token::BeginArray) => Ok(()),
+        _ => Err(Fault::Because(NotRead)),
+    }
+}
+
+/// The key that comes next; none at the brace that closes the object.
+pub fn next_key<'a>(reader: &mut Reader<'a>) -> Result<Option<&'a str>, ReadFault>
+    ensures { IfOk result (λ key. read_key reader.old ≡ Some (option_map (λ k. k.now) key, reader.new)) }
+{
+    match reader.next_key() {
+        Ok(key) => Ok(key),
+        Err(_) => Err(Fault::Because(NotRead)),
+    }
+}
+
+/// How deep what stands in a list or an object may nest.
+pub fn below(depth: usize) -> Result<usize, ReadFault>
+    ensures { IfOk result (λ inner. depth ≡ inner + 1) }
+{
+    match depth.checked_sub(1) {
+        Some(inner) => Ok(inner),
+        None => Err(Fault::Because(NotRead)),
+    }
+}
+
+/// The keys of an object with their values, as [`read_rows`](crate::read_rows) gives them.
+pub fn pull_rows<T: FromTokens>(
+    alloc: Global,
+    reader: &mut Reader<'_>,
+    depth: usize,
+) -> Result<Items<(Text, T)>, ReadFault>
+    ensures { IfOk result (λ rows. Pulls depth (rows_in T.reading) reader.old reader.new rows) }
+{
+    let inner = below(depth)?;
+    open_object(reader)?;
+    let mut found: BTreeMap<&str, T> = BTreeMap::new(alloc);
+    while let Some(key) = next_key(reader)? {
+        let value = T::from_tokens(alloc, reader, inner)?;
+        drop(found.insert(key, value)?);
+    }
+    Ok(into_rows(alloc, found)?)
+}
+
+/// Keys with their values, in order.
+fn into_rows<T: Drop>(
+    alloc: Global,
+    mut found: BTreeMap<&str, T>,
+) -> Result<Items<(Text, T)>, Memory>
+    ensures { IfOk result (λ rows. rows ≡ owned_rows found.entry.entries) }
+{
+    let mut rows = Items::new(alloc);
+    while let Some((key, value)) = found.pop_first() {
+        rows.push((Text::from_str(alloc, key)?, value))?;
+    }
+    Ok(rows)
+}

@@ -1,0 +1,12 @@
+use Rattle.std.proofs.Common.{length}
+use Rattle.serde_json.specs.Data.{Members}
+use Rattle.borrowed.proofs.PulledFacts.{GoesOn}
+use Rattle.entries.specs.PrivateKeys.{Spells}
+use Rattle.entries.proofs.pulling.pull_spelled.Given as goal
+
+-- some members were found, and these are their values
+abbrev pub invariant-loop-spelled : goal.invariant-loop-spelled
+invariant-loop-spelled l = (found : Members) × GoesOn l.inner l.initial.reader l.reader found × Spells l.spelled found
+
+abbrev pub decreases-loop-spelled : goal.decreases-loop-spelled
+decreases-loop-spelled l = length l.reader
