@@ -6,15 +6,15 @@ use Rattle.serde_json.specs.Data.{Data, Members, put}
 use Rattle.serde_json.specs.Find.{get_member}
 use Rattle.strict.specs.Strict.{has_only, at_most_one}
 use Rattle.borrowed.proofs.LookFacts.{get-put_at, has_only-put}
-use Rattle.borrowed.specs.Lent.{data_in}
+use Rattle.borrowed.specs.Lent.{owned_data}
 use Rattle.borrowed.specs.Seen.{data_of}
 
 -- at the key itself stands what was put there
-pub put_here : {A : Type 0} → (k : List ℕ) (o : Option (Value A)) (v : Value A) (found : Members) → o ≡ Some v → data_in o ≡ get_member k (put k (data_of v) found)
-put_here k o v found e = ap data_in e ∙ sym (get_member-put k (data_of v) found)
+pub put_here : {A : Type 0} → (k : List ℕ) (o : Option (Value A)) (v : Value A) (found : Members) → o ≡ Some v → owned_data o ≡ get_member k (put k (data_of v) found)
+put_here k o v found e = ap owned_data e ∙ sym (get_member-put k (data_of v) found)
 
 -- and at another one what stood there
-pub put_there : {A : Type 0} → (k l : List ℕ) (o : Option (Value A)) (d : Data) (found : Members) → bytes_eq l k ≡ false → data_in o ≡ get_member k found → data_in o ≡ get_member k (put l d found)
+pub put_there : {A : Type 0} → (k l : List ℕ) (o : Option (Value A)) (d : Data) (found : Members) → bytes_eq l k ≡ false → owned_data o ≡ get_member k found → owned_data o ≡ get_member k (put l d found)
 put_there k l o d found apart h = h ∙ sym (get-put_at false k l d found apart)
 
 -- the same of what is read of the values

@@ -18,9 +18,10 @@ GivesData (Err e) reading = TellsFault e reading
 abbrev pub items_data : {A : Type 0} → List (Value A) → Items
 items_data vs = items_of (map data_of vs)
 
--- what a lent value stands for, if there is one
-abbrev pub data_at : {A : Type 0} → Option (Bor (Value A)) → Option Data
-data_at o = option_map (λ v. data_of v.now) o
+-- what a value stands for that is lent, if there is one
+abbrev pub lent_data : {A : Type 0} → Option (Bor (Value A)) → Option Data
+lent_data o = option_map (λ v. data_of v.now) o
 
-abbrev pub data_in : {A : Type 0} → Option (Value A) → Option Data
-data_in o = option_map data_of o
+-- what a value stands for, if there is one
+abbrev pub owned_data : {A : Type 0} → Option (Value A) → Option Data
+owned_data o = option_map data_of o

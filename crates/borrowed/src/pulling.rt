@@ -1,8 +1,9 @@
 // Reading token by token: what is read of a text is made while its tokens come, and no value of the text stands in memory in between. So a
 // list of a million entries costs what the entries cost.
 //
-// Such a reader says only what it read. Where it gives `NotRead`, the text may still be read: a key may stand twice, and only the last
-// value counts. So whoever pulls a text reads it as a value where that fails.
+// Of a key that stands twice only the last value counts, and when the first comes nobody knows that another will. So a first value that
+// can't be read makes such a reader give up. Here `NotRead` says nothing of the text, and the reader of tokens is of no more use after it:
+// whoever pulls a text reads it as a value where that fails.
 
 ghost use Rattle.std.specs.Prelude.{◌≡◌, ◌∷◌, ◌+◌, Some, IfOk, OnOk, option_map};
 ghost use Rattle.std.specs.Option.{option_and_then};
@@ -29,12 +30,13 @@ pub trait FromTokens: Sized + Drop {
 
     ghost reading: { Data → Option Self };
 
-    /// What the value is that comes next. `NotRead` where it is nothing of this kind, and where it can't be told without what comes later.
+    /// What the value is that comes next, which may nest so deep. `NotRead` where it is nothing of this kind, and where that can't be told
+    /// without what comes later.
     fn from_tokens(alloc: Global, reader: &mut Reader<'_>, depth: usize) -> Result<Self, ReadFault>
         ensures { IfOk result (λ x. Pulls depth reading reader.old reader.new x) };
 }
 
-/// What a text is, read token by token. `NotRead` says nothing of the text.
+/// What a text is, read token by token. After `NotRead` it may still be something of this kind.
 pub fn pull<T: FromTokens>(alloc: Global, text: &str) -> Result<T, ReadFault>
     ensures { IfOk result (λ x. option_and_then T.reading (read text.now) ≡ Some x) }
 {
@@ -50,7 +52,8 @@ pub fn pull<T: FromTokens>(alloc: Global, text: &str) -> Result<T, ReadFault>
     Err(Fault::Because(NotRead))
 }
 
-/// The value that comes next, as it is lent.
+/// The value that comes next, as it is lent. `NotRead` where there is none, it nests deeper than so, or it has a number that is out of
+/// range.
 pub fn pull_value<'a>(
     alloc: Global,
     reader: &mut Reader<'a>,
@@ -71,7 +74,7 @@ pub fn pull_value<'a>(
     }
 }
 
-/// Passes the brace that opens an object.
+/// Passes the brace that opens an object. `NotRead` where another token comes next.
 pub fn open_object(reader: &mut Reader<'_>) -> Result<(), ReadFault>
     ensures { OnOk result (reader.old ≡ begin_object ∷ reader.new) }
 {
@@ -81,7 +84,7 @@ pub fn open_object(reader: &mut Reader<'_>) -> Result<(), ReadFault>
     }
 }
 
-/// Passes the bracket that opens a list.
+/// Passes the bracket that opens a list. `NotRead` where another token comes next.
 pub fn open_list(reader: &mut Reader<'_>) -> Result<(), ReadFault>
     ensures { OnOk result (reader.old ≡ begin_array ∷ reader.new) }
 {
@@ -91,7 +94,7 @@ pub fn open_list(reader: &mut Reader<'_>) -> Result<(), ReadFault>
     }
 }
 
-/// The key that comes next; none at the brace that closes the object.
+/// The key that comes next; none at the brace that closes the object. `NotRead` where another token comes next.
 pub fn next_key<'a>(reader: &mut Reader<'a>) -> Result<Option<&'a str>, ReadFault>
     ensures { IfOk result (λ key. read_key reader.old ≡ Some (option_map (λ k. k.now) key, reader.new)) }
 {
@@ -101,8 +104,8 @@ pub fn next_key<'a>(reader: &mut Reader<'a>) -> Result<Option<&'a str>, ReadFaul
     }
 }
 
-/// How deep what stands in a list or an object may nest.
-pub fn below(depth: usize) -> Result<usize, ReadFault>
+/// How deep the values in a list or an object may nest. `NotRead` where there may be none.
+pub fn inner_depth(depth: usize) -> Result<usize, ReadFault>
     ensures { IfOk result (λ inner. depth ≡ inner + 1) }
 {
     match depth.checked_sub(1) {
@@ -111,7 +114,8 @@ pub fn below(depth: usize) -> Result<usize, ReadFault>
     }
 }
 
-/// The keys of an object with their values, as [`read_rows`](crate::read_rows) gives them.
+/// The keys of an object with their values, as [`read_rows`](crate::read_rows) gives them. `NotRead` where no object comes next, or a value
+/// isn't of this kind, even if its key stands again.
 pub fn pull_rows<T: FromTokens>(
     alloc: Global,
     reader: &mut Reader<'_>,
@@ -119,7 +123,7 @@ pub fn pull_rows<T: FromTokens>(
 ) -> Result<Items<(Text, T)>, ReadFault>
     ensures { IfOk result (λ rows. Pulls depth (rows_in T.reading) reader.old reader.new rows) }
 {
-    let inner = below(depth)?;
+    let inner = inner_depth(depth)?;
     open_object(reader)?;
     let mut found: BTreeMap<&str, T> = BTreeMap::new(alloc);
     while let Some(key) = next_key(reader)? {

@@ -4,7 +4,7 @@ ghost use Rattle.serde_json.specs.Find.{get};
 ghost use Rattle.strict.specs.Gives.{Gives};
 ghost use Rattle.strict.specs.Strict.{at_most_one};
 ghost use Rattle.borrowed.specs.Seen.{data_of};
-ghost use Rattle.borrowed.specs.Lent.{data_at};
+ghost use Rattle.borrowed.specs.Lent.{lent_data};
 
 use crate::looking::{at, text_of};
 use crate::numbers::whole_number_of;
@@ -84,9 +84,9 @@ impl FromLent for Path {
     }
 }
 
-/// What a value is that may be missing. `NotRead` where it is, and where it is nothing of this kind.
+/// What a value is, which has to be there. `NotRead` where it is missing, and where it is nothing of this kind.
 pub fn one_of<T: FromLent>(alloc: Global, value: Option<&Value<'_>>) -> Result<T, ReadFault>
-    ensures { Gives result (option_and_then T.reading (data_at value.entry)) }
+    ensures { Gives result (option_and_then T.reading (lent_data value.entry)) }
 {
     match value {
         Some(value) => T::from_lent(alloc, value),
@@ -99,7 +99,7 @@ pub fn optional_of<T: FromLent>(
     alloc: Global,
     value: Option<&Value<'_>>,
 ) -> Result<Option<T>, ReadFault>
-    ensures { Gives result (at_most_one T.reading (data_at value.entry)) }
+    ensures { Gives result (at_most_one T.reading (lent_data value.entry)) }
 {
     match value {
         Some(value) => Ok(Some(T::from_lent(alloc, value)?)),

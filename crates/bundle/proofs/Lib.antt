@@ -4,3 +4,4 @@ mod FilteringFacts
 mod ListingFacts
 mod RestFacts
 mod WholeFacts
+mod FoundFacts

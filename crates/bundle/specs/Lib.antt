@@ -5,4 +5,5 @@ pub mod LeftOut
 pub mod Parts
 pub mod PrivateIgnore
 pub mod PrivateLeftOut
+pub mod PrivatePulled
 pub mod Reading

@@ -93,9 +93,12 @@ digests_of rows = with_digests [] rows
 abbrev pub read_with : {C : Type 0} → List (List ℕ × ListedImage C) → ReadImages C
 read_with rows = record { images = images_of rows; digests = digests_of rows }
 
+-- the same, if each has a name that an image may have
+abbrev pub images_with : {C : Type 0} → List (List ℕ × ListedImage C) → Option (ReadImages C)
+images_with rows = if list_all (λ row. is_image_name row.0) rows then Some (read_with rows) else None
+
 unfoldable pub images_in : {C : Type 0} → (Data → Option C) → Data → Option (ReadImages C)
-images_in config d =
-    option_and_then (λ rows. if list_all (λ row. is_image_name row.0) rows then Some (read_with rows) else None) (rows_in (image_in config) d)
+images_in config d = option_and_then images_with (rows_in (image_in config) d)
 
 -- no image
 abbrev pub no_images : {C : Type 0} → ReadImages C

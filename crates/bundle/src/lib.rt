@@ -17,6 +17,7 @@ mod digest;
 mod filtering;
 pub mod laws;
 mod parts;
+mod pulling;
 mod whole;
 
 pub use answering::{failed_answer, put_built, refused_answer};

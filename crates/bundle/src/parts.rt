@@ -9,9 +9,10 @@ ghost use Rattle.serde_json.specs.Find.{get};
 ghost use Rattle.strict.specs.Gives.{Gives};
 ghost use Rattle.strict.specs.Strict.{at_most_one};
 ghost use Rattle.borrowed.specs.Seen.{data_of};
+ghost use Rattle.borrowed.specs.Lent.{lent_data};
 ghost use Rattle.entries.specs.Listing.{listing_in};
 ghost use Rattle.bundle.specs.Digest.{digest_in};
-ghost use Rattle.bundle.specs.Parts.{or_none, dockerfile_in, files_in, is_image_name, images_of, with_digest, digests_of, read_with, images_in, no_images, args_in, cache_row, caches_in, named_in, parts_in};
+ghost use Rattle.bundle.specs.Parts.{or_none, dockerfile_in, files_in, is_image_name, images_of, images_with, with_digest, digests_of, read_with, images_in, no_images, args_in, cache_row, caches_in, named_in, parts_in};
 
 use crate::digest::read_digest;
 use borrowed::{FromLent, at, is_strict, one_at, optional_at, owned, read_rows};
@@ -81,8 +82,8 @@ impl<C: FromJson> FromLent for ListedImage<C> {
         if !is_strict(value, &["config", "digest", "tree"]) {
             return Err(Fault::Because(NotRead));
         }
-        let config: C = config_at(alloc, value)?;
-        let digest = digest_at(alloc, value)?;
+        let config: C = config_of(alloc, at(value, "config"))?;
+        let digest = digest_of(alloc, at(value, "digest"))?;
         let tree: Listing = one_at(alloc, value, "tree")?;
         Ok(ListedImage {
             config,
@@ -92,11 +93,14 @@ impl<C: FromJson> FromLent for ListedImage<C> {
     }
 }
 
-/// An image's configuration, as it stands in an object. It is small, and is made owned for the caller's kind, which is read from such JSON.
-fn config_at<C: FromJson>(alloc: Global, value: &Value<'_>) -> Result<C, ReadFault>
-    ensures { Gives result (option_and_then C.reading (get (codes "config") (data_of value.now))) }
+/// An image's configuration, which has to be there. It is small, and is made owned for the caller's kind, which is read from such JSON.
+pub(crate) fn config_of<C: FromJson>(
+    alloc: Global,
+    value: Option<&Value<'_>>,
+) -> Result<C, ReadFault>
+    ensures { Gives result (option_and_then C.reading (lent_data value.entry)) }
 {
-    match at(value, "config") {
+    match value {
         Some(value) => {
             let config = owned(alloc, value)?;
             C::from_json(alloc, &config)
@@ -105,11 +109,11 @@ fn config_at<C: FromJson>(alloc: Global, value: &Value<'_>) -> Result<C, ReadFau
     }
 }
 
-/// The digest that stands in an image, if one does.
-fn digest_at(alloc: Global, value: &Value<'_>) -> Result<Option<Text>, ReadFault>
-    ensures { Gives result (at_most_one digest_in (get (codes "digest") (data_of value.now))) }
+/// An image's digest, if it has one.
+pub(crate) fn digest_of(alloc: Global, value: Option<&Value<'_>>) -> Result<Option<Text>, ReadFault>
+    ensures { Gives result (at_most_one digest_in (lent_data value.entry)) }
 {
-    match at(value, "digest") {
+    match value {
         Some(value) => Ok(Some(read_digest(alloc, value)?)),
         None => Ok(None),
     }
@@ -126,11 +130,11 @@ fn read_dockerfile(alloc: Global, value: &Value<'_>) -> Result<Bytes, ReadFault>
     read_content(alloc, value)
 }
 
-/// The Dockerfile that stands in an object.
-fn dockerfile_at(alloc: Global, value: &Value<'_>) -> Result<Bytes, ReadFault>
-    ensures { Gives result (option_and_then dockerfile_in (get (codes "dockerfile") (data_of value.now))) }
+/// The Dockerfile, which has to be there.
+pub(crate) fn dockerfile_of(alloc: Global, value: Option<&Value<'_>>) -> Result<Bytes, ReadFault>
+    ensures { Gives result (option_and_then dockerfile_in (lent_data value.entry)) }
 {
-    match at(value, "dockerfile") {
+    match value {
         Some(value) => read_dockerfile(alloc, value),
         None => Err(Fault::Because(NotRead)),
     }
@@ -151,7 +155,7 @@ fn context_at(alloc: Global, value: &Value<'_>) -> Result<Listing, ReadFault>
 fn read_files(alloc: Global, value: &Value<'_>) -> Result<Files, ReadFault>
     ensures { Gives result (files_in (data_of value.now)) }
 {
-    let dockerfile = dockerfile_at(alloc, value)?;
+    let dockerfile = dockerfile_of(alloc, at(value, "dockerfile"))?;
     let context = context_at(alloc, value)?;
     let target: Option<Text> = optional_at(alloc, value, "target")?;
     Ok(Files {
@@ -246,16 +250,37 @@ fn read_with<C: Drop>(
     }
 }
 
+/// The images of these rows, if each has a name that an image may have.
+pub(crate) fn images_with<C: Drop>(
+    alloc: Global,
+    rows: Items<(Text, ListedImage<C>)>,
+) -> Result<ReadImages<C>, ReadFault>
+    ensures { Gives result (images_with rows) }
+{
+    if !are_image_names(rows.as_slice()) {
+        drop(rows);
+        return Err(Fault::Because(NotRead));
+    }
+    Ok(read_with(alloc, rows)?)
+}
+
+/// No image.
+pub(crate) fn no_images<C: Drop>(alloc: Global) -> ReadImages<C>
+    ensures { result ≡ no_images }
+{
+    ReadImages {
+        images: Images::new(alloc),
+        digests: NamedRows::new(alloc),
+    }
+}
+
 /// The images that a value is, each under its name.
 #[tactic(auto, unfolding(crate::specs::Parts::images_in))]
 fn read_images<C: FromJson>(alloc: Global, value: &Value<'_>) -> Result<ReadImages<C>, ReadFault>
     ensures { Gives result (images_in C.reading (data_of value.now)) }
 {
     let rows: Items<(Text, ListedImage<C>)> = read_rows(alloc, value)?;
-    if !are_image_names(rows.as_slice()) {
-        return Err(Fault::Because(NotRead));
-    }
-    Ok(read_with(alloc, rows)?)
+    images_with(alloc, rows)
 }
 
 /// Build arguments by their names.
@@ -280,7 +305,10 @@ fn read_args(alloc: Global, value: &Value<'_>) -> Result<Args, ReadFault>
 }
 
 /// The trees of lists of entries, under the ids that these have.
-fn caches_of(alloc: Global, rows: Items<(Text, Listing)>) -> Result<Items<(Text, Tree)>, Memory>
+pub(crate) fn caches_of(
+    alloc: Global,
+    rows: Items<(Text, Listing)>,
+) -> Result<Items<(Text, Tree)>, Memory>
     ensures { IfOk result (λ caches. caches ≡ map cache_row rows) }
 {
     let mut caches = Items::new(alloc);
@@ -305,18 +333,15 @@ fn images_at<C: FromJson>(alloc: Global, value: &Value<'_>) -> Result<ReadImages
 {
     match at(value, "images") {
         Some(value) => read_images(alloc, value),
-        None => Ok(ReadImages {
-            images: Images::new(alloc),
-            digests: NamedRows::new(alloc),
-        }),
+        None => Ok(no_images(alloc)),
     }
 }
 
-/// The build arguments that stand in an object, none where there is no such key.
-fn args_at(alloc: Global, value: &Value<'_>) -> Result<Args, ReadFault>
-    ensures { Gives result (or_none empty args_in (get (codes "args") (data_of value.now))) }
+/// The build arguments, none where they are missing.
+pub(crate) fn args_or_none(alloc: Global, value: Option<&Value<'_>>) -> Result<Args, ReadFault>
+    ensures { Gives result (or_none empty args_in (lent_data value.entry)) }
 {
-    match at(value, "args") {
+    match value {
         Some(value) => read_args(alloc, value),
         None => Ok(Args::new(alloc)),
     }
@@ -338,7 +363,7 @@ fn read_named<C: FromJson>(alloc: Global, value: &Value<'_>) -> Result<Named<C>,
     ensures { Gives result (named_in C.reading (data_of value.now)) }
 {
     let ReadImages { images, digests } = images_at(alloc, value)?;
-    let args = args_at(alloc, value)?;
+    let args = args_or_none(alloc, at(value, "args"))?;
     let caches = caches_at(alloc, value)?;
     Ok(Named {
         images,

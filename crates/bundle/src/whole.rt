@@ -10,6 +10,7 @@ ghost use Rattle.bundle.specs.IgnoreFile.{ReadsIgnoreFile, ignore_bytes_of};
 ghost use Rattle.bundle.specs.PrivateIgnore.{FindsIgnore};
 
 use crate::parts::{Files, Named, Parts, read_parts};
+use borrowed::pull;
 use cachemounts::CacheStore;
 use contexts::Context;
 use entries::Listing;
@@ -201,8 +202,19 @@ fn ignore_in(alloc: Global, context: &Listing) -> Result<IgnoreFile, Fault<Refus
     }
 }
 
-/// The parts of a bundle's text. What is lent of it ends here.
+/// The parts of a bundle's text. Most bundles are read token by token; what can't be told so is read as a value.
 fn parts_in_text<C: FromJson>(alloc: Global, text: &str) -> Result<Parts<C>, ReadFault>
+    ensures { Gives result (option_and_then (parts_in C.reading) (read text.now)) }
+{
+    match pull(alloc, text) {
+        Ok(parts) => Ok(parts),
+        Err(Fault::Memory) => Err(Fault::Memory),
+        Err(Fault::Because(_)) => parts_in_value(alloc, text),
+    }
+}
+
+/// The parts of a bundle's text, which is read as a value. What is lent of it ends here.
+fn parts_in_value<C: FromJson>(alloc: Global, text: &str) -> Result<Parts<C>, ReadFault>
     ensures { Gives result (option_and_then (parts_in C.reading) (read text.now)) }
 {
     let mut scratch = Scratch::new(alloc);

@@ -1,9 +1,9 @@
 -- What is held of a path's text, as a walk goes on.
-use Rattle.std.proofs.Common.{◌≡◌, ℕ, zero, suc, ◌+◌, ◌-◌, ◌<◌, ◌≤◌, List, [], ◌∷◌, ◌++◌, min, map, length, take, drop, get_or, set, Bor, refl, sym, ap, ◌∙◌, subst, inl, inr, append_assoc, append-nil, arith, length-append, one-add, add-one}
+use Rattle.std.proofs.Common.{◌≡◌, ℕ, ◌+◌, ◌-◌, ◌<◌, ◌≤◌, List, [], ◌∷◌, ◌++◌, min, length, take, drop, get_or, set, Bor, refl, sym, ap, ◌∙◌, subst, inl, inr, append_assoc, append-nil, arith, length-append}
 use Rattle.std.proofs.lemmas.Bool.{cases_lt}
-use Rattle.std.proofs.lemmas.List.{take_more, take_at, take-take, take-append-drop, length-map, length-set, length-take-le, get_or-set_same, get_or-set_other, map-append}
+use Rattle.std.proofs.lemmas.List.{take_more, take_at, take-take, take-append-drop, length-map, length-set, get_or-set_same, get_or-set_other, map-append}
 use Rattle.std.specs.List.{take-map}
-use Rattle.json.specs.Print.{escape, escape_byte}
+use Rattle.json.specs.Print.{escape}
 use Rattle.paths.specs.Path.{rooted}
 use Rattle.trees.specs.Rows.{lent_names}
 use Rattle.entries.specs.declared.front.PathFront.{PathFront}

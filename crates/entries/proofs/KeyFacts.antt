@@ -1,5 +1,5 @@
 -- Values that are put at the keys of an entry, and what is read of them.
-use Rattle.std.proofs.Common.{◌≡◌, ℕ, Bool, true, false, ◌&&◌, ◌||◌, List, [], ◌∷◌, Option, Some, None, option_map, is_some, bytes_eq, Bor, if◌then◌else◌, cond, Ordering, Less, Equal, Greater, Global, is_eq, nat_cmp, refl, ap, ap₂, sym, ◌∙◌, subst}
+use Rattle.std.proofs.Common.{◌≡◌, ℕ, Bool, true, false, ◌&&◌, ◌||◌, List, [], ◌∷◌, Option, Some, None, is_some, bytes_eq, Bor, if◌then◌else◌, Ordering, Less, Equal, Greater, Global, is_eq, nat_cmp, refl, ap, ap₂, sym, ◌∙◌, subst}
 use Rattle.std.proofs.lemmas.Map.Text.{is_eq-slice_cmp}
 use Rattle.std.specs.Cmp.Lexicographic.{slice_cmp}
 use Rattle.std.specs.Ordering.{match_ordering}
@@ -7,15 +7,17 @@ use Rattle.std.specs.List.{list_any}
 use Rattle.std.specs.Prelude.{codes}
 use Rattle.json.specs.declared.value.Value.{Value}
 use Rattle.serde_json.specs.Data.{Data, Members, no_members, member, object, put}
-use Rattle.serde_json.specs.Find.{get, get_member}
+use Rattle.serde_json.specs.Find.{get_member}
 use Rattle.strict.specs.Strict.{has_only, strict}
 use Rattle.trees.specs.Row.{Row}
+use Rattle.trees.specs.TreeMap.{directory_meta, file_meta}
+use Rattle.trees.specs.declared.meta.Meta.{Meta}
 use Rattle.borrowed.proofs.LookFacts.{strict-object}
 use Rattle.borrowed.proofs.PutFacts.{put_here, put_there, still_known}
-use Rattle.borrowed.specs.Lent.{data_at, data_in}
+use Rattle.borrowed.specs.Lent.{lent_data}
 use Rattle.borrowed.specs.Seen.{data_of}
 use Rattle.entries.specs.PrivateKeys.{AreKeys, Spells, is_entry_key}
-use Rattle.entries.specs.Reading.{directory_at, directory_in, file_at, file_in, row_in}
+use Rattle.entries.specs.Reading.{content_in, content_of, directory_at, directory_in, file_at, file_in, meta_at, meta_in, row_in}
 use Rattle.entries.specs.declared.pulling.Spelled.{Spelled}
 use Rattle.entries.specs.declared.reading.Keys.{Keys}
 
@@ -149,8 +151,8 @@ module _ (found : Members) (known : has_only is_entry_key found ≡ true) where
   is_of keys key = list_any (λ k. bytes_eq k key) keys
 
   pub file_row : (row : Row) → value_of (codes "dir") ≡ None
-      → file_at (value_of (codes "path")) (value_of (codes "mode")) (value_of (codes "uid")) (value_of (codes "gid")) (value_of (codes "text")) (value_of (codes "hex")) ≡ Some row → row_in (object found) ≡ Some row
-  unfolding file_in
+      → file_at (value_of (codes "path")) (meta_at file_meta (value_of (codes "mode")) (value_of (codes "uid")) (value_of (codes "gid"))) (content_of (value_of (codes "text")) (value_of (codes "hex"))) ≡ Some row → row_in (object found) ≡ Some row
+  unfolding file_in meta_in content_in
   file_row row none is =
       let strictly : is_some (strict file_keys (object found)) ≡ true =
       strict-object file_keys found
@@ -158,12 +160,12 @@ module _ (found : Members) (known : has_only is_entry_key found ≡ true) where
       (λ l yes no. subst (λ b. b || (bytes_eq (codes "gid") l || (bytes_eq (codes "hex") l || (bytes_eq (codes "mode") l || (bytes_eq (codes "path") l || (bytes_eq (codes "text") l || (bytes_eq (codes "uid") l || false)))))) ≡ true) no yes)
       known none in
       ap (λ o. if is_some o then directory_in (object found) else file_in (object found)) none
-      ∙ ap (λ b. if b then file_at (value_of (codes "path")) (value_of (codes "mode")) (value_of (codes "uid")) (value_of (codes "gid")) (value_of (codes "text")) (value_of (codes "hex")) else None) strictly
+      ∙ ap (λ b. if b then file_at (value_of (codes "path")) (meta_at file_meta (value_of (codes "mode")) (value_of (codes "uid")) (value_of (codes "gid"))) (content_of (value_of (codes "text")) (value_of (codes "hex"))) else None) strictly
       ∙ is
 
   pub directory_row : (row : Row) → is_some (value_of (codes "dir")) ≡ true → value_of (codes "text") ≡ None → value_of (codes "hex") ≡ None
-      → directory_at (value_of (codes "dir")) (value_of (codes "path")) (value_of (codes "mode")) (value_of (codes "uid")) (value_of (codes "gid")) ≡ Some row → row_in (object found) ≡ Some row
-  unfolding directory_in
+      → directory_at (value_of (codes "dir")) (value_of (codes "path")) (meta_at directory_meta (value_of (codes "mode")) (value_of (codes "uid")) (value_of (codes "gid"))) ≡ Some row → row_in (object found) ≡ Some row
+  unfolding directory_in meta_in
   directory_row row some text hex is =
       let but_text =
       has_fewer is_entry_key (is_of keys_but_text) (codes "text") found
@@ -175,27 +177,30 @@ module _ (found : Members) (known : has_only is_entry_key found ≡ true) where
       (λ l yes no. subst (λ b. bytes_eq (codes "dir") l || (bytes_eq (codes "gid") l || (b || (bytes_eq (codes "mode") l || (bytes_eq (codes "path") l || (bytes_eq (codes "uid") l || false))))) ≡ true) no yes)
       but_text hex in
       ap (λ b. if b then directory_in (object found) else file_in (object found)) some
-      ∙ ap (λ b. if b then directory_at (value_of (codes "dir")) (value_of (codes "path")) (value_of (codes "mode")) (value_of (codes "uid")) (value_of (codes "gid")) else None) strictly
+      ∙ ap (λ b. if b then directory_at (value_of (codes "dir")) (value_of (codes "path")) (meta_at directory_meta (value_of (codes "mode")) (value_of (codes "uid")) (value_of (codes "gid"))) else None) strictly
       ∙ is
 
 module _ (keys : Keys) (at : List ℕ → Option Data) (are : AreKeys keys at) where
-  pub directory_by_keys : directory_at (at (codes "dir")) (at (codes "path")) (at (codes "mode")) (at (codes "uid")) (at (codes "gid")) ≡ directory_at (data_at keys.dir) (data_at keys.path) (data_at keys.mode) (data_at keys.uid) (data_at keys.gid)
+  meta_by_keys : (default : Meta) → meta_at default (at (codes "mode")) (at (codes "uid")) (at (codes "gid")) ≡ meta_at default (lent_data keys.mode) (lent_data keys.uid) (lent_data keys.gid)
+  meta_by_keys default =
+      ap₂ (λ m u. meta_at default m u (at (codes "gid"))) (sym are.mode) (sym are.uid) ∙ ap (λ g. meta_at default (lent_data keys.mode) (lent_data keys.uid) g) (sym are.gid)
+
+  pub directory_by_keys : directory_at (at (codes "dir")) (at (codes "path")) (meta_at directory_meta (at (codes "mode")) (at (codes "uid")) (at (codes "gid")))
+      ≡ directory_at (lent_data keys.dir) (lent_data keys.path) (meta_at directory_meta (lent_data keys.mode) (lent_data keys.uid) (lent_data keys.gid))
   directory_by_keys =
-      ap₂ (λ d p. directory_at d p (at (codes "mode")) (at (codes "uid")) (at (codes "gid"))) (sym are.dir) (sym are.path)
-      ∙ ap₂ (λ m u. directory_at (data_at keys.dir) (data_at keys.path) m u (at (codes "gid"))) (sym are.mode) (sym are.uid)
-      ∙ ap (λ g. directory_at (data_at keys.dir) (data_at keys.path) (data_at keys.mode) (data_at keys.uid) g) (sym are.gid)
+      ap₂ (λ d p. directory_at d p (meta_at directory_meta (at (codes "mode")) (at (codes "uid")) (at (codes "gid")))) (sym are.dir) (sym are.path)
+      ∙ ap (λ m. directory_at (lent_data keys.dir) (lent_data keys.path) m) (meta_by_keys directory_meta)
 
-  pub file_by_keys : file_at (at (codes "path")) (at (codes "mode")) (at (codes "uid")) (at (codes "gid")) (at (codes "text")) (at (codes "hex"))
-      ≡ file_at (data_at keys.path) (data_at keys.mode) (data_at keys.uid) (data_at keys.gid) (data_at keys.text) (data_at keys.hex)
+  pub file_by_keys : file_at (at (codes "path")) (meta_at file_meta (at (codes "mode")) (at (codes "uid")) (at (codes "gid"))) (content_of (at (codes "text")) (at (codes "hex")))
+      ≡ file_at (lent_data keys.path) (meta_at file_meta (lent_data keys.mode) (lent_data keys.uid) (lent_data keys.gid)) (content_of (lent_data keys.text) (lent_data keys.hex))
   file_by_keys =
-      ap₂ (λ p m. file_at p m (at (codes "uid")) (at (codes "gid")) (at (codes "text")) (at (codes "hex"))) (sym are.path) (sym are.mode)
-      ∙ ap₂ (λ u g. file_at (data_at keys.path) (data_at keys.mode) u g (at (codes "text")) (at (codes "hex"))) (sym are.uid) (sym are.gid)
-      ∙ ap₂ (λ t x. file_at (data_at keys.path) (data_at keys.mode) (data_at keys.uid) (data_at keys.gid) t x) (sym are.text) (sym are.hex)
+      ap₂ (λ p m. file_at p m (content_of (at (codes "text")) (at (codes "hex")))) (sym are.path) (meta_by_keys file_meta)
+      ∙ ap₂ (λ t x. file_at (lent_data keys.path) (meta_at file_meta (lent_data keys.mode) (lent_data keys.uid) (lent_data keys.gid)) (content_of t x)) (sym are.text) (sym are.hex)
 
-pub no_data : (o : Option (Bor (Value Global))) → is_some o ≡ false → data_at o ≡ None
+pub no_data : (o : Option (Bor (Value Global))) → is_some o ≡ false → lent_data o ≡ None
 no_data None e = refl
 no_data (Some v) e = absurd (cc)
 
-pub some_data : (o : Option (Bor (Value Global))) → is_some o ≡ true → is_some (data_at o) ≡ true
+pub some_data : (o : Option (Bor (Value Global))) → is_some o ≡ true → is_some (lent_data o) ≡ true
 some_data None e = absurd (cc)
 some_data (Some v) e = refl

@@ -38,6 +38,9 @@ abbrev pub meta_at : Meta → Option Data → Option Data → Option Data → Op
 meta_at default mode uid gid =
     option_and_then (λ mode. option_and_then (λ uid. option_map (λ gid. meta_with default mode uid gid) (at_most_one short_number_in gid)) (at_most_one short_number_in uid)) (at_most_one mode_in mode)
 
+unfoldable pub meta_in : Meta → Data → Option Meta
+meta_in default d = meta_at default (get (codes "mode") d) (get (codes "uid") d) (get (codes "gid") d)
+
 -- the bytes that a text spells in hexadecimal, whose letters are of either case
 abbrev pub bytes_of : List ℕ → Option (List ℕ)
 bytes_of text = result_ok (decode_of text)
@@ -52,27 +55,25 @@ content_of (Some text) (Some hex) = None
 unfoldable pub content_in : Data → Option (List ℕ)
 content_in d = content_of (get (codes "text") d) (get (codes "hex") d)
 
--- a directory with its path, by what stands at `dir`, `path`, `mode`, `uid` and `gid`
-abbrev pub directory_at : Option Data → Option Data → Option Data → Option Data → Option Data → Option Row
-directory_at dir path mode uid gid =
-    option_and_then (λ flag. if flag then option_and_then (λ path. option_map (λ meta. (path, Directory meta)) (meta_at directory_meta mode uid gid)) (option_and_then path_in path) else None)
-    (option_and_then as_bool dir)
+-- a directory with its path, by what stands at `dir` and `path`, and its mode and owner
+abbrev pub directory_at : Option Data → Option Data → Option Meta → Option Row
+directory_at dir path meta =
+    option_and_then (λ flag. if flag then option_and_then (λ path. option_map (λ meta. (path, Directory meta)) meta) (option_and_then path_in path) else None) (option_and_then as_bool dir)
 
 unfoldable pub directory_in : Data → Option Row
 directory_in d =
     if is_some (strict (codes "dir" ∷ codes "gid" ∷ codes "mode" ∷ codes "path" ∷ codes "uid" ∷ []) d)
-    then directory_at (get (codes "dir") d) (get (codes "path") d) (get (codes "mode") d) (get (codes "uid") d) (get (codes "gid") d)
+    then directory_at (get (codes "dir") d) (get (codes "path") d) (meta_in directory_meta d)
     else None
 
--- a file with its path, by what stands at `path`, `mode`, `uid`, `gid`, `text` and `hex`
-abbrev pub file_at : Option Data → Option Data → Option Data → Option Data → Option Data → Option Data → Option Row
-file_at path mode uid gid text hex =
-    option_and_then (λ path. option_and_then (λ meta. option_map (λ content. (path, File meta content)) (content_of text hex)) (meta_at file_meta mode uid gid)) (option_and_then path_in path)
+-- a file with its path, by what stands at `path`, its mode and owner, and its bytes
+abbrev pub file_at : Option Data → Option Meta → Option (List ℕ) → Option Row
+file_at path meta content = option_and_then (λ path. option_and_then (λ meta. option_map (λ content. (path, File meta content)) content) meta) (option_and_then path_in path)
 
 unfoldable pub file_in : Data → Option Row
 file_in d =
     if is_some (strict (codes "gid" ∷ codes "hex" ∷ codes "mode" ∷ codes "path" ∷ codes "text" ∷ codes "uid" ∷ []) d)
-    then file_at (get (codes "path") d) (get (codes "mode") d) (get (codes "uid") d) (get (codes "gid") d) (get (codes "text") d) (get (codes "hex") d)
+    then file_at (get (codes "path") d) (meta_in file_meta d) (content_in d)
     else None
 
 -- an entry with its path: a directory where `dir` is there, else a file

@@ -9,7 +9,7 @@ ghost use Rattle.entries.specs.Reading.{row_in, rows_of};
 ghost use Rattle.entries.specs.PrivateKeys.{AreKeys, Spells};
 
 use crate::reading::{Keys, directory_of, file_of};
-use borrowed::{below, next_key, open_list, open_object, pull_value};
+use borrowed::{inner_depth, next_key, open_list, open_object, pull_value};
 use json::{Reader, Value};
 use paths::Path;
 use plain::{Fault, Items};
@@ -103,7 +103,7 @@ fn pull_spelled<'a>(
 ) -> Result<Spelled<'a>, ReadFault>
     ensures { IfOk result (λ spelled. (found : Members) × IsNext depth reader.old reader.new (object found) × Spells spelled found) }
 {
-    let inner = below(depth)?;
+    let inner = inner_depth(depth)?;
     open_object(reader)?;
     let mut spelled = Spelled::none();
     while let Some(key) = next_key(reader)? {
@@ -149,7 +149,7 @@ pub(crate) fn pull_rows(
 ) -> Result<Items<(Path, Entry)>, ReadFault>
     ensures { IfOk result (λ rows. Pulls depth rows_of reader.old reader.new rows) }
 {
-    let inner = below(depth)?;
+    let inner = inner_depth(depth)?;
     open_list(reader)?;
     let mut rows = Items::new(alloc);
     while !reader.take_end_array() {

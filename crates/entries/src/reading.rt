@@ -5,8 +5,9 @@ ghost use Rattle.serde_json.specs.Find.{get, as_str};
 ghost use Rattle.strict.specs.Gives.{Gives};
 ghost use Rattle.strict.specs.Strict.{at_most_one, all_in};
 ghost use Rattle.borrowed.specs.Seen.{data_of};
-ghost use Rattle.borrowed.specs.Lent.{data_at, items_data};
+ghost use Rattle.borrowed.specs.Lent.{lent_data, items_data};
 ghost use Rattle.entries.specs.Reading.{is_octal, digit_at, mode_of, mode_in, meta_at, bytes_of, content_of, content_in, directory_at, directory_in, file_at, file_in, row_in, rows_of};
+ghost use Rattle.trees.specs.TreeMap.{directory_meta, file_meta};
 ghost use Rattle.entries.specs.PrivateKeys.{AreKeys};
 
 use crate::digits::read_digits;
@@ -70,8 +71,8 @@ fn read_mode(value: &Value<'_>) -> Result<Mode, ReadFault>
 }
 
 /// A mode that may be missing.
-fn mode_of_value(value: Option<&Value<'_>>) -> Result<Option<Mode>, ReadFault>
-    ensures { Gives result (at_most_one mode_in (data_at value.entry)) }
+fn optional_mode(value: Option<&Value<'_>>) -> Result<Option<Mode>, ReadFault>
+    ensures { Gives result (at_most_one mode_in (lent_data value.entry)) }
 {
     match value {
         Some(value) => Ok(Some(read_mode(value)?)),
@@ -87,9 +88,9 @@ pub(crate) fn meta_of(
     gid: Option<&Value<'_>>,
     default: Meta,
 ) -> Result<Meta, ReadFault>
-    ensures { Gives result (meta_at default (data_at mode.entry) (data_at uid.entry) (data_at gid.entry)) }
+    ensures { Gives result (meta_at default (lent_data mode.entry) (lent_data uid.entry) (lent_data gid.entry)) }
 {
-    let mode = mode_of_value(mode)?;
+    let mode = optional_mode(mode)?;
     let uid: Option<u32> = optional_of(alloc, uid)?;
     let gid: Option<u32> = optional_of(alloc, gid)?;
     Ok(Meta {
@@ -134,7 +135,7 @@ pub(crate) fn content_of(
     text: Option<&Value<'_>>,
     hex: Option<&Value<'_>>,
 ) -> Result<Bytes, ReadFault>
-    ensures { Gives result (content_of (data_at text.entry) (data_at hex.entry)) }
+    ensures { Gives result (content_of (lent_data text.entry) (lent_data hex.entry)) }
 {
     match (text, hex) {
         (Some(text), None) => read_text(alloc, text),
@@ -171,9 +172,9 @@ fn keys_of<'v, 'a>(value: &'v Value<'a>) -> Keys<'v, 'a>
     }
 }
 
-/// A directory with its path.
+/// The directory of what stands at these keys, with its path.
 pub(crate) fn directory_of(alloc: Global, keys: Keys<'_, '_>) -> Result<(Path, Entry), ReadFault>
-    ensures { Gives result (directory_at (data_at keys.entry.dir) (data_at keys.entry.path) (data_at keys.entry.mode) (data_at keys.entry.uid) (data_at keys.entry.gid)) }
+    ensures { Gives result (directory_at (lent_data keys.entry.dir) (lent_data keys.entry.path) (meta_at directory_meta (lent_data keys.entry.mode) (lent_data keys.entry.uid) (lent_data keys.entry.gid))) }
 {
     let flag: bool = one_of(alloc, keys.dir)?;
     if !flag {
@@ -184,9 +185,9 @@ pub(crate) fn directory_of(alloc: Global, keys: Keys<'_, '_>) -> Result<(Path, E
     Ok((path, Entry::Directory(meta)))
 }
 
-/// A file with its path.
+/// The file of what stands at these keys, with its path.
 pub(crate) fn file_of(alloc: Global, keys: Keys<'_, '_>) -> Result<(Path, Entry), ReadFault>
-    ensures { Gives result (file_at (data_at keys.entry.path) (data_at keys.entry.mode) (data_at keys.entry.uid) (data_at keys.entry.gid) (data_at keys.entry.text) (data_at keys.entry.hex)) }
+    ensures { Gives result (file_at (lent_data keys.entry.path) (meta_at file_meta (lent_data keys.entry.mode) (lent_data keys.entry.uid) (lent_data keys.entry.gid)) (content_of (lent_data keys.entry.text) (lent_data keys.entry.hex))) }
 {
     let path: Path = one_of(alloc, keys.path)?;
     let meta = meta_of(alloc, keys.mode, keys.uid, keys.gid, Meta::file())?;
@@ -195,7 +196,7 @@ pub(crate) fn file_of(alloc: Global, keys: Keys<'_, '_>) -> Result<(Path, Entry)
 }
 
 /// A directory with its path.
-#[tactic(auto, unfolding(crate::specs::Reading::directory_in))]
+#[tactic(auto, unfolding(crate::specs::Reading::directory_in, crate::specs::Reading::meta_in))]
 fn read_directory(alloc: Global, value: &Value<'_>) -> Result<(Path, Entry), ReadFault>
     ensures { Gives result (directory_in (data_of value.now)) }
 {
@@ -206,7 +207,7 @@ fn read_directory(alloc: Global, value: &Value<'_>) -> Result<(Path, Entry), Rea
 }
 
 /// A file with its path.
-#[tactic(auto, unfolding(crate::specs::Reading::file_in))]
+#[tactic(auto, unfolding(crate::specs::Reading::file_in, crate::specs::Reading::meta_in, crate::specs::Reading::content_in))]
 fn read_file(alloc: Global, value: &Value<'_>) -> Result<(Path, Entry), ReadFault>
     ensures { Gives result (file_in (data_of value.now)) }
 {

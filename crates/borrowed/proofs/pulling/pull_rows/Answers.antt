@@ -1,8 +1,8 @@
-use Rattle.std.proofs.Common.{◌≡◌, ◌<◌, Some, None, option_map, length, ap, sym, ◌∙◌, subst, arith, rules}
+use Rattle.std.proofs.Common.{◌≡◌, Some, None, option_map, ap, sym, ◌∙◌, arith, rules}
 use Rattle.json.specs.Json.{read_key}
 use Rattle.json.proofs.Grammar.{left, read_key-shorter, skip_value-shorter}
 use Rattle.serde_json.specs.Data.{object, no_members, put}
-use Rattle.strict.specs.Strict.{members_in, rows_in}
+use Rattle.strict.specs.Strict.{rows_in}
 use Rattle.borrowed.specs.PrivateRows.{owned_rows}
 use Rattle.borrowed.proofs.PulledFacts.{begins, goes_on, ends, object_is_next}
 use Rattle.borrowed.proofs.RowFacts.{members_in-put}

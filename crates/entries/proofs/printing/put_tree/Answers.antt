@@ -1,4 +1,4 @@
-use Rattle.std.proofs.Common.{◌∷◌, ℕ, List, false, ap, sym, subst}
+use Rattle.std.proofs.Common.{◌∷◌, ℕ, List, false, ap, subst}
 use Rattle.counted.proofs.GatheringFacts.{says_both, says_as}
 use Rattle.entries.proofs.PrintingFacts.{rows-next, rows-none, rows-are}
 use Rattle.entries.specs.PrivateFront.{HoldsNames}

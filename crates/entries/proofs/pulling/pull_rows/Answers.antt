@@ -1,6 +1,6 @@
-use Rattle.std.proofs.Common.{◌≡◌, ◌++◌, ◌∷◌, [], Some, None, length, ap, sym, ◌∙◌, subst, arith, rules}
+use Rattle.std.proofs.Common.{◌≡◌, ◌++◌, ◌∷◌, [], Some, None, length, ap, sym, subst, arith, rules}
 use Rattle.json.specs.Json.{after_end_array}
-use Rattle.json.proofs.Grammar.{left, after_end_array-shorter, skip_value-shorter}
+use Rattle.json.proofs.Grammar.{left, skip_value-shorter}
 use Rattle.serde_json.specs.Data.{array}
 use Rattle.strict.specs.Strict.{list_in}
 use Rattle.borrowed.specs.Pulled.{Pulls}

@@ -1,7 +1,7 @@
-use Rattle.std.proofs.Common.{◌≡◌, ◌<◌, Some, None, option_map, length, ap, sym, ◌∙◌, subst, arith, rules}
+use Rattle.std.proofs.Common.{◌≡◌, Some, None, option_map, ap, ◌∙◌, arith, rules}
 use Rattle.json.specs.Json.{read_key}
 use Rattle.json.proofs.Grammar.{left, read_key-shorter, skip_value-shorter}
-use Rattle.serde_json.specs.Data.{object, no_members, put}
+use Rattle.serde_json.specs.Data.{no_members, put}
 use Rattle.borrowed.proofs.PulledFacts.{begins, goes_on, ends, object_is_next}
 use Rattle.borrowed.specs.Seen.{data_of}
 use Rattle.entries.proofs.pulling.pull_spelled.Goals as goal

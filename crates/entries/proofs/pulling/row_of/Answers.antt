@@ -1,5 +1,4 @@
-use Rattle.std.proofs.Common.{◌≡◌, Option, Some, None, false, true, is_some, ap, sym, ◌∙◌, rules}
-use Rattle.std.specs.Prelude.{codes}
+use Rattle.std.proofs.Common.{◌≡◌, false, true, is_some, ap, sym, ◌∙◌, rules}
 use Rattle.serde_json.specs.Find.{get_member}
 use Rattle.borrowed.proofs.PulledFacts.{what_it_gives}
 use Rattle.entries.proofs.KeyFacts.{file_row, directory_row, file_by_keys, directory_by_keys, no_data, some_data}

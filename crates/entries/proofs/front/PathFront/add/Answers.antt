@@ -1,4 +1,4 @@
-use Rattle.std.proofs.Common.{◌≡◌, ◌+◌, ◌<◌, ◌≤◌, true, length, get_or, sym, ◌∙◌, arith, rules}
+use Rattle.std.proofs.Common.{◌≡◌, ◌+◌, ◌<◌, ◌≤◌, true, length, get_or, ◌∙◌, arith, rules}
 use Rattle.std.specs.List.{list_all}
 use Rattle.entries.specs.PrivatePrinting.{is_plain}
 use Rattle.entries.proofs.PrintingFacts.{escape-plain}
