@@ -1,6 +1,6 @@
 -- A component without signs of patterns is a plain name: its characters are its parts, and it relates to that name alone.
-use Rattle.std.proofs.Common.{◌≡◌, ◌↔◌, ◌∙◌, ℕ, codes, true, false, List, [], ◌∷◌, ◌++◌, Option, Some, None, sym, ap, refl, subst, inl, inr, true≢false, map, append_assoc, eq-eqb}
-use Rattle.std.specs.Option.{option_and_then, IfSome}
+use Rattle.std.proofs.Common.{◌≡◌, ◌↔◌, ◌∙◌, ℕ, codes, true, false, List, [], ◌∷◌, ◌++◌, Some, sym, ap, refl, subst, inl, inr, true≢false, map, append_assoc, eq-eqb}
+use Rattle.std.specs.Option.{option_and_then}
 use Rattle.std.specs.Str.{chars, IsUtf8}
 use Rattle.std.proofs.lemmas.Bool.{and_parts, eqb-true}
 use Rattle.std.proofs.lemmas.List.{append-nil}
@@ -10,7 +10,7 @@ use Rattle.globs.specs.declared.part.Part.{Part}
 use Rattle.globs.specs.declared.part.Part.TheVariants.{Exactly}
 use Rattle.globs.specs.declared.reading.State.TheVariants.{Outside}
 use Rattle.globs.specs.declared.reading.Reading.{Reading}
-use Rattle.globs.specs.Component.{takes_any, holds, plain_parts, RelatesToName, relates_to_name, RelatesOnlyTo, BeginsWith}
+use Rattle.globs.specs.Component.{takes_any, holds, plain_parts, RelatesToName, relates_to_name, RelatesOnlyTo}
 use Rattle.globs.specs.Cut.{CanBeCut}
 use Rattle.globs.specs.Grammar.{is_none_of, is_spelled_out}
 use Rattle.globs.specs.Reading.{sign_at, run, finished, parts_of}
@@ -56,11 +56,6 @@ relates-plain text name t = (
   (λ e. subst (λ (l : List ℕ). RelatesToName (plain_parts text) l) e (t, plain-made (chars text))),
   (λ r. chars-same text name t r.0 (sym (plain-only (chars text) (chars name) r.1))),
 )
-
--- so what it relates to begins with its first byte, if it has one
-pub plain-first : (text : List ℕ) (first : Option ℕ) → IsUtf8 text → IfSome first (λ byte. (rest : List ℕ) × (text ≡ byte ∷ rest)) → IfSome first (λ byte. BeginsWith (plain_parts text) byte)
-plain-first text None utf8 begins = tt
-plain-first text (Some byte) utf8 begins = λ name r. (begins.0, sym ((relates-plain text name utf8).1 r) ∙ begins.1)
 
 -- it stands for that name, by the test
 pub stands-plain : (parts : List Part) (text : List ℕ) → IsUtf8 text → plain_parts text ≡ parts → RelatesOnlyTo parts text

@@ -1,5 +1,5 @@
 -- The parts of a component's pattern, and what each holds of (Go's filepath.Match). Characters are Unicode scalar values, and case counts.
-use Rattle.std.specs.Prelude.{◌≡◌, ◌↔◌, ℕ, Bool, true, false, ◌&&◌, List, ◌∷◌, map, not, nat_le, nat_eq, if◌then◌else◌}
+use Rattle.std.specs.Prelude.{◌≡◌, ◌↔◌, ℕ, Bool, true, false, ◌&&◌, List, [], ◌∷◌, ◌++◌, map, not, nat_le, nat_eq, if◌then◌else◌}
 use Rattle.std.specs.List.{list_any}
 use Rattle.std.specs.Str.{chars, IsUtf8, is_utf8}
 use Rattle.globs.specs.declared.part.Range.{Range}
@@ -45,6 +45,10 @@ RelatesOnlyTo parts name = (other : List ℕ) → (relates_to_name parts other �
 abbrev pub IsOnlyName : List Part → List ℕ → Type 0
 IsOnlyName parts name = (other : List ℕ) → RelatesToName parts other → other ≡ name
 
+-- each name that a pattern relates to begins with these bytes
+abbrev pub HasFront : List Part → List ℕ → Type 0
+HasFront parts front = (name : List ℕ) → RelatesToName parts name → (rest : List ℕ) × (name ≡ front ++ rest)
+
 -- each name that a pattern relates to begins with a byte
 abbrev pub BeginsWith : List Part → ℕ → Type 0
-BeginsWith parts byte = (name : List ℕ) → RelatesToName parts name → (rest : List ℕ) × (name ≡ byte ∷ rest)
+BeginsWith parts byte = HasFront parts (byte ∷ [])

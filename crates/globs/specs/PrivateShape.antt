@@ -14,9 +14,9 @@ ending_parts text = AnyRun ∷ plain_parts text
 abbrev pub beginning_parts : List ℕ → List Part
 beginning_parts text = plain_parts text ++ AnyRun ∷ []
 
--- the parts of a component's pattern
-abbrev pub parts_in : Shape → List Part
-parts_in (Plain name) = plain_parts name
-parts_in (Ending text) = ending_parts text
-parts_in (Beginning text) = beginning_parts text
-parts_in (Parts parts) = parts
+-- the parts of a component's pattern that is kept with this front
+abbrev pub parts_in : List ℕ → Shape → List Part
+parts_in front Plain = plain_parts front
+parts_in front (Ending text) = ending_parts text
+parts_in front Beginning = beginning_parts front
+parts_in front (Parts parts) = parts

@@ -1,11 +1,11 @@
 ghost use Rattle.std.specs.Prelude.{◌≡◌, ◌↔◌, ℕ, IsTrue, List, ◌∷◌, Some, IfOk, IfSome};
 ghost use Rattle.std.specs.Str.{chars};
-ghost use Rattle.globs.specs.Component.{RelatesToName, relates_to_name, plain_parts, RelatesOnlyTo, IsOnlyName, BeginsWith};
+ghost use Rattle.globs.specs.Component.{RelatesToName, relates_to_name, plain_parts, RelatesOnlyTo, IsOnlyName, HasFront, BeginsWith};
 ghost use Rattle.globs.specs.Grammar.{is_spelled_out};
 ghost use Rattle.globs.specs.PrivateShape.{ending_parts, beginning_parts};
 ghost use Rattle.globs.specs.Reading.{parts_of};
 
-use crate::part::{Part, name_can_be_cut};
+use crate::part::{Part, name_can_be_cut, plain_front};
 use crate::reading::read_parts;
 use crate::text::{first_and_rest, last_and_front};
 use plain::{Items, Memory, Text};
@@ -15,6 +15,8 @@ use std::marker::Model;
 /// The pattern of one component of a path: contracts see the list of its parts.
 #[derive(Debug, Drop)]
 pub struct Component {
+    /// What each name that it relates to begins with.
+    front: Text,
     shape: Shape,
 }
 
@@ -22,12 +24,12 @@ pub struct Component {
 /// bytes.
 #[derive(Debug, Drop)]
 pub(crate) enum Shape {
-    /// Just this name.
-    Plain(Text),
+    /// Just the name that stands in front.
+    Plain,
     /// A `*`, and this text behind it.
     Ending(Text),
-    /// This text, and a `*` behind it.
-    Beginning(Text),
+    /// The text that stands in front, and a `*` behind it.
+    Beginning,
     /// These parts.
     Parts(Items<Part>),
 }
@@ -35,11 +37,14 @@ pub(crate) enum Shape {
 impl Model for Component {
     ghost use Rattle.std.specs.Prelude.{List};
     ghost use Rattle.globs.specs.declared.part.Part.{Part};
+    ghost use Rattle.globs.specs.Component.{HasFront};
     ghost use Rattle.globs.specs.PrivateShape.{parts_in};
 
     ghost Value = { List Part };
 
-    ghost view = { λ c. parts_in c.shape };
+    ghost view = { λ c. parts_in c.front c.shape };
+
+    ghost invariant = { λ c. HasFront (parts_in c.front c.shape) c.front };
 }
 
 /// Whether a pattern's text is spelled out: it has none of the signs `*`, `?`, `[` and `\`. Then it relates to the one path that it reads
@@ -124,27 +129,37 @@ impl Component {
         ensures { IfOk result (λ found. found ≡ parts_of (chars text.now)) }
     {
         if is_spelled_out(text) {
-            let name = Text::from_str(alloc, text)?;
+            let front = Text::from_str(alloc, text)?;
             return Ok(Some(Component {
-                shape: Shape::Plain(name),
+                front,
+                shape: Shape::Plain,
             }));
         }
         if let Some(ending) = plain_ending(text) {
+            let front = Text::from_str(alloc, "")?;
             let own = Text::from_str(alloc, ending)?;
             return Ok(Some(Component {
+                front,
                 shape: Shape::Ending(own),
             }));
         }
         if let Some(beginning) = plain_beginning(text) {
-            let own = Text::from_str(alloc, beginning)?;
+            let front = Text::from_str(alloc, beginning)?;
+            // What `as_str` says of it: the front is text.
+            let _text = front.as_str();
             return Ok(Some(Component {
-                shape: Shape::Beginning(own),
+                front,
+                shape: Shape::Beginning,
             }));
         }
         match read_parts(alloc, text)? {
-            Some(parts) => Ok(Some(Component {
-                shape: Shape::Parts(parts),
-            })),
+            Some(parts) => {
+                let front = plain_front(alloc, parts.as_slice())?;
+                Ok(Some(Component {
+                    front,
+                    shape: Shape::Parts(parts),
+                }))
+            }
             None => Ok(None),
         }
     }
@@ -154,9 +169,9 @@ impl Component {
         ensures { result ≡ relates_to_name self.now name.now }
     {
         match &self.shape {
-            Shape::Plain(own) => is_name(own.as_str(), name.as_str()),
+            Shape::Plain => is_name(self.front.as_str(), name.as_str()),
             Shape::Ending(own) => is_ending(own.as_str(), name.as_str()),
-            Shape::Beginning(own) => is_beginning(own.as_str(), name.as_str()),
+            Shape::Beginning => is_beginning(self.front.as_str(), name.as_str()),
             Shape::Parts(parts) => name_can_be_cut(parts.as_slice(), name.as_str()),
         }
     }
@@ -167,12 +182,12 @@ impl Component {
         ensures { IfSome result (λ name. RelatesOnlyTo self.now name.now) }
     {
         match &self.shape {
-            Shape::Plain(own) => {
+            Shape::Plain => {
                 // What `as_str` says of it: the name is text.
-                let _text = own.as_str();
-                Some(own)
+                let _text = self.front.as_str();
+                Some(&self.front)
             }
-            Shape::Ending(_) | Shape::Beginning(_) | Shape::Parts(_) => None,
+            Shape::Ending(_) | Shape::Beginning | Shape::Parts(_) => None,
         }
     }
 
@@ -186,14 +201,22 @@ impl Component {
         }
     }
 
+    /// What each name begins with that the pattern relates to: the characters before its first sign, and those that are escaped among
+    /// them. It is empty where nothing is known, as behind a `*`. Whoever has a folder's names in order begins at the first that isn't
+    /// before it, and ends where one doesn't begin with it. The contract doesn't say how much is known.
+    pub fn front(&self) -> &Text
+        ensures { HasFront self.now result.now }
+    {
+        &self.front
+    }
+
     /// The byte that each name begins with which the pattern relates to, where the pattern begins with a plain text and has nothing or a
     /// `*` behind it; none for others, also where their names begin alike. The contract says what the byte is, and not when there is one.
     pub fn first_byte(&self) -> Option<u8>
         ensures { IfSome result (λ byte. BeginsWith self.now byte) }
     {
         match &self.shape {
-            Shape::Plain(own) => first_byte(own.as_str()),
-            Shape::Beginning(own) => first_byte(own.as_str()),
+            Shape::Plain | Shape::Beginning => first_byte(self.front().as_str()),
             Shape::Ending(_) | Shape::Parts(_) => None,
         }
     }

@@ -1,12 +1,13 @@
-ghost use Rattle.std.specs.Prelude.{◌≡◌, ◌↔◌, IsTrue, true};
+ghost use Rattle.std.specs.Prelude.{◌≡◌, ◌↔◌, IsTrue, true, IfOk};
 ghost use Rattle.std.specs.Str.{chars};
 ghost use Rattle.globs.specs.Cut.{CanBeCut};
-ghost use Rattle.globs.specs.Component.{takes_any, holds, is_in};
+ghost use Rattle.globs.specs.Component.{takes_any, holds, is_in, HasFront};
 ghost use Rattle.globs.specs.PrivateSearch.{IsFound};
 
 use crate::cut::{Fits, Found, from_last_run};
 use crate::text::{first_and_rest, last_and_front};
-use plain::Items;
+use plain::{Items, Memory, Text};
+use std::alloc::Global;
 
 /// The characters from one to another, both included; none where the ends are reversed.
 #[derive(Clone, Copy, Debug)]
@@ -119,4 +120,18 @@ pub(crate) fn name_can_be_cut(parts: &[Part], name: &str) -> bool
             }
         }
     }
+}
+
+/// The text that parts begin with: their characters before the first sign.
+pub(crate) fn plain_front(alloc: Global, parts: &[Part]) -> Result<Text, Memory>
+    ensures { IfOk result (λ front. HasFront parts.now front) }
+{
+    let mut front = String::new(alloc);
+    for part in parts {
+        match part {
+            Part::Exactly(character) => front.push(*character)?,
+            Part::AnyRun | Part::AnyOne | Part::Class(_, _) => break,
+        }
+    }
+    Text::from_str(alloc, front.as_str())
 }

@@ -6,5 +6,5 @@ use Rattle.globs.proofs.component.Component.spelled_name.Goals as goal
 
 pub returns-in-Plain : goal.returns-in-Plain
 returns-in-Plain c =
-    let parts : plain_parts c.in-Plain.own ≡ c.args.self.now = cc in
-    stands-plain c.args.self.now c.in-Plain.own (subst IsUtf8 c.as_str-text.ensures c.as_str-text.utf8) parts
+    let parts : plain_parts c.self.inside.front ≡ c.args.self.now = cc in
+    stands-plain c.args.self.now c.self.inside.front (subst IsUtf8 c.as_str-text.ensures c.as_str-text.utf8) parts
