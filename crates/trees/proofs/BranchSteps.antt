@@ -8,11 +8,13 @@ use Rattle.std.specs.FinMap.{get, entries}
 use Rattle.paths.specs.Order.{name_cmp}
 use Rattle.trees.specs.declared.entry.Entry.{Entry}
 use Rattle.trees.specs.TreeMap.{TreeMap}
-use Rattle.trees.specs.Branch.{rows_of_children, AreChildren}
+use Rattle.trees.specs.Branch.{rows_of_children, AreChildren, AreChildrenFrom}
 use Rattle.trees.specs.PrivateNode.{NodeValue, map_of, kid_maps, below_name}
-use Rattle.trees.specs.PrivateWalk.{rows_of}
+use Rattle.trees.specs.PrivateWalk.{rows_of, AreKidsFrom}
 use Rattle.trees.proofs.NodeLaws.{get-map_of_root, get-map_of_cons, get-joined, lookup-find}
 use Rattle.trees.proofs.NodeSteps.{node_of}
+use Rattle.trees.proofs.KidLists.{is_sorted-kid_maps}
+use Rattle.trees.proofs.FromSteps.{kid_maps-from}
 
 -- what stands below a name is what stands in the child of that name
 pub under-name : (value : NodeValue) (top : Entry) (kids : List (List ℕ × NodeValue)) (name : List ℕ) (child : Option (Bor NodeValue)) → node_of top kids ≡ value → option_copied child ≡ lookup (is_at (name_cmp name)) kids
@@ -39,4 +41,13 @@ are-children node branch kids is own = record {
   own = node.top;
   rows = ap entries (sym is) ∙ own ∙ ap (λ rows. ([], node.top) ∷ rows) (rows-kids kids);
   each = each-kid kids;
+}
+
+-- and those from a name on
+pub are-children_from : (node : NodeValue) (branch : TreeMap) (front : List ℕ) (kids : List (List ℕ × NodeValue)) → map_of node ≡ branch → AreKidsFrom node front kids → AreChildrenFrom branch front (kid_maps kids)
+are-children_from node branch front kids is from = record {
+  all = kid_maps from.all;
+  whole = are-children node branch from.all is from.whole;
+  left = ap kid_maps from.left ∙ kid_maps-from front from.all;
+  rise = is_sorted-kid_maps kids ∙ from.rise;
 }

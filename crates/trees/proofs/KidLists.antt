@@ -53,7 +53,7 @@ kid-same (Some v) None at = absurd (true≢false (ap is_some (sym (get-map_of_ro
 kid-same None (Some w) at = absurd (true≢false (ap is_some (sym (get-map_of_root w) ∙ sym (at []))))
 kid-same (Some v) (Some w) at = ap Some (same_tree _ _ at)
 
-is_sorted-kid_maps : (kids : List (List ℕ × NodeValue)) → is_sorted name_cmp (kid_maps kids) ≡ is_sorted name_cmp kids
+pub is_sorted-kid_maps : (kids : List (List ℕ × NodeValue)) → is_sorted name_cmp (kid_maps kids) ≡ is_sorted name_cmp kids
 is_sorted-kid_maps [] = refl
 is_sorted-kid_maps (kid ∷ kids) = λ i. below kid.0 kids i && is_sorted-kid_maps kids i
   where

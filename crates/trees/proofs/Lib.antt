@@ -22,6 +22,7 @@ mod CopySteps
 mod CopyRows
 mod FillSteps
 mod NameSteps
+mod FromSteps
 mod BelowSteps
 mod MeetSteps
 mod DepthSteps

@@ -31,7 +31,7 @@ Rows = List Row
 above : (name k : List ℕ) → is_lt (name_cmp k name) ≡ true → name_cmp name k ≡ Greater
 above name k h = nat_list_cmp_total.antisymm name k ∙ ap ordering_reverse (less _ h)
 
-equal : (name : List ℕ) → name_cmp name name ≡ Equal
+pub equal : (name : List ℕ) → name_cmp name name ≡ Equal
 equal name = by (name_cmp name name) (name_itself name)
   where
     by : (o : Ordering) → is_eq o ≡ true → o ≡ Equal

@@ -1,19 +1,29 @@
 -- What is left of a walk: the children that aren't gone through yet, of the folder that was entered last and of each folder above it.
-use Rattle.std.specs.Prelude.{◌≡◌, ◌≤◌, ℕ, Option, Some, None, List, [], ◌∷◌, ◌++◌, length, vec_capacity}
+use Rattle.std.specs.Prelude.{◌≡◌, ◌≤◌, ℕ, true, Option, Some, None, List, [], ◌∷◌, ◌++◌, length, vec_capacity}
 use Rattle.std.specs.List.{AllByRecursion}
 use Rattle.std.specs.declared.vec.Vec.{Vec}
 use Rattle.std.specs.FinMap.{entries}
+use Rattle.std.specs.FinMap.Entries.{is_sorted}
 use denote.Ref.{Bor}
 use Rattle.plain.specs.Limits.{most_components}
 use Rattle.paths.specs.Path.{IsClean}
+use Rattle.paths.specs.Order.{name_cmp}
 use Rattle.trees.specs.declared.entry.Entry.{Entry}
 use Rattle.trees.specs.Rows.{lent_names}
+use Rattle.trees.specs.Branch.{from_name}
 use Rattle.trees.specs.PrivateNode.{NodeValue, map_of, below_name}
 
 -- the rows of children, one child after another
 abbrev pub rows_of : List (List ℕ × NodeValue) → List (List (List ℕ) × Entry)
 rows_of [] = []
 rows_of (kid ∷ kids) = below_name kid.0 (entries (map_of kid.1)) ++ rows_of kids
+
+-- the children of a node without those whose names come before a text, and their names rise
+pub record AreKidsFrom (node : NodeValue) (front : List ℕ) (kids : List (List ℕ × NodeValue)) : Type 0 where
+  pub all : List (List ℕ × NodeValue)
+  pub whole : entries (map_of node) ≡ ([], node.top) ∷ rows_of all
+  pub left : kids ≡ from_name front all
+  pub rise : is_sorted name_cmp kids ≡ true
 
 -- the rows that are left of folders that were entered one below the other: these names lead down from the top one, `above` are the children
 -- left of each folder but the last, the top one's first, and `kids` those of the last. The last folder's rows come first

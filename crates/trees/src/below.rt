@@ -7,6 +7,7 @@ ghost use Rattle.std.specs.FinMap.{get, entries};
 ghost use Rattle.std.specs.Arc.{arc_value};
 ghost use Rattle.paths.specs.Path.{IsClean};
 ghost use Rattle.paths.specs.Order.{name_cmp};
+ghost use Rattle.trees.specs.Branch.{from_name};
 ghost use Rattle.trees.specs.Rows.{lent_rows};
 ghost use Rattle.trees.specs.Copy.{placements};
 ghost use Rattle.trees.specs.PrivateNode.{joined, IsDepth, IsDeeper, rows_under, ArePlanted, AreCut, AreFilled, AreLaid};
@@ -95,6 +96,17 @@ impl Below {
         match &self.kids {
             None => Kids::of(&[]),
             Some(kids) => kids.iter(),
+        }
+    }
+
+    /// The children whose names don't come before a text, as [`Children::iter_from`] gives them.
+    pub(crate) fn iter_from(&self, front: &Text) -> Kids<'_>
+        ensures from { result ≡ from_name front.now self.now }
+        ensures ordered { IsStrictlySortedBy name_cmp (keys_of self.now) }
+    {
+        match &self.kids {
+            None => Kids::of(&[]),
+            Some(kids) => kids.iter_from(front),
         }
     }
 

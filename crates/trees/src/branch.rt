@@ -1,6 +1,6 @@
 ghost use Rattle.std.specs.Prelude.{◌≡◌, ℕ, Some, List, [], ◌∷◌, MatchOption, option_and_then};
 ghost use Rattle.std.specs.FinMap.{get};
-ghost use Rattle.trees.specs.Branch.{AreChildren};
+ghost use Rattle.trees.specs.Branch.{AreChildren, AreChildrenFrom};
 ghost use Rattle.trees.specs.PrivateNode.{map_of};
 
 use crate::Entry;
@@ -63,6 +63,18 @@ impl<'a> Branch<'a> {
     {
         let node = self.node;
         Branches { kids: node.kids() }
+    }
+
+    /// What stands right below under names that don't come before a text, in the order of the names. It takes no memory, and costs a
+    /// search for the first of them, and no walk through the others. So one who wants the names that begin with the text goes through
+    /// these alone: they come first.
+    pub fn children_from(&self, front: &Text) -> Branches<'a>
+        ensures { AreChildrenFrom self.now front.now result }
+    {
+        let node = self.node;
+        Branches {
+            kids: node.kids_from(front),
+        }
     }
 }
 

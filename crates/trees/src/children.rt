@@ -8,6 +8,7 @@ ghost use Rattle.plain.specs.declared.fault.Fault.TheVariants.{Because};
 ghost use Rattle.paths.specs.Path.{IsClean};
 ghost use Rattle.paths.specs.Order.{name_cmp};
 ghost use Rattle.trees.specs.declared.children.Absent.{Absent};
+ghost use Rattle.trees.specs.Branch.{from_name};
 ghost use Rattle.trees.specs.Rows.{lent_rows};
 ghost use Rattle.trees.specs.Copy.{placements};
 ghost use Rattle.trees.specs.PrivateNode.{joined, IsDepth, IsDeeper, rows_under, AreKids, ArePlanted, AreCut, AreFilled, AreLaid};
@@ -97,6 +98,19 @@ impl Children {
         ensures ordered { IsStrictlySortedBy name_cmp (keys_of self.now) }
     {
         Kids::of(self.parts.as_slice())
+    }
+
+    /// The children whose names don't come before a text, in the order of their names. It costs no walk through those that do.
+    pub(crate) fn iter_from(&self, front: &Text) -> Kids<'_>
+        ensures from { result ≡ from_name front.now self.now }
+        ensures ordered { IsStrictlySortedBy name_cmp (keys_of self.now) }
+    {
+        let parts = self.parts.as_slice();
+        let at = place(parts, front);
+        match parts.get(at) {
+            Some(part) => Kids::of_begun(part.rows_from(front), &parts[at + 1..]),
+            None => Kids::of(&[]),
+        }
     }
 
     /// How many names the longest path among these children and below them has, if they are no deeper than `most`. It goes through them

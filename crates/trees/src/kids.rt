@@ -1,4 +1,4 @@
-ghost use Rattle.std.specs.Prelude.{◌≡◌, true, [], ◌∷◌, MatchOption};
+ghost use Rattle.std.specs.Prelude.{◌≡◌, true, [], ◌∷◌, ◌++◌, MatchOption};
 ghost use Rattle.trees.specs.PrivateNode.{lists_of, flat, are_full};
 
 use crate::node::Node;
@@ -34,6 +34,14 @@ impl<'a> Kids<'a> {
         ensures { result ≡ flat (lists_of parts.now) }
     {
         Kids { begun: &[], parts }
+    }
+
+    /// The children that are left of a part, and then those of these parts.
+    pub(crate) fn of_begun(begun: &'a [(Text, Node)], parts: &'a [Part]) -> Kids<'a>
+        requires { are_full (lists_of parts.now) ≡ true }
+        ensures { result ≡ begun.now ++ flat (lists_of parts.now) }
+    {
+        Kids { begun, parts }
     }
 
     /// The next child.

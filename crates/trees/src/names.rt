@@ -6,6 +6,7 @@ ghost use Rattle.std.specs.Map.{lookup};
 ghost use Rattle.std.specs.BTreeMap.{is_at};
 ghost use Rattle.std.specs.FinMap.Entries.{is_sorted};
 ghost use Rattle.paths.specs.Order.{name_cmp};
+ghost use Rattle.trees.specs.Branch.{from_name};
 ghost use Rattle.trees.specs.PrivateNode.{StandsAt, GoesAt, IsPut, IsTaken, IsCutAt};
 ghost use Rattle.trees.specs.PrivateLent.{LendsNode};
 ghost use Rattle.trees.specs.PrivateCopy.{ArePlacedKids};
@@ -70,6 +71,16 @@ impl Names {
         ensures rise { is_sorted name_cmp self.now ≡ true }
     {
         self.rows.as_slice()
+    }
+
+    /// The names that don't come before a text, with their nodes, lent.
+    pub(crate) fn rows_from(&self, front: &Text) -> &[(Text, Node)]
+        ensures { result.now ≡ from_name front.now self.now }
+    {
+        match find(self.rows.as_slice(), front) {
+            Ok(at) => &self.rows[at..],
+            Err(at) => &self.rows[at..],
+        }
     }
 
     /// How many there are.

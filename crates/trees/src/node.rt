@@ -7,7 +7,7 @@ ghost use Rattle.trees.specs.Over.{over};
 ghost use Rattle.trees.specs.Copy.{placements, kind_of};
 ghost use Rattle.plain.specs.Limits.{most_components};
 ghost use Rattle.trees.specs.PrivateNode.{map_of, joined, IsDepth, IsDeeper, IsPlanted, IsBelow, IsCut, IsFilled, rows_under};
-ghost use Rattle.trees.specs.PrivateWalk.{rows_of};
+ghost use Rattle.trees.specs.PrivateWalk.{rows_of, AreKidsFrom};
 ghost use Rattle.trees.specs.PrivateCopy.{IsPlacedNode, MeetInDirectories};
 
 use crate::below::Below;
@@ -101,6 +101,13 @@ impl Node {
         ensures { entries (map_of self.now) ≡ ([], self.now.top) ∷ rows_of result }
     {
         self.kids.iter()
+    }
+
+    /// What stands right below this node under names that don't come before a text, in the order of the names.
+    pub(crate) fn kids_from(&self, front: &Text) -> Kids<'_>
+        ensures { AreKidsFrom self.now front.now result }
+    {
+        self.kids.iter_from(front)
     }
 
     /// What stands right below this node under a name.
