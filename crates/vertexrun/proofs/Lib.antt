@@ -2,3 +2,4 @@ pub mod BindSteps
 pub mod FileSteps
 mod LookUps
 mod MatchSteps
+mod FrontSteps

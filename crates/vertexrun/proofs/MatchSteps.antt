@@ -25,7 +25,7 @@ abbrev Rows : Type 0
 Rows = List (List (List ℕ) × Entry)
 
 -- the rows of a child, seen from its branch
-abbrev under_name : List ℕ → Rows → Rows
+abbrev pub under_name : List ℕ → Rows → Rows
 under_name name rows = map (λ row. (name ∷ row.0, row.1)) rows
 
 -- a pattern that has a component is its first one and the others
@@ -54,7 +54,7 @@ appended : (b : Bool) (path : List (List ℕ)) (xs ys : List (List (List ℕ))) 
 appended true path xs ys = refl
 appended false path xs ys = refl
 
-kept-append : (at : List (List ℕ)) (test : List (List ℕ) → Bool) (xs ys : Rows) → paths_that at test (xs ++ ys) ≡ paths_that at test xs ++ paths_that at test ys
+pub kept-append : (at : List (List ℕ)) (test : List (List ℕ) → Bool) (xs ys : Rows) → paths_that at test (xs ++ ys) ≡ paths_that at test xs ++ paths_that at test ys
 kept-append at test [] ys = refl
 kept-append at test (x ∷ xs) ys =
     kept-more at test x (xs ++ ys)
@@ -78,7 +78,7 @@ module _ (at : List (List ℕ)) (name : List ℕ) (test rest : List (List ℕ) �
       ∙ sym (kept-more (at ++ name ∷ []) rest row rows)
 
   -- and below any other name nothing is
-  dropped-under : ((path : List (List ℕ)) → test (name ∷ path) ≡ false) → (rows : Rows) → paths_that at test (under_name name rows) ≡ []
+  pub dropped-under : ((path : List (List ℕ)) → test (name ∷ path) ≡ false) → (rows : Rows) → paths_that at test (under_name name rows) ≡ []
   dropped-under none [] = refl
   dropped-under none (row ∷ rows) =
       kept-more at test (name ∷ row.0, row.1) (under_name name rows)
@@ -110,7 +110,7 @@ module _ (at : List (List ℕ)) (name : List ℕ) (test rest : List (List ℕ) �
 
 -- ---- which rows keep the limits
 
-clean-parts : (at : List (List ℕ)) (xs ys : Rows) → AreClean at (xs ++ ys) → AreClean at xs × AreClean at ys
+pub clean-parts : (at : List (List ℕ)) (xs ys : Rows) → AreClean at (xs ++ ys) → AreClean at xs × AreClean at ys
 clean-parts at [] ys clean = (tt, clean)
 clean-parts at (x ∷ xs) ys clean = let both = clean-parts at xs ys clean.1 in ((clean.0, both.0), both.1)
 

@@ -1,5 +1,5 @@
 -- What a search for a pattern's matches finds below a path.
-use Rattle.std.specs.Prelude.{ℕ, Bool, List, ◌++◌, map}
+use Rattle.std.specs.Prelude.{◌≡◌, ℕ, Bool, List, ◌++◌, map}
 use Rattle.std.specs.List.{AllByRecursion, filter}
 use Rattle.paths.specs.Path.{IsClean}
 use Rattle.trees.specs.declared.entry.Entry.{Entry}
@@ -11,3 +11,7 @@ paths_that at test rows = map (λ row. at ++ row.0) (filter (λ row. test row.0)
 -- all paths of rows at and below this path keep the limits
 abbrev pub AreClean : List (List ℕ) → List (List (List ℕ) × Entry) → Type 0
 AreClean at rows = AllByRecursion (λ row. IsClean (at ++ row.0)) rows
+
+-- a name begins with a text
+abbrev pub BeginsAs : List ℕ → List ℕ → Type 0
+BeginsAs front name = (rest : List ℕ) × (name ≡ front ++ rest)

@@ -1,14 +1,15 @@
 // What a pattern of a COPY finds in the tree that is copied from. The search goes only where the pattern leads: a component that is spelled
-// out is a look-up, and one with signs is tried on the names of one folder. So it costs the folders that the pattern leads to and what it
-// finds, however large the tree is: one `COPY package*.json` mustn't list all files of a context.
+// out is a look-up, and one with signs is tried on those names of one folder that begin as it does. So it costs the folders that the pattern
+// leads to and what it finds, however large the tree is: one `COPY package*.json` mustn't list all files of a context, and thousands of
+// patterns on a folder of thousands of names mustn't try each pattern on each name.
 
-ghost use Rattle.std.specs.Prelude.{◌≡◌, true, [], ◌∷◌, ◌++◌, IfOk, OnOk};
+ghost use Rattle.std.specs.Prelude.{◌≡◌, ◌↔◌, IsTrue, true, [], ◌∷◌, ◌++◌, IfOk, OnOk};
 ghost use Rattle.std.specs.Str.{chars};
 ghost use Rattle.std.specs.FinMap.{entries};
 ghost use Rattle.globs.specs.Glob.{matches};
 ghost use Rattle.globs.specs.Grammar.{is_spelled_out};
 ghost use Rattle.plans.specs.Files.{matches_in};
-ghost use Rattle.vertexrun.specs.PrivateMatches.{paths_that, AreClean};
+ghost use Rattle.vertexrun.specs.PrivateMatches.{paths_that, AreClean, BeginsAs};
 
 use globs::{Component, Glob, is_spelled_out};
 use paths::Path;
@@ -127,7 +128,15 @@ fn enter(
     descend(alloc, components, child, path, found)
 }
 
-/// Goes on below each child of the branch at a path to whose name a component relates.
+/// Whether a name begins with a text.
+fn begins_as(name: &Text, front: &Text) -> bool
+    ensures { IsTrue result ↔ BeginsAs front.now name.now }
+{
+    name.as_str().starts_with(front.as_str())
+}
+
+/// Goes on below each child of the branch at a path to whose name a component relates. All these names begin with the component's front.
+/// Names that begin alike follow each other in their order, so no other child is gone through but the one behind them.
 #[cycle(descending)]
 fn go_through(
     alloc: Global,
@@ -140,8 +149,12 @@ fn go_through(
     requires { AreClean at.now (entries branch.now) }
     ensures { OnOk result (found.new.items ≡ found.old.items ++ paths_that at.now (matches (component.now ∷ rest.now)) (entries branch.now)) }
 {
-    let mut children = branch.children();
+    let front = component.front();
+    let mut children = branch.children_from(front);
     while let Some((name, child)) = children.next() {
+        if !begins_as(name, front) {
+            return Ok(());
+        }
         if !component.matches(name) {
             continue;
         }

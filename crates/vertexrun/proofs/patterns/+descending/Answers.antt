@@ -1,6 +1,7 @@
-use Rattle.std.proofs.Common.{◌≡◌, ◌∙◌, sym, ◌<◌, ◌+◌, ◌-◌, ◌*◌, length, take, drop, arith}
+use Rattle.std.proofs.Common.{◌≡◌, ◌∙◌, ℕ, List, ◌++◌, sym, ap, true≢false, ◌<◌, ◌+◌, ◌-◌, ◌*◌, length, take, drop, arith}
 use Rattle.std.proofs.lemmas.Result.{on_ok_weaker}
 use Rattle.vertexrun.proofs.MatchSteps.{fewer-left, here-found, clean-here, clean-child, clean-first, child-found, no-child-found, all-found, found-first, passed-first}
+use Rattle.vertexrun.proofs.FrontSteps.{branch-found, branch-clean, branch-from, rest-from, end-found, none-left}
 use Rattle.vertexrun.proofs.patterns.+descending.Goals as goal
 
 pub descend-returns-in-empty : goal.descend-returns-in-empty
@@ -39,14 +40,39 @@ go_through-enter-requires t c =
     let g : 3 * length c.args.rest.now + 1 < t = omega arith in
     (g, (clean-first c.args.at.now c.in-Some.name.now c.in-Some.child c.loop-name.children c.next.new.self c.in-Some.ensures c.loop-name.invariant.clean).0)
 
-pub go_through-loop-name-preserved : goal.go_through-loop-name-preserved
-go_through-loop-name-preserved t c = record {
-  found = found-first c.args.at.now c.in-Some.name.now c.in-Some.child c.args.component.now c.args.rest.now c.loop-name.children c.next.new.self c.in-Some.ensures (sym c.matches.ensures ∙ c.if-not-matches.false) c.loop-name.found.items c.enter.new.found.items _ c.loop-name.invariant.found c.in_ok-enter.ensures;
-  clean = (clean-first c.args.at.now c.in-Some.name.now c.in-Some.child c.loop-name.children c.next.new.self c.in-Some.ensures c.loop-name.invariant.clean).1;
+pub go_through-loop-name-init : goal.go_through-loop-name-init
+go_through-loop-name-init t c = record {
+  found =
+      ap (λ (paths : List (List (List ℕ))). c.args.found.now.items ++ paths)
+      (branch-found c.args.at.now c.args.component.now c.args.rest.now c.front-front.result.now c.front-front.ensures c.args.branch.now c.children_from-children.result c.children_from-children.ensures);
+  clean = branch-clean c.args.at.now c.front-front.result.now c.args.branch.now c.children_from-children.result c.children_from-children.ensures c.requires;
+  rise = c.children_from-children.ensures.rise;
+  from = branch-from c.front-front.result.now c.args.branch.now c.children_from-children.result c.children_from-children.ensures;
 }
 
+pub go_through-loop-name-preserved : goal.go_through-loop-name-preserved
+go_through-loop-name-preserved t c =
+    let left = rest-from c.front-front.result.now c.in-Some.name.now c.in-Some.child c.loop-name.children c.next.new.self c.in-Some.ensures c.loop-name.invariant.rise c.loop-name.invariant.from in
+    record {
+      found = found-first c.args.at.now c.in-Some.name.now c.in-Some.child c.args.component.now c.args.rest.now c.loop-name.children c.next.new.self c.in-Some.ensures (sym c.matches.ensures ∙ c.if-not-matches.false) c.loop-name.found.items c.enter.new.found.items _ c.loop-name.invariant.found c.in_ok-enter.ensures;
+      clean = (clean-first c.args.at.now c.in-Some.name.now c.in-Some.child c.loop-name.children c.next.new.self c.in-Some.ensures c.loop-name.invariant.clean).1;
+      rise = left.0;
+      from = left.1;
+    }
+
 pub go_through-loop-name-preserved-then-not-matches : goal.go_through-loop-name-preserved-then-not-matches
-go_through-loop-name-preserved-then-not-matches t c = record {
-  found = passed-first c.args.at.now c.in-Some.name.now c.in-Some.child c.args.component.now c.args.rest.now c.loop-name.children c.next.new.self c.in-Some.ensures (sym c.matches.ensures ∙ c.if-not-matches.true) c.loop-name.found.items _ c.loop-name.invariant.found;
-  clean = (clean-first c.args.at.now c.in-Some.name.now c.in-Some.child c.loop-name.children c.next.new.self c.in-Some.ensures c.loop-name.invariant.clean).1;
-}
+go_through-loop-name-preserved-then-not-matches t c =
+    let left = rest-from c.front-front.result.now c.in-Some.name.now c.in-Some.child c.loop-name.children c.next.new.self c.in-Some.ensures c.loop-name.invariant.rise c.loop-name.invariant.from in
+    record {
+      found = passed-first c.args.at.now c.in-Some.name.now c.in-Some.child c.args.component.now c.args.rest.now c.loop-name.children c.next.new.self c.in-Some.ensures (sym c.matches.ensures ∙ c.if-not-matches.true) c.loop-name.found.items _ c.loop-name.invariant.found;
+      clean = (clean-first c.args.at.now c.in-Some.name.now c.in-Some.child c.loop-name.children c.next.new.self c.in-Some.ensures c.loop-name.invariant.clean).1;
+      rise = left.0;
+      from = left.1;
+    }
+
+pub go_through-returns-then-not-begins_as : goal.go_through-returns-then-not-begins_as
+go_through-returns-then-not-begins_as t c =
+    none-left c.loop-name.found.items _ _
+    (end-found c.args.at.now c.args.component.now c.args.rest.now c.front-front.result.now c.front-front.ensures c.in-Some.name.now c.in-Some.child c.loop-name.children c.next.new.self c.in-Some.ensures c.loop-name.invariant.rise c.loop-name.invariant.from
+    (λ begins. true≢false (sym (c.begins_as.ensures.1 begins) ∙ c.if-not-begins_as.true)))
+    c.loop-name.invariant.found
