@@ -15,7 +15,9 @@ mod InstructionFacts
 mod LineFacts
 mod ReachedFacts
 mod StepFacts
+mod UserFacts
 mod WalkFacts
+mod WantedFacts
 mod EvaluatedFacts
 mod KeptFacts
 mod LawFacts

@@ -29,12 +29,13 @@ use Rattle.stages.specs.declared.stage.ResolvedStage.{ResolvedStage}
 use Rattle.imageconfig.specs.declared.config.Config.{Config}
 use Rattle.evaluation.specs.Evaluated.{no_stage, IsMade}
 use Rattle.evaluation.specs.Images.{ImageNames, is_among, AreSources}
+use Rattle.evaluation.specs.PrivateKept.{AreKept}
 use Rattle.evaluation.specs.PrivateMaking.{Makes, IsWhole, AnswersWhole}
 use Rattle.evaluation.specs.PrivateNames.{IsProperBase}
-use Rattle.evaluation.specs.PrivateWalk.{AreStages}
 use Rattle.evaluation.specs.Stages.{stages_from}
 use Rattle.evaluation.specs.declared.evaluated.Evaluated.{Evaluated}
 use Rattle.evaluation.specs.declared.walk.Walk.{Walk}
+use Rattle.evaluation.proofs.EvaluatedFacts.{made_of_kept}
 use Rattle.evaluation.proofs.LawFacts.{Laws, IsHeld}
 use Rattle.evaluation.proofs.NeededFacts.{named_marked}
 use Rattle.evaluation.proofs.OrderFacts.{inner_of, evaluated_in_order, evaluated_needs}
@@ -160,16 +161,18 @@ is_whole laws args outer images context table needed walk made whole are proper 
           (subst (λ (n : ℕ). NeedsAllStages walk.rows n) (sym is.target) (evaluated_needs args outer images needed table walk whole are went));
     }
 
-pub answers_whole : Laws → (args outer : Values) (images : ImagesValue Config) (context : TreeMap) (table : TableValue) (stages shown : List ResolvedStage) (target : ℕ) (needed : List Bool) (walk : Walk) (result : Result Evaluated (Fault Rejection))
+pub answers_whole : Laws → (args outer : Values) (images : ImagesValue Config) (context : TreeMap) (table : TableValue) (stages shown : List ResolvedStage) (target : ℕ) (needed : List Bool) (kept : Walk) (result : Result Evaluated (Fault Rejection))
     → IsTable table → stages ≡ table.stages → shown ≡ table.stages → target ≡ table.target → AreNeeded table.stages table.target needed → All (λ (stage : ResolvedStage). IsProperBase images stage.base) shown
-    → AreStages args outer images needed stages (Ok walk) → Makes images context target walk result → AnswersWhole images table result
-unfolding AreStages Makes AnswersWhole
-answers_whole laws args outer images context table stages shown target needed walk (Ok made) whole same same_shown same_target are proper went is =
-    is_whole laws args outer images context table needed walk made whole are
+    → AreKept args outer images needed target stages (Ok kept) → Makes images context target kept result → AnswersWhole images table result
+unfolding AreKept Makes AnswersWhole
+answers_whole laws args outer images context table stages shown target needed kept (Ok made) whole same same_shown same_target are proper went is =
+    is_whole laws args outer images context table needed went.0 made whole are
     (subst (All (λ (stage : ResolvedStage). IsProperBase images stage.base)) same_shown proper)
-    (ap (λ (ss : List ResolvedStage). stages_from args outer images needed (Ok no_stage) ss) (sym same) ∙ went)
-    (subst (λ (n : ℕ). IsMade images context n walk made) same_target is.0) is.1
-answers_whole laws args outer images context table stages shown target needed walk (Err fault) whole same same_shown same_target are proper went is = tt
+    (ap (λ (ss : List ResolvedStage). stages_from args outer images needed (Ok no_stage) ss) (sym same) ∙ went.1)
+    (subst (λ (n : ℕ). IsMade images context n went.0 made) same_target
+    (made_of_kept needed stages images context target (length stages) went.0 kept made went.2 is.0))
+    (subst (λ (names : ImageNames). len made.sources.images ≤ length names) went.2.names is.1)
+answers_whole laws args outer images context table stages shown target needed kept (Err fault) whole same same_shown same_target are proper went is = tt
 
 -- what is whole, part by part
 

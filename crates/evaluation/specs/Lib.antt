@@ -7,6 +7,7 @@ pub mod Instruction
 pub mod NeededLines
 pub mod PrivateFaults
 pub mod PrivateInstruction
+pub mod PrivateKept
 pub mod PrivateMaking
 pub mod PrivateNames
 pub mod PrivateRefusals

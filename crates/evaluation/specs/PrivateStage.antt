@@ -1,5 +1,5 @@
 -- Parts of a stage's step: what each of them answers.
-use Rattle.std.specs.Prelude.{◌||◌, ℕ, List, ◌++◌, None, Result, Ok}
+use Rattle.std.specs.Prelude.{◌||◌, ℕ, List, [], ◌++◌, None, Result, Ok}
 use Rattle.plain.specs.declared.fault.Fault.{Fault}
 use Rattle.expand.specs.declared.reason.Rejection.{Rejection}
 use Rattle.rows.specs.declared.row.Origin.{Origin}
@@ -22,6 +22,10 @@ use Rattle.evaluation.specs.declared.state.State.{State}
 -- what an instruction of this line answers
 unfoldable pub IsDone : Values → Values → State → InstructionKind → List Origin → ℕ → Result Done (Fault Rejection) → Type 0
 IsDone args outer s kind origins line result = EvaluatesTo (done args outer s kind origins) (due args s kind) (fault args s kind) line result
+
+-- a stage at its beginning, with these images named
+abbrev pub begun_with : State → ImageNames → Progress
+begun_with state names = record { state = state; steps = []; names = names }
 
 -- a stage of these steps, with what an instruction of this line left and did
 abbrev pub put_to : List Step → ImageNames → ℕ → Done → Progress

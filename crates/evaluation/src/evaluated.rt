@@ -181,7 +181,7 @@ fn evaluate_needed(
         outer: &outer,
         images: &images,
     };
-    match evaluate_stages(alloc, &given, needed, stages.into_vec()) {
+    match evaluate_stages(alloc, &given, needed, target, stages.into_vec()) {
         Ok(walk) => make(alloc, walk, images, context, target),
         Err(fault) => {
             drop(images);

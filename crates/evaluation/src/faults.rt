@@ -5,13 +5,16 @@ ghost use Rattle.scopes.specs.Scope.{value_in};
 ghost use Rattle.stages.specs.Needed.{AreNeeded};
 ghost use Rattle.evaluation.specs.Faults.{leaves_nothing, is_base_lost, with_refused, AreTableFaults};
 ghost use Rattle.evaluation.specs.Stages.{with_none};
-ghost use Rattle.evaluation.specs.PrivateFaults.{IsNeededJudged, IsJudged, AreJudged};
+ghost use Rattle.evaluation.specs.PrivateFaults.{IsOpenedJudged, IsNeededJudged, IsJudged, AreJudged, AreAllJudged};
+ghost use Rattle.evaluation.specs.PrivateKept.{is_wanted, state_if};
 ghost use Rattle.evaluation.specs.PrivateNames.{AreWhole};
 
 use crate::given::Given;
 use crate::names::NamedImages;
+use crate::opening::{Opened, open};
 use crate::stage::Progress;
 use crate::state::State;
+use crate::users::Users;
 use crate::walk::{Walk, end_stage, evaluate_stage, is_marked, skip_stage};
 use expand::Rejection;
 use imageconfig::Config;
@@ -106,17 +109,18 @@ fn accept_stage(
     line: u32,
     base: Origin,
     progress: Progress,
+    is_wanted: bool,
 ) -> Result<Judged, Memory>
     ensures { IfOk result (λ more. more ≡ record {
       walk = record {
         rows = rows ++ SomeOf (record { line = line; base = base; steps = progress.steps }) ∷ [];
-        states = states ++ SomeOf progress.state ∷ [];
+        states = states ++ state_if is_wanted progress.state ∷ [];
         names = progress.names;
       };
       faults = faults;
     }) }
 {
-    match end_stage(rows, states, line, base, progress) {
+    match end_stage(rows, states, line, base, progress, is_wanted) {
         Ok(walk) => Ok(Judged { walk, faults }),
         Err(_) => {
             drop(faults);
@@ -125,17 +129,19 @@ fn accept_stage(
     }
 }
 
-/// What was judged so far, with one stage more that is needed and doesn't begin with a lost one.
-fn judge_needed_stage(
+/// What was judged so far, with one stage more that has begun.
+fn judge_opened(
     alloc: Global,
     given: &Given,
-    judged: Judged,
+    users: &Users,
+    opened: Opened,
+    faults: Items<Rejection>,
     stage: ResolvedStage,
 ) -> Result<Judged, Memory>
     requires { AreWhole stage }
-    ensures { IsNeededJudged (arg_value given.now.args.now) (value_in given.now.outer.now) given.now.images.now judged stage result }
+    ensures { IsOpenedJudged (arg_value given.now.args.now) (value_in given.now.outer.now) (is_wanted users.now) opened faults stage result }
 {
-    let Judged { walk, faults } = judged;
+    let Opened { walk, state } = opened;
     let Walk {
         rows,
         states,
@@ -146,16 +152,20 @@ fn judge_needed_stage(
         base,
         instructions,
     } = stage;
+    let number = rows.len();
     match evaluate_stage(
         alloc,
         given,
-        states.as_slice(),
+        state,
         names,
         line,
         &base,
         instructions.into_vec(),
     ) {
-        Ok(progress) => accept_stage(rows, states, faults, line, base, progress),
+        Ok(progress) => {
+            let is_wanted = users.is_wanted(number, number);
+            accept_stage(rows, states, faults, line, base, progress, is_wanted)
+        }
         Err(Fault::Because(refusal)) => {
             drop(base);
             refuse_stage(alloc, rows, states, faults, refusal)
@@ -170,16 +180,39 @@ fn judge_needed_stage(
     }
 }
 
+/// What was judged so far, with one stage more that is needed and doesn't begin with a lost one.
+fn judge_needed_stage(
+    alloc: Global,
+    given: &Given,
+    users: &Users,
+    judged: Judged,
+    stage: ResolvedStage,
+) -> Result<Judged, Memory>
+    requires { AreWhole stage }
+    ensures { IsNeededJudged (arg_value given.now.args.now) (value_in given.now.outer.now) given.now.images.now (is_wanted users.now) judged stage result }
+{
+    let Judged { walk, faults } = judged;
+    match open(alloc, given.images, users, walk, &stage.base) {
+        Ok(opened) => judge_opened(alloc, given, users, opened, faults, stage),
+        Err(memory) => {
+            drop(faults);
+            drop(stage);
+            Err(memory)
+        }
+    }
+}
+
 /// What was judged so far, with one stage more, which is left out if it isn't needed or begins with a lost one.
 fn judge_stage(
     alloc: Global,
     given: &Given,
     needed: &[bool],
+    users: &Users,
     judged: Judged,
     stage: ResolvedStage,
 ) -> Result<Judged, Memory>
     requires { AreWhole stage }
-    ensures { IsJudged (arg_value given.now.args.now) (value_in given.now.outer.now) given.now.images.now needed.now judged stage result }
+    ensures { IsJudged (arg_value given.now.args.now) (value_in given.now.outer.now) given.now.images.now needed.now (is_wanted users.now) judged stage result }
 {
     let is_lost = is_base_lost(needed, judged.walk.states.as_slice(), &stage.base);
     if is_lost {
@@ -187,21 +220,22 @@ fn judge_stage(
         return leave_out(judged);
     }
     if is_marked(needed, judged.walk.rows.len()) {
-        return judge_needed_stage(alloc, given, judged, stage);
+        return judge_needed_stage(alloc, given, users, judged, stage);
     }
     drop(stage);
     leave_out(judged)
 }
 
 /// The refusals of the stages one after another.
-fn judge_stages(
+fn judge_in_turn(
     alloc: Global,
     given: &Given,
     needed: &[bool],
+    users: &Users,
     stages: Vec<ResolvedStage>,
 ) -> Result<Items<Rejection>, Memory>
     requires { All AreWhole stages.items }
-    ensures { AreJudged (arg_value given.now.args.now) (value_in given.now.outer.now) given.now.images.now needed.now stages.items result }
+    ensures { AreJudged (arg_value given.now.args.now) (value_in given.now.outer.now) given.now.images.now needed.now (is_wanted users.now) stages.items result }
 {
     let mut judged = Judged {
         walk: Walk {
@@ -212,7 +246,7 @@ fn judge_stages(
         faults: Items::new(alloc),
     };
     for stage in stages {
-        match judge_stage(alloc, given, needed, judged, stage) {
+        match judge_stage(alloc, given, needed, users, judged, stage) {
             Ok(more) => judged = more,
             Err(memory) => return Err(memory),
         }
@@ -220,6 +254,26 @@ fn judge_stages(
     let Judged { walk, faults } = judged;
     drop(walk);
     Ok(faults)
+}
+
+/// The refusals of the stages of a file. What a stage leaves is kept while a later one begins with it.
+fn judge_stages(
+    alloc: Global,
+    given: &Given,
+    needed: &[bool],
+    target: u32,
+    stages: Vec<ResolvedStage>,
+) -> Result<Items<Rejection>, Memory>
+    requires { All AreWhole stages.items }
+    ensures { AreAllJudged (arg_value given.now.args.now) (value_in given.now.outer.now) given.now.images.now needed.now stages.items result }
+{
+    match Users::of(alloc, needed, stages.as_slice(), target) {
+        Ok(users) => judge_in_turn(alloc, given, needed, &users, stages),
+        Err(memory) => {
+            drop(stages);
+            Err(memory)
+        }
+    }
 }
 
 /// The refusals of a table of which just these stages are needed.
@@ -233,13 +287,13 @@ fn list_needed(
     requires { AreNeeded table.stages table.target needed.now }
     ensures { IfOk result (λ faults. AreTableFaults images.now (arg_value args.now) table faults) }
 {
-    let (outer, stages, _) = table.into_parts();
+    let (outer, stages, target) = table.into_parts();
     let given = Given {
         args,
         outer: &outer,
         images,
     };
-    judge_stages(alloc, &given, needed, stages.into_vec())
+    judge_stages(alloc, &given, needed, target, stages.into_vec())
 }
 
 /// Lists of each stage that a table's target needs the refusal of its first line that is refused, in the order of the stages (own).

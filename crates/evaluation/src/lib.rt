@@ -25,9 +25,11 @@ mod given;
 mod instruction;
 pub mod laws;
 mod names;
+mod opening;
 mod sources;
 mod stage;
 mod state;
+mod users;
 mod walk;
 
 pub use evaluated::{Evaluated, evaluate};

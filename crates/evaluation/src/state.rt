@@ -3,7 +3,7 @@ ghost use Rattle.std.specs.List.{All};
 ghost use Rattle.scopes.specs.Evaluate.{declaration_of};
 ghost use Rattle.scopes.specs.Scope.{kept};
 ghost use Rattle.stages.specs.declared.stage.ResolvedStage.{ResolvedStage as Resolved};
-ghost use Rattle.evaluation.specs.State.{bare_state, image_state, stage_state, source_state, start};
+ghost use Rattle.evaluation.specs.State.{bare_state, image_state, stage_state, source_state};
 ghost use Rattle.evaluation.specs.PrivateNames.{IsProperSource, IsProperBase};
 
 use imageconfig::Config;
@@ -26,7 +26,7 @@ pub struct State {
 
 impl State {
     /// What a stage from the empty tree begins with.
-    fn bare(alloc: Global) -> Result<State, Memory>
+    pub(crate) fn bare(alloc: Global) -> Result<State, Memory>
         ensures { IfOk result (λ state. state ≡ bare_state) }
     {
         let config = Config::plain(alloc)?;
@@ -50,7 +50,7 @@ impl State {
     }
 
     /// What a stage from a stage that leaves this begins with.
-    fn child(&self, alloc: Global) -> Result<State, Memory>
+    pub(crate) fn child(&self, alloc: Global) -> Result<State, Memory>
         ensures { IfOk result (λ state. state ≡ stage_state self.now) }
     {
         let scope = self.scope.copy(alloc)?;
@@ -61,6 +61,16 @@ impl State {
                 Err(memory)
             }
         }
+    }
+
+    /// The same where what the stage leaves is handed over, and not copied.
+    pub(crate) fn into_child(self) -> State
+        ensures { result ≡ stage_state self }
+    {
+        let State { scope, config } = self;
+        let mut config = config;
+        config.cmd_is_own = false;
+        State { scope, config }
     }
 }
 
@@ -80,7 +90,11 @@ fn inherited(alloc: Global, variables: &[Variable]) -> Result<Scope, Memory>
 
 /// What a stage from a source begins with. No stage is from the context, and `stages` refuses an image that isn't there: both begin with
 /// nothing here, so that the call is total.
-fn begin_source(alloc: Global, images: &Images<Config>, source: &Source) -> Result<State, Memory>
+pub(crate) fn begin_source(
+    alloc: Global,
+    images: &Images<Config>,
+    source: &Source,
+) -> Result<State, Memory>
     ensures { IfOk result (λ state. state ≡ source_state images.now source.now) }
 {
     match source {
@@ -88,26 +102,6 @@ fn begin_source(alloc: Global, images: &Images<Config>, source: &Source) -> Resu
         Source::Context => State::bare(alloc),
         Source::Image(name) => match images.find(name) {
             Some(image) => State::from_image(alloc, &image.config),
-            None => State::bare(alloc),
-        },
-    }
-}
-
-/// What a stage begins with, after stages that left these states. A stage that a needed one is from is needed and stands before it, so the
-/// cases without a state don't come.
-pub(crate) fn begin(
-    alloc: Global,
-    images: &Images<Config>,
-    states: &[Option<State>],
-    base: &Origin,
-) -> Result<State, Memory>
-    ensures { IfOk result (λ state. state ≡ start images.now states.now base.now) }
-{
-    match base {
-        Origin::Source(source) => begin_source(alloc, images, source),
-        Origin::Stage(number) => match states.get(*number as usize) {
-            Some(Some(state)) => state.child(alloc),
-            Some(None) => State::bare(alloc),
             None => State::bare(alloc),
         },
     }

@@ -8,21 +8,24 @@ ghost use Rattle.scopes.specs.Scope.{value_in};
 ghost use Rattle.evaluation.specs.Stages.{with_none};
 ghost use Rattle.evaluation.specs.PrivateNames.{AreWhole};
 ghost use Rattle.evaluation.specs.PrivateStage.{AreNext};
-ghost use Rattle.evaluation.specs.PrivateWalk.{AreFew, AreNamed, begun_with, IsEnded, IsWalk, IsStageAdded, IsNextStage, AreStages};
+ghost use Rattle.evaluation.specs.PrivateKept.{is_wanted, state_if, AreKept};
+ghost use Rattle.evaluation.specs.PrivateWalk.{AreFew, AreNamed, IsEnded, IsWalk, IsOpenedAdded, IsStageAdded, IsNextStage, AreStages};
 
 use crate::given::Given;
 use crate::names::NamedImages;
+use crate::opening::{Opened, open};
 use crate::stage::{Progress, evaluate_instructions, many_images};
-use crate::state::{State, begin};
+use crate::state::State;
+use crate::users::Users;
 use expand::RejectionFault;
-use imageconfig::Config;
 use plain::{Fault, Items, Memory};
-use plans::Images;
 use rows::{Origin, Stage, Step};
 use stages::{ResolvedInstruction, ResolvedStage};
 use std::alloc::Global;
 
 /// The stages so far: their rows, what each leaves, and the images that they name; `None` for a stage that isn't needed.
+///
+/// While they are evaluated, what a stage leaves is let go where it isn't wanted any more, and `None` stands there too.
 #[derive(Drop)]
 pub struct Walk {
     pub rows: Items<Option<Stage>>,
@@ -60,66 +63,30 @@ fn name_base(
     }
 }
 
-/// What a stage begins with, after stages that left these states.
-fn begin_stage(
-    alloc: Global,
-    images: &Images<Config>,
-    states: &[Option<State>],
-    names: NamedImages,
-    base: &Origin,
-) -> Result<Progress, Memory>
-    ensures { IfOk result (λ progress. progress ≡ begun_with images.now states.now base.now names) }
-{
-    match begin(alloc, images, states, base) {
-        Ok(state) => Ok(Progress {
-            state,
-            steps: Items::new(alloc),
-            names,
-        }),
-        Err(memory) => {
-            drop(names);
-            Err(memory)
-        }
-    }
-}
-
-/// What a stage's instructions leave and do, after stages that left these states, with its FROM's image among the names.
-fn evaluate_begun(
-    alloc: Global,
-    given: &Given,
-    states: &[Option<State>],
-    names: NamedImages,
-    base: &Origin,
-    instructions: Vec<ResolvedInstruction>,
-) -> Result<Progress, RejectionFault>
-    requires { All (λ (r : Resolved). IsInstruction r.instruction.kind) instructions.items }
-    ensures { AreNext (arg_value given.now.args.now) (value_in given.now.outer.now) (begun_with given.now.images.now states.now base.now names) instructions.items result }
-{
-    match begin_stage(alloc, given.images, states, names, base) {
-        Ok(progress) => evaluate_instructions(alloc, given, progress, instructions),
-        Err(_) => {
-            drop(instructions);
-            Err(Fault::Memory)
-        }
-    }
-}
-
-/// What a stage's instructions leave and do, after stages that left these states.
+/// What a stage's instructions leave and do, after what it begins with.
 pub(crate) fn evaluate_stage(
     alloc: Global,
     given: &Given,
-    states: &[Option<State>],
+    state: State,
     names: NamedImages,
     line: u32,
     base: &Origin,
     instructions: Vec<ResolvedInstruction>,
 ) -> Result<Progress, RejectionFault>
     requires { All (λ (r : Resolved). IsInstruction r.instruction.kind) instructions.items }
-    ensures { IsEnded (arg_value given.now.args.now) (value_in given.now.outer.now) given.now.images.now states.now names line base.now instructions.items result }
+    ensures { IsEnded (arg_value given.now.args.now) (value_in given.now.outer.now) state names line base.now instructions.items result }
 {
     match name_base(alloc, names, base, line) {
-        Ok(names) => evaluate_begun(alloc, given, states, names, base, instructions),
+        Ok(names) => {
+            let begun = Progress {
+                state,
+                steps: Items::new(alloc),
+                names,
+            };
+            evaluate_instructions(alloc, given, begun, instructions)
+        }
         Err(fault) => {
+            drop(state);
             drop(instructions);
             Err(fault)
         }
@@ -145,12 +112,26 @@ fn push_row(
     }
 }
 
+/// What a stage leaves, if it is wanted.
+fn state_if(is_wanted: bool, state: State) -> Option<State>
+    ensures { result ≡ state_if is_wanted state }
+{
+    if is_wanted {
+        return Some(state);
+    }
+    drop(state);
+    None
+}
+
 /// What the stages so far leave, and what one more leaves.
-fn push_state(states: Items<Option<State>>, state: State) -> Result<Items<Option<State>>, Memory>
-    ensures { IfOk result (λ more. more ≡ states ++ SomeOf state ∷ []) }
+fn push_state(
+    states: Items<Option<State>>,
+    state: Option<State>,
+) -> Result<Items<Option<State>>, Memory>
+    ensures { IfOk result (λ more. more ≡ states ++ state ∷ []) }
 {
     let mut states = states;
-    match states.push(Some(state)) {
+    match states.push(state) {
         Ok(()) => Ok(states),
         Err(memory) => {
             drop(states);
@@ -163,10 +144,10 @@ fn push_state(states: Items<Option<State>>, state: State) -> Result<Items<Option
 fn end_walk(
     rows: Items<Option<Stage>>,
     states: Items<Option<State>>,
-    state: State,
+    state: Option<State>,
     names: NamedImages,
 ) -> Result<Walk, RejectionFault>
-    ensures { IsWalk rows (states ++ SomeOf state ∷ []) names result }
+    ensures { IsWalk rows (states ++ state ∷ []) names result }
 {
     match push_state(states, state) {
         Ok(states) => Ok(Walk {
@@ -189,14 +170,16 @@ pub(crate) fn end_stage(
     line: u32,
     base: Origin,
     progress: Progress,
+    is_wanted: bool,
 ) -> Result<Walk, RejectionFault>
-    ensures { IsWalk (rows ++ SomeOf (record { line = line; base = base; steps = progress.steps }) ∷ []) (states ++ SomeOf progress.state ∷ []) progress.names result }
+    ensures { IsWalk (rows ++ SomeOf (record { line = line; base = base; steps = progress.steps }) ∷ []) (states ++ state_if is_wanted progress.state ∷ []) progress.names result }
 {
     let Progress {
         state,
         steps,
         names,
     } = progress;
+    let state = state_if(is_wanted, state);
     match push_row(rows, line, base, steps) {
         Ok(rows) => end_walk(rows, states, state, names),
         Err(_) => {
@@ -208,16 +191,18 @@ pub(crate) fn end_stage(
     }
 }
 
-/// The stages so far, with one more that is needed.
-fn evaluate_needed_stage(
+/// The stages so far, with one more that has begun.
+fn evaluate_opened(
     alloc: Global,
     given: &Given,
-    walk: Walk,
+    users: &Users,
+    opened: Opened,
     stage: ResolvedStage,
 ) -> Result<Walk, RejectionFault>
     requires { AreWhole stage }
-    ensures { IsStageAdded (arg_value given.now.args.now) (value_in given.now.outer.now) given.now.images.now walk stage result }
+    ensures { IsOpenedAdded (arg_value given.now.args.now) (value_in given.now.outer.now) (is_wanted users.now) opened stage result }
 {
+    let Opened { walk, state } = opened;
     let Walk {
         rows,
         states,
@@ -228,21 +213,45 @@ fn evaluate_needed_stage(
         base,
         instructions,
     } = stage;
+    let number = rows.len();
     match evaluate_stage(
         alloc,
         given,
-        states.as_slice(),
+        state,
         names,
         line,
         &base,
         instructions.into_vec(),
     ) {
-        Ok(progress) => end_stage(rows, states, line, base, progress),
+        Ok(progress) => {
+            let is_wanted = users.is_wanted(number, number);
+            end_stage(rows, states, line, base, progress, is_wanted)
+        }
         Err(fault) => {
             drop(rows);
             drop(states);
             drop(base);
             Err(fault)
+        }
+    }
+}
+
+/// The stages so far, with one more that is needed.
+fn evaluate_needed_stage(
+    alloc: Global,
+    given: &Given,
+    users: &Users,
+    walk: Walk,
+    stage: ResolvedStage,
+) -> Result<Walk, RejectionFault>
+    requires { AreWhole stage }
+    ensures { IsStageAdded (arg_value given.now.args.now) (value_in given.now.outer.now) given.now.images.now (is_wanted users.now) walk stage result }
+{
+    match open(alloc, given.images, users, walk, &stage.base) {
+        Ok(opened) => evaluate_opened(alloc, given, users, opened, stage),
+        Err(_) => {
+            drop(stage);
+            Err(Fault::Memory)
         }
     }
 }
@@ -283,14 +292,15 @@ fn evaluate_next_stage(
     alloc: Global,
     given: &Given,
     needed: &[bool],
+    users: &Users,
     walk: Walk,
     stage: ResolvedStage,
 ) -> Result<Walk, RejectionFault>
     requires { AreWhole stage }
-    ensures { IsNextStage (arg_value given.now.args.now) (value_in given.now.outer.now) given.now.images.now needed.now walk stage result }
+    ensures { IsNextStage (arg_value given.now.args.now) (value_in given.now.outer.now) given.now.images.now needed.now (is_wanted users.now) walk stage result }
 {
     if is_marked(needed, walk.rows.len()) {
-        return evaluate_needed_stage(alloc, given, walk, stage);
+        return evaluate_needed_stage(alloc, given, users, walk, stage);
     }
     drop(stage);
     match skip_stage(walk) {
@@ -300,14 +310,15 @@ fn evaluate_next_stage(
 }
 
 /// The needed stages one after another, up to the first line that is refused.
-pub(crate) fn evaluate_stages(
+fn evaluate_in_turn(
     alloc: Global,
     given: &Given,
     needed: &[bool],
+    users: &Users,
     stages: Vec<ResolvedStage>,
 ) -> Result<Walk, RejectionFault>
     requires { All AreWhole stages.items }
-    ensures { AreStages (arg_value given.now.args.now) (value_in given.now.outer.now) given.now.images.now needed.now stages.items result }
+    ensures { AreStages (arg_value given.now.args.now) (value_in given.now.outer.now) given.now.images.now needed.now (is_wanted users.now) stages.items result }
 {
     let mut walk = Walk {
         rows: Items::new(alloc),
@@ -315,10 +326,31 @@ pub(crate) fn evaluate_stages(
         names: NamedImages::new(alloc),
     };
     for stage in stages {
-        match evaluate_next_stage(alloc, given, needed, walk, stage) {
+        match evaluate_next_stage(alloc, given, needed, users, walk, stage) {
             Ok(more) => walk = more,
             Err(fault) => return Err(fault),
         }
     }
     Ok(walk)
+}
+
+/// The needed stages of a file, up to the first line that is refused. What a stage leaves is kept while a later one begins with it, and what
+/// the target leaves to the end.
+pub(crate) fn evaluate_stages(
+    alloc: Global,
+    given: &Given,
+    needed: &[bool],
+    target: u32,
+    stages: Vec<ResolvedStage>,
+) -> Result<Walk, RejectionFault>
+    requires { All AreWhole stages.items }
+    ensures { AreKept (arg_value given.now.args.now) (value_in given.now.outer.now) given.now.images.now needed.now target stages.items result }
+{
+    match Users::of(alloc, needed, stages.as_slice(), target) {
+        Ok(users) => evaluate_in_turn(alloc, given, needed, &users, stages),
+        Err(_) => {
+            drop(stages);
+            Err(Fault::Memory)
+        }
+    }
 }

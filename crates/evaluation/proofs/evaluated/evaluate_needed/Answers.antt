@@ -29,7 +29,7 @@ returns-in-Ok-clause-whole c =
 
 pub returns-clause-answers : goal.returns-clause-answers
 returns-clause-answers c =
-    answers_reported (get c.args.args.now) c.args.images c.args.context c.args.table _ _ _ c.in-Err.fault
+    answers_reported (get c.args.args.now) c.args.images c.args.context c.args.table _ _ _ _ c.in-Err.fault
     c.into_parts-outer.ensures.outer (c.into_vec.ensures ∙ c.into_parts-outer.ensures.stages) c.requires c.in-Err.ensures
 
 pub returns-clause-whole : goal.returns-clause-whole

@@ -1,23 +1,8 @@
-use Rattle.std.proofs.Common.{sym, ◌∙◌}
-use Rattle.evaluation.specs.PrivateNames.{AreWhole}
-use Rattle.evaluation.proofs.WalkFacts.{stages_first, stages_more, stages_refused, stages_all, stage_is}
+use Rattle.evaluation.proofs.WalkFacts.{all_kept, kept_none}
 use Rattle.evaluation.proofs.walk.evaluate_stages.Goals as goal
 
-pub loop-stage-init : goal.loop-stage-init
-loop-stage-init c = stages_first _ _ _ _ _ _ (cc)
-
-pub evaluate_next_stage-requires : goal.evaluate_next_stage-requires
-evaluate_next_stage-requires c =
-    stage_is AreWhole _ _ _ _ _ _ _ _ c.in-Some.stage _ c.loop-stage.invariant c.in-Some.ensures.steps.0
-    c.into_iter-stage-iterator.ensures.into_iter_gives.0 c.requires
-
-pub loop-stage-preserved : goal.loop-stage-preserved
-loop-stage-preserved c = stages_more _ _ _ _ _ _ _ c.in-Some.stage _ c.in-Ok.more c.loop-stage.invariant c.in-Some.ensures.steps.0 c.in-Ok.ensures
+pub returns-in-Ok : goal.returns-in-Ok
+returns-in-Ok c = all_kept _ _ _ _ _ _ _ _ c.evaluate_in_turn.result c.as_slice.ensures.value c.in-Ok.ensures c.evaluate_in_turn.ensures
 
 pub returns-in-Err : goal.returns-in-Err
-returns-in-Err c = stages_refused _ _ _ _ _ _ _ _ c.in-Some.stage _ c.in-Err.fault c.loop-stage.invariant c.in-Some.ensures.steps.0
-    c.into_iter-stage-iterator.ensures.into_iter_gives.0 c.in-Err.ensures
-
-pub returns : goal.returns
-returns c = stages_all _ _ _ _ _ _ _ _ c.loop-stage.invariant (sym c.loop-stage.stage-iterator.rest.ok.0 ∙ c.in-None.ensures.steps.0)
-    c.into_iter-stage-iterator.ensures.into_iter_gives.0
+returns-in-Err c = kept_none _ _ _ _ _ _

@@ -1,8 +1,0 @@
-use Rattle.std.specs.FinMap.{get}
-use Rattle.scopes.specs.Scope.{value_in}
-use Rattle.evaluation.proofs.WalkFacts.{StagesSoFar}
-use Rattle.evaluation.proofs.walk.evaluate_stages.Given as goal
-
-abbrev pub invariant-loop-stage : goal.invariant-loop-stage
-invariant-loop-stage l =
-    StagesSoFar (get l.given.args.now) (value_in l.given.outer.now) l.given.images.now l.needed l.initial.stage-iterator.rest.items l.stage-iterator.rest.items l.walk
