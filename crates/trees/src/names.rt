@@ -189,13 +189,22 @@ fn grow(rows: &mut Vec<(Text, Node)>) -> Result<(), Memory>
     Ok(())
 }
 
-/// Where a name stands among names that rise, or where it would stand.
+/// Where a name stands among names that rise, or where it would stand. The first row is looked at first: what places many names mostly
+/// places the last first, and then each of them stands or goes there.
 fn find(rows: &[(Text, Node)], name: &Text) -> Result<usize, usize>
     requires { is_sorted name_cmp rows.now ≡ true }
     ensures stands { IfOk result (λ at. StandsAt name.now rows.now at) }
     ensures absent { IfErr result (λ at. GoesAt name.now rows.now at) }
 {
-    let mut low = 0;
+    let Some(first) = rows.first() else {
+        return Err(0);
+    };
+    match name.cmp(&first.0) {
+        Ordering::Less => return Err(0),
+        Ordering::Equal => return Ok(0),
+        Ordering::Greater => {}
+    }
+    let mut low = 1;
     let mut high = rows.len();
     'seeking: while low < high {
         let middle = low + (high - low) / 2;
