@@ -2,4 +2,5 @@ mod CutLaws
 pub mod FrontLaws
 pub mod PathLaws
 pub mod ReadingLaws
+mod SpelledLaws
 mod WalkLaws

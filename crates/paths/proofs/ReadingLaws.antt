@@ -157,7 +157,7 @@ onto_first-append : (b : ℕ) (ps qs : List (List ℕ)) → 0 < length ps → on
 onto_first-append b [] qs h = absurd (omega arith)
 onto_first-append b (p ∷ ps) qs h = refl
 
-some_pieces : (text : List ℕ) → 0 < length (pieces text)
+pub some_pieces : (text : List ℕ) → 0 < length (pieces text)
 some_pieces text = let e = length-slice_split (λ b. b == 47) text in omega arith
 
 cut-by : (b : ℕ) (ps qs : List (List ℕ)) → 0 < length ps → (e : Bool) → cond e ([] ∷ (ps ++ qs)) (onto_first b (ps ++ qs)) ≡ cond e ([] ∷ ps) (onto_first b ps) ++ qs
@@ -172,7 +172,7 @@ pieces-append (b ∷ front) rest =
 
 -- reading
 
-rooted-join : (c : List ℕ) (cs : List (List ℕ)) → c ++ rooted cs ≡ join_with_byte 47 (c ∷ cs)
+pub rooted-join : (c : List ℕ) (cs : List (List ℕ)) → c ++ rooted cs ≡ join_with_byte 47 (c ∷ cs)
 rooted-join c [] = append-nil c
 rooted-join c (d ∷ ds) = ap (λ x. c ++ (47 ∷ x)) (rooted-join d ds)
 

@@ -20,6 +20,7 @@ mod name;
 mod path;
 mod pieces;
 mod reading;
+mod spelled;
 
 pub use fault::{PathFault, PathLimit};
 pub use long::LongPath;
