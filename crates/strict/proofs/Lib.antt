@@ -1,2 +1,2 @@
 mod KeyFacts
-mod RootedFacts
+mod PathFacts

@@ -1,9 +1,8 @@
-ghost use Rattle.std.specs.Prelude.{◌≡◌, ◌≢◌, ◌∷◌, ◌++◌, ℕ, List, Some, MatchOption, bytes_eq, map, is_some};
+ghost use Rattle.std.specs.Prelude.{◌≡◌, bytes_eq, map, is_some};
 ghost use Rattle.std.specs.List.{list_any};
 ghost use Rattle.std.specs.Option.{option_and_then};
 ghost use Rattle.serde_json.specs.View.{view, members_view, items_view};
 ghost use Rattle.serde_json.specs.Find.{get};
-ghost use Rattle.paths.specs.Path.{rooted, text_of};
 ghost use Rattle.strict.specs.Gives.{Gives};
 ghost use Rattle.strict.specs.Strict.{has_only, strict, all_in, list_in, members_in, rows_in, path_in, path_of, short_number_in};
 
@@ -87,50 +86,12 @@ impl FromJson for Path {
 pub fn read_path(alloc: Global, text: &str) -> Result<Path, ReadFault>
     ensures { Gives result (path_of text.now) }
 {
-    match Path::read(alloc, text, &Path::root(alloc)) {
-        Ok(path) => {
-            if is_text_of(&path, text) {
-                Ok(path)
-            } else {
-                Err(Fault::Because(NotRead))
-            }
+    match Path::from_text(alloc, text)? {
+        Some(path) => {
+            let _clean = path.components();
+            Ok(path)
         }
-        Err(Fault::Memory) => Err(Fault::Memory),
-        Err(Fault::Because(_)) => Err(Fault::Because(NotRead)),
-    }
-}
-
-/// Whether a text is that of a path. It makes no text of the path: lists of files have many paths.
-fn is_text_of(path: &Path, text: &str) -> bool
-    ensures { result ≡ bytes_eq (text_of path.now) text.now }
-{
-    match path.components() {
-        [] => text == "/",
-        names => is_rooted(names, text.as_bytes()),
-    }
-}
-
-/// Whether a text is these names with a slash before each.
-fn is_rooted(names: &[Text], text: &[u8]) -> bool
-    ensures { result ≡ bytes_eq (rooted names.now) text.now }
-{
-    let mut rest = text;
-    for name in names {
-        match behind(rest, name.as_str().as_bytes()) {
-            Some(more) => rest = more,
-            None => return false,
-        }
-    }
-    rest.is_empty()
-}
-
-/// What stands in a text behind a slash and a name, if it begins with these.
-fn behind<'a>(text: &'a [u8], name: &[u8]) -> Option<&'a [u8]>
-    ensures { MatchOption result ((rest : List ℕ) → text.now ≢ 47 ∷ (name.now ++ rest)) (λ rest. text.now ≡ 47 ∷ (name.now ++ rest.now)) }
-{
-    match text.strip_prefix(b"/") {
-        Some(rest) => rest.strip_prefix(name),
-        None => None,
+        None => Err(Fault::Because(NotRead)),
     }
 }
 
