@@ -2,5 +2,6 @@ pub mod SeenFacts
 pub mod PulledFacts
 pub mod LookFacts
 pub mod PutFacts
+mod FewDigits
 mod NumberFacts
 mod RowFacts

@@ -1,4 +1,5 @@
-ghost use Rattle.std.specs.Prelude.{◌≡◌, true, false, option_map};
+ghost use Rattle.std.specs.Prelude.{◌≡◌, ◌<◌, ◌^◌, true, false, option_map, IfSome};
+ghost use Rattle.std.specs.Str.Parse.{IsNumeral, digits_value};
 ghost use Rattle.serde_json.specs.View.{number_view};
 ghost use Rattle.serde_json.specs.Read.{number_of, number_from, float_of};
 ghost use Rattle.strict.specs.Strict.{number_in};
@@ -8,14 +9,38 @@ use fast_float::Numeral;
 use json::Value;
 use serde_json::Number;
 
+/// The most digits that are read without a search for a point and an exponent. No number of so few is out of range.
+const FEW_DIGITS: usize = 18;
+
 /// The number that a text writes, where it is in range.
 pub(crate) fn read_number(text: &str) -> Option<Number>
     ensures { option_map number_view result ≡ number_of text.now }
 {
-    match text.as_bytes().strip_prefix(b"-") {
-        Some(digits) => read_negative(&Numeral::scan(digits)),
-        None => read_positive(&Numeral::scan(text.as_bytes())),
+    let bytes = text.as_bytes();
+    if let Some(whole) = read_few_digits(bytes) {
+        return Some(Number::from(whole));
     }
+    match bytes.strip_prefix(b"-") {
+        Some(digits) => read_negative(&Numeral::scan(digits)),
+        None => read_positive(&Numeral::scan(bytes)),
+    }
+}
+
+/// The whole number of a text that is a few digits, as most numbers are.
+fn read_few_digits(text: &[u8]) -> Option<u64>
+    ensures { IfSome result (λ whole. IsNumeral 10 text.now × (whole ≡ digits_value 10 text.now) × (whole < 2 ^ 64)) }
+{
+    if text.is_empty() || text.len() > FEW_DIGITS {
+        return None;
+    }
+    let mut whole = 0;
+    for byte in text {
+        if !byte.is_ascii_digit() {
+            return None;
+        }
+        whole = whole * 10 + (*byte - b'0') as u64;
+    }
+    Some(whole)
 }
 
 /// The number of a numeral without a sign.
