@@ -4,6 +4,7 @@ mod Characters
 mod PlainNames
 mod Endings
 mod Beginnings
+mod Ends
 mod Texts
 mod Spelling
 mod Relating

@@ -52,3 +52,11 @@ HasFront parts front = (name : List ℕ) → RelatesToName parts name → (rest 
 -- each name that a pattern relates to begins with a byte
 abbrev pub BeginsWith : List Part → ℕ → Type 0
 BeginsWith parts byte = HasFront parts (byte ∷ [])
+
+-- each name that a pattern relates to ends with these bytes
+abbrev pub HasEnd : List Part → List ℕ → Type 0
+HasEnd parts end = (name : List ℕ) → RelatesToName parts name → (front : List ℕ) × (name ≡ front ++ end)
+
+-- each name that a pattern relates to ends with a byte
+abbrev pub EndsWith : List Part → ℕ → Type 0
+EndsWith parts byte = HasEnd parts (byte ∷ [])

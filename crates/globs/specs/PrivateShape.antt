@@ -19,4 +19,11 @@ abbrev pub parts_in : List ℕ → Shape → List Part
 parts_in front Plain = plain_parts front
 parts_in front (Ending text) = ending_parts text
 parts_in front Beginning = beginning_parts front
-parts_in front (Parts parts) = parts
+parts_in front (Parts parts end) = parts
+
+-- what is known of the end of the names that it relates to
+abbrev pub ending_in : List ℕ → Shape → List ℕ
+ending_in front Plain = front
+ending_in front (Ending text) = text
+ending_in front Beginning = []
+ending_in front (Parts parts end) = end

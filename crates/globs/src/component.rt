@@ -1,11 +1,11 @@
-ghost use Rattle.std.specs.Prelude.{◌≡◌, ◌↔◌, ℕ, IsTrue, List, ◌∷◌, Some, IfOk, IfSome};
+ghost use Rattle.std.specs.Prelude.{◌≡◌, ◌↔◌, ℕ, IsTrue, List, [], ◌∷◌, ◌++◌, Some, IfOk, IfSome};
 ghost use Rattle.std.specs.Str.{chars};
-ghost use Rattle.globs.specs.Component.{RelatesToName, relates_to_name, plain_parts, RelatesOnlyTo, IsOnlyName, HasFront, BeginsWith};
+ghost use Rattle.globs.specs.Component.{RelatesToName, relates_to_name, plain_parts, RelatesOnlyTo, IsOnlyName, HasFront, BeginsWith, HasEnd, EndsWith};
 ghost use Rattle.globs.specs.Grammar.{is_spelled_out};
 ghost use Rattle.globs.specs.PrivateShape.{ending_parts, beginning_parts};
 ghost use Rattle.globs.specs.Reading.{parts_of};
 
-use crate::part::{Part, name_can_be_cut, plain_front};
+use crate::part::{Part, name_can_be_cut, plain_end, plain_front};
 use crate::reading::read_parts;
 use crate::text::{first_and_rest, last_and_front};
 use plain::{Items, Memory, Text};
@@ -30,21 +30,21 @@ pub(crate) enum Shape {
     Ending(Text),
     /// The text that stands in front, and a `*` behind it.
     Beginning,
-    /// These parts.
-    Parts(Items<Part>),
+    /// These parts, and what each name ends with that they relate to.
+    Parts(Items<Part>, Text),
 }
 
 impl Model for Component {
     ghost use Rattle.std.specs.Prelude.{List};
     ghost use Rattle.globs.specs.declared.part.Part.{Part};
-    ghost use Rattle.globs.specs.Component.{HasFront};
-    ghost use Rattle.globs.specs.PrivateShape.{parts_in};
+    ghost use Rattle.globs.specs.Component.{HasFront, HasEnd};
+    ghost use Rattle.globs.specs.PrivateShape.{parts_in, ending_in};
 
     ghost Value = { List Part };
 
     ghost view = { λ c. parts_in c.front c.shape };
 
-    ghost invariant = { λ c. HasFront (parts_in c.front c.shape) c.front };
+    ghost invariant = { λ c. HasFront (parts_in c.front c.shape) c.front × HasEnd (parts_in c.front c.shape) (ending_in c.front c.shape) };
 }
 
 /// Whether a pattern's text is spelled out: it has none of the signs `*`, `?`, `[` and `\`. Then it relates to the one path that it reads
@@ -81,6 +81,13 @@ fn is_beginning(own: &str, name: &str) -> bool
     ensures { IsTrue result ↔ RelatesToName (beginning_parts own.now) name.now }
 {
     name.starts_with(own)
+}
+
+/// Whether a name ends with a text.
+fn has_end(end: &str, name: &str) -> bool
+    ensures { IsTrue result ↔ ((front : List ℕ) × (name.now ≡ front ++ end.now)) }
+{
+    name.ends_with(end)
 }
 
 /// What stands behind the `*` that a pattern's text begins with, where that is spelled out; none for others.
@@ -123,6 +130,16 @@ fn first_byte(text: &str) -> Option<u8>
     }
 }
 
+/// The byte that a text ends with; none where it is empty.
+fn last_byte(text: &str) -> Option<u8>
+    ensures { IfSome result (λ byte. (front : List ℕ) × (text.now ≡ front ++ byte ∷ [])) }
+{
+    match text.as_bytes() {
+        [] => None,
+        [.., byte] => Some(*byte),
+    }
+}
+
 impl Component {
     /// The pattern that a component's text spells; none where it is malformed. The text has no `/`, else it relates to no name.
     pub fn read(alloc: Global, text: &str) -> Result<Option<Component>, Memory>
@@ -138,6 +155,8 @@ impl Component {
         if let Some(ending) = plain_ending(text) {
             let front = Text::from_str(alloc, "")?;
             let own = Text::from_str(alloc, ending)?;
+            // What `as_str` says of it: the ending is text.
+            let _ending = own.as_str();
             return Ok(Some(Component {
                 front,
                 shape: Shape::Ending(own),
@@ -155,9 +174,10 @@ impl Component {
         match read_parts(alloc, text)? {
             Some(parts) => {
                 let front = plain_front(alloc, parts.as_slice())?;
+                let end = plain_end(alloc, parts.as_slice())?;
                 Ok(Some(Component {
                     front,
-                    shape: Shape::Parts(parts),
+                    shape: Shape::Parts(parts, end),
                 }))
             }
             None => Ok(None),
@@ -172,7 +192,11 @@ impl Component {
             Shape::Plain => is_name(self.front.as_str(), name.as_str()),
             Shape::Ending(own) => is_ending(own.as_str(), name.as_str()),
             Shape::Beginning => is_beginning(self.front.as_str(), name.as_str()),
-            Shape::Parts(parts) => name_can_be_cut(parts.as_slice(), name.as_str()),
+            // Most names have another end, which is seen at once.
+            Shape::Parts(parts, end) => {
+                has_end(end.as_str(), name.as_str())
+                    && name_can_be_cut(parts.as_slice(), name.as_str())
+            }
         }
     }
 
@@ -187,7 +211,7 @@ impl Component {
                 let _text = self.front.as_str();
                 Some(&self.front)
             }
-            Shape::Ending(_) | Shape::Beginning | Shape::Parts(_) => None,
+            Shape::Ending(_) | Shape::Beginning | Shape::Parts(_, _) => None,
         }
     }
 
@@ -217,7 +241,27 @@ impl Component {
     {
         match &self.shape {
             Shape::Plain | Shape::Beginning => first_byte(self.front().as_str()),
-            Shape::Ending(_) | Shape::Parts(_) => None,
+            Shape::Ending(_) | Shape::Parts(_, _) => None,
         }
+    }
+
+    /// What each name ends with that the pattern relates to, as far as it is known.
+    fn ending(&self) -> &str
+        ensures { HasEnd self.now result.now }
+    {
+        match &self.shape {
+            Shape::Plain => self.front.as_str(),
+            Shape::Ending(own) => own.as_str(),
+            Shape::Beginning => "",
+            Shape::Parts(_, end) => end.as_str(),
+        }
+    }
+
+    /// The byte that each name ends with which the pattern relates to, where the pattern ends in a plain text; none for others. Whoever
+    /// compares many patterns with a name passes by most of them so. The contract says what the byte is, and not when there is one.
+    pub fn last_byte(&self) -> Option<u8>
+        ensures { IfSome result (λ byte. EndsWith self.now byte) }
+    {
+        last_byte(self.ending())
     }
 }

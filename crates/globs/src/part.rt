@@ -1,7 +1,7 @@
 ghost use Rattle.std.specs.Prelude.{◌≡◌, ◌↔◌, IsTrue, true, IfOk};
 ghost use Rattle.std.specs.Str.{chars};
 ghost use Rattle.globs.specs.Cut.{CanBeCut};
-ghost use Rattle.globs.specs.Component.{takes_any, holds, is_in, HasFront};
+ghost use Rattle.globs.specs.Component.{takes_any, holds, is_in, HasFront, HasEnd};
 ghost use Rattle.globs.specs.PrivateSearch.{IsFound};
 
 use crate::cut::{Fits, Found, from_last_run};
@@ -134,4 +134,18 @@ pub(crate) fn plain_front(alloc: Global, parts: &[Part]) -> Result<Text, Memory>
         }
     }
     Text::from_str(alloc, front.as_str())
+}
+
+/// The text that parts end with: their characters behind the last sign.
+pub(crate) fn plain_end(alloc: Global, parts: &[Part]) -> Result<Text, Memory>
+    ensures { IfOk result (λ end. HasEnd parts.now end) }
+{
+    let mut end = String::new(alloc);
+    for part in parts {
+        match part {
+            Part::Exactly(character) => end.push(*character)?,
+            Part::AnyRun | Part::AnyOne | Part::Class(_, _) => end.clear(),
+        }
+    }
+    Text::from_str(alloc, end.as_str())
 }
