@@ -11,7 +11,7 @@ use Rattle.ignorefile.specs.Kept.{Touches, TouchesAt, Kept, IsDeciding, LetsKeep
 use Rattle.ignorefile.specs.declared.positions.Positions.{Positions}
 use Rattle.ignorefile.specs.PrivateRanks.{RelatesAt, Member, AreInOrder, IsBest, IsVerdict, IsDecided, Lets}
 use Rattle.ignorefile.specs.PrivatePositions.{under}
-use Rattle.ignorefile.specs.PrivateIndex.{IsIndex, named, under_begin}
+use Rattle.ignorefile.specs.PrivateIndex.{IsIndex, IsFound, named, under_begin}
 use Rattle.ignorefile.proofs.Lines.{Holds}
 
 -- a list is empty or has a last element
@@ -55,36 +55,44 @@ module _ (lines : List Line) (entries : List (List ℕ × List ℕ)) (begins cou
   middle-miss n b r (inl m) = let l = second.least in first.miss n m (omega arith) r
   middle-miss n b r (inr m) = second.miss n m b r
 
-  pub verdict-root : length path < 1 → IsVerdict lines path above middle
-  verdict-root none = record {
-    least = let a = first.least in let b = second.least in omega arith;
-    hit = λ h. middle-hit h;
-    miss = λ n b r. elim (indexed lines entries begins counts others index path n r) [ inl m ↦ middle-miss n b r m | inr w ↦ snoc-nil w.0 w.1.0 (sym (empty path none) ∙ w.1.1.0) ];
+  -- with what is found by the last name
+  pub verdict-found : (rank : ℕ) → IsFound lines entries begins path middle rank → IsVerdict lines path above rank
+  verdict-found rank found = record {
+    least = let a = first.least in let b = second.least in let c = found.least in omega arith;
+    hit = λ h. later-hit lines path above middle rank found.least middle-hit found.hit h;
+    miss = λ n b r. elim (indexed lines entries begins counts others index path n r) [
+      | inl m ↦ let l = found.least in middle-miss n (omega arith) r m
+      | inr w ↦ found.miss w.0 w.1.0 w.1.1.0 n w.1.1.1 b r
+    ];
   }
-    where
-      empty : (p : List (List ℕ)) → length p < 1 → p ≡ []
-      empty [] h = refl
-      empty (x ∷ xs) h = absurd (omega arith)
 
+-- ---- what is found by a path's last name
+
+pub found-root : (lines : List Line) (entries : List (List ℕ × List ℕ)) (begins : Positions) (path : List (List ℕ)) (above : ℕ) → length path < 1 → IsFound lines entries begins path above above
+found-root lines entries begins path above none = record {
+  least = omega arith;
+  hit = λ h. absurd (omega arith);
+  miss = λ front last e n m b r. snoc-nil front last (sym (empty path none) ∙ e);
+}
+  where
+    empty : (p : List (List ℕ)) → length p < 1 → p ≡ []
+    empty [] h = refl
+    empty (x ∷ xs) h = absurd (omega arith)
+
+module _ (lines : List Line) (entries : List (List ℕ × List ℕ)) (begins : Positions) (path : List (List ℕ)) (above : ℕ) where
   same-last : (last : List ℕ) → 1 ≤ length path → last ≡ get_or path (length path - 1) last → (front : List (List ℕ)) (name : List ℕ) → path ≡ front ++ name ∷ [] → name ≡ last
   same-last last more is front name e = (same-ends is_deep Holds front (take (length path - 1) path) name last (sym e ∙ last-parts is_deep Holds path last more is)).1
 
-  module _ (last : List ℕ) (high rank : ℕ) (third : IsBest lines (under_begin begins last) path middle high) (fourth : IsBest lines (named entries last) path high rank) where
-    high-hit : above < high → RelatesAt lines path (high - 1)
-    high-hit h = later-hit lines path above middle high third.least middle-hit third.hit h
-
+  module _ (last : List ℕ) (high rank : ℕ) (first : IsBest lines (under_begin begins last) path above high) (second : IsBest lines (named entries last) path high rank) where
     last-miss : (n : ℕ) (name : List ℕ) → rank ≤ n → RelatesAt lines path n → IsUtf8 last → name ≡ last → Member n (under_begin begins name) ⊎ (IsUtf8 name → Member n (named entries name)) → ⊥
-    last-miss n name b r utf8 same (inl m) = let l = fourth.least in third.miss n (subst (Member n) (ap (under_begin begins) same) m) (omega arith) r
-    last-miss n name b r utf8 same (inr m) = fourth.miss n (subst (Member n) (ap (named entries) same) (m (subst IsUtf8 (sym same) utf8))) b r
+    last-miss n name b r utf8 same (inl m) = let l = second.least in first.miss n (subst (Member n) (ap (under_begin begins) same) m) (omega arith) r
+    last-miss n name b r utf8 same (inr m) = second.miss n (subst (Member n) (ap (named entries) same) (m (subst IsUtf8 (sym same) utf8))) b r
 
-    pub verdict-some : 1 ≤ length path → last ≡ get_or path (length path - 1) last → IsUtf8 last → IsVerdict lines path above rank
-    verdict-some more is utf8 = record {
-      least = let a = first.least in let b = second.least in let c = third.least in let d = fourth.least in omega arith;
-      hit = λ h. later-hit lines path above high rank fourth.least high-hit fourth.hit h;
-      miss = λ n b r. elim (indexed lines entries begins counts others index path n r) [
-        | inl m ↦ let l = third.least in let k = fourth.least in middle-miss n (omega arith) r m
-        | inr w ↦ last-miss n w.1.0 b r utf8 (same-last last more is w.0 w.1.0 w.1.1.0) w.1.1.1
-      ];
+    pub found-some : 1 ≤ length path → last ≡ get_or path (length path - 1) last → IsUtf8 last → IsFound lines entries begins path above rank
+    found-some more is utf8 = record {
+      least = let a = first.least in let b = second.least in omega arith;
+      hit = λ h. later-hit lines path above high rank second.least first.hit second.hit h;
+      miss = λ front name e n m b r. last-miss n name b r utf8 (same-last last more is front name e) m;
     }
 
 -- ---- handed down

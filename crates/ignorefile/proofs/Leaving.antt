@@ -8,7 +8,7 @@ use Rattle.ignorefile.specs.declared.line.Segment.{Segment}
 use Rattle.ignorefile.specs.declared.line.Line.{Line}
 use Rattle.ignorefile.specs.Line.{is_deep}
 use Rattle.ignorefile.specs.PrivateRanks.{RelatesAt, Member, AreInOrder, IsBest, IsShared}
-use Rattle.ignorefile.specs.PrivateLeft.{IsDeadIn, IsDeadAt, StandFor, StandIn, IsLeft}
+use Rattle.ignorefile.specs.PrivateLeft.{IsDeadIn, IsDeadAt, StandFor, StandIn, IsLeft, positions_in}
 use Rattle.ignorefile.specs.declared.index.Index.{Index}
 use Rattle.ignorefile.specs.declared.index.Left.{Left}
 use Rattle.ignorefile.specs.PrivatePositions.{under}
@@ -33,9 +33,6 @@ whole : (names : List (List ℕ)) → 1 ≤ length names → names ≡ take (len
 whole names some = sym (take_all (length names - 1 + 1) names (omega arith)) ∙ take_more names (length names - 1) [] (omega arith)
 
 -- ---- positions that stand for others
-
-pub stand-all : (lines : List Line) (ns left : List ℕ) (path : List (List ℕ)) → left ≡ ns → AreInOrder (length lines) ns → StandFor lines ns path left
-stand-all lines ns left path same order = subst (StandFor lines ns path) (sym same) (record { order = order; there = λ n m r. m })
 
 pub best-stands : (lines : List Line) (ns left : List ℕ) (path : List (List ℕ)) (above rank : ℕ) → StandFor lines ns path left → IsBest lines left path above rank → IsBest lines ns path above rank
 best-stands lines ns left path above rank stand best = record { least = best.least; hit = best.hit; miss = λ n m b r. best.miss n (stand.there n m r) b r }
@@ -115,17 +112,17 @@ module _ (lines : List Line) (ns : List ℕ) (k position : ℕ) (folder : List (
           absurd (off name (subst (RelatesAt lines (folder ++ name ∷ [])) (ap (λ (x : ℕ). get_or ns x 0) same ∙ sym is) r))
 
 -- what a folder leaves, for a path right in it
-pub left-others : (lines : List Line) (index : Index) (names : List (List ℕ)) (left : Left) → 1 ≤ length names → IsLeft lines index (take (length names - 1) names) left → StandFor lines index.others names left.others
+pub left-others : (lines : List Line) (index : Index) (names : List (List ℕ)) (left : Left) → 1 ≤ length names → IsLeft lines index (take (length names - 1) names) left → StandFor lines index.others names (positions_in left.others)
 left-others lines index names left some l =
-    subst (λ (p : List (List ℕ)). StandFor lines index.others p left.others) (sym (whole names some)) (l.others (get_or names (length names - 1) []))
+    subst (λ (p : List (List ℕ)). StandFor lines index.others p (positions_in left.others)) (sym (whole names some)) (l.others.stand (get_or names (length names - 1) []))
 
-pub left-counted : (lines : List Line) (index : Index) (names : List (List ℕ)) (left : Left) → 1 ≤ length names → IsLeft lines index (take (length names - 1) names) left → StandFor lines (under index.by_count (length names)) names left.counted
+pub left-counted : (lines : List Line) (index : Index) (names : List (List ℕ)) (left : Left) → 1 ≤ length names → IsLeft lines index (take (length names - 1) names) left → StandFor lines (under index.by_count (length names)) names (positions_in left.counted)
 left-counted lines index names left some l =
     let folder = take (length names - 1) names in
     let name = get_or names (length names - 1) [] in
     let count : length folder + 1 ≡ length names = sym (length-snoc folder name) ∙ ap (λ (p : List (List ℕ)). length p) (sym (whole names some)) in
-    subst (λ (p : List (List ℕ)). StandFor lines (under index.by_count (length names)) p left.counted) (sym (whole names some))
-    (subst (λ (n : ℕ). StandFor lines (under index.by_count n) (folder ++ name ∷ []) left.counted) count (l.counted name))
+    subst (λ (p : List (List ℕ)). StandFor lines (under index.by_count (length names)) p (positions_in left.counted)) (sym (whole names some))
+    (subst (λ (n : ℕ). StandFor lines (under index.by_count n) (folder ++ name ∷ []) (positions_in left.counted)) count (l.counted.stand name))
 
 -- two paths that share their folders' names lie in one folder
 pub one-folder : (lines : List Line) (index : Index) (last names old folder : List (List ℕ)) (shared : ℕ) (left : Left) → IsShared last names shared → old ≡ take (length last - 1) last → folder ≡ take (length names - 1) names → length folder ≤ shared → length folder ≡ length old

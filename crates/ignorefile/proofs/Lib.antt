@@ -1,6 +1,7 @@
 mod Lines
 mod Deciding
 mod Handing
+mod Leaves
 mod Leaving
 mod Cutting
 mod Saying

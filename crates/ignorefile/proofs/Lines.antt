@@ -16,7 +16,7 @@ use Rattle.ignorefile.specs.declared.line.Segment.{Segment}
 use Rattle.ignorefile.specs.declared.line.Segment.TheVariants.{Deep, Named}
 use Rattle.ignorefile.specs.declared.line.Line.{Line}
 use Rattle.ignorefile.specs.Line.{Relates, is_deep, holds}
-use Rattle.ignorefile.specs.PrivateRanks.{EndsIn, LastBegins, HasCount, RelatesAt, AreInOrder, IsRaised, IsBest, TakesOnly, TakesBeginning}
+use Rattle.ignorefile.specs.PrivateRanks.{EndsIn, LastBegins, LastEnds, HasCount, RelatesAt, AreInOrder, IsRaised, IsBest, TakesOnly, TakesBeginning, TakesEnding}
 
 abbrev pub Holds : Segment → List ℕ → Type 0
 Holds segment name = holds segment name ≡ true
@@ -52,6 +52,19 @@ pub last-begins : (line : Line) (segments : List Segment) (last : Segment) (foun
     → IfSome found (λ byte. TakesBeginning last byte) → IfSome found (λ byte. LastBegins line byte)
 last-begins line segments last None same more is begins = tt
 last-begins line segments last (Some byte) same more is begins = last-beginning line segments last byte (sym same) more is begins
+
+-- or with one last byte
+last-ending : (line : Line) (segments : List Segment) (last : Segment) (byte : ℕ) → line.segments ≡ segments → 1 ≤ length segments → last ≡ get_or segments (length segments - 1) last → TakesEnding last byte → LastEnds line byte
+last-ending line segments Deep byte same more is ends path r = absurd ends
+last-ending line segments (Named parts) byte same more is ends path r =
+    let w = last-taken line segments parts same more is path r in
+    let begin = ends w.1.0 w.1.1.1 in
+    (w.0, (begin.0, w.1.1.0 ∙ ap (λ (name : List ℕ). w.0 ++ name ∷ []) begin.1))
+
+pub last-ends : (line : Line) (segments : List Segment) (last : Segment) (found : Option ℕ) → segments ≡ line.segments → 1 ≤ length segments → last ≡ get_or segments (length segments - 1) last
+    → IfSome found (λ byte. TakesEnding last byte) → IfSome found (λ byte. LastEnds line byte)
+last-ends line segments last None same more is ends = tt
+last-ends line segments last (Some byte) same more is ends = last-ending line segments last byte (sym same) more is ends
 
 -- ---- how many names a line's paths have
 

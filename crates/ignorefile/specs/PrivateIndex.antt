@@ -1,13 +1,13 @@
 -- The index of an ignore file's lines: positions of those whose every path ends in one name, by that name, of those whose every path ends
 -- in a name with the same first byte, by that byte, of those whose paths all have the same number of names, by that number, and of the others.
-use Rattle.std.specs.Prelude.{◌≡◌, ℕ, List, Option, Some, None, [], ◌∷◌, ◌++◌, ◌⊎◌, cond, length, slice_get}
+use Rattle.std.specs.Prelude.{◌≡◌, ◌-◌, ◌<◌, ◌≤◌, ℕ, List, Option, Some, None, [], ◌∷◌, ◌++◌, ◌⊎◌, cond, length, slice_get, IsUtf8}
 use Rattle.std.specs.Ordering.{nat_cmp}
 use Rattle.std.specs.Map.{lookup}
 use Rattle.std.specs.BTreeMap.{is_at}
 use Rattle.std.specs.Cmp.Lexicographic.{slice_cmp}
 use Rattle.ignorefile.specs.declared.line.Line.{Line}
 use Rattle.ignorefile.specs.declared.positions.Positions.{Positions}
-use Rattle.ignorefile.specs.PrivateRanks.{EndsIn, LastBegins, HasCount, Member, AreInOrder}
+use Rattle.ignorefile.specs.PrivateRanks.{EndsIn, LastBegins, HasCount, RelatesAt, Member, AreInOrder}
 use Rattle.ignorefile.specs.PrivatePositions.{under}
 
 abbrev pub positions_of : Option (List ℕ) → List ℕ
@@ -43,3 +43,9 @@ pub record IsIndex (lines : List Line) (entries : List (List ℕ × List ℕ)) (
 -- a position is added to those of a name
 pub record IsAdded (old new : List (List ℕ × List ℕ)) (name : List ℕ) (position : ℕ) : Type 0 where
   pub at : (q : List ℕ) → named new q ≡ cond (is_at (slice_cmp nat_cmp name) q) (named old q ++ position ∷ []) (named old q)
+
+-- of the lines that are found by a path's last name, the greatest rank, from a rank on
+pub record IsFound (lines : List Line) (entries : List (List ℕ × List ℕ)) (begins : Positions) (path : List (List ℕ)) (above rank : ℕ) : Type 0 where
+  pub least : above ≤ rank
+  pub hit : above < rank → RelatesAt lines path (rank - 1)
+  pub miss : (front : List (List ℕ)) (last : List ℕ) → path ≡ front ++ last ∷ [] → (n : ℕ) → Member n (under_begin begins last) ⊎ (IsUtf8 last → Member n (named entries last)) → rank ≤ n → RelatesAt lines path n → ⊥

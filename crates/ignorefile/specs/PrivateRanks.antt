@@ -1,7 +1,7 @@
 -- How the last line that decides is looked for. The rank of the line at position n is n + 1, and 0 is the rank of no line: what decides of
 -- a path is the greatest rank of the lines that touch it.
 use Rattle.std.specs.Prelude.{◌≡◌, ◌<◌, ◌≤◌, ◌+◌, ◌-◌, ℕ, true, List, Some, [], ◌∷◌, ◌++◌, ◌⊎◌, length, get_or, slice_get, take, IsUtf8}
-use Rattle.globs.specs.Component.{IsOnlyName, BeginsWith}
+use Rattle.globs.specs.Component.{IsOnlyName, BeginsWith, EndsWith}
 use Rattle.ignorefile.specs.declared.line.Segment.{Segment}
 use Rattle.ignorefile.specs.declared.line.Segment.TheVariants.{Deep, Named}
 use Rattle.ignorefile.specs.declared.line.Line.{Line}
@@ -22,6 +22,11 @@ abbrev pub TakesBeginning : Segment → ℕ → Type 0
 TakesBeginning Deep byte = ⊥
 TakesBeginning (Named parts) byte = BeginsWith parts byte
 
+-- a segment that takes one name takes only such that end with this byte
+abbrev pub TakesEnding : Segment → ℕ → Type 0
+TakesEnding Deep byte = ⊥
+TakesEnding (Named parts) byte = EndsWith parts byte
+
 -- every path that a line relates to ends in this name
 abbrev pub EndsIn : Line → List ℕ → Type 0
 EndsIn line name = (path : List (List ℕ)) → Relates line path → (front : List (List ℕ)) × ((last : List ℕ) × ((path ≡ front ++ last ∷ []) × (IsUtf8 last → last ≡ name)))
@@ -29,6 +34,10 @@ EndsIn line name = (path : List (List ℕ)) → Relates line path → (front : L
 -- every path that a line relates to ends in a name that begins with this byte
 abbrev pub LastBegins : Line → ℕ → Type 0
 LastBegins line byte = (path : List (List ℕ)) → Relates line path → (front : List (List ℕ)) × ((rest : List ℕ) × (path ≡ front ++ (byte ∷ rest) ∷ []))
+
+-- every path that a line relates to ends in a name that ends with this byte
+abbrev pub LastEnds : Line → ℕ → Type 0
+LastEnds line byte = (path : List (List ℕ)) → Relates line path → (front : List (List ℕ)) × ((begin : List ℕ) × (path ≡ front ++ (begin ++ byte ∷ []) ∷ []))
 
 -- every path that a line relates to has so many names
 abbrev pub HasCount : Line → ℕ → Type 0

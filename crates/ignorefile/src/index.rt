@@ -1,8 +1,7 @@
 ghost use Rattle.std.specs.Prelude.{◌≡◌, ◌<◌, ◌≤◌, ◌+◌, ◌-◌, ℕ, List, IsTrue, IsUtf8, IfOk, OnOk, length, take, get_or};
 ghost use Rattle.ignorefile.specs.PrivateRanks.{IsRaised, IsBest, IsVerdict, IsDecided, AreInOrder};
-ghost use Rattle.ignorefile.specs.PrivateIndex.{IsAdded, IsIndex, named, under_begin};
-ghost use Rattle.ignorefile.specs.PrivateLeft.{IsDeadAt, StandFor, StandIn, IsLeft};
-ghost use Rattle.ignorefile.specs.PrivatePositions.{under};
+ghost use Rattle.ignorefile.specs.PrivateIndex.{IsAdded, IsIndex, IsFound, named, under_begin};
+ghost use Rattle.ignorefile.specs.PrivateLeft.{IsDeadAt, IsLeft, IsLeafOf, AreLeavesOf, IsLastByte, AreLiving, positions_in, may_take};
 
 use crate::line::Line;
 use crate::positions::Positions;
@@ -67,6 +66,87 @@ pub(crate) fn positions_beginning<'a>(by_begin: &'a Positions, name: &Text) -> &
     }
 }
 
+/// The byte that a path's last name ends with; none where there is no name or it is empty.
+fn last_byte(names: &[Text]) -> Option<u8>
+    ensures { IsLastByte names.now result }
+{
+    match names {
+        [] => None,
+        [.., last] => match last.as_str().as_bytes() {
+            [] => None,
+            [.., byte] => Some(*byte),
+        },
+    }
+}
+
+/// A line that a folder's names leave, by its position. For most names that lie right in the folder, their last byte shows that the line
+/// doesn't relate to them, and then nothing else of it is looked at.
+#[derive(Clone, Copy, Debug)]
+pub(crate) struct Leaf {
+    position: usize,
+    /// The byte that the last name of each path ends with which the line relates to, where that is known.
+    end: Option<u8>,
+}
+
+impl Leaf {
+    /// Whether the line may relate to paths whose last name ends with this byte.
+    fn may_take(self, last: Option<u8>) -> bool
+        ensures { result ≡ may_take self.end last }
+    {
+        match self.end {
+            None => true,
+            Some(byte) => last == Some(byte),
+        }
+    }
+}
+
+/// The line at a position as a leaf.
+fn leaf_at(lines: &[Line], position: usize) -> Leaf
+    requires { position < length lines.now }
+    ensures position { result.position ≡ position }
+    ensures known { IsLeafOf lines.now result }
+{
+    Leaf {
+        position,
+        end: lines[position].last_end(),
+    }
+}
+
+/// The rank of a leaf's line where it relates to a path, else the rank that there was.
+fn raised_by(lines: &[Line], leaf: Leaf, names: &[Text], last: Option<u8>, above: usize) -> usize
+    requires within { leaf.position < length lines.now }
+    requires next { above ≤ leaf.position }
+    requires known { IsLeafOf lines.now leaf }
+    requires last { IsLastByte names.now last }
+    ensures { IsRaised lines.now leaf.position names.now above result }
+{
+    if leaf.may_take(last) {
+        raised(lines, leaf.position, names, above)
+    } else {
+        above
+    }
+}
+
+/// What `best` gives for these leaves' positions.
+fn best_leaf(lines: &[Line], leaves: &[Leaf], names: &[Text], above: usize) -> usize
+    requires order { AreInOrder (length lines.now) (positions_in leaves.now) }
+    requires known { AreLeavesOf lines.now leaves.now }
+    ensures { IsBest lines.now (positions_in leaves.now) names.now above result }
+{
+    let last = last_byte(names);
+    for passed in 0..leaves.len() {
+        let leaf = leaves[leaves.len() - 1 - passed];
+        if leaf.position < above {
+            return above;
+        }
+        let rank = raised_by(lines, leaf, names, last, above);
+        if rank > above {
+            return rank;
+        }
+    }
+    above
+}
+
 /// Whether a folder's names show that the line at a position relates to no path right in it.
 fn is_dead_at(lines: &[Line], position: usize, folder: &[Text]) -> bool
     requires { position < length lines.now }
@@ -81,14 +161,14 @@ fn living(
     lines: &[Line],
     positions: &[usize],
     folder: &[Text],
-) -> Result<Items<usize>, Memory>
+) -> Result<Items<Leaf>, Memory>
     requires { AreInOrder (length lines.now) positions.now }
-    ensures { IfOk result (λ left. StandIn lines.now positions.now folder.now left) }
+    ensures { IfOk result (λ left. AreLiving lines.now positions.now folder.now left) }
 {
     let mut left = Items::new(alloc);
     for position in positions {
         if !is_dead_at(lines, *position, folder) {
-            left.push(*position)?;
+            left.push(leaf_at(lines, *position))?;
         }
     }
     Ok(left)
@@ -130,33 +210,21 @@ pub(crate) struct Index {
 /// What a folder leaves of an index: of the positions that aren't found by a name or a byte, those that are tried for the paths right in it.
 #[derive(Drop)]
 pub(crate) struct Left {
-    others: Items<usize>,
-    counted: Items<usize>,
+    others: Items<Leaf>,
+    counted: Items<Leaf>,
 }
 
 impl Index {
-    /// The greatest of a rank and of those of the lines that relate to just this path, where these others and these that have its number
-    /// of names are tried.
-    fn verdict_among(
-        &self,
-        lines: &[Line],
-        others: &[usize],
-        counted: &[usize],
-        names: &[Text],
-        above: usize,
-    ) -> usize
-        requires index { IsIndex lines.now self.now.by_name.entries self.now.by_begin self.now.by_count self.now.others }
-        requires others { StandFor lines.now self.now.others names.now others.now }
-        requires counted { StandFor lines.now (under self.now.by_count (length names.now)) names.now counted.now }
-        ensures { IsVerdict lines.now names.now above result }
+    /// The greatest of a rank and of those of the lines that relate to just this path and are found by its last name.
+    fn verdict_found(&self, lines: &[Line], names: &[Text], above: usize) -> usize
+        requires { IsIndex lines.now self.now.by_name.entries self.now.by_begin self.now.by_count self.now.others }
+        ensures { IsFound lines.now self.now.by_name.entries self.now.by_begin names.now above result }
     {
-        let low = best(lines, others, names, above);
-        let middle = best(lines, counted, names, low);
         match names {
-            [] => middle,
+            [] => above,
             [.., last] => {
                 let begun = positions_beginning(&self.by_begin, last);
-                let high = best(lines, begun, names, middle);
+                let high = best(lines, begun, names, above);
                 best(lines, positions_under(&self.by_name, last), names, high)
             }
         }
@@ -167,8 +235,21 @@ impl Index {
         requires { IsIndex lines.now self.now.by_name.entries self.now.by_begin self.now.by_count self.now.others }
         ensures { IsVerdict lines.now names.now above result }
     {
-        let counted = self.by_count.under(names.len());
-        self.verdict_among(lines, self.others.as_slice(), counted, names, above)
+        let low = best(lines, self.others.as_slice(), names, above);
+        let middle = best(lines, self.by_count.under(names.len()), names, low);
+        self.verdict_found(lines, names, middle)
+    }
+
+    /// The same, of a path that lies right in the folder that left this.
+    fn verdict_left(&self, lines: &[Line], left: &Left, names: &[Text], above: usize) -> usize
+        requires index { IsIndex lines.now self.now.by_name.entries self.now.by_begin self.now.by_count self.now.others }
+        requires left { IsLeft lines.now self.now (take (length names.now - 1) names.now) left.now }
+        requires some { 1 ≤ length names.now }
+        ensures { IsVerdict lines.now names.now above result }
+    {
+        let low = best_leaf(lines, left.others.as_slice(), names, above);
+        let middle = best_leaf(lines, left.counted.as_slice(), names, low);
+        self.verdict_found(lines, names, middle)
     }
 
     /// What a folder leaves.
@@ -207,13 +288,7 @@ impl Index {
             let rank = if depth + 1 < names.len() {
                 self.verdict(lines, &names[..depth + 1], above)
             } else {
-                self.verdict_among(
-                    lines,
-                    left.others.as_slice(),
-                    left.counted.as_slice(),
-                    names,
-                    above,
-                )
+                self.verdict_left(lines, left, names, above)
             };
             decided[depth + 1] = rank;
         }

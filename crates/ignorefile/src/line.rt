@@ -2,7 +2,7 @@ ghost use Rattle.std.specs.Prelude.{◌≡◌, ◌↔◌, IsTrue, IfSome};
 ghost use Rattle.std.specs.List.{list_any};
 ghost use Rattle.ignorefile.specs.Line.{Relates, is_deep};
 ghost use Rattle.ignorefile.specs.PrivateLeft.{IsDeadIn};
-ghost use Rattle.ignorefile.specs.PrivateRanks.{EndsIn, LastBegins, HasCount, TakesOnly, TakesBeginning};
+ghost use Rattle.ignorefile.specs.PrivateRanks.{EndsIn, LastBegins, LastEnds, HasCount, TakesOnly, TakesBeginning, TakesEnding};
 
 use globs::{Component, Fits, can_be_cut};
 use plain::{Items, Text};
@@ -54,6 +54,16 @@ impl Segment {
         match self {
             Segment::Deep => None,
             Segment::Named(component) => component.first_byte(),
+        }
+    }
+
+    /// The byte that each name ends with which the segment takes, where its pattern ends in a plain text.
+    fn last_byte(&self) -> Option<u8>
+        ensures { IfSome result (λ byte. TakesEnding self.now byte) }
+    {
+        match self {
+            Segment::Deep => None,
+            Segment::Named(component) => component.last_byte(),
         }
     }
 }
@@ -111,6 +121,16 @@ impl Line {
         match self.segments.as_slice() {
             [] => None,
             [.., last] => last.first_byte(),
+        }
+    }
+
+    /// The byte that the last name ends with of each path which the line relates to, where the line's pattern ends in a plain text.
+    pub(crate) fn last_end(&self) -> Option<u8>
+        ensures { IfSome result (λ byte. LastEnds self.now byte) }
+    {
+        match self.segments.as_slice() {
+            [] => None,
+            [.., last] => last.last_byte(),
         }
     }
 

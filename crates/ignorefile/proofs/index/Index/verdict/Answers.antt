@@ -1,8 +1,13 @@
-use Rattle.ignorefile.proofs.Leaving.{stand-all}
+use Rattle.std.proofs.Common.{refl}
+use Rattle.ignorefile.proofs.Deciding.{verdict-found, moved-order, moved-best}
 use Rattle.ignorefile.proofs.index.Index.verdict.Goals as goal
 
-pub verdict_among-requires-clause-others : goal.verdict_among-requires-clause-others
-verdict_among-requires-clause-others c = stand-all _ _ _ _ c.as_slice.ensures c.requires.others_order
+pub best-low-requires : goal.best-low-requires
+best-low-requires c = moved-order _ _ _ _ refl c.as_slice.ensures c.requires.others_order
 
-pub verdict_among-requires-clause-counted : goal.verdict_among-requires-clause-counted
-verdict_among-requires-clause-counted c = stand-all _ _ _ _ c.under-counted.ensures (c.requires.counted_order _)
+pub best-middle-requires : goal.best-middle-requires
+best-middle-requires c = moved-order _ _ _ _ refl c.under.ensures (c.requires.counted_order _)
+
+pub returns : goal.returns
+returns c =
+    verdict-found _ _ _ _ _ c.requires _ _ _ _ (moved-best _ _ _ _ _ _ _ refl c.as_slice.ensures c.best-low.ensures) (moved-best _ _ _ _ _ _ _ refl c.under.ensures c.best-middle.ensures) _ c.verdict_found.ensures
