@@ -11,7 +11,7 @@ use Rattle.ignorefile.specs.Kept.{Touches, TouchesAt, Kept, IsDeciding, LetsKeep
 use Rattle.ignorefile.specs.declared.positions.Positions.{Positions}
 use Rattle.ignorefile.specs.PrivateRanks.{RelatesAt, Member, AreInOrder, IsBest, IsVerdict, IsDecided, Lets}
 use Rattle.ignorefile.specs.PrivatePositions.{under}
-use Rattle.ignorefile.specs.PrivateIndex.{IsIndex, IsFound, named, under_begin}
+use Rattle.ignorefile.specs.PrivateIndex.{IsIndex, IsFound, named, lying, under_begin}
 use Rattle.ignorefile.proofs.Lines.{Holds}
 
 -- a list is empty or has a last element
@@ -19,25 +19,55 @@ ends : {A : Type 0} (xs : List A) → (xs ≡ []) ⊎ ((front : List A) × ((las
 ends [] = inl refl
 ends (c ∷ cs) = inr (elim (ends cs) [ inl e ↦ ([], (c, ap (λ x. c ∷ x) e)) | inr w ↦ (c ∷ w.0, (w.1.0, ap (λ x. c ∷ x) w.1.1)) ])
 
+-- a path is its folder's and its last name
+pub whole : (names : List (List ℕ)) → 1 ≤ length names → names ≡ take (length names - 1) names ++ get_or names (length names - 1) [] ∷ []
+whole names some = sym (take_all (length names - 1 + 1) names (omega arith)) ∙ take_more names (length names - 1) [] (omega arith)
+
+-- the positions under a folder's last name
+lying-snoc : (folders : List (List ℕ × List ℕ)) (front : List (List ℕ)) (name : List ℕ) → lying folders (front ++ name ∷ []) ≡ named folders name
+lying-snoc folders [] name = refl
+lying-snoc folders (x ∷ []) name = refl
+lying-snoc folders (x ∷ y ∷ more) name = lying-snoc folders (y ∷ more) name
+
+pub lying-last : (folders : List (List ℕ × List ℕ)) (folder : List (List ℕ)) (name : List ℕ) → 1 ≤ length folder → name ≡ get_or folder (length folder - 1) name → named folders name ≡ lying folders folder
+lying-last folders folder name more is =
+    sym (lying-snoc folders (take (length folder - 1) folder) name) ∙ ap (lying folders) (sym (last-parts is_deep Holds folder name more is))
+
+snoc-some : {A : Type 0} (xs : List A) (x : A) → 1 ≤ length (xs ++ x ∷ [])
+snoc-some [] x = omega arith
+snoc-some (y ∷ ys) x = omega arith
+
 -- the index has each line that relates to a path
-indexed : (lines : List Line) (entries : List (List ℕ × List ℕ)) (begins counts : Positions) (others : List ℕ) → IsIndex lines entries begins counts others → (path : List (List ℕ)) (n : ℕ) → RelatesAt lines path n
-    → (Member n others ⊎ Member n (under counts (length path)))
+indexed : (lines : List Line) (entries folders : List (List ℕ × List ℕ)) (begins counts : Positions) (others : List ℕ) → IsIndex lines entries folders begins counts others → (path : List (List ℕ)) (n : ℕ) → RelatesAt lines path n
+    → ((Member n others ⊎ Member n (under counts (length path))) ⊎ Member n (lying folders (take (length path - 1) path)))
     ⊎ ((front : List (List ℕ)) × ((last : List ℕ) × ((path ≡ front ++ last ∷ []) × (Member n (under_begin begins last) ⊎ (IsUtf8 last → Member n (named entries last))))))
-indexed lines entries begins counts others index path n (line, (at, r)) =
+indexed lines entries folders begins counts others index path n (line, (at, r)) =
     elim (index.there n line at) [
-      | inl m ↦ inl (inl m)
+      | inl m ↦ inl (inl (inl m))
       | inr (inl w) ↦ (let v = w.1.0 path r in inr (v.0, (v.1.0, (v.1.1.0, inr (λ utf8. subst (λ (l : List ℕ). Member n (named entries l)) (sym (v.1.1.1 utf8)) w.1.1)))))
       | inr (inr (inl w)) ↦ (let v = w.1.0 path r in inr (v.0, (w.0 ∷ v.1.0, (v.1.1, inl w.1.1))))
-      | inr (inr (inr w)) ↦ inl (inr (subst (λ (count : ℕ). Member n (under counts count)) (sym (w.1.0 path r)) w.1.1))
+      | inr (inr (inr (inl w))) ↦ (let v = w.1.0 path r in inl (inr (subst (Member n) (sym (there v.0 w.0 v.1.0 v.1.1)) w.1.1)))
+      | inr (inr (inr (inr w))) ↦ inl (inl (inr (subst (λ (count : ℕ). Member n (under counts count)) (sym (w.1.0 path r)) w.1.1)))
     ]
+  where
+    there : (front : List (List ℕ)) (name last : List ℕ) → path ≡ (front ++ name ∷ []) ++ last ∷ [] → lying folders (take (length path - 1) path) ≡ named folders name
+    there front name last e =
+        let some : 1 ≤ length path = subst (λ (p : List (List ℕ)). 1 ≤ length p) (sym e) (snoc-some (front ++ name ∷ []) last) in
+        ap (lying folders) (same-ends is_deep Holds (take (length path - 1) path) (front ++ name ∷ []) (get_or path (length path - 1) []) last (sym (whole path some) ∙ e)).0 ∙ lying-snoc folders front name
 
 snoc-nil : {A : Type 0} (xs : List A) (x : A) → [] ≡ xs ++ x ∷ [] → ⊥
 snoc-nil xs x e = let n : 0 ≡ length (x ∷ []) = ap length (sym (nil-parts xs (x ∷ []) e).1) in omega arith
 
 -- the positions that a name's begin leads to rise
-pub begun-order : (lines : List Line) (entries : List (List ℕ × List ℕ)) (begins counts : Positions) (others : List ℕ) → IsIndex lines entries begins counts others → (name : List ℕ) → AreInOrder (length lines) (under_begin begins name)
-begun-order lines entries begins counts others index [] = record { within = λ n m. absurd (let l = m.1.0 in omega arith); rise = λ i j l m. absurd (omega arith) }
-begun-order lines entries begins counts others index (byte ∷ rest) = index.begun_order byte
+pub begun-order : (lines : List Line) (entries folders : List (List ℕ × List ℕ)) (begins counts : Positions) (others : List ℕ) → IsIndex lines entries folders begins counts others → (name : List ℕ) → AreInOrder (length lines) (under_begin begins name)
+begun-order lines entries folders begins counts others index [] = record { within = λ n m. absurd (let l = m.1.0 in omega arith); rise = λ i j l m. absurd (omega arith) }
+begun-order lines entries folders begins counts others index (byte ∷ rest) = index.begun_order byte
+
+-- and those that a folder's name leads to
+pub lying-order : (lines : List Line) (entries folders : List (List ℕ × List ℕ)) (begins counts : Positions) (others : List ℕ) → IsIndex lines entries folders begins counts others → (folder : List (List ℕ)) → AreInOrder (length lines) (lying folders folder)
+lying-order lines entries folders begins counts others index [] = record { within = λ n m. absurd (let l = m.1.0 in omega arith); rise = λ i j l m. absurd (omega arith) }
+lying-order lines entries folders begins counts others index (name ∷ []) = index.lying_order name
+lying-order lines entries folders begins counts others index (name ∷ other ∷ more) = lying-order lines entries folders begins counts others index (other ∷ more)
 
 -- of two ranks behind one another the last one that is greater
 later-hit : (lines : List Line) (path : List (List ℕ)) (above middle rank : ℕ) → middle ≤ rank → (above < middle → RelatesAt lines path (middle - 1)) → (middle < rank → RelatesAt lines path (rank - 1)) → above < rank → RelatesAt lines path (rank - 1)
@@ -47,20 +77,22 @@ later-hit lines path above middle rank up before after h = by (nat_lt middle ran
     by true e = after (ltb-true middle rank e)
     by false e = let b = ltb-false middle rank e in let same : middle ≡ rank = omega arith in subst (λ (x : ℕ). RelatesAt lines path (x - 1)) same (before (omega arith))
 
-module _ (lines : List Line) (entries : List (List ℕ × List ℕ)) (begins counts : Positions) (others : List ℕ) (index : IsIndex lines entries begins counts others) (path : List (List ℕ)) (above low middle : ℕ) (first : IsBest lines others path above low) (second : IsBest lines (under counts (length path)) path low middle) where
+module _ (lines : List Line) (entries folders : List (List ℕ × List ℕ)) (begins counts : Positions) (others : List ℕ) (index : IsIndex lines entries folders begins counts others) (path : List (List ℕ)) (above least low middle : ℕ)
+    (lies : IsBest lines (lying folders (take (length path - 1) path)) path above least) (first : IsBest lines others path least low) (second : IsBest lines (under counts (length path)) path low middle) where
   middle-hit : above < middle → RelatesAt lines path (middle - 1)
-  middle-hit h = later-hit lines path above low middle second.least first.hit second.hit h
+  middle-hit h = later-hit lines path above low middle second.least (later-hit lines path above least low first.least lies.hit first.hit) second.hit h
 
-  middle-miss : (n : ℕ) → middle ≤ n → RelatesAt lines path n → Member n others ⊎ Member n (under counts (length path)) → ⊥
-  middle-miss n b r (inl m) = let l = second.least in first.miss n m (omega arith) r
-  middle-miss n b r (inr m) = second.miss n m b r
+  middle-miss : (n : ℕ) → middle ≤ n → RelatesAt lines path n → (Member n others ⊎ Member n (under counts (length path))) ⊎ Member n (lying folders (take (length path - 1) path)) → ⊥
+  middle-miss n b r (inl (inl m)) = let l = second.least in first.miss n m (omega arith) r
+  middle-miss n b r (inl (inr m)) = second.miss n m b r
+  middle-miss n b r (inr m) = let k = first.least in let l = second.least in lies.miss n m (omega arith) r
 
   -- with what is found by the last name
   pub verdict-found : (rank : ℕ) → IsFound lines entries begins path middle rank → IsVerdict lines path above rank
   verdict-found rank found = record {
-    least = let a = first.least in let b = second.least in let c = found.least in omega arith;
+    least = let z = lies.least in let a = first.least in let b = second.least in let c = found.least in omega arith;
     hit = λ h. later-hit lines path above middle rank found.least middle-hit found.hit h;
-    miss = λ n b r. elim (indexed lines entries begins counts others index path n r) [
+    miss = λ n b r. elim (indexed lines entries folders begins counts others index path n r) [
       | inl m ↦ let l = found.least in middle-miss n (omega arith) r m
       | inr w ↦ found.miss w.0 w.1.0 w.1.1.0 n w.1.1.1 b r
     ];

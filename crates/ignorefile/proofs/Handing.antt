@@ -16,7 +16,7 @@ use Rattle.std.specs.Cmp.Lexicographic.{slice_cmp, nat_list_cmp_total}
 use Rattle.ignorefile.specs.declared.line.Line.{Line}
 use Rattle.ignorefile.specs.declared.positions.Positions.{Positions}
 use Rattle.ignorefile.specs.Kept.{Kept}
-use Rattle.ignorefile.specs.PrivateRanks.{EndsIn, LastBegins, HasCount, Member, AreInOrder, IsVerdict, IsDecided, Lets, IsShared}
+use Rattle.ignorefile.specs.PrivateRanks.{EndsIn, LastBegins, LiesIn, HasCount, Member, AreInOrder, IsVerdict, IsDecided, Lets, IsShared}
 use Rattle.ignorefile.specs.PrivatePositions.{under, Enters}
 use Rattle.ignorefile.specs.PrivateIndex.{IsIndex, IsAdded, StandsIn, named, positions_of}
 use Rattle.ignorefile.proofs.Deciding.{decided-start, decided-more, decided-all}
@@ -187,22 +187,24 @@ module _ (before after : Positions) (number n : ℕ) (enters : Enters before aft
   under-new : Member n (under after number)
   under-new = subst (Member n) (sym (enters number ∙ ap (λ b. under before number ++ cond b (n ∷ []) []) (eq-eqb number number refl))) (member-new (under before number) n)
 
-module _ (xs : List Line) (x : Line) (old new : List (List ℕ × List ℕ)) (begins begins' before after : Positions) (others others' : List ℕ) (h : IsIndex xs old begins before others)
-    (by_name : (q : List ℕ) → Grown (named old q) (named new q) (length xs)) (by_begin : (q : ℕ) → Grown (under begins q) (under begins' q) (length xs))
+module _ (xs : List Line) (x : Line) (old new folders folders' : List (List ℕ × List ℕ)) (begins begins' before after : Positions) (others others' : List ℕ) (h : IsIndex xs old folders begins before others)
+    (by_name : (q : List ℕ) → Grown (named old q) (named new q) (length xs)) (by_folder : (q : List ℕ) → Grown (named folders q) (named folders' q) (length xs)) (by_begin : (q : ℕ) → Grown (under begins q) (under begins' q) (length xs))
     (by_count : (q : ℕ) → Grown (under before q) (under after q) (length xs)) (rest : Grown others others' (length xs)) where
-  keeps : (line : Line) (m : ℕ) → StandsIn line m old begins before others → StandsIn line m new begins' after others'
+  keeps : (line : Line) (m : ℕ) → StandsIn line m old folders begins before others → StandsIn line m new folders' begins' after others'
   keeps line m (inl r) = inl (grown-keeps others others' (length xs) m rest r)
   keeps line m (inr (inl w)) = inr (inl (w.0, (w.1.0, grown-keeps (named old w.0) (named new w.0) (length xs) m (by_name w.0) w.1.1)))
   keeps line m (inr (inr (inl w))) = inr (inr (inl (w.0, (w.1.0, grown-keeps (under begins w.0) (under begins' w.0) (length xs) m (by_begin w.0) w.1.1))))
-  keeps line m (inr (inr (inr w))) = inr (inr (inr (w.0, (w.1.0, grown-keeps (under before w.0) (under after w.0) (length xs) m (by_count w.0) w.1.1))))
+  keeps line m (inr (inr (inr (inl w)))) = inr (inr (inr (inl (w.0, (w.1.0, grown-keeps (named folders w.0) (named folders' w.0) (length xs) m (by_folder w.0) w.1.1)))))
+  keeps line m (inr (inr (inr (inr w)))) = inr (inr (inr (inr (w.0, (w.1.0, grown-keeps (under before w.0) (under after w.0) (length xs) m (by_count w.0) w.1.1)))))
 
-  index-more : StandsIn x (length xs) new begins' after others' → IsIndex (xs ++ x ∷ []) new begins' after others'
+  index-more : StandsIn x (length xs) new folders' begins' after others' → IsIndex (xs ++ x ∷ []) new folders' begins' after others'
   index-more stands = record {
     there = λ m line at. elim (get-snoc xs x line m at) [
       | inl earlier ↦ keeps line m (h.there m line earlier)
-      | inr w ↦ subst (λ (k : ℕ). StandsIn line k new begins' after others') (sym w.0) (subst (λ (l : Line). StandsIn l (length xs) new begins' after others') w.1 stands)
+      | inr w ↦ subst (λ (k : ℕ). StandsIn line k new folders' begins' after others') (sym w.0) (subst (λ (l : Line). StandsIn l (length xs) new folders' begins' after others') w.1 stands)
     ];
     named_order = λ q. grown-order (named old q) (named new q) (length xs) (length (xs ++ x ∷ [])) (length-snoc xs x) (by_name q) (h.named_order q);
+    lying_order = λ q. grown-order (named folders q) (named folders' q) (length xs) (length (xs ++ x ∷ [])) (length-snoc xs x) (by_folder q) (h.lying_order q);
     begun_order = λ q. grown-order (under begins q) (under begins' q) (length xs) (length (xs ++ x ∷ [])) (length-snoc xs x) (by_begin q) (h.begun_order q);
     counted_order = λ q. grown-order (under before q) (under after q) (length xs) (length (xs ++ x ∷ [])) (length-snoc xs x) (by_count q) (h.counted_order q);
     others_order = grown-order others others' (length xs) (length (xs ++ x ∷ [])) (length-snoc xs x) rest h.others_order;
@@ -213,43 +215,51 @@ length-front [] n l = absurd (omega arith)
 length-front (x ∷ xs) zero l = refl
 length-front (x ∷ xs) (suc n) l = let e = length-front xs n (omega arith) in omega arith
 
-module _ (lines : List Line) (n : ℕ) (line : Line) (old : List (List ℕ × List ℕ)) (begins before : Positions) (others : List ℕ) (less : n < length lines) (is : line ≡ get_or lines n line) (h : IsIndex (take n lines) old begins before others) where
-  to-front : (new : List (List ℕ × List ℕ)) (begins' after : Positions) (others' : List ℕ) → IsIndex (take n lines ++ line ∷ []) new begins' after others' → IsIndex (take (n + 1) lines) new begins' after others'
-  to-front new begins' after others' index =
-      subst (λ (l : List Line). IsIndex l new begins' after others') (sym (take_more lines n line less ∙ ap (λ (l : Line). take n lines ++ l ∷ []) (sym is))) index
+module _ (lines : List Line) (n : ℕ) (line : Line) (old folders : List (List ℕ × List ℕ)) (begins before : Positions) (others : List ℕ) (less : n < length lines) (is : line ≡ get_or lines n line) (h : IsIndex (take n lines) old folders begins before others) where
+  to-front : (new folders' : List (List ℕ × List ℕ)) (begins' after : Positions) (others' : List ℕ) → IsIndex (take n lines ++ line ∷ []) new folders' begins' after others' → IsIndex (take (n + 1) lines) new folders' begins' after others'
+  to-front new folders' begins' after others' index =
+      subst (λ (l : List Line). IsIndex l new folders' begins' after others') (sym (take_more lines n line less ∙ ap (λ (l : Line). take n lines ++ l ∷ []) (sym is))) index
 
-  pub index-more-named : (new : List (List ℕ × List ℕ)) (name : List ℕ) → EndsIn line name → IsAdded old new name n → IsIndex (take (n + 1) lines) new begins before others
+  pub index-more-named : (new : List (List ℕ × List ℕ)) (name : List ℕ) → EndsIn line name → IsAdded old new name n → IsIndex (take (n + 1) lines) new folders begins before others
   index-more-named new name ends add =
       let add' = subst (IsAdded old new name) (sym (length-front lines n less)) add in
-      to-front new begins before others
-      (index-more (take n lines) line old new begins begins before before others others h (λ q. named-grown old new name (length (take n lines)) add' q) (λ q. inr refl) (λ q. inr refl) (inr refl)
+      to-front new folders begins before others
+      (index-more (take n lines) line old new folders folders begins begins before before others others h (λ q. named-grown old new name (length (take n lines)) add' q) (λ q. inr refl) (λ q. inr refl) (λ q. inr refl) (inr refl)
       (inr (inl (name, (ends, named-new old new name (length (take n lines)) add')))))
 
-  pub index-more-begun : (begins' : Positions) (byte : ℕ) → LastBegins line byte → Enters begins begins' byte n → IsIndex (take (n + 1) lines) old begins' before others
+  pub index-more-lying : (folders' : List (List ℕ × List ℕ)) (name : List ℕ) → LiesIn line name → IsAdded folders folders' name n → IsIndex (take (n + 1) lines) old folders' begins before others
+  index-more-lying folders' name lies add =
+      let add' = subst (IsAdded folders folders' name) (sym (length-front lines n less)) add in
+      to-front old folders' begins before others
+      (index-more (take n lines) line old old folders folders' begins begins before before others others h (λ q. inr refl) (λ q. named-grown folders folders' name (length (take n lines)) add' q) (λ q. inr refl) (λ q. inr refl) (inr refl)
+      (inr (inr (inr (inl (name, (lies, named-new folders folders' name (length (take n lines)) add')))))))
+
+  pub index-more-begun : (begins' : Positions) (byte : ℕ) → LastBegins line byte → Enters begins begins' byte n → IsIndex (take (n + 1) lines) old folders begins' before others
   index-more-begun begins' byte first enters =
       let enters' = subst (Enters begins begins' byte) (sym (length-front lines n less)) enters in
-      to-front old begins' before others
-      (index-more (take n lines) line old old begins begins' before before others others h (λ q. inr refl) (λ q. under-grown begins begins' byte (length (take n lines)) enters' q) (λ q. inr refl) (inr refl)
+      to-front old folders begins' before others
+      (index-more (take n lines) line old old folders folders begins begins' before before others others h (λ q. inr refl) (λ q. inr refl) (λ q. under-grown begins begins' byte (length (take n lines)) enters' q) (λ q. inr refl) (inr refl)
       (inr (inr (inl (byte, (first, under-new begins begins' byte (length (take n lines)) enters'))))))
 
-  pub index-more-counted : (after : Positions) (count : ℕ) → HasCount line count → Enters before after count n → IsIndex (take (n + 1) lines) old begins after others
+  pub index-more-counted : (after : Positions) (count : ℕ) → HasCount line count → Enters before after count n → IsIndex (take (n + 1) lines) old folders begins after others
   index-more-counted after count has enters =
       let enters' = subst (Enters before after count) (sym (length-front lines n less)) enters in
-      to-front old begins after others
-      (index-more (take n lines) line old old begins begins before after others others h (λ q. inr refl) (λ q. inr refl) (λ q. under-grown before after count (length (take n lines)) enters' q) (inr refl)
-      (inr (inr (inr (count, (has, under-new before after count (length (take n lines)) enters'))))))
+      to-front old folders begins after others
+      (index-more (take n lines) line old old folders folders begins begins before after others others h (λ q. inr refl) (λ q. inr refl) (λ q. inr refl) (λ q. under-grown before after count (length (take n lines)) enters' q) (inr refl)
+      (inr (inr (inr (inr (count, (has, under-new before after count (length (take n lines)) enters')))))))
 
-  pub index-more-other : (others' : List ℕ) → others' ≡ others ++ n ∷ [] → IsIndex (take (n + 1) lines) old begins before others'
+  pub index-more-other : (others' : List ℕ) → others' ≡ others ++ n ∷ [] → IsIndex (take (n + 1) lines) old folders begins before others'
   index-more-other others' add =
       let add' : others' ≡ others ++ length (take n lines) ∷ [] = add ∙ ap (λ k. others ++ k ∷ []) (sym (length-front lines n less)) in
-      to-front old begins before others'
-      (index-more (take n lines) line old old begins begins before before others others' h (λ q. inr refl) (λ q. inr refl) (λ q. inr refl) (inl add')
+      to-front old folders begins before others'
+      (index-more (take n lines) line old old folders folders begins begins before before others others' h (λ q. inr refl) (λ q. inr refl) (λ q. inr refl) (λ q. inr refl) (inl add')
       (inl (subst (Member (length (take n lines))) (sym add') (member-new others (length (take n lines))))))
 
-pub index-moved : (lines : List Line) (e e' : List (List ℕ × List ℕ)) (b b' c c' : Positions) (o o' : List ℕ) → e' ≡ e → b' ≡ b → c' ≡ c → o' ≡ o → IsIndex lines e b c o → IsIndex lines e' b' c' o'
-index-moved lines e e' b b' c c' o o' same begins counts also h =
-    subst (λ (x : List (List ℕ × List ℕ)). IsIndex lines x b' c' o') (sym same)
-    (subst (λ (x : Positions). IsIndex lines e x c' o') (sym begins) (subst (λ (x : Positions). IsIndex lines e b x o') (sym counts) (subst (IsIndex lines e b c) (sym also) h)))
+pub index-moved : (lines : List Line) (e e' f f' : List (List ℕ × List ℕ)) (b b' c c' : Positions) (o o' : List ℕ) → e' ≡ e → f' ≡ f → b' ≡ b → c' ≡ c → o' ≡ o → IsIndex lines e f b c o → IsIndex lines e' f' b' c' o'
+index-moved lines e e' f f' b b' c c' o o' same folders begins counts also h =
+    subst (λ (x : List (List ℕ × List ℕ)). IsIndex lines x f' b' c' o') (sym same)
+    (subst (λ (x : List (List ℕ × List ℕ)). IsIndex lines e x b' c' o') (sym folders)
+    (subst (λ (x : Positions). IsIndex lines e f x c' o') (sym begins) (subst (λ (x : Positions). IsIndex lines e f b x o') (sym counts) (subst (IsIndex lines e f b c) (sym also) h))))
 
 pub order-none : (ns : List ℕ) → ns ≡ [] → AreInOrder 0 ns
 order-none ns is = subst (AreInOrder 0) (sym is) (record {
@@ -257,10 +267,11 @@ order-none ns is = subst (AreInOrder 0) (sym is) (record {
   rise = λ i j l m. absurd (omega arith);
 })
 
-pub index-none : (begins counts : Positions) → ((q : ℕ) → under begins q ≡ []) → ((q : ℕ) → under counts q ≡ []) → IsIndex [] [] begins counts []
+pub index-none : (begins counts : Positions) → ((q : ℕ) → under begins q ≡ []) → ((q : ℕ) → under counts q ≡ []) → IsIndex [] [] [] begins counts []
 index-none begins counts unbegun none = record {
   there = λ n line at. absurd (none-some line at);
   named_order = λ name. order-none [] refl;
+  lying_order = λ name. order-none [] refl;
   begun_order = λ q. order-none (under begins q) (unbegun q);
   counted_order = λ q. order-none (under counts q) (none q);
   others_order = order-none [] refl;

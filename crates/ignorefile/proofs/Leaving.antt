@@ -12,8 +12,10 @@ use Rattle.ignorefile.specs.PrivateLeft.{IsDeadIn, IsDeadAt, StandFor, StandIn, 
 use Rattle.ignorefile.specs.declared.index.Index.{Index}
 use Rattle.ignorefile.specs.declared.index.Left.{Left}
 use Rattle.ignorefile.specs.PrivatePositions.{under}
-use Rattle.std.proofs.lemmas.List.{take-take, take_all, take_more, length-take-le}
+use Rattle.ignorefile.specs.PrivateIndex.{lying}
+use Rattle.std.proofs.lemmas.List.{take-take, length-take-le}
 use Rattle.ignorefile.proofs.Lines.{Holds, line-at, relates-at}
+use Rattle.ignorefile.proofs.Deciding.{whole}
 use Rattle.ignorefile.proofs.Handing.{member-either, member-more, member-new, get-front, get-end, length-snoc}
 
 none-of : (b : Bool) (P : Type 0) → (IsTrue b ↔ P) → IsTrue (not b) → P → ⊥
@@ -28,9 +30,6 @@ dead line segments last folder same more is one cut both none name r =
 
 pub dead-at : (lines : List Line) (n : ℕ) (line : Line) (folder : List (List ℕ)) → n < length lines → line ≡ get_or lines n line → IsDeadIn line folder → IsDeadAt lines n folder
 dead-at lines n line folder less is off name r = off name (relates-at lines (folder ++ name ∷ []) n line (line-at lines n line less is) r)
-
-whole : (names : List (List ℕ)) → 1 ≤ length names → names ≡ take (length names - 1) names ++ get_or names (length names - 1) [] ∷ []
-whole names some = sym (take_all (length names - 1 + 1) names (omega arith)) ∙ take_more names (length names - 1) [] (omega arith)
 
 -- ---- positions that stand for others
 
@@ -112,6 +111,11 @@ module _ (lines : List Line) (ns : List ℕ) (k position : ℕ) (folder : List (
           absurd (off name (subst (RelatesAt lines (folder ++ name ∷ [])) (ap (λ (x : ℕ). get_or ns x 0) same ∙ sym is) r))
 
 -- what a folder leaves, for a path right in it
+pub left-lying : (lines : List Line) (index : Index) (names : List (List ℕ)) (left : Left) → 1 ≤ length names → IsLeft lines index (take (length names - 1) names) left
+    → StandFor lines (lying index.by_folder.entries (take (length names - 1) names)) names (positions_in left.lying)
+left-lying lines index names left some l =
+    subst (λ (p : List (List ℕ)). StandFor lines (lying index.by_folder.entries (take (length names - 1) names)) p (positions_in left.lying)) (sym (whole names some)) (l.lying.stand (get_or names (length names - 1) []))
+
 pub left-others : (lines : List Line) (index : Index) (names : List (List ℕ)) (left : Left) → 1 ≤ length names → IsLeft lines index (take (length names - 1) names) left → StandFor lines index.others names (positions_in left.others)
 left-others lines index names left some l =
     subst (λ (p : List (List ℕ)). StandFor lines index.others p (positions_in left.others)) (sym (whole names some)) (l.others.stand (get_or names (length names - 1) []))

@@ -7,6 +7,7 @@ use denote.Ref.{Bor}
 use Rattle.std.specs.Option.{IfSome}
 use Rattle.std.proofs.lemmas.Bool.{ltb-true, ltb-false}
 use Rattle.std.proofs.lemmas.Option.{same_Some}
+use Rattle.std.proofs.lemmas.List.{take_more, take_all}
 use Rattle.globs.specs.declared.part.Part.{Part}
 use Rattle.globs.specs.Component.{RelatesToName}
 use Rattle.globs.specs.Cut.{CanBeCut}
@@ -16,7 +17,7 @@ use Rattle.ignorefile.specs.declared.line.Segment.{Segment}
 use Rattle.ignorefile.specs.declared.line.Segment.TheVariants.{Deep, Named}
 use Rattle.ignorefile.specs.declared.line.Line.{Line}
 use Rattle.ignorefile.specs.Line.{Relates, is_deep, holds}
-use Rattle.ignorefile.specs.PrivateRanks.{EndsIn, LastBegins, LastEnds, HasCount, RelatesAt, AreInOrder, IsRaised, IsBest, TakesOnly, TakesBeginning, TakesEnding}
+use Rattle.ignorefile.specs.PrivateRanks.{EndsIn, LastBegins, LastEnds, LiesIn, HasCount, RelatesAt, AreInOrder, IsRaised, IsBest, TakesOnly, TakesBeginning, TakesEnding}
 
 abbrev pub Holds : Segment → List ℕ → Type 0
 Holds segment name = holds segment name ≡ true
@@ -65,6 +66,30 @@ pub last-ends : (line : Line) (segments : List Segment) (last : Segment) (found 
     → IfSome found (λ byte. TakesEnding last byte) → IfSome found (λ byte. LastEnds line byte)
 last-ends line segments last None same more is ends = tt
 last-ends line segments last (Some byte) same more is ends = last-ending line segments last byte (sym same) more is ends
+
+-- ---- the folder that a line's paths lie in
+
+two-parts : (xs : List Segment) (x y : Segment) → 2 ≤ length xs → y ≡ get_or xs (length xs - 1) y → x ≡ get_or xs (length xs - 2) x → xs ≡ (take (length xs - 2) xs ++ x ∷ []) ++ y ∷ []
+two-parts xs x y more last before = sym (take_all (length xs - 1 + 1) xs (omega arith)) ∙ take_more xs (length xs - 1) y (omega arith) ∙ (λ i. front i ++ sym last i ∷ [])
+  where
+    front : take (length xs - 1) xs ≡ take (length xs - 2) xs ++ x ∷ []
+    front =
+        let same : length xs - 1 ≡ length xs - 2 + 1 = omega arith in
+        ap (λ (n : ℕ). take n xs) same ∙ take_more xs (length xs - 2) x (omega arith) ∙ ap (λ (z : Segment). take (length xs - 2) xs ++ z ∷ []) (sym before)
+
+-- a line whose last segment takes one name, and the one before it one name alone, relates to paths right in folders of that name
+lies-only : (line : Line) (front : List Segment) (folder last : Segment) (name : List ℕ) → line.segments ≡ (front ++ folder ∷ []) ++ last ∷ [] → is_deep last ≡ false → TakesOnly folder name → LiesIn line name
+lies-only line front Deep last name whole one only path r = absurd only
+lies-only line front (Named parts) last name whole one only path r =
+    let w = snoc-parts is_deep Holds (front ++ Named parts ∷ []) last path one (subst (λ (l : List Segment). CanBeCut is_deep Holds l path) whole r) in
+    let v = snoc-parts is_deep Holds front (Named parts) w.0 refl w.1.1.1.1 in
+    let named : v.1.0 ≡ name = only v.1.0 (name-to parts v.1.0 v.1.1.1.0) in
+    (v.0, (w.1.0, w.1.1.0 ∙ ap (λ (f : List (List ℕ)). f ++ w.1.0 ∷ []) (v.1.1.0 ∙ ap (λ (n : List ℕ). v.0 ++ n ∷ []) named)))
+
+pub lies-in : (line : Line) (segments : List Segment) (folder last : Segment) (found : Option (Bor (List ℕ))) → segments ≡ line.segments → 2 ≤ length segments → last ≡ get_or segments (length segments - 1) last → folder ≡ get_or segments (length segments - 2) folder
+    → is_deep last ≡ false → IfSome found (λ name. TakesOnly folder name.now) → IfSome found (λ name. LiesIn line name.now)
+lies-in line segments folder last None same more is before one only = tt
+lies-in line segments folder last (Some name) same more is before one only = lies-only line (take (length segments - 2) segments) folder last name.now (sym same ∙ two-parts segments folder last more is before) one only
 
 -- ---- how many names a line's paths have
 

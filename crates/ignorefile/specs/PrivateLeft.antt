@@ -8,6 +8,7 @@ use Rattle.ignorefile.specs.declared.index.Left.{Left}
 use Rattle.ignorefile.specs.Line.{Relates}
 use Rattle.ignorefile.specs.PrivateRanks.{LastEnds, RelatesAt, Member, AreInOrder}
 use Rattle.ignorefile.specs.PrivatePositions.{under}
+use Rattle.ignorefile.specs.PrivateIndex.{lying}
 
 -- a line relates to no path right in a folder
 abbrev pub IsDeadIn : Line → List (List ℕ) → Type 0
@@ -51,7 +52,9 @@ pub record AreLiving (lines : List Line) (ns : List ℕ) (folder : List (List �
   pub stand : StandIn lines ns folder (positions_in left)
   pub known : AreLeavesOf lines left
 
--- what a folder leaves stands for the others, and for those of the number of names that the paths right in it have
+-- what a folder leaves stands for the others, for those whose paths lie in folders of its name, and for those of the number of names that
+-- the paths right in it have
 pub record IsLeft (lines : List Line) (index : Index) (folder : List (List ℕ)) (left : Left) : Type 0 where
+  pub lying : AreLiving lines (lying index.by_folder.entries folder) folder left.lying
   pub others : AreLiving lines index.others folder left.others
   pub counted : AreLiving lines (under index.by_count (length folder + 1)) folder left.counted

@@ -39,6 +39,10 @@ LastBegins line byte = (path : List (List ℕ)) → Relates line path → (front
 abbrev pub LastEnds : Line → ℕ → Type 0
 LastEnds line byte = (path : List (List ℕ)) → Relates line path → (front : List (List ℕ)) × ((begin : List ℕ) × (path ≡ front ++ (begin ++ byte ∷ []) ∷ []))
 
+-- every path that a line relates to lies right in a folder of this name
+abbrev pub LiesIn : Line → List ℕ → Type 0
+LiesIn line name = (path : List (List ℕ)) → Relates line path → (front : List (List ℕ)) × ((last : List ℕ) × (path ≡ (front ++ name ∷ []) ++ last ∷ []))
+
 -- every path that a line relates to has so many names
 abbrev pub HasCount : Line → ℕ → Type 0
 HasCount line count = (path : List (List ℕ)) → Relates line path → length path ≡ count

@@ -6,7 +6,7 @@ ghost use Rattle.ignorefile.specs.PrivateRanks.{IsDecided, Lets, IsShared};
 
 use crate::IgnoreFault;
 use crate::file::read_lines;
-use crate::index::{Index, add};
+use crate::index::{Index, add, folder_of};
 use crate::line::Line;
 use crate::positions::Positions;
 use paths::Path;
@@ -31,7 +31,7 @@ impl Model for Ignore {
 
     ghost view = { λ i. i.lines };
 
-    ghost invariant = { λ i. IsIndex i.lines i.index.by_name.entries i.index.by_begin i.index.by_count i.index.others };
+    ghost invariant = { λ i. IsIndex i.lines i.index.by_name.entries i.index.by_folder.entries i.index.by_begin i.index.by_count i.index.others };
 }
 
 /// How many first names two paths share.
@@ -47,16 +47,6 @@ fn count_shared(these: &[Text], those: &[Text]) -> usize
     most
 }
 
-/// The folder that a path lies right in; the root's own is the root.
-fn folder_of(names: &[Text]) -> &[Text]
-    ensures { result.now ≡ take (length names.now - 1) names.now }
-{
-    match names {
-        [] => names,
-        [folder @ .., _] => folder,
-    }
-}
-
 impl Ignore {
     /// The ignore file of these lines.
     fn from_lines(alloc: Global, lines: Vec<Line>) -> Result<Ignore, Memory>
@@ -64,6 +54,7 @@ impl Ignore {
     {
         let mut by_name = BTreeMap::new(alloc);
         let mut by_begin = Positions::new(alloc);
+        let mut by_folder = BTreeMap::new(alloc);
         let mut by_count = Positions::new(alloc);
         let mut others = Items::new(alloc);
         let rows = lines.as_slice();
@@ -73,9 +64,12 @@ impl Ignore {
                 Some(name) => add(alloc, &mut by_name, name, position)?,
                 None => match line.last_begin() {
                     Some(byte) => by_begin.enter(alloc, byte as usize, position)?,
-                    None => match line.count() {
-                        Some(count) => by_count.enter(alloc, count, position)?,
-                        None => others.push(position)?,
+                    None => match line.folder_name() {
+                        Some(name) => add(alloc, &mut by_folder, name, position)?,
+                        None => match line.count() {
+                            Some(count) => by_count.enter(alloc, count, position)?,
+                            None => others.push(position)?,
+                        },
                     },
                 },
             }
@@ -85,6 +79,7 @@ impl Ignore {
             index: Index {
                 by_name,
                 by_begin,
+                by_folder,
                 by_count,
                 others,
             },

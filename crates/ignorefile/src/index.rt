@@ -1,6 +1,6 @@
 ghost use Rattle.std.specs.Prelude.{◌≡◌, ◌<◌, ◌≤◌, ◌+◌, ◌-◌, ℕ, List, IsTrue, IsUtf8, IfOk, OnOk, length, take, get_or};
 ghost use Rattle.ignorefile.specs.PrivateRanks.{IsRaised, IsBest, IsVerdict, IsDecided, AreInOrder};
-ghost use Rattle.ignorefile.specs.PrivateIndex.{IsAdded, IsIndex, IsFound, named, under_begin};
+ghost use Rattle.ignorefile.specs.PrivateIndex.{IsAdded, IsIndex, IsFound, named, lying, under_begin};
 ghost use Rattle.ignorefile.specs.PrivateLeft.{IsDeadAt, IsLeft, IsLeafOf, AreLeavesOf, IsLastByte, AreLiving, positions_in, may_take};
 
 use crate::line::Line;
@@ -10,6 +10,7 @@ use std::alloc::Global;
 use std::collections::BTreeMap;
 
 /// The rank of a line where it relates to a path, else the rank that there was. The rank of a line is its position and one.
+#[inline(never)] // The loops that seldom come to it keep what they need in registers so.
 fn raised(lines: &[Line], position: usize, names: &[Text], above: usize) -> usize
     requires within { position < length lines.now }
     requires next { above ≤ position }
@@ -53,6 +54,29 @@ pub(crate) fn positions_under<'a>(
     match by_name.get(name) {
         Some(positions) => positions.as_slice(),
         None => &[],
+    }
+}
+
+/// The folder that a path lies right in; the root's own is the root.
+pub(crate) fn folder_of(names: &[Text]) -> &[Text]
+    ensures { result.now ≡ take (length names.now - 1) names.now }
+{
+    match names {
+        [] => names,
+        [folder @ .., _] => folder,
+    }
+}
+
+/// The positions of the lines whose paths all lie right in folders that have this one's name.
+pub(crate) fn positions_lying<'a>(
+    by_folder: &'a BTreeMap<Text, Items<usize>>,
+    folder: &[Text],
+) -> &'a [usize]
+    ensures { result.now ≡ lying by_folder.now.entries folder.now }
+{
+    match folder {
+        [] => &[],
+        [.., name] => positions_under(by_folder, name),
     }
 }
 
@@ -128,12 +152,18 @@ fn raised_by(lines: &[Line], leaf: Leaf, names: &[Text], last: Option<u8>, above
 }
 
 /// What `best` gives for these leaves' positions.
-fn best_leaf(lines: &[Line], leaves: &[Leaf], names: &[Text], above: usize) -> usize
+fn best_leaf(
+    lines: &[Line],
+    leaves: &[Leaf],
+    names: &[Text],
+    last: Option<u8>,
+    above: usize,
+) -> usize
     requires order { AreInOrder (length lines.now) (positions_in leaves.now) }
     requires known { AreLeavesOf lines.now leaves.now }
+    requires last { IsLastByte names.now last }
     ensures { IsBest lines.now (positions_in leaves.now) names.now above result }
 {
-    let last = last_byte(names);
     for passed in 0..leaves.len() {
         let leaf = leaves[leaves.len() - 1 - passed];
         if leaf.position < above {
@@ -202,6 +232,8 @@ pub(crate) struct Index {
     pub by_name: BTreeMap<Text, Items<usize>>,
     /// Those whose paths all end in names with one first byte, by it.
     pub by_begin: Positions,
+    /// Those whose paths all lie right in folders of one name, by it.
+    pub by_folder: BTreeMap<Text, Items<usize>>,
     /// Those whose paths all have one number of names, by it.
     pub by_count: Positions,
     pub others: Items<usize>,
@@ -210,6 +242,7 @@ pub(crate) struct Index {
 /// What a folder leaves of an index: of the positions that aren't found by a name or a byte, those that are tried for the paths right in it.
 #[derive(Drop)]
 pub(crate) struct Left {
+    lying: Items<Leaf>,
     others: Items<Leaf>,
     counted: Items<Leaf>,
 }
@@ -217,7 +250,7 @@ pub(crate) struct Left {
 impl Index {
     /// The greatest of a rank and of those of the lines that relate to just this path and are found by its last name.
     fn verdict_found(&self, lines: &[Line], names: &[Text], above: usize) -> usize
-        requires { IsIndex lines.now self.now.by_name.entries self.now.by_begin self.now.by_count self.now.others }
+        requires { IsIndex lines.now self.now.by_name.entries self.now.by_folder.entries self.now.by_begin self.now.by_count self.now.others }
         ensures { IsFound lines.now self.now.by_name.entries self.now.by_begin names.now above result }
     {
         match names {
@@ -232,23 +265,27 @@ impl Index {
 
     /// The greatest of a rank and of those of the lines that relate to just this path.
     pub(crate) fn verdict(&self, lines: &[Line], names: &[Text], above: usize) -> usize
-        requires { IsIndex lines.now self.now.by_name.entries self.now.by_begin self.now.by_count self.now.others }
+        requires { IsIndex lines.now self.now.by_name.entries self.now.by_folder.entries self.now.by_begin self.now.by_count self.now.others }
         ensures { IsVerdict lines.now names.now above result }
     {
-        let low = best(lines, self.others.as_slice(), names, above);
+        let lying = positions_lying(&self.by_folder, folder_of(names));
+        let least = best(lines, lying, names, above);
+        let low = best(lines, self.others.as_slice(), names, least);
         let middle = best(lines, self.by_count.under(names.len()), names, low);
         self.verdict_found(lines, names, middle)
     }
 
     /// The same, of a path that lies right in the folder that left this.
     fn verdict_left(&self, lines: &[Line], left: &Left, names: &[Text], above: usize) -> usize
-        requires index { IsIndex lines.now self.now.by_name.entries self.now.by_begin self.now.by_count self.now.others }
+        requires index { IsIndex lines.now self.now.by_name.entries self.now.by_folder.entries self.now.by_begin self.now.by_count self.now.others }
         requires left { IsLeft lines.now self.now (take (length names.now - 1) names.now) left.now }
         requires some { 1 ≤ length names.now }
         ensures { IsVerdict lines.now names.now above result }
     {
-        let low = best_leaf(lines, left.others.as_slice(), names, above);
-        let middle = best_leaf(lines, left.counted.as_slice(), names, low);
+        let last = last_byte(names);
+        let least = best_leaf(lines, left.lying.as_slice(), names, last, above);
+        let low = best_leaf(lines, left.others.as_slice(), names, last, least);
+        let middle = best_leaf(lines, left.counted.as_slice(), names, last, low);
         self.verdict_found(lines, names, middle)
     }
 
@@ -259,12 +296,18 @@ impl Index {
         lines: &[Line],
         folder: &[Text],
     ) -> Result<Left, Memory>
-        requires { IsIndex lines.now self.now.by_name.entries self.now.by_begin self.now.by_count self.now.others }
+        requires { IsIndex lines.now self.now.by_name.entries self.now.by_folder.entries self.now.by_begin self.now.by_count self.now.others }
         ensures { IfOk result (λ left. IsLeft lines.now self.now folder.now left) }
     {
+        let lying = positions_lying(&self.by_folder, folder);
+        let lying = living(alloc, lines, lying, folder)?;
         let others = living(alloc, lines, self.others.as_slice(), folder)?;
         let counted = living(alloc, lines, self.by_count.under(folder.len() + 1), folder)?;
-        Ok(Left { others, counted })
+        Ok(Left {
+            lying,
+            others,
+            counted,
+        })
     }
 
     /// Decides the fronts of a path that are longer than its first `same` names, from what is decided of those and what its folder leaves.
@@ -276,7 +319,7 @@ impl Index {
         same: usize,
         decided: &mut [usize; 65],
     )
-        requires index { IsIndex lines.now self.now.by_name.entries self.now.by_begin self.now.by_count self.now.others }
+        requires index { IsIndex lines.now self.now.by_name.entries self.now.by_folder.entries self.now.by_begin self.now.by_count self.now.others }
         requires left { IsLeft lines.now self.now (take (length names.now - 1) names.now) left.now }
         requires few { length names.now ≤ 64 }
         requires some { same ≤ length names.now }

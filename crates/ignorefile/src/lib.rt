@@ -2,9 +2,9 @@
 //
 // The last line that relates to a path, or to a folder that it lies in, decides. It knows patterns of single names from `globs` and adds
 // `**`; it knows no tree. Lines that end in a plain name, as most do, are found by that name, those that end in a plain beginning and a `*`
-// by its first byte, and others without `**` by how many names their paths have: few are tried one after another. What the lines decide
-// of a folder is handed down to the paths in it, and of the lines that are tried one after another only those are tried there which the
-// folder's names leave.
+// by its first byte, those with a plain name before their last one by the folder's name, and others without `**` by how many names their
+// paths have: few are tried one after another. What the lines decide of a folder is handed down to the paths in it, and of the lines that
+// are tried one after another only those are tried there which the folder's names leave, most of them by a name's last byte alone.
 //
 // Its central definitions are `ignore_of` (specs/File.antt), what the bytes of a file say, and `Kept` (specs/Kept.antt).
 //

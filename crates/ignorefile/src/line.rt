@@ -2,7 +2,7 @@ ghost use Rattle.std.specs.Prelude.{◌≡◌, ◌↔◌, IsTrue, IfSome};
 ghost use Rattle.std.specs.List.{list_any};
 ghost use Rattle.ignorefile.specs.Line.{Relates, is_deep};
 ghost use Rattle.ignorefile.specs.PrivateLeft.{IsDeadIn};
-ghost use Rattle.ignorefile.specs.PrivateRanks.{EndsIn, LastBegins, LastEnds, HasCount, TakesOnly, TakesBeginning, TakesEnding};
+ghost use Rattle.ignorefile.specs.PrivateRanks.{EndsIn, LastBegins, LastEnds, LiesIn, HasCount, TakesOnly, TakesBeginning, TakesEnding};
 
 use globs::{Component, Fits, can_be_cut};
 use plain::{Items, Text};
@@ -131,6 +131,21 @@ impl Line {
         match self.segments.as_slice() {
             [] => None,
             [.., last] => last.last_byte(),
+        }
+    }
+
+    /// The name of the folder that each path lies right in which the line relates to, where that is a plain one.
+    pub(crate) fn folder_name(&self) -> Option<&str>
+        ensures { IfSome result (λ name. LiesIn self.now name.now) }
+    {
+        match self.segments.as_slice() {
+            [.., folder, last] => {
+                if last.takes_any() {
+                    return None;
+                }
+                folder.only_name()
+            }
+            _ => None,
         }
     }
 

@@ -3,7 +3,7 @@ use Rattle.ignorefile.proofs.Deciding.{begun-order, found-root, found-some, move
 use Rattle.ignorefile.proofs.index.Index.verdict_found.Goals as goal
 
 pub best-high-requires : goal.best-high-requires
-best-high-requires c = moved-order _ _ _ _ refl c.positions_beginning-begun.ensures (begun-order _ _ _ _ _ c.requires c.last-item.result)
+best-high-requires c = moved-order _ _ _ _ refl c.positions_beginning-begun.ensures (begun-order _ _ _ _ _ _ c.requires c.last-item.result)
 
 pub best-requires : goal.best-requires
 best-requires c = moved-order _ _ _ _ refl c.positions_under.ensures.value (c.requires.named_order c.last-item.result)
