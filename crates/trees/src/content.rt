@@ -1,19 +1,16 @@
 ghost use Rattle.std.specs.Prelude.{◌≡◌, IfOk};
 
-use arrayvec::ArrayVec;
+use crate::few::Few;
 use plain::{Bytes, Exact, Memory};
 use std::alloc::Global;
 use std::marker::Model;
 use std::sync::Arc;
 
-/// The most bytes of a file that lie in the value itself: as many as a pointer takes, since every entry has room for them.
-const SHORT: usize = 8;
-
 /// Where the bytes lie: few of them in the value itself, which takes no memory of its own, and who goes through a tree takes no step
 /// through a pointer to them; more of them in memory that copies share.
 #[derive(Debug, Drop)]
 enum Stored {
-    Short(ArrayVec<u8, SHORT>),
+    Short(Few),
     Shared(Arc<Bytes, Global>),
 }
 
@@ -49,9 +46,9 @@ impl Content {
     pub fn new(alloc: Global, bytes: Bytes) -> Result<Content, Memory>
         ensures { IfOk result (λ content. content ≡ bytes) }
     {
-        let stored = match ArrayVec::try_from(bytes.as_slice()) {
-            Ok(short) => Stored::Short(short),
-            Err(_) => Stored::Shared(Arc::new(alloc, bytes)?),
+        let stored = match Few::of(bytes.as_slice()) {
+            Some(few) => Stored::Short(few),
+            None => Stored::Shared(Arc::new(alloc, bytes)?),
         };
         Ok(Content { stored })
     }
@@ -61,7 +58,7 @@ impl Content {
         ensures { result.now ≡ self.now }
     {
         match &self.stored {
-            Stored::Short(bytes) => bytes.as_slice(),
+            Stored::Short(few) => few.as_slice(),
             Stored::Shared(bytes) => bytes.as_slice(),
         }
     }
@@ -74,7 +71,7 @@ impl Exact for Content {
 
     fn copy(&self, _alloc: Global) -> Result<Content, Memory> {
         let stored = match &self.stored {
-            Stored::Short(bytes) => Stored::Short(ArrayVec::try_from(bytes.as_slice()).unwrap()),
+            Stored::Short(few) => Stored::Short(*few),
             Stored::Shared(bytes) => Stored::Shared(Arc::try_clone(bytes)?),
         };
         Ok(Content { stored })

@@ -23,6 +23,7 @@ mod children;
 mod content;
 mod copy;
 mod entry;
+mod few;
 mod folder;
 mod kids;
 pub mod laws;
