@@ -29,3 +29,5 @@ mod DepthSteps
 mod PlacedSteps
 mod FolderSteps
 mod FolderDone
+mod GatheredSteps
+mod GrowingSteps

@@ -5,6 +5,7 @@ pub mod Rows
 pub mod Walk
 pub mod Branch
 pub mod Put
+pub mod Whole
 pub mod Make
 pub mod Remove
 pub mod Subtree
@@ -16,3 +17,4 @@ pub mod PrivateWalk
 pub mod PrivateFall
 pub mod PrivateLent
 pub mod PrivateCopy
+pub mod PrivateGrowing

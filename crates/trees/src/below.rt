@@ -10,13 +10,14 @@ ghost use Rattle.paths.specs.Order.{name_cmp};
 ghost use Rattle.trees.specs.Branch.{from_name};
 ghost use Rattle.trees.specs.Rows.{lent_rows};
 ghost use Rattle.trees.specs.Copy.{placements};
-ghost use Rattle.trees.specs.PrivateNode.{joined, IsDepth, IsDeeper, rows_under, ArePlanted, AreCut, AreFilled, AreLaid};
+ghost use Rattle.trees.specs.PrivateNode.{joined, IsDepth, IsDeeper, rows_under, ArePlanted, AreCut, AreFilled, AreLaid, are_parts, lists_of, kids_of};
 ghost use Rattle.trees.specs.PrivateCopy.{ArePlacedKids, MeetInDirectories};
 
 use crate::children::Children;
 use crate::copy::Change;
 use crate::kids::Kids;
 use crate::node::Node;
+use crate::part::Part;
 use crate::{CopyOptions, Entry, Meta};
 use paths::{LongPath, Path};
 use plain::{Memory, Text};
@@ -62,6 +63,15 @@ impl Below {
     {
         let kids = Children::one(alloc, name, kid)?;
         let shared = Arc::new(alloc, kids)?;
+        Ok(Below { kids: Some(shared) })
+    }
+
+    /// The children of these parts.
+    pub(crate) fn of_parts(alloc: Global, parts: Vec<Part>) -> Result<Below, Memory>
+        requires { are_parts (lists_of parts.items) ≡ true }
+        ensures { IfOk result (λ kids. kids ≡ kids_of parts) }
+    {
+        let shared = Arc::new(alloc, Children::of_parts(parts))?;
         Ok(Below { kids: Some(shared) })
     }
 

@@ -11,7 +11,7 @@ ghost use Rattle.trees.specs.declared.children.Absent.{Absent};
 ghost use Rattle.trees.specs.Branch.{from_name};
 ghost use Rattle.trees.specs.Rows.{lent_rows};
 ghost use Rattle.trees.specs.Copy.{placements};
-ghost use Rattle.trees.specs.PrivateNode.{joined, IsDepth, IsDeeper, rows_under, AreKids, ArePlanted, AreCut, AreFilled, AreLaid};
+ghost use Rattle.trees.specs.PrivateNode.{joined, IsDepth, IsDeeper, rows_under, AreKids, ArePlanted, AreCut, AreFilled, AreLaid, are_parts, lists_of, kids_of};
 ghost use Rattle.trees.specs.PrivateLent.{LendsKid};
 ghost use Rattle.trees.specs.PrivateCopy.{ArePlacedKids, MeetInDirectories};
 
@@ -71,6 +71,14 @@ impl Children {
         let mut parts = Vec::new(alloc);
         parts.push(part)?;
         Ok(Children { parts })
+    }
+
+    /// The children of these parts.
+    pub(crate) fn of_parts(parts: Vec<Part>) -> Children
+        requires { are_parts (lists_of parts.items) ≡ true }
+        ensures { result ≡ kids_of parts }
+    {
+        Children { parts }
     }
 
     /// The child of a name.

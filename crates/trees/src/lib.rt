@@ -25,6 +25,7 @@ mod copy;
 mod entry;
 mod few;
 mod folder;
+mod growing;
 mod kids;
 pub mod laws;
 mod meta;

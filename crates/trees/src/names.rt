@@ -65,6 +65,14 @@ impl Names {
         Ok(Names { rows })
     }
 
+    /// These names, which rise.
+    pub(crate) fn of_rows(rows: Vec<(Text, Node)>) -> Names
+        requires { is_sorted name_cmp rows.items ≡ true }
+        ensures { result ≡ rows.items }
+    {
+        Names { rows }
+    }
+
     /// The names with their nodes, lent.
     pub(crate) fn rows(&self) -> &[(Text, Node)]
         ensures rows { result.now ≡ self.now }

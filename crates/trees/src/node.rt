@@ -67,6 +67,15 @@ impl Node {
         }
     }
 
+    /// An entry with these children, no path among and below which has more names than so many.
+    pub(crate) fn folder(entry: Entry, kids: Below, depth: usize) -> Node
+        requires { IsDepth depth (joined kids) }
+        ensures top { result.top ≡ entry }
+        ensures below { result.below ≡ joined kids }
+    {
+        Node { entry, kids, depth }
+    }
+
     /// How many names the longest path below this node has. A number greater than that of any path of a tree says nothing.
     pub(crate) fn depth(&self) -> usize
         ensures { IsDepth result self.now.below }

@@ -5,6 +5,7 @@ ghost use Rattle.trees.specs.TreeMap.{IsTree, directory_meta, empty_tree};
 ghost use Rattle.trees.specs.Cause.{GivesTree, ChangesTree};
 ghost use Rattle.trees.specs.Rows.{lent_rows};
 ghost use Rattle.trees.specs.Put.{cause_at, placed, put_into};
+ghost use Rattle.trees.specs.Whole.{tree_of, ArePlaceable};
 ghost use Rattle.trees.specs.Make.{made};
 ghost use Rattle.trees.specs.Remove.{removed};
 ghost use Rattle.trees.specs.Subtree.{subtree};
@@ -15,6 +16,7 @@ ghost use Rattle.trees.specs.PrivateNode.{map_of, IsBelow};
 use crate::apply::make;
 use crate::changes::is_any_missing;
 use crate::folder::place_sources;
+use crate::growing::grow;
 use crate::node::Node;
 use crate::put::cause_at;
 use crate::{Branch, Cause, CopyOptions, CopySource, Entry, Meta, TreeFault, Walk};
@@ -50,6 +52,28 @@ impl Tree {
         Tree {
             root: Node::leaf(Entry::Directory(Meta::directory())),
         }
+    }
+
+    /// The tree of a list of rows, placed as by [`place`](Tree::place), the last first: each entry stands at its path, and directories on the way
+    /// that no row lists are made, 0755 and 0:0, as the root is.
+    ///
+    /// Rows in the order of a walk, a folder before what is in it and names rising, are placed folder by folder, with no walk from the
+    /// root for each; from the first that isn't in that order, seen from the end, each is placed by itself. The caller knows, as for
+    /// `place`, that nothing stands in a row's way.
+    pub fn of_rows(alloc: Global, rows: Vec<(Path, Entry)>) -> Result<Tree, Memory>
+        requires { ArePlaceable rows.items }
+        ensures { IfOk result (λ tree. tree ≡ tree_of rows.items) }
+    {
+        let mut left = rows;
+        let Some((path, entry)) = left.pop() else {
+            return Ok(Tree::empty(alloc));
+        };
+        let root = grow(alloc, &mut left, &path, 0, entry)?;
+        let mut tree = Tree { root };
+        while let Some((path, entry)) = left.pop() {
+            tree.place(alloc, &path, entry)?;
+        }
+        Ok(tree)
     }
 
     /// The mode and owner of the root, which is a directory in every tree, as the parents of all that it has are.
