@@ -1,4 +1,4 @@
-ghost use Rattle.std.specs.Prelude.{◌≡◌, ◌+◌, ◌<◌, ◌≤◌, ℕ, List, Option, [], length, IsTrue, ◌↔◌, IfOk, false};
+ghost use Rattle.std.specs.Prelude.{◌≡◌, ◌+◌, ◌<◌, ◌≤◌, ℕ, List, Option, [], length, take, IsTrue, ◌↔◌, IfOk, false};
 ghost use Rattle.counted.specs.Gathering.{nothing, held, sink, Says, HasRoom, IsWritten};
 
 use crate::{CountedWrite, Device, EdgeFault, write_all};
@@ -8,6 +8,22 @@ use std::marker::Model;
 
 /// How many bytes are gathered before they are written, at most.
 const ROOM: usize = 65536;
+
+/// How many bytes a [`Piece`] has, at most.
+pub const MOST_OF_PIECE: usize = 8192;
+
+/// A piece of a text that writes itself straight to where the text is gathered, with one test of room for all its parts.
+pub trait Piece {
+    // What it says.
+    ghost text: { Self → List ℕ };
+
+    /// Writes the piece to the front of `room`, and tells how many bytes it has. What stands behind it then is anything.
+    fn write(self, room: &mut [u8]) -> usize
+        requires { MOST_OF_PIECE ≤ length room.old }
+        ensures long { length room.new ≡ length room.old }
+        ensures inside { result ≤ length room.new }
+        ensures text { take result room.new ≡ text self };
+}
 
 /// The bytes of a text that is written in pieces, as far as they aren't written yet. After a failed write no more is written.
 ///
@@ -75,6 +91,18 @@ impl Gathered {
         self.buffer[self.filled..end].copy_from_slice(bytes);
         self.filled = end;
     }
+
+    /// Has a piece written behind the bytes that are gathered.
+    #[inline(always)]
+    fn take_piece<P: Piece>(&mut self, piece: P)
+        requires { length self.old.bytes + MOST_OF_PIECE ≤ ROOM }
+        ensures says { (contents : Option (List ℕ)) (failures : ℕ)
+            → Says (sink contents failures self.old) (sink contents failures self.new) (P.text piece) }
+        ensures failed { self.new.failed ≡ self.old.failed }
+    {
+        let size = piece.write(&mut self.buffer[self.filled..]);
+        self.filled += size;
+    }
 }
 
 /// Says bytes: they are gathered, and written with those before them where there is no more room. It takes no memory.
@@ -96,6 +124,36 @@ pub fn gather<W: CountedWrite>(output: &mut W, gathered: &mut Gathered, bytes: &
         gathered.take_in(bytes);
     } else {
         gather_after_flush(output, gathered, bytes);
+    }
+}
+
+/// Says a piece, as [`gather`] says bytes, and has it written where it is gathered.
+#[inline(always)]
+pub fn gather_piece<W: CountedWrite, P: Piece>(output: &mut W, gathered: &mut Gathered, piece: P)
+    requires room { HasRoom (W.failures output.old) gathered.old }
+    ensures says { Says
+        (sink (W.contents output.old) (W.failures output.old) gathered.old)
+        (sink (W.contents output.new) (W.failures output.new) gathered.new)
+        (P.text piece) }
+    ensures room { HasRoom (W.failures output.new) gathered.new }
+{
+    make_room(output, gathered);
+    gathered.take_piece(piece);
+}
+
+/// Writes what is gathered, where there is no room for a piece any more.
+#[inline(always)]
+fn make_room<W: CountedWrite>(output: &mut W, gathered: &mut Gathered)
+    requires room { HasRoom (W.failures output.old) gathered.old }
+    ensures says { Says
+        (sink (W.contents output.old) (W.failures output.old) gathered.old)
+        (sink (W.contents output.new) (W.failures output.new) gathered.new)
+        [] }
+    ensures short { length gathered.new.bytes + MOST_OF_PIECE ≤ ROOM }
+    ensures room { HasRoom (W.failures output.new) gathered.new }
+{
+    if !gathered.is_room_for(MOST_OF_PIECE) {
+        flush(output, gathered);
     }
 }
 
@@ -137,6 +195,7 @@ pub fn finish<W: CountedWrite>(output: &mut W, gathered: Gathered) -> Result<(),
 }
 
 /// Writes what is gathered; then nothing is.
+#[inline(never)]
 fn flush<W: CountedWrite>(output: &mut W, gathered: &mut Gathered)
     requires room { HasRoom (W.failures output.old) gathered.old }
     ensures says { Says

@@ -11,6 +11,7 @@
 //
 // A text that is never held whole is said in pieces: `gather` keeps some bytes back in a `Gathered` and writes them when there is no more room,
 // and `finish` writes the rest and tells whether a write failed. A failure is kept there, so calls that say parts of a text give no `Result`.
+// A `Piece` of several short parts is written straight to where it is gathered (`gather_piece`).
 //
 // It is no buffered reader, and no writer of std's, and it knows nothing of what the bytes mean. The central
 // definitions are `ReadsFirst`, `AppendsBeginning`, `CountsFault` and `Says`.
@@ -36,4 +37,4 @@ mod gathering;
 pub use counting::{Counted, CountedRead, CountedWrite};
 pub use edges::{read_all, write_all};
 pub use fault::{Device, EdgeFault};
-pub use gathering::{Gathered, finish, gather};
+pub use gathering::{Gathered, MOST_OF_PIECE, Piece, finish, gather, gather_piece};
