@@ -1,13 +1,17 @@
 -- What is held of a path's text, as a walk goes on.
-use Rattle.std.proofs.Common.{◌≡◌, ℕ, ◌+◌, ◌-◌, ◌<◌, ◌≤◌, List, [], ◌∷◌, ◌++◌, min, length, take, drop, get_or, set, Bor, refl, sym, ap, ◌∙◌, subst, inl, inr, append_assoc, append-nil, arith, length-append}
+use Rattle.std.proofs.Common.{◌≡◌, ℕ, ◌+◌, ◌-◌, ◌<◌, ◌≤◌, List, [], ◌∷◌, ◌++◌, min, length, take, drop, get_or, set, Bor, refl, sym, ap, ◌∙◌, subst, inl, inr, append_assoc, append-nil, arith, codes, length-append, length-take-le}
 use Rattle.std.proofs.lemmas.Bool.{cases_lt}
 use Rattle.std.proofs.lemmas.List.{take_more, take_at, take-take, take-append-drop, length-map, length-set, get_or-set_same, get_or-set_other, map-append}
-use Rattle.std.specs.List.{take-map}
-use Rattle.json.specs.Print.{escape}
-use Rattle.paths.specs.Path.{rooted}
+use Rattle.std.proofs.Math.Seq.{take-nil}
+use Rattle.std.specs.List.{take-map, drop-map}
+use Rattle.json.specs.Print.{escape_byte, escape}
+use Rattle.paths.specs.Path.{rooted, text_of}
+use Rattle.trees.specs.declared.meta.Meta.{Meta}
 use Rattle.trees.specs.Rows.{lent_names}
 use Rattle.entries.specs.declared.front.PathFront.{PathFront}
+use Rattle.entries.specs.Written.{mode_text}
 use Rattle.entries.specs.PrivateFront.{HoldsNames}
+use Rattle.entries.specs.PrivatePrinting.{mode_and_key, user_end, end_text, text_behind}
 use Rattle.entries.proofs.PrintingFacts.{escape-rooted}
 
 -- the text of some names and then of others
@@ -129,11 +133,62 @@ holds-on old at names front held keeps same =
 pub holds-none : (names : List (List ℕ)) (front : PathFront) → HoldsNames [] 0 front → front.names ≡ 0 → HoldsNames names front.names front
 holds-none names front held none = subst (λ (k : ℕ). HoldsNames names k front) (sym none) (holds-other [] names front 0 held refl (omega arith))
 
+-- ---- a name stays out
+
+-- what was written behind the text that is held changes nothing
+pub holds-behind : (names : List (List ℕ)) (front : PathFront) (k : ℕ) (first text : List ℕ) → HoldsNames names k front
+    → take (get_or front.ends k 0 + 1) first ≡ take (get_or front.ends k 0) front.text ++ 47 ∷ [] → length first ≡ length front.text
+    → take (get_or front.ends k 0 + 1) text ≡ take (get_or front.ends k 0 + 1) first → length text ≡ length first
+    → HoldsNames names k record { text = text; ends = front.ends; names = front.names }
+holds-behind names front k first text held slash first_long before long =
+    let begin = get_or front.ends k 0 in
+    let within : begin ≤ length front.text = omega (arith, held.long, held.inside) in
+    let lower : begin ≤ begin + 1 = omega arith in
+    record {
+      long = long ∙ first_long ∙ held.long;
+      places = held.places;
+      few = held.few;
+      room = held.room;
+      inside = held.inside;
+      text = sym (take-take begin (begin + 1) text lower)
+          ∙ ap (take begin) (before ∙ slash)
+          ∙ take_at (take begin front.text) (47 ∷ []) begin (length-take-le begin front.text within)
+          ∙ held.text;
+      ends = held.ends;
+    }
+
 -- ---- a path is said
 
 -- what is held and then the other names
-pub said-both : (names : List (Bor (List ℕ))) (k : ℕ) → escape (rooted (take k (lent_names names))) ++ escape (rooted (lent_names (drop k names))) ≡ escape (rooted (lent_names names))
-said-both names k =
-    ap (λ ns. escape (rooted ns) ++ escape (rooted (lent_names (drop k names)))) (take-map (λ (n : Bor (List ℕ)). n.now) k names)
-    ∙ sym (escape-both (lent_names (take k names)) (lent_names (drop k names)))
-    ∙ ap (λ ns. escape (rooted ns)) (sym (map-append (λ (n : Bor (List ℕ)). n.now) (take k names) (drop k names)) ∙ ap lent_names (take-append-drop k names))
+path-both : (names : List (List ℕ)) (front : PathFront) → HoldsNames names front.names front
+    → take (get_or front.ends front.names 0) front.text ++ text_behind front.names names ≡ escape (text_of names)
+unfolding escape_byte
+path-both [] front held = ap (λ t. t ++ codes "/") (held.text ∙ ap (λ ns. escape (rooted ns)) (take-nil front.names))
+path-both (name ∷ names) front held =
+    ap (λ t. t ++ escape (rooted (drop front.names (name ∷ names)))) held.text
+    ∙ sym (escape-both (take front.names (name ∷ names)) (drop front.names (name ∷ names)))
+    ∙ ap (λ ns. escape (rooted ns)) (take-append-drop front.names (name ∷ names))
+
+-- the names that aren't held, of a path that has some
+pub behind-some : (names : List (Bor (List ℕ))) (k : ℕ) → (length names ≡ 0 → ⊥) → escape (rooted (lent_names (drop k names))) ≡ text_behind k (lent_names names)
+behind-some [] k some = absurd (some refl)
+behind-some (name ∷ names) k some = ap (λ ns. escape (rooted ns)) (sym (drop-map (λ (n : Bor (List ℕ)). n.now) k (name ∷ names)))
+
+-- a mode with the front of a path, then the rest of the path and the user
+pub end-parts : (names : List (List ℕ)) (front : PathFront) (meta : Meta) (mode size k : ℕ) (text : List ℕ) → HoldsNames names front.names front
+    → mode ≡ meta.mode → text ≡ front.text → size ≡ get_or front.ends front.names 0 → k ≡ front.names
+    → (mode_and_key mode ++ take size text) ++ (text_behind k names ++ user_end meta.uid) ≡ end_text names meta
+end-parts names front meta mode size k text held same_mode same_text same_size same_names =
+    let begin = get_or front.ends front.names 0 in
+    let m = mode_text meta.mode in
+    let key = codes "\",\"path\":\"" in
+    let part = take begin front.text in
+    let rest = text_behind front.names names in
+    let user = user_end meta.uid in
+    ap (λ n. (mode_and_key n ++ take size text) ++ (text_behind k names ++ user)) same_mode
+    ∙ ap (λ n. (mode_and_key meta.mode ++ take n text) ++ (text_behind k names ++ user)) same_size
+    ∙ ap (λ t. (mode_and_key meta.mode ++ take begin t) ++ (text_behind k names ++ user)) same_text
+    ∙ ap (λ n. (mode_and_key meta.mode ++ part) ++ (text_behind n names ++ user)) same_names
+    ∙ append_assoc (m ++ key) part (rest ++ user)
+    ∙ append_assoc m key (part ++ (rest ++ user))
+    ∙ ap (λ t. m ++ (key ++ t)) (sym (append_assoc part rest user) ∙ ap (λ t. t ++ user) (path-both names front held))

@@ -6,4 +6,5 @@ mod FingerprintFacts
 pub mod WrittenFacts
 mod PrintingFacts
 mod HeldFacts
+mod PieceFacts
 mod KeyFacts

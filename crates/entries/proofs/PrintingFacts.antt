@@ -46,10 +46,6 @@ unfolding escape_byte
 escape-root [] root = refl
 escape-root (name ∷ names) root = absurd (omega arith)
 
-pub text-rooted : (names : List (Bor (List ℕ))) → (length names ≡ 0 → ⊥) → escape (rooted (lent_names names)) ≡ escape (text_of (lent_names names))
-text-rooted [] some = absurd (some refl)
-text-rooted (name ∷ names) some = refl
-
 -- ---- digits
 
 -- the digits below a number
@@ -133,6 +129,12 @@ unfolding escape_byte
 file-text path meta bytes small fits =
     ap (λ e. codes "{\"gid\":" ++ (decimal meta.gid ++ (codes ",\"hex\":" ++ (quoted (encode_lower bytes) ++ e)))) (end-is path meta small)
     ∙ hex-then (encode_lower bytes) meta.gid (codes ",\"mode\":\"" ++ end_text path meta) (escape-plain (encode_lower bytes) (hex-plain bytes fits))
+
+-- what an entry begins with, and then the rest
+pub start-then : (comma key owner behind rest : List ℕ) → (comma ++ (key ++ (owner ++ behind))) ++ rest ≡ comma ++ (key ++ (owner ++ (behind ++ rest)))
+start-then comma key owner behind rest =
+    append_assoc comma (key ++ (owner ++ behind)) rest
+    ∙ ap (λ t. comma ++ t) (append_assoc key (owner ++ behind) rest ∙ ap (λ t. key ++ t) (append_assoc owner behind rest))
 
 encode-append : (t a b : List ℕ) → encode_with t (a ++ b) ≡ encode_with t a ++ encode_with t b
 unfolding encode_with

@@ -1,8 +1,8 @@
 -- How an entry's text ends, and which bytes aren't escaped.
-use Rattle.std.specs.Prelude.{ℕ, Bool, not, ◌&&◌, ◌==◌, ◌++◌, List, nat_le, codes, decimal}
+use Rattle.std.specs.Prelude.{ℕ, Bool, not, ◌&&◌, ◌==◌, ◌++◌, List, [], ◌∷◌, drop, nat_le, codes, decimal}
 use Rattle.json.specs.Print.{escape}
-use Rattle.paths.specs.Path.{text_of}
-use Rattle.serde_json.specs.Written.{compact_text}
+use Rattle.paths.specs.Path.{rooted, text_of}
+use Rattle.serde_json.specs.Written.{comma_if, compact_text}
 use Rattle.trees.specs.declared.meta.Meta.{Meta}
 use Rattle.trees.specs.declared.entry.Entry.{Entry}
 use Rattle.entries.specs.Written.{mode_text, entry_data}
@@ -11,10 +11,31 @@ use Rattle.entries.specs.Written.{mode_text, entry_data}
 abbrev pub is_plain : ℕ → Bool
 is_plain byte = nat_le 32 byte && (not (byte == 34) && not (byte == 92))
 
+-- what a directory's text has before its mode's digits, behind a comma where others stand before
+abbrev pub directory_start : Bool → ℕ → List ℕ
+directory_start later gid = comma_if later ++ (codes "{\"dir\":true,\"gid\":" ++ (decimal gid ++ codes ",\"mode\":\""))
+
+-- what a file's text has before its bytes, behind a comma where others stand before
+abbrev pub file_start : Bool → ℕ → List ℕ
+file_start later gid = comma_if later ++ (codes "{\"gid\":" ++ (decimal gid ++ codes ",\"hex\":\""))
+
+-- a mode's digits, and what stands between them and the path
+abbrev pub mode_and_key : ℕ → List ℕ
+mode_and_key mode = mode_text mode ++ codes "\",\"path\":\""
+
+-- what stands behind the path
+abbrev pub user_end : ℕ → List ℕ
+user_end uid = codes "\",\"uid\":" ++ (decimal uid ++ codes "}")
+
 -- what directories and files end with, from the mode's digits on: mode, path and user
 abbrev pub end_text : List (List ℕ) → Meta → List ℕ
 end_text path meta =
     mode_text meta.mode ++ (codes "\",\"path\":\"" ++ (escape (text_of path) ++ (codes "\",\"uid\":" ++ (decimal meta.uid ++ codes "}"))))
+
+-- what the text of a path has behind its first names, as it stands in a JSON string: of the root's path it is the whole text
+abbrev pub text_behind : ℕ → List (List ℕ) → List ℕ
+text_behind first [] = codes "/"
+text_behind first (name ∷ names) = escape (rooted (drop first (name ∷ names)))
 
 -- an entry as text
 unfoldable pub entry_text : List (List ℕ) → Entry → List ℕ

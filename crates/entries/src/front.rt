@@ -1,13 +1,12 @@
-ghost use Rattle.std.specs.Prelude.{◌≡◌, ◌+◌, ◌-◌, ◌<◌, ◌≤◌, ◌++◌, [], min, length, take};
-ghost use Rattle.json.specs.Print.{escape};
-ghost use Rattle.paths.specs.Path.{rooted, text_of};
-ghost use Rattle.counted.specs.Gathering.{sink, Says, HasRoom};
+ghost use Rattle.std.specs.Prelude.{◌≡◌, ◌+◌, ◌-◌, ◌<◌, ◌≤◌, ◌++◌, ℕ, List, [], true, IsTrue, min, length, take, get_or};
+ghost use Rattle.std.specs.List.{list_all};
 ghost use Rattle.trees.specs.Rows.{lent_names};
 ghost use Rattle.entries.specs.PrivateFront.{HoldsNames};
+ghost use Rattle.entries.specs.PrivatePrinting.{is_plain};
 
-use crate::printing::{is_plain_text, put_names};
-use counted::{CountedWrite, Gathered, gather};
-use plain::Text;
+use crate::pieces::{ModeAndFront, write_at};
+use crate::printing::is_plain;
+use plain::{Mode, Text};
 
 /// How many bytes of a path's text are held. Few paths are longer.
 const ROOM: usize = 4096;
@@ -52,27 +51,25 @@ impl PathFront {
         }
     }
 
-    /// Says the text of a path of which names are held, as it stands in a JSON string.
-    pub(crate) fn put_path<W: CountedWrite>(
-        &self,
-        output: &mut W,
-        gathered: &mut Gathered,
-        names: &[&Text],
-    )
-        requires held { HoldsNames (lent_names names.now) self.now.names self.now }
-        requires room { HasRoom (W.failures output.old) gathered.old }
-        ensures says { Says
-            (sink (W.contents output.old) (W.failures output.old) gathered.old)
-            (sink (W.contents output.new) (W.failures output.new) gathered.new)
-            (escape (text_of (lent_names names.now))) }
-        ensures room { HasRoom (W.failures output.new) gathered.new }
+    /// How many names are held.
+    pub(crate) fn names(&self) -> usize
+        ensures { result ≡ self.now.names }
     {
-        if names.is_empty() {
-            gather(output, gathered, b"/");
-            return;
+        self.names
+    }
+
+    /// What is held of a path of these names, behind an entry's mode.
+    pub(crate) fn behind_mode(&self, mode: Mode) -> ModeAndFront<'_>
+        requires { (names : List (List ℕ)) × HoldsNames names self.now.names self.now }
+        ensures mode { result.mode ≡ mode }
+        ensures text { result.text.now ≡ self.now.text }
+        ensures size { result.size ≡ get_or self.now.ends self.now.names 0 }
+    {
+        ModeAndFront {
+            mode,
+            text: &self.text,
+            size: self.ends[self.names],
         }
-        gather(output, gathered, &self.text[..self.ends[self.names]]);
-        put_names(output, gathered, &names[self.names..]);
     }
 
     /// Adds the next name of a path, if it has room and stands for itself.
@@ -83,21 +80,31 @@ impl PathFront {
     {
         let name = names[self.names].as_str().as_bytes();
         let begin = self.ends[self.names];
-        if self.names + 1 == ENDS || name.len() >= ROOM - begin || !is_plain_text(name) {
+        if self.names + 1 == ENDS || name.len() >= ROOM - begin {
             return;
         }
         write_at(&mut self.text, begin, b"/");
-        write_at(&mut self.text, begin + 1, name);
-        self.names += 1;
-        self.ends[self.names] = begin + 1 + name.len();
+        if write_plain(&mut self.text, begin + 1, name) {
+            self.names += 1;
+            self.ends[self.names] = begin + 1 + name.len();
+        }
     }
 }
 
-/// Writes bytes over those at a place of a text.
-fn write_at(text: &mut [u8], at: usize, bytes: &[u8])
+/// Writes bytes over those at a place of a text, as long as they stand for themselves in a JSON string, and tells whether all do.
+fn write_plain(text: &mut [u8], at: usize, bytes: &[u8]) -> bool
     requires { at + length bytes.now ≤ length text.old }
-    ensures front { take (at + length bytes.now) text.new ≡ take at text.old ++ bytes.now }
+    ensures plain { IsTrue result → list_all is_plain bytes.now ≡ true }
+    ensures whole { IsTrue result → take (at + length bytes.now) text.new ≡ take at text.old ++ bytes.now }
+    ensures before { take at text.new ≡ take at text.old }
     ensures long { length text.new ≡ length text.old }
 {
-    text[at..at + bytes.len()].copy_from_slice(bytes);
+    for i in 0..bytes.len() {
+        let byte = bytes[i];
+        if !is_plain(byte) {
+            return false;
+        }
+        text[at + i] = byte;
+    }
+    true
 }

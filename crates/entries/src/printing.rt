@@ -9,22 +9,17 @@ ghost use Rattle.serde_json.specs.Written.{comma_if, compact_text};
 ghost use Rattle.trees.specs.declared.entry.Entry.TheVariants.{Directory, File};
 ghost use Rattle.trees.specs.Rows.{lent_names};
 ghost use Rattle.entries.specs.Written.{mode_text, entry_data, tree_data};
-ghost use Rattle.entries.specs.PrivatePrinting.{is_plain, end_text, entry_text};
+ghost use Rattle.entries.specs.PrivatePrinting.{is_plain, end_text, entry_text, text_behind};
 ghost use Rattle.entries.specs.PrivateFront.{HoldsNames};
 
 use crate::front::PathFront;
-use crate::writing::octal_digit;
-use counted::{CountedWrite, Gathered, gather};
-use itoa::Buffer;
-use plain::{Mode, Text};
+use crate::pieces::{Digits, DirectoryStart, FileStart, UserEnd};
+use counted::{CountedWrite, Gathered, gather, gather_piece};
+use plain::Text;
 use trees::{Entry, Meta, Walk};
 
-/// How many bytes are turned into hexadecimal at once: few, since the room for their digits is made anew for each piece, and most files are
-/// small.
-const PIECE: usize = 32;
-
-/// How many digits these have.
-const DIGITS: usize = 64;
+/// How many bytes are turned into hexadecimal at once: their digits are the most that a piece has.
+const PIECE: usize = 4096;
 
 /// Says the entries of a tree that a walk has left, in the order that it gives them in: what `tree_to_json` gives, as compact JSON, and no
 /// value and no list in between. It takes no memory, and after a failed write it does nothing.
@@ -100,21 +95,12 @@ fn put_directory<W: CountedWrite>(
     ensures room { HasRoom (W.failures output.new) gathered.new }
 {
     let _mode = meta.mode.bits();
-    gather(output, gathered, directory_start(later));
-    put_number(output, gathered, meta.gid);
-    gather(output, gathered, b",\"mode\":\"");
+    let start = DirectoryStart {
+        later,
+        gid: meta.gid,
+    };
+    gather_piece(output, gathered, start);
     put_end(output, gathered, front, names, meta);
-}
-
-/// What a directory's text begins with, and the comma before a later one.
-fn directory_start(later: bool) -> &'static [u8]
-    ensures { result.now ≡ comma_if later ++ codes "{\"dir\":true,\"gid\":" }
-{
-    if later {
-        b",{\"dir\":true,\"gid\":"
-    } else {
-        b"{\"dir\":true,\"gid\":"
-    }
 }
 
 /// Says a file with its path, behind a comma where others stand before.
@@ -136,19 +122,14 @@ fn put_file<W: CountedWrite>(
     ensures room { HasRoom (W.failures output.new) gathered.new }
 {
     let _mode = meta.mode.bits();
-    gather(output, gathered, file_start(later));
-    put_number(output, gathered, meta.gid);
-    gather(output, gathered, b",\"hex\":\"");
+    let start = FileStart {
+        later,
+        gid: meta.gid,
+    };
+    gather_piece(output, gathered, start);
     put_hex(output, gathered, bytes);
     gather(output, gathered, b"\",\"mode\":\"");
     put_end(output, gathered, front, names, meta);
-}
-
-/// What a file's text begins with, and the comma before a later one.
-fn file_start(later: bool) -> &'static [u8]
-    ensures { result.now ≡ comma_if later ++ codes "{\"gid\":" }
-{
-    if later { b",{\"gid\":" } else { b"{\"gid\":" }
 }
 
 /// Says what directories and files end with: the mode's digits, path and user.
@@ -167,57 +148,26 @@ fn put_end<W: CountedWrite>(
         (end_text (lent_names names.now) meta) }
     ensures room { HasRoom (W.failures output.new) gathered.new }
 {
-    put_mode_and_path_key(output, gathered, meta.mode);
-    front.put_path(output, gathered, names);
-    gather(output, gathered, b"\",\"uid\":");
-    put_number(output, gathered, meta.uid);
-    gather(output, gathered, b"}");
+    gather_piece(output, gathered, front.behind_mode(meta.mode));
+    put_names_behind(output, gathered, front.names(), names);
+    gather_piece(output, gathered, UserEnd { uid: meta.uid });
 }
 
-/// Says a mode as four octal digits, and what stands between them and the path: one piece costs less than two.
-fn put_mode_and_path_key<W: CountedWrite>(output: &mut W, gathered: &mut Gathered, mode: Mode)
+/// Says what a path's text has behind its first names, so many of them.
+fn put_names_behind<W: CountedWrite>(output: &mut W, gathered: &mut Gathered, first: usize, names: &[&Text])
+    requires inside { first ≤ length names.now }
     requires room { HasRoom (W.failures output.old) gathered.old }
     ensures says { Says
         (sink (W.contents output.old) (W.failures output.old) gathered.old)
         (sink (W.contents output.new) (W.failures output.new) gathered.new)
-        (mode_text mode ++ codes "\",\"path\":\"") }
+        (text_behind first (lent_names names.now)) }
     ensures room { HasRoom (W.failures output.new) gathered.new }
 {
-    let bits = mode.bits();
-    let piece = [
-        octal_digit(bits / 512),
-        octal_digit(bits / 64 % 8),
-        octal_digit(bits / 8 % 8),
-        octal_digit(bits % 8),
-        b'"',
-        b',',
-        b'"',
-        b'p',
-        b'a',
-        b't',
-        b'h',
-        b'"',
-        b':',
-        b'"',
-    ];
-    gather(output, gathered, &piece);
-}
-
-/// Says a number in decimal. Most are owners and groups of one digit.
-fn put_number<W: CountedWrite>(output: &mut W, gathered: &mut Gathered, number: u32)
-    requires room { HasRoom (W.failures output.old) gathered.old }
-    ensures says { Says
-        (sink (W.contents output.old) (W.failures output.old) gathered.old)
-        (sink (W.contents output.new) (W.failures output.new) gathered.new)
-        (decimal number) }
-    ensures room { HasRoom (W.failures output.new) gathered.new }
-{
-    if number < 10 {
-        gather(output, gathered, &[b'0' + number as u8]);
-        return;
+    if names.is_empty() {
+        gather(output, gathered, b"/");
+    } else {
+        put_names(output, gathered, &names[first..]);
     }
-    let mut buffer = Buffer::new();
-    gather(output, gathered, buffer.format(number).as_bytes());
 }
 
 /// Says bytes in hexadecimal, a piece at a time.
@@ -232,32 +182,13 @@ fn put_hex<W: CountedWrite>(output: &mut W, gathered: &mut Gathered, bytes: &[u8
     let mut rest = bytes;
     while !rest.is_empty() {
         let (piece, behind) = rest.split_at(rest.len().min(PIECE));
-        put_digits(output, gathered, piece);
+        gather_piece(output, gathered, Digits { bytes: piece });
         rest = behind;
     }
 }
 
-/// Says a piece of bytes in hexadecimal. After a failed write it turns none into digits.
-fn put_digits<W: CountedWrite>(output: &mut W, gathered: &mut Gathered, piece: &[u8])
-    requires short { length piece.now ≤ PIECE }
-    requires room { HasRoom (W.failures output.old) gathered.old }
-    ensures says { Says
-        (sink (W.contents output.old) (W.failures output.old) gathered.old)
-        (sink (W.contents output.new) (W.failures output.new) gathered.new)
-        (encode_lower piece.now) }
-    ensures room { HasRoom (W.failures output.new) gathered.new }
-{
-    if gathered.is_failed() {
-        return;
-    }
-    let mut digits = [0u8; DIGITS];
-    let digits = &mut digits[..2 * piece.len()];
-    hex::encode_to_slice(piece, digits).unwrap();
-    gather(output, gathered, digits);
-}
-
 /// Says names, each behind its `/`, as they stand in a JSON string.
-pub(crate) fn put_names<W: CountedWrite>(output: &mut W, gathered: &mut Gathered, names: &[&Text])
+fn put_names<W: CountedWrite>(output: &mut W, gathered: &mut Gathered, names: &[&Text])
     requires room { HasRoom (W.failures output.old) gathered.old }
     ensures says { Says
         (sink (W.contents output.old) (W.failures output.old) gathered.old)
@@ -351,14 +282,14 @@ fn hex_digit(digit: u8) -> u8
 }
 
 /// Whether each byte stands for itself in a JSON string.
-pub(crate) fn is_plain_text(bytes: &[u8]) -> bool
+fn is_plain_text(bytes: &[u8]) -> bool
     ensures { result ≡ list_all is_plain bytes.now }
 {
     bytes.iter().all(|byte| is_plain(*byte))
 }
 
 /// Whether a byte stands for itself in a JSON string.
-fn is_plain(byte: u8) -> bool
+pub(crate) fn is_plain(byte: u8) -> bool
     ensures { result ≡ is_plain byte }
 {
     byte >= 32 && byte != b'"' && byte != b'\\'

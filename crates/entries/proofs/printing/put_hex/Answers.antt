@@ -6,9 +6,9 @@ use Rattle.entries.proofs.printing.put_hex.Goals as goal
 pub loop-rest-preserved : goal.loop-rest-preserved
 loop-rest-preserved g c = record {
   said = λ last rest.
-      c.loop-rest.invariant.said last (says_as (says_both c.put_digits.ensures.says rest)
+      c.loop-rest.invariant.said last (says_as (says_both c.gather_piece.ensures.says rest)
       (sym (encode-pieces c.loop-rest.rest.now c.split_at.result.0.now c.split_at.result.1.now c.min.result c.split_at.ensures.front c.split_at.ensures.back)));
-  room = c.put_digits.ensures.room;
+  room = c.gather_piece.ensures.room;
 }
 
 pub returns-clause-says : goal.returns-clause-says
