@@ -1,15 +1,18 @@
 -- Objects and lists that are read token by token: what a loop keeps, a turn of it, and its end.
-use Rattle.std.proofs.Common.{Result, Ok, Err, IfOk, ◌≡◌, ℕ, ◌+◌, ◌-◌, ◌≤◌, ◌<◌, List, [], ◌∷◌, ◌++◌, length, Option, Some, None, option_map, option_and_then, append_assoc, append-nil, refl, ap, ap₂, sym, ◌∙◌, arith}
+use Rattle.std.proofs.Common.{Result, Ok, Err, IfOk, ◌≡◌, ℕ, Bool, cond, ◌+◌, ◌-◌, ◌^◌, ◌≤◌, ◌<◌, List, [], ◌∷◌, ◌++◌, length, Option, Some, None, option_map, option_and_then, append_assoc, append-nil, refl, ap, ap₂, sym, ◌∙◌, arith}
+use Rattle.std.proofs.lemmas.Bool.{lt-ltb}
 use Rattle.json.specs.Json as json
 use Rattle.json.specs.Lex.{tokens}
-use Rattle.json.specs.Token.{Token, begin_object, begin_array}
-use Rattle.json.proofs.Grammar.{value-begin_array, value-begin_object, read_key-shorter, skip_value-shorter, items_end, items_more, members_end, members_more}
+use Rattle.json.specs.Token.{Token, begin_object, begin_array, string, number, boolean}
+use Rattle.json.proofs.Grammar.{value_is, value-begin_array, value-begin_object, read_key-shorter, skip_value-shorter, items_end, items_more, members_end, members_more}
 use Rattle.json.proofs.Grammar as grammar
-use Rattle.serde_json.specs.Data.{Data, object, array, Items, no_items, item, Members, no_members, put}
-use Rattle.serde_json.specs.Read.{of_json, of_items, of_members, read}
+use Rattle.serde_json.specs.Data as datum
+use Rattle.serde_json.specs.Data.{Data, unsigned, object, array, Items, no_items, item, Members, no_members, put}
+use Rattle.serde_json.specs.Find.{as_bool, as_str}
+use Rattle.serde_json.specs.Read.{number_of, of_json, of_items, of_members, read}
 use Rattle.plain.specs.declared.fault.Fault.{Fault}
 use Rattle.strict.specs.Gives.{Gives}
-use Rattle.strict.specs.Strict.{with_first, all_in}
+use Rattle.strict.specs.Strict.{with_first, all_in, short_number_in}
 use Rattle.strict.specs.declared.fault.NotRead.{NotRead}
 use Rattle.borrowed.specs.Pulled.{IsNext, Pulls}
 
@@ -101,6 +104,19 @@ list_is_next depth inner tokens first left ds deep opens has =
       ap (json.value depth) opens ∙ value-begin_array depth first there ∙ ap (λ d. json.parse_map json.array (json.items (json.value d) (length first) first)) below ∙ ap (json.parse_map json.array) has.1,
       ap (option_map array) has.2,
     )
+
+-- ---- values of one token
+
+pub text_is_next : (depth : ℕ) (tokens left : List Token) (text : List ℕ) → tokens ≡ string text ∷ left → Pulls depth as_str tokens left text
+text_is_next depth tokens left text e = (datum.string text, (json.string text, ap (json.value depth) e ∙ value_is depth (string text ∷ left), refl), refl)
+
+pub flag_is_next : (depth : ℕ) (tokens left : List Token) (flag : Bool) → tokens ≡ boolean flag ∷ left → Pulls depth as_bool tokens left flag
+flag_is_next depth tokens left flag e = (datum.boolean flag, (json.boolean flag, ap (json.value depth) e ∙ value_is depth (boolean flag ∷ left), refl), refl)
+
+pub number_is_next : (depth : ℕ) (tokens left : List Token) (text : List ℕ) (n : ℕ) → tokens ≡ number text ∷ left → number_of text ≡ Some (unsigned n) → n < 2 ^ 32 → Pulls depth short_number_in tokens left n
+unfolding short_number_in
+number_is_next depth tokens left text n e is fits =
+    (datum.number (unsigned n), (json.number text, ap (json.value depth) e ∙ value_is depth (number text ∷ left), ap (option_map datum.number) is), ap (λ b. cond b (Some n) None) (lt-ltb n (2 ^ 32) fits))
 
 -- ---- a whole text
 

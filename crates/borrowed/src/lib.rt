@@ -28,7 +28,8 @@ pub use lists::read_rows;
 pub use looking::{at, is_strict, list_of, text_of};
 pub use owning::owned;
 pub use pulling::{
-    FromTokens, inner_depth, next_key, open_list, open_object, pull, pull_rows, pull_value,
+    FromTokens, inner_depth, next_flag, next_key, next_number, next_text, open_list, open_object,
+    pull, pull_rows, pull_value,
 };
 pub use reading::{FromLent, one_at, one_of, optional_at, optional_of};
 pub use whole::read;

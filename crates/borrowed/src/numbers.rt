@@ -27,7 +27,7 @@ pub(crate) fn read_number(text: &str) -> Option<Number>
 }
 
 /// The whole number of a text that is a few digits, as most numbers are.
-fn read_few_digits(text: &[u8]) -> Option<u64>
+pub(crate) fn read_few_digits(text: &[u8]) -> Option<u64>
     ensures { IfSome result (λ whole. IsNumeral 10 text.now × (whole ≡ digits_value 10 text.now) × (whole < 2 ^ 64)) }
 {
     if text.is_empty() || text.len() > FEW_DIGITS {

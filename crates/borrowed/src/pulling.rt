@@ -5,16 +5,18 @@
 // can't be read makes such a reader give up. Here `NotRead` says nothing of the text, and the reader of tokens is of no more use after it:
 // whoever pulls a text reads it as a value where that fails.
 
-ghost use Rattle.std.specs.Prelude.{◌≡◌, ◌∷◌, ◌+◌, Some, IfOk, OnOk, option_map};
+ghost use Rattle.std.specs.Prelude.{◌≡◌, ◌∷◌, ◌+◌, ℕ, Some, IfOk, OnOk, option_map};
 ghost use Rattle.std.specs.Option.{option_and_then};
 ghost use Rattle.json.specs.Json.{read_key};
 ghost use Rattle.json.specs.Token.{begin_object, begin_array};
+ghost use Rattle.serde_json.specs.Find.{as_bool, as_str};
 ghost use Rattle.serde_json.specs.Read.{read};
-ghost use Rattle.strict.specs.Strict.{rows_in};
+ghost use Rattle.strict.specs.Strict.{rows_in, short_number_in};
 ghost use Rattle.borrowed.specs.Seen.{data_of};
 ghost use Rattle.borrowed.specs.Pulled.{IsNext, Pulls};
 ghost use Rattle.borrowed.specs.PrivateRows.{owned_rows};
 
+use crate::numbers::read_few_digits;
 use crate::whole::{MAX_DEPTH, is_in_range};
 use json::{Error, Reader, Scratch, Token, Value};
 use plain::{Fault, Items, Memory, Text};
@@ -71,6 +73,42 @@ pub fn pull_value<'a>(
         }
         Err(Error::OutOfMemory) => Err(Fault::Memory),
         Err(_) => Err(Fault::Because(NotRead)),
+    }
+}
+
+/// The text that comes next. `NotRead` where another value comes, or none.
+pub fn next_text<'a>(reader: &mut Reader<'a>) -> Result<&'a str, ReadFault>
+    ensures { IfOk result (λ text. (depth : ℕ) → Pulls depth as_str reader.old reader.new text.now) }
+{
+    match reader.next() {
+        Some(Token::String(text)) => Ok(text),
+        _ => Err(Fault::Because(NotRead)),
+    }
+}
+
+/// The whole number of 32 bits that comes next. `NotRead` where another value comes, or none.
+pub fn next_number(reader: &mut Reader<'_>) -> Result<u32, ReadFault>
+    ensures { IfOk result (λ number. (depth : ℕ) → Pulls depth short_number_in reader.old reader.new number) }
+{
+    let Some(Token::Number(text)) = reader.next() else {
+        return Err(Fault::Because(NotRead));
+    };
+    let Some(number) = read_few_digits(text.as_bytes()) else {
+        return Err(Fault::Because(NotRead));
+    };
+    if number >= 1 << 32 {
+        return Err(Fault::Because(NotRead));
+    }
+    Ok(number as u32)
+}
+
+/// Whether `true` comes next, or `false`. `NotRead` where another value comes, or none.
+pub fn next_flag(reader: &mut Reader<'_>) -> Result<bool, ReadFault>
+    ensures { IfOk result (λ flag. (depth : ℕ) → Pulls depth as_bool reader.old reader.new flag) }
+{
+    match reader.next() {
+        Some(Token::Bool(flag)) => Ok(flag),
+        _ => Err(Fault::Because(NotRead)),
     }
 }
 
