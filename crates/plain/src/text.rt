@@ -135,12 +135,12 @@ impl Exact for Text {
     }
 
     fn copy(&self, alloc: Global) -> Result<Text, Memory> {
-        match &self.held {
-            Held::Shared(text) => Ok(Text {
-                held: Held::Shared(Arc::try_clone(text)?),
-            }),
-            _ => Text::from_str(alloc, self.as_str()),
-        }
+        let held = match &self.held {
+            Held::Short(text) => Held::Short(*text),
+            Held::Long(text) => Held::Long(String::from_str(alloc, text.as_str())?),
+            Held::Shared(text) => Held::Shared(Arc::try_clone(text)?),
+        };
+        Ok(Text { held })
     }
 }
 
