@@ -2,11 +2,10 @@ ghost use Rattle.std.specs.Prelude.{◌≡◌, ◌+◌, ◌≤◌, ◌++◌, len
 ghost use Rattle.serde_json.specs.Written.{comma_if};
 ghost use Rattle.entries.specs.PrivatePrinting.{mode_and_key};
 
+use crate::writing::octal_digit;
 use counted::Piece;
 use itoa::Buffer;
 use plain::Mode;
-
-use crate::writing::octal_digit;
 
 /// How many bytes are written at once where a text of unknown length is short: a constant number of bytes is a few stores, and no call.
 const SHORT: usize = 64;

@@ -154,7 +154,12 @@ fn put_end<W: CountedWrite>(
 }
 
 /// Says what a path's text has behind its first names, so many of them.
-fn put_names_behind<W: CountedWrite>(output: &mut W, gathered: &mut Gathered, first: usize, names: &[&Text])
+fn put_names_behind<W: CountedWrite>(
+    output: &mut W,
+    gathered: &mut Gathered,
+    first: usize,
+    names: &[&Text],
+)
     requires inside { first ≤ length names.now }
     requires room { HasRoom (W.failures output.old) gathered.old }
     ensures says { Says

@@ -1,4 +1,4 @@
-use Rattle.std.proofs.Common.{◌≡◌, ◌+◌, ◌≤◌, length, take, arith, length-take-le, rules}
+use Rattle.std.proofs.Common.{◌≤◌, length, arith, length-take-le, rules}
 use Rattle.entries.proofs.PieceFacts.{front-of}
 use Rattle.entries.proofs.pieces.write_front.Goals as goal
 
