@@ -1,115 +1,112 @@
 -- Values that are put at the keys of an entry, and what is read of them.
-use Rattle.std.proofs.Common.{◌≡◌, ℕ, Bool, true, false, ◌&&◌, ◌||◌, List, [], ◌∷◌, Option, Some, None, is_some, bytes_eq, Bor, if◌then◌else◌, Ordering, Less, Equal, Greater, Global, is_eq, nat_cmp, refl, ap, ap₂, sym, ◌∙◌, subst}
+use Rattle.std.proofs.Common.{Result, Ok, Err, IfOk, ◌≡◌, ℕ, Bool, true, false, ◌&&◌, ◌||◌, List, [], ◌∷◌, Option, Some, None, is_some, option_map, option_and_then, bytes_eq, Bor, if◌then◌else◌, Ordering, Less, Equal, Greater, is_eq, nat_cmp, refl, ap, ap₂, sym, ◌∙◌, subst}
 use Rattle.std.proofs.lemmas.Map.Text.{is_eq-slice_cmp}
 use Rattle.std.specs.Cmp.Lexicographic.{slice_cmp}
 use Rattle.std.specs.Ordering.{match_ordering}
 use Rattle.std.specs.List.{list_any}
 use Rattle.std.specs.Prelude.{codes}
-use Rattle.json.specs.declared.value.Value.{Value}
 use Rattle.serde_json.specs.Data.{Data, Members, no_members, member, object, put}
-use Rattle.serde_json.specs.Find.{get_member}
-use Rattle.strict.specs.Strict.{has_only, strict}
+use Rattle.serde_json.specs.Find.{as_bool, as_str, get_member}
+use Rattle.strict.specs.Strict.{at_most_one, has_only, path_in, path_of, short_number_in, strict}
 use Rattle.trees.specs.Row.{Row}
 use Rattle.trees.specs.TreeMap.{directory_meta, file_meta}
+use Rattle.trees.specs.declared.entry.Entry.TheVariants.{Directory, File}
 use Rattle.trees.specs.declared.meta.Meta.{Meta}
 use Rattle.borrowed.proofs.LookFacts.{strict-object}
-use Rattle.borrowed.proofs.PutFacts.{put_here, put_there, still_known}
-use Rattle.borrowed.specs.Lent.{lent_data}
-use Rattle.borrowed.specs.Seen.{data_of}
-use Rattle.entries.specs.PrivateKeys.{AreKeys, Spells, is_entry_key}
-use Rattle.entries.specs.Reading.{content_in, content_of, directory_at, directory_in, file_at, file_in, meta_at, meta_in, row_in}
-use Rattle.entries.specs.declared.pulling.Spelled.{Spelled}
-use Rattle.entries.specs.declared.reading.Keys.{Keys}
+use Rattle.borrowed.proofs.PutFacts.{read_here, read_there, still_known}
+use Rattle.entries.specs.PrivateKeys.{Spells, is_entry_key, lent_text}
+use Rattle.entries.specs.Reading.{bytes_of, content_in, content_of, directory_at, directory_in, file_at, file_in, meta_at, meta_in, meta_with, mode_in, mode_of, row_in}
+use Rattle.entries.specs.declared.spelled.Spelled.{Spelled}
 
-pub put_dir : (s : Spelled) (o : Option (Value Global)) (v : Value Global) (key : List ℕ) (found : Members) → key ≡ codes "dir" → o ≡ Some v → Spells s found
-    → Spells (record { dir = o; gid = s.gid; hex = s.hex; mode = s.mode; path = s.path; text = s.text; uid = s.uid }) (put key (data_of v) found)
-put_dir s o v key found is e h = subst (λ k. Spells (record { dir = o; gid = s.gid; hex = s.hex; mode = s.mode; path = s.path; text = s.text; uid = s.uid }) (put k (data_of v) found)) (sym is) (record {
-  known = still_known is_entry_key (codes "dir") (data_of v) found refl h.known;
-  dir = put_here (codes "dir") o v found e;
-  gid = put_there (codes "gid") (codes "dir") s.gid (data_of v) found refl h.gid;
-  hex = put_there (codes "hex") (codes "dir") s.hex (data_of v) found refl h.hex;
-  mode = put_there (codes "mode") (codes "dir") s.mode (data_of v) found refl h.mode;
-  path = put_there (codes "path") (codes "dir") s.path (data_of v) found refl h.path;
-  text = put_there (codes "text") (codes "dir") s.text (data_of v) found refl h.text;
-  uid = put_there (codes "uid") (codes "dir") s.uid (data_of v) found refl h.uid;
+pub put_dir : (s : Spelled) (x : Bool) (d : Data) (key : List ℕ) (found : Members) → key ≡ codes "dir" → as_bool d ≡ Some x → Spells s found
+    → Spells (record { dir = Some x; gid = s.gid; hex = s.hex; mode = s.mode; path = s.path; text = s.text; uid = s.uid }) (put key d found)
+put_dir s x d key found is read h = subst (λ k. Spells (record { dir = Some x; gid = s.gid; hex = s.hex; mode = s.mode; path = s.path; text = s.text; uid = s.uid }) (put k d found)) (sym is) (record {
+  known = still_known is_entry_key (codes "dir") d found refl h.known;
+  dir = read_here as_bool (codes "dir") (Some x) x d found refl read;
+  gid = read_there short_number_in (codes "gid") (codes "dir") s.gid d found refl h.gid;
+  hex = read_there as_str (codes "hex") (codes "dir") (lent_text s.hex) d found refl h.hex;
+  mode = read_there as_str (codes "mode") (codes "dir") (lent_text s.mode) d found refl h.mode;
+  path = read_there as_str (codes "path") (codes "dir") (lent_text s.path) d found refl h.path;
+  text = read_there as_str (codes "text") (codes "dir") (lent_text s.text) d found refl h.text;
+  uid = read_there short_number_in (codes "uid") (codes "dir") s.uid d found refl h.uid;
 })
 
-pub put_gid : (s : Spelled) (o : Option (Value Global)) (v : Value Global) (key : List ℕ) (found : Members) → key ≡ codes "gid" → o ≡ Some v → Spells s found
-    → Spells (record { dir = s.dir; gid = o; hex = s.hex; mode = s.mode; path = s.path; text = s.text; uid = s.uid }) (put key (data_of v) found)
-put_gid s o v key found is e h = subst (λ k. Spells (record { dir = s.dir; gid = o; hex = s.hex; mode = s.mode; path = s.path; text = s.text; uid = s.uid }) (put k (data_of v) found)) (sym is) (record {
-  known = still_known is_entry_key (codes "gid") (data_of v) found refl h.known;
-  dir = put_there (codes "dir") (codes "gid") s.dir (data_of v) found refl h.dir;
-  gid = put_here (codes "gid") o v found e;
-  hex = put_there (codes "hex") (codes "gid") s.hex (data_of v) found refl h.hex;
-  mode = put_there (codes "mode") (codes "gid") s.mode (data_of v) found refl h.mode;
-  path = put_there (codes "path") (codes "gid") s.path (data_of v) found refl h.path;
-  text = put_there (codes "text") (codes "gid") s.text (data_of v) found refl h.text;
-  uid = put_there (codes "uid") (codes "gid") s.uid (data_of v) found refl h.uid;
+pub put_gid : (s : Spelled) (x : ℕ) (d : Data) (key : List ℕ) (found : Members) → key ≡ codes "gid" → short_number_in d ≡ Some x → Spells s found
+    → Spells (record { dir = s.dir; gid = Some x; hex = s.hex; mode = s.mode; path = s.path; text = s.text; uid = s.uid }) (put key d found)
+put_gid s x d key found is read h = subst (λ k. Spells (record { dir = s.dir; gid = Some x; hex = s.hex; mode = s.mode; path = s.path; text = s.text; uid = s.uid }) (put k d found)) (sym is) (record {
+  known = still_known is_entry_key (codes "gid") d found refl h.known;
+  dir = read_there as_bool (codes "dir") (codes "gid") s.dir d found refl h.dir;
+  gid = read_here short_number_in (codes "gid") (Some x) x d found refl read;
+  hex = read_there as_str (codes "hex") (codes "gid") (lent_text s.hex) d found refl h.hex;
+  mode = read_there as_str (codes "mode") (codes "gid") (lent_text s.mode) d found refl h.mode;
+  path = read_there as_str (codes "path") (codes "gid") (lent_text s.path) d found refl h.path;
+  text = read_there as_str (codes "text") (codes "gid") (lent_text s.text) d found refl h.text;
+  uid = read_there short_number_in (codes "uid") (codes "gid") s.uid d found refl h.uid;
 })
 
-pub put_hex : (s : Spelled) (o : Option (Value Global)) (v : Value Global) (key : List ℕ) (found : Members) → key ≡ codes "hex" → o ≡ Some v → Spells s found
-    → Spells (record { dir = s.dir; gid = s.gid; hex = o; mode = s.mode; path = s.path; text = s.text; uid = s.uid }) (put key (data_of v) found)
-put_hex s o v key found is e h = subst (λ k. Spells (record { dir = s.dir; gid = s.gid; hex = o; mode = s.mode; path = s.path; text = s.text; uid = s.uid }) (put k (data_of v) found)) (sym is) (record {
-  known = still_known is_entry_key (codes "hex") (data_of v) found refl h.known;
-  dir = put_there (codes "dir") (codes "hex") s.dir (data_of v) found refl h.dir;
-  gid = put_there (codes "gid") (codes "hex") s.gid (data_of v) found refl h.gid;
-  hex = put_here (codes "hex") o v found e;
-  mode = put_there (codes "mode") (codes "hex") s.mode (data_of v) found refl h.mode;
-  path = put_there (codes "path") (codes "hex") s.path (data_of v) found refl h.path;
-  text = put_there (codes "text") (codes "hex") s.text (data_of v) found refl h.text;
-  uid = put_there (codes "uid") (codes "hex") s.uid (data_of v) found refl h.uid;
+pub put_hex : (s : Spelled) (x : Bor (List ℕ)) (d : Data) (key : List ℕ) (found : Members) → key ≡ codes "hex" → as_str d ≡ Some x.now → Spells s found
+    → Spells (record { dir = s.dir; gid = s.gid; hex = Some x; mode = s.mode; path = s.path; text = s.text; uid = s.uid }) (put key d found)
+put_hex s x d key found is read h = subst (λ k. Spells (record { dir = s.dir; gid = s.gid; hex = Some x; mode = s.mode; path = s.path; text = s.text; uid = s.uid }) (put k d found)) (sym is) (record {
+  known = still_known is_entry_key (codes "hex") d found refl h.known;
+  dir = read_there as_bool (codes "dir") (codes "hex") s.dir d found refl h.dir;
+  gid = read_there short_number_in (codes "gid") (codes "hex") s.gid d found refl h.gid;
+  hex = read_here as_str (codes "hex") (Some x.now) x.now d found refl read;
+  mode = read_there as_str (codes "mode") (codes "hex") (lent_text s.mode) d found refl h.mode;
+  path = read_there as_str (codes "path") (codes "hex") (lent_text s.path) d found refl h.path;
+  text = read_there as_str (codes "text") (codes "hex") (lent_text s.text) d found refl h.text;
+  uid = read_there short_number_in (codes "uid") (codes "hex") s.uid d found refl h.uid;
 })
 
-pub put_mode : (s : Spelled) (o : Option (Value Global)) (v : Value Global) (key : List ℕ) (found : Members) → key ≡ codes "mode" → o ≡ Some v → Spells s found
-    → Spells (record { dir = s.dir; gid = s.gid; hex = s.hex; mode = o; path = s.path; text = s.text; uid = s.uid }) (put key (data_of v) found)
-put_mode s o v key found is e h = subst (λ k. Spells (record { dir = s.dir; gid = s.gid; hex = s.hex; mode = o; path = s.path; text = s.text; uid = s.uid }) (put k (data_of v) found)) (sym is) (record {
-  known = still_known is_entry_key (codes "mode") (data_of v) found refl h.known;
-  dir = put_there (codes "dir") (codes "mode") s.dir (data_of v) found refl h.dir;
-  gid = put_there (codes "gid") (codes "mode") s.gid (data_of v) found refl h.gid;
-  hex = put_there (codes "hex") (codes "mode") s.hex (data_of v) found refl h.hex;
-  mode = put_here (codes "mode") o v found e;
-  path = put_there (codes "path") (codes "mode") s.path (data_of v) found refl h.path;
-  text = put_there (codes "text") (codes "mode") s.text (data_of v) found refl h.text;
-  uid = put_there (codes "uid") (codes "mode") s.uid (data_of v) found refl h.uid;
+pub put_mode : (s : Spelled) (x : Bor (List ℕ)) (d : Data) (key : List ℕ) (found : Members) → key ≡ codes "mode" → as_str d ≡ Some x.now → Spells s found
+    → Spells (record { dir = s.dir; gid = s.gid; hex = s.hex; mode = Some x; path = s.path; text = s.text; uid = s.uid }) (put key d found)
+put_mode s x d key found is read h = subst (λ k. Spells (record { dir = s.dir; gid = s.gid; hex = s.hex; mode = Some x; path = s.path; text = s.text; uid = s.uid }) (put k d found)) (sym is) (record {
+  known = still_known is_entry_key (codes "mode") d found refl h.known;
+  dir = read_there as_bool (codes "dir") (codes "mode") s.dir d found refl h.dir;
+  gid = read_there short_number_in (codes "gid") (codes "mode") s.gid d found refl h.gid;
+  hex = read_there as_str (codes "hex") (codes "mode") (lent_text s.hex) d found refl h.hex;
+  mode = read_here as_str (codes "mode") (Some x.now) x.now d found refl read;
+  path = read_there as_str (codes "path") (codes "mode") (lent_text s.path) d found refl h.path;
+  text = read_there as_str (codes "text") (codes "mode") (lent_text s.text) d found refl h.text;
+  uid = read_there short_number_in (codes "uid") (codes "mode") s.uid d found refl h.uid;
 })
 
-pub put_path : (s : Spelled) (o : Option (Value Global)) (v : Value Global) (key : List ℕ) (found : Members) → key ≡ codes "path" → o ≡ Some v → Spells s found
-    → Spells (record { dir = s.dir; gid = s.gid; hex = s.hex; mode = s.mode; path = o; text = s.text; uid = s.uid }) (put key (data_of v) found)
-put_path s o v key found is e h = subst (λ k. Spells (record { dir = s.dir; gid = s.gid; hex = s.hex; mode = s.mode; path = o; text = s.text; uid = s.uid }) (put k (data_of v) found)) (sym is) (record {
-  known = still_known is_entry_key (codes "path") (data_of v) found refl h.known;
-  dir = put_there (codes "dir") (codes "path") s.dir (data_of v) found refl h.dir;
-  gid = put_there (codes "gid") (codes "path") s.gid (data_of v) found refl h.gid;
-  hex = put_there (codes "hex") (codes "path") s.hex (data_of v) found refl h.hex;
-  mode = put_there (codes "mode") (codes "path") s.mode (data_of v) found refl h.mode;
-  path = put_here (codes "path") o v found e;
-  text = put_there (codes "text") (codes "path") s.text (data_of v) found refl h.text;
-  uid = put_there (codes "uid") (codes "path") s.uid (data_of v) found refl h.uid;
+pub put_path : (s : Spelled) (x : Bor (List ℕ)) (d : Data) (key : List ℕ) (found : Members) → key ≡ codes "path" → as_str d ≡ Some x.now → Spells s found
+    → Spells (record { dir = s.dir; gid = s.gid; hex = s.hex; mode = s.mode; path = Some x; text = s.text; uid = s.uid }) (put key d found)
+put_path s x d key found is read h = subst (λ k. Spells (record { dir = s.dir; gid = s.gid; hex = s.hex; mode = s.mode; path = Some x; text = s.text; uid = s.uid }) (put k d found)) (sym is) (record {
+  known = still_known is_entry_key (codes "path") d found refl h.known;
+  dir = read_there as_bool (codes "dir") (codes "path") s.dir d found refl h.dir;
+  gid = read_there short_number_in (codes "gid") (codes "path") s.gid d found refl h.gid;
+  hex = read_there as_str (codes "hex") (codes "path") (lent_text s.hex) d found refl h.hex;
+  mode = read_there as_str (codes "mode") (codes "path") (lent_text s.mode) d found refl h.mode;
+  path = read_here as_str (codes "path") (Some x.now) x.now d found refl read;
+  text = read_there as_str (codes "text") (codes "path") (lent_text s.text) d found refl h.text;
+  uid = read_there short_number_in (codes "uid") (codes "path") s.uid d found refl h.uid;
 })
 
-pub put_text : (s : Spelled) (o : Option (Value Global)) (v : Value Global) (key : List ℕ) (found : Members) → key ≡ codes "text" → o ≡ Some v → Spells s found
-    → Spells (record { dir = s.dir; gid = s.gid; hex = s.hex; mode = s.mode; path = s.path; text = o; uid = s.uid }) (put key (data_of v) found)
-put_text s o v key found is e h = subst (λ k. Spells (record { dir = s.dir; gid = s.gid; hex = s.hex; mode = s.mode; path = s.path; text = o; uid = s.uid }) (put k (data_of v) found)) (sym is) (record {
-  known = still_known is_entry_key (codes "text") (data_of v) found refl h.known;
-  dir = put_there (codes "dir") (codes "text") s.dir (data_of v) found refl h.dir;
-  gid = put_there (codes "gid") (codes "text") s.gid (data_of v) found refl h.gid;
-  hex = put_there (codes "hex") (codes "text") s.hex (data_of v) found refl h.hex;
-  mode = put_there (codes "mode") (codes "text") s.mode (data_of v) found refl h.mode;
-  path = put_there (codes "path") (codes "text") s.path (data_of v) found refl h.path;
-  text = put_here (codes "text") o v found e;
-  uid = put_there (codes "uid") (codes "text") s.uid (data_of v) found refl h.uid;
+pub put_text : (s : Spelled) (x : Bor (List ℕ)) (d : Data) (key : List ℕ) (found : Members) → key ≡ codes "text" → as_str d ≡ Some x.now → Spells s found
+    → Spells (record { dir = s.dir; gid = s.gid; hex = s.hex; mode = s.mode; path = s.path; text = Some x; uid = s.uid }) (put key d found)
+put_text s x d key found is read h = subst (λ k. Spells (record { dir = s.dir; gid = s.gid; hex = s.hex; mode = s.mode; path = s.path; text = Some x; uid = s.uid }) (put k d found)) (sym is) (record {
+  known = still_known is_entry_key (codes "text") d found refl h.known;
+  dir = read_there as_bool (codes "dir") (codes "text") s.dir d found refl h.dir;
+  gid = read_there short_number_in (codes "gid") (codes "text") s.gid d found refl h.gid;
+  hex = read_there as_str (codes "hex") (codes "text") (lent_text s.hex) d found refl h.hex;
+  mode = read_there as_str (codes "mode") (codes "text") (lent_text s.mode) d found refl h.mode;
+  path = read_there as_str (codes "path") (codes "text") (lent_text s.path) d found refl h.path;
+  text = read_here as_str (codes "text") (Some x.now) x.now d found refl read;
+  uid = read_there short_number_in (codes "uid") (codes "text") s.uid d found refl h.uid;
 })
 
-pub put_uid : (s : Spelled) (o : Option (Value Global)) (v : Value Global) (key : List ℕ) (found : Members) → key ≡ codes "uid" → o ≡ Some v → Spells s found
-    → Spells (record { dir = s.dir; gid = s.gid; hex = s.hex; mode = s.mode; path = s.path; text = s.text; uid = o }) (put key (data_of v) found)
-put_uid s o v key found is e h = subst (λ k. Spells (record { dir = s.dir; gid = s.gid; hex = s.hex; mode = s.mode; path = s.path; text = s.text; uid = o }) (put k (data_of v) found)) (sym is) (record {
-  known = still_known is_entry_key (codes "uid") (data_of v) found refl h.known;
-  dir = put_there (codes "dir") (codes "uid") s.dir (data_of v) found refl h.dir;
-  gid = put_there (codes "gid") (codes "uid") s.gid (data_of v) found refl h.gid;
-  hex = put_there (codes "hex") (codes "uid") s.hex (data_of v) found refl h.hex;
-  mode = put_there (codes "mode") (codes "uid") s.mode (data_of v) found refl h.mode;
-  path = put_there (codes "path") (codes "uid") s.path (data_of v) found refl h.path;
-  text = put_there (codes "text") (codes "uid") s.text (data_of v) found refl h.text;
-  uid = put_here (codes "uid") o v found e;
+pub put_uid : (s : Spelled) (x : ℕ) (d : Data) (key : List ℕ) (found : Members) → key ≡ codes "uid" → short_number_in d ≡ Some x → Spells s found
+    → Spells (record { dir = s.dir; gid = s.gid; hex = s.hex; mode = s.mode; path = s.path; text = s.text; uid = Some x }) (put key d found)
+put_uid s x d key found is read h = subst (λ k. Spells (record { dir = s.dir; gid = s.gid; hex = s.hex; mode = s.mode; path = s.path; text = s.text; uid = Some x }) (put k d found)) (sym is) (record {
+  known = still_known is_entry_key (codes "uid") d found refl h.known;
+  dir = read_there as_bool (codes "dir") (codes "uid") s.dir d found refl h.dir;
+  gid = read_there short_number_in (codes "gid") (codes "uid") s.gid d found refl h.gid;
+  hex = read_there as_str (codes "hex") (codes "uid") (lent_text s.hex) d found refl h.hex;
+  mode = read_there as_str (codes "mode") (codes "uid") (lent_text s.mode) d found refl h.mode;
+  path = read_there as_str (codes "path") (codes "uid") (lent_text s.path) d found refl h.path;
+  text = read_there as_str (codes "text") (codes "uid") (lent_text s.text) d found refl h.text;
+  uid = read_here short_number_in (codes "uid") (Some x) x d found refl read;
 })
 
 -- ---- a key at which nothing stands is none of the keys
@@ -180,27 +177,70 @@ module _ (found : Members) (known : has_only is_entry_key found ≡ true) where
       ∙ ap (λ b. if b then directory_at (value_of (codes "dir")) (value_of (codes "path")) (meta_at directory_meta (value_of (codes "mode")) (value_of (codes "uid")) (value_of (codes "gid"))) else None) strictly
       ∙ is
 
-module _ (keys : Keys) (at : List ℕ → Option Data) (are : AreKeys keys at) where
-  meta_by_keys : (default : Meta) → meta_at default (at (codes "mode")) (at (codes "uid")) (at (codes "gid")) ≡ meta_at default (lent_data keys.mode) (lent_data keys.uid) (lent_data keys.gid)
-  meta_by_keys default =
-      ap₂ (λ m u. meta_at default m u (at (codes "gid"))) (sym are.mode) (sym are.uid) ∙ ap (λ g. meta_at default (lent_data keys.mode) (lent_data keys.uid) g) (sym are.gid)
+-- ---- what the values are, by what they are read as
 
-  pub directory_by_keys : directory_at (at (codes "dir")) (at (codes "path")) (meta_at directory_meta (at (codes "mode")) (at (codes "uid")) (at (codes "gid")))
-      ≡ directory_at (lent_data keys.dir) (lent_data keys.path) (meta_at directory_meta (lent_data keys.mode) (lent_data keys.uid) (lent_data keys.gid))
-  directory_by_keys =
-      ap₂ (λ d p. directory_at d p (meta_at directory_meta (at (codes "mode")) (at (codes "uid")) (at (codes "gid")))) (sym are.dir) (sym are.path)
-      ∙ ap (λ m. directory_at (lent_data keys.dir) (lent_data keys.path) m) (meta_by_keys directory_meta)
+module _ {A : Type 0} (one : Data → Option A) where
+  none_made : (o : Option A) → option_map Some o ≡ Some None → ⊥
+  none_made None e = absurd (cc)
+  none_made (Some x) e = absurd (cc)
 
-  pub file_by_keys : file_at (at (codes "path")) (meta_at file_meta (at (codes "mode")) (at (codes "uid")) (at (codes "gid"))) (content_of (at (codes "text")) (at (codes "hex")))
-      ≡ file_at (lent_data keys.path) (meta_at file_meta (lent_data keys.mode) (lent_data keys.uid) (lent_data keys.gid)) (content_of (lent_data keys.text) (lent_data keys.hex))
-  file_by_keys =
-      ap₂ (λ p m. file_at p m (content_of (at (codes "text")) (at (codes "hex")))) (sym are.path) (meta_by_keys file_meta)
-      ∙ ap₂ (λ t x. file_at (lent_data keys.path) (meta_at file_meta (lent_data keys.mode) (lent_data keys.uid) (lent_data keys.gid)) (content_of t x)) (sym are.text) (sym are.hex)
+  one_made : (o : Option A) (x : A) → option_map Some o ≡ Some (Some x) → o ≡ Some x
+  one_made None x e = absurd (cc)
+  one_made (Some y) x e = cc
 
-pub no_data : (o : Option (Bor (Value Global))) → is_some o ≡ false → lent_data o ≡ None
-no_data None e = refl
-no_data (Some v) e = absurd (cc)
+  -- nothing stands there
+  pub missing : (o : Option Data) → at_most_one one o ≡ Some None → o ≡ None
+  missing None e = refl
+  missing (Some d) e = absurd (none_made (one d) e)
 
-pub some_data : (o : Option (Bor (Value Global))) → is_some o ≡ true → is_some (lent_data o) ≡ true
-some_data None e = absurd (cc)
-some_data (Some v) e = refl
+  -- what stands there is something
+  pub there : (o : Option Data) (x : A) → at_most_one one o ≡ Some (Some x) → option_and_then one o ≡ Some x
+  there None x e = absurd (cc)
+  there (Some d) x e = one_made (one d) x e
+
+  pub is_there : (o : Option Data) (x : A) → at_most_one one o ≡ Some (Some x) → is_some o ≡ true
+  is_there None x e = absurd (cc)
+  is_there (Some d) x e = refl
+
+pub path_read : (o : Option Data) (text : List ℕ) → at_most_one as_str o ≡ Some (Some text) → option_and_then path_in o ≡ path_of text
+unfolding path_in
+path_read None text e = absurd (cc)
+path_read (Some d) text e = ap (option_and_then path_of) (there as_str (Some d) text e)
+
+pub text_read : (t h : Option Data) (text : List ℕ) → at_most_one as_str t ≡ Some (Some text) → at_most_one as_str h ≡ Some None → content_of t h ≡ Some text
+text_read None h text e f = absurd (cc)
+text_read (Some d) h text e f = ap (content_of (Some d)) (missing as_str h f) ∙ there as_str (Some d) text e
+
+pub hex_read : (t h : Option Data) (hex : List ℕ) → at_most_one as_str t ≡ Some None → at_most_one as_str h ≡ Some (Some hex) → content_of t h ≡ bytes_of hex
+hex_read t None hex e f = absurd (cc)
+hex_read t (Some d) hex e f = ap (λ o. content_of o (Some d)) (missing as_str t e) ∙ ap (option_and_then bytes_of) (there as_str (Some d) hex f)
+
+pub no_mode : (o : Option Data) → at_most_one as_str o ≡ Some None → at_most_one mode_in o ≡ Some None
+no_mode o e = ap (at_most_one mode_in) (missing as_str o e)
+
+pub mode_read : (o : Option Data) (text : List ℕ) (mode : ℕ) → at_most_one as_str o ≡ Some (Some text) → mode_of text ≡ Some mode → at_most_one mode_in o ≡ Some (Some mode)
+unfolding mode_in
+mode_read None text mode e is = absurd (cc)
+mode_read (Some d) text mode e is = ap (option_map Some) (ap (option_and_then mode_of) (there as_str (Some d) text e) ∙ is)
+
+pub meta_read : (default : Meta) (m u g : Option Data) (mode uid gid : Option ℕ) → at_most_one mode_in m ≡ Some mode → at_most_one short_number_in u ≡ Some uid → at_most_one short_number_in g ≡ Some gid
+    → meta_at default m u g ≡ Some (meta_with default mode uid gid)
+meta_read default m u g mode uid gid a b c =
+    λ i. option_and_then (λ mode. option_and_then (λ uid. option_map (λ gid. meta_with default mode uid gid) (c i)) (b i)) (a i)
+
+pub file_read : (m : Option Meta) (c : Option (List ℕ)) (path : List (List ℕ)) (meta : Meta) (content : List ℕ) (d : Option Data) → option_and_then path_in d ≡ Some path → m ≡ Some meta → c ≡ Some content
+    → file_at d m c ≡ Some (path, File meta content)
+file_read m c path meta content d p is has = λ i. option_and_then (λ path. option_and_then (λ meta. option_map (λ content. (path, File meta content)) (has i)) (is i)) (p i)
+
+pub directory_read : (m : Option Meta) (path : List (List ℕ)) (meta : Meta) (f d : Option Data) → at_most_one as_bool f ≡ Some (Some true) → option_and_then path_in d ≡ Some path → m ≡ Some meta
+    → directory_at f d m ≡ Some (path, Directory meta)
+directory_read m path meta f d flag p is =
+    λ i. option_and_then (λ flag. if flag then option_and_then (λ path. option_map (λ meta. (path, Directory meta)) (is i)) (p i) else None) (there as_bool f true flag i)
+
+pub none_is : {A : Type 0} → (o : Option A) → is_some o ≡ false → o ≡ None
+none_is None e = refl
+none_is (Some x) e = absurd (cc)
+
+pub if_ok : {A E : Type 0} → (r : Result A E) (P Q : A → Type 0) → IfOk r P → ((x : A) → P x → Q x) → IfOk r Q
+if_ok (Ok x) P Q h so = so x h
+if_ok (Err e) P Q h so = tt

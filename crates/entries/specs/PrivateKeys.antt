@@ -1,11 +1,12 @@
 -- What stands at the keys that an entry may have.
-use Rattle.std.specs.Prelude.{◌≡◌, ℕ, Bool, true, Option, List, [], ◌∷◌, bytes_eq, codes}
+use Rattle.std.specs.Prelude.{◌≡◌, ℕ, Bool, true, Option, Some, List, [], ◌∷◌, bytes_eq, codes, option_map}
+use Rattle.std.specs.Borrow.{Bor}
 use Rattle.std.specs.List.{list_any}
 use Rattle.serde_json.specs.Data.{Data, Members}
-use Rattle.serde_json.specs.Find.{get_member}
-use Rattle.strict.specs.Strict.{has_only}
-use Rattle.borrowed.specs.Lent.{lent_data, owned_data}
-use Rattle.entries.specs.declared.pulling.Spelled.{Spelled}
+use Rattle.serde_json.specs.Find.{as_bool, as_str, get_member}
+use Rattle.strict.specs.Strict.{at_most_one, has_only, short_number_in}
+use Rattle.borrowed.specs.Lent.{lent_data}
+use Rattle.entries.specs.declared.spelled.Spelled.{Spelled}
 use Rattle.entries.specs.declared.reading.Keys.{Keys}
 
 -- each of them is what is found at its key
@@ -22,13 +23,17 @@ pub record AreKeys (keys : Keys) (at : List ℕ → Option Data) : Type 0 where
 abbrev pub is_entry_key : List ℕ → Bool
 is_entry_key key = list_any (λ known. bytes_eq known key) (codes "dir" ∷ codes "gid" ∷ codes "hex" ∷ codes "mode" ∷ codes "path" ∷ codes "text" ∷ codes "uid" ∷ [])
 
--- some members have no other keys, and these are their values
+-- a text that is lent, if there is one
+abbrev pub lent_text : Option (Bor (List ℕ)) → Option (List ℕ)
+lent_text o = option_map (λ s. s.now) o
+
+-- some members have no other keys, and this is what their values are read as
 pub record Spells (spelled : Spelled) (found : Members) : Type 0 where
   pub known : has_only is_entry_key found ≡ true
-  pub dir : owned_data spelled.dir ≡ get_member (codes "dir") found
-  pub gid : owned_data spelled.gid ≡ get_member (codes "gid") found
-  pub hex : owned_data spelled.hex ≡ get_member (codes "hex") found
-  pub mode : owned_data spelled.mode ≡ get_member (codes "mode") found
-  pub path : owned_data spelled.path ≡ get_member (codes "path") found
-  pub text : owned_data spelled.text ≡ get_member (codes "text") found
-  pub uid : owned_data spelled.uid ≡ get_member (codes "uid") found
+  pub dir : at_most_one as_bool (get_member (codes "dir") found) ≡ Some spelled.dir
+  pub gid : at_most_one short_number_in (get_member (codes "gid") found) ≡ Some spelled.gid
+  pub hex : at_most_one as_str (get_member (codes "hex") found) ≡ Some (lent_text spelled.hex)
+  pub mode : at_most_one as_str (get_member (codes "mode") found) ≡ Some (lent_text spelled.mode)
+  pub path : at_most_one as_str (get_member (codes "path") found) ≡ Some (lent_text spelled.path)
+  pub text : at_most_one as_str (get_member (codes "text") found) ≡ Some (lent_text spelled.text)
+  pub uid : at_most_one short_number_in (get_member (codes "uid") found) ≡ Some spelled.uid

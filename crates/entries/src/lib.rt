@@ -21,6 +21,7 @@ mod printing;
 mod pulling;
 mod reading;
 mod sought;
+mod spelled;
 mod writing;
 
 pub use listing::Listing;

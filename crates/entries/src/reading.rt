@@ -34,7 +34,7 @@ fn are_octal(digits: &[u8]) -> bool
 }
 
 /// The mode that a text spells: it is four octal digits.
-fn mode_of(text: &str) -> Option<Mode>
+pub(crate) fn mode_of(text: &str) -> Option<Mode>
     ensures { result ≡ mode_of text.now }
 {
     let digits = text.as_bytes();
@@ -81,7 +81,7 @@ fn optional_mode(value: Option<&Value<'_>>) -> Result<Option<Mode>, ReadFault>
 }
 
 /// A mode and an owner, each of which may be missing; what is missing is as in `default`.
-pub(crate) fn meta_of(
+fn meta_of(
     alloc: Global,
     mode: Option<&Value<'_>>,
     uid: Option<&Value<'_>>,
@@ -130,7 +130,7 @@ pub fn read_content(alloc: Global, value: &Value<'_>) -> Result<Bytes, ReadFault
 }
 
 /// Bytes that a text spells, or hexadecimal digits. `NotRead` where there are neither, or both, or they can't be read.
-pub(crate) fn content_of(
+fn content_of(
     alloc: Global,
     text: Option<&Value<'_>>,
     hex: Option<&Value<'_>>,
@@ -147,14 +147,14 @@ pub(crate) fn content_of(
 
 /// What stands at the keys that an entry may have, lent.
 #[derive(Clone, Copy)]
-pub(crate) struct Keys<'v, 'a> {
-    pub(crate) dir: Option<&'v Value<'a>>,
-    pub(crate) gid: Option<&'v Value<'a>>,
-    pub(crate) hex: Option<&'v Value<'a>>,
-    pub(crate) mode: Option<&'v Value<'a>>,
-    pub(crate) path: Option<&'v Value<'a>>,
-    pub(crate) text: Option<&'v Value<'a>>,
-    pub(crate) uid: Option<&'v Value<'a>>,
+struct Keys<'v, 'a> {
+    dir: Option<&'v Value<'a>>,
+    gid: Option<&'v Value<'a>>,
+    hex: Option<&'v Value<'a>>,
+    mode: Option<&'v Value<'a>>,
+    path: Option<&'v Value<'a>>,
+    text: Option<&'v Value<'a>>,
+    uid: Option<&'v Value<'a>>,
 }
 
 /// What stands at these keys in an object.
@@ -173,7 +173,7 @@ fn keys_of<'v, 'a>(value: &'v Value<'a>) -> Keys<'v, 'a>
 }
 
 /// The directory of what stands at these keys, with its path.
-pub(crate) fn directory_of(alloc: Global, keys: Keys<'_, '_>) -> Result<(Path, Entry), ReadFault>
+fn directory_of(alloc: Global, keys: Keys<'_, '_>) -> Result<(Path, Entry), ReadFault>
     ensures { Gives result (directory_at (lent_data keys.entry.dir) (lent_data keys.entry.path) (meta_at directory_meta (lent_data keys.entry.mode) (lent_data keys.entry.uid) (lent_data keys.entry.gid))) }
 {
     let flag: bool = one_of(alloc, keys.dir)?;
@@ -186,7 +186,7 @@ pub(crate) fn directory_of(alloc: Global, keys: Keys<'_, '_>) -> Result<(Path, E
 }
 
 /// The file of what stands at these keys, with its path.
-pub(crate) fn file_of(alloc: Global, keys: Keys<'_, '_>) -> Result<(Path, Entry), ReadFault>
+fn file_of(alloc: Global, keys: Keys<'_, '_>) -> Result<(Path, Entry), ReadFault>
     ensures { Gives result (file_at (lent_data keys.entry.path) (meta_at file_meta (lent_data keys.entry.mode) (lent_data keys.entry.uid) (lent_data keys.entry.gid)) (content_of (lent_data keys.entry.text) (lent_data keys.entry.hex))) }
 {
     let path: Path = one_of(alloc, keys.path)?;
