@@ -157,24 +157,24 @@ fn best_leaf(
     leaves: &[Leaf],
     names: &[Text],
     last: Option<u8>,
-    above: usize,
+    before: usize,
 ) -> usize
     requires order { AreInOrder (length lines.now) (positions_in leaves.now) }
     requires known { AreLeavesOf lines.now leaves.now }
     requires last { IsLastByte names.now last }
-    ensures { IsBest lines.now (positions_in leaves.now) names.now above result }
+    ensures { IsBest lines.now (positions_in leaves.now) names.now before result }
 {
     for passed in 0..leaves.len() {
         let leaf = leaves[leaves.len() - 1 - passed];
-        if leaf.position < above {
-            return above;
+        if leaf.position < before {
+            return before;
         }
-        let rank = raised_by(lines, leaf, names, last, above);
-        if rank > above {
+        let rank = raised_by(lines, leaf, names, last, before);
+        if rank > before {
             return rank;
         }
     }
-    above
+    before
 }
 
 /// Whether a folder's names show that the line at a position relates to no path right in it.
