@@ -21,7 +21,7 @@ use Rattle.trees.proofs.TreeLaws.{get-empty_tree, get-placed}
 use Rattle.trees.proofs.WayLaws.{open-from_fronts}
 use Rattle.trees.specs.Row.{Row, Has}
 use Rattle.entries.specs.Listing.{clash, are_apart, is_root, is_root_file, is_listing}
-use Rattle.entries.specs.Whole.{tree_of, StandsAt}
+use Rattle.trees.specs.Whole.{tree_of, StandsAt, ArePlaceable}
 use Rattle.entries.proofs.ApartFacts.{clash-same, clash-way, clash-back}
 
 -- what stands at a path once an entry was placed: the entry, or what stood there, or a directory on the way
@@ -135,32 +135,10 @@ module _ (row : Row) (rows : List Row) (h : is_listing (row ∷ rows) ≡ true) 
       ap (λ b. cond b (Some F5) (cond (is_blocked (get (tree_of rows)) row.0) (Some F2) (clash_of (get (tree_of rows) row.0) row.1))) deep
       ∙ ap (λ b. cond b (Some F2) (clash_of (get (tree_of rows) row.0) row.1)) free ∙ same-kind (get (tree_of rows) row.0) refl
 
--- a tree is that of the rows behind the first ones
-pub record IsRest (whole front : List Row) (tree : TreeMap) : Type 0 where
-  pub back : List Row
-  pub whole_is : whole ≡ front ++ back
-  pub tree_is : tree ≡ tree_of back
-
-pub listing-behind : (front rows : List Row) → is_listing (front ++ rows) ≡ true → is_listing rows ≡ true
-listing-behind [] rows h = h
-listing-behind (row ∷ front) rows h = listing-behind front rows (listing-tail row (front ++ rows) h)
-
-module _ (whole old new : List Row) (row : Row) (is : old ≡ new ++ row ∷ []) (tree : TreeMap) (rest : IsRest whole old tree) where
-  less : whole ≡ new ++ (row ∷ rest.back)
-  less = rest.whole_is ∙ ap (λ rows. rows ++ rest.back) is ∙ append_assoc new (row ∷ []) rest.back
-
-  pub rest-cause : is_listing whole ≡ true → IsClean row.0 → cause_at (get tree) row.0 row.1 ≡ None
-  rest-cause h clean =
-      ap (λ t. cause_at (get t) row.0 row.1) rest.tree_is ∙ no-cause row rest.back (listing-behind new (row ∷ rest.back) (sym (ap is_listing less) ∙ h)) clean
-
-  pub rest-more : (next : TreeMap) → next ≡ placed directory_meta tree row.0 row.1 → IsRest whole new next
-  rest-more next e = record { back = row ∷ rest.back; whole_is = less; tree_is = e ∙ ap (λ t. placed directory_meta t row.0 row.1) rest.tree_is }
-
-pub rest-start : (whole left : List Row) (tree : TreeMap) → left ≡ whole → tree ≡ empty_tree → IsRest whole left tree
-rest-start whole left tree e f = record { back = []; whole_is = sym e ∙ sym (append-nil left); tree_is = f }
-
-pub rest-end : (whole left : List Row) (tree : TreeMap) → left ≡ [] → IsRest whole left tree → tree ≡ tree_of whole
-rest-end whole left tree e rest = rest.tree_is ∙ ap tree_of (sym (rest.whole_is ∙ ap (λ rows. rows ++ rest.back) e))
+-- and all of them can, one after another
+pub placeable : (rows : List Row) → is_listing rows ≡ true → ArePlaceable rows
+placeable [] h = tt
+placeable (row ∷ rows) h = (no-cause row rows h, placeable rows (listing-tail row rows h))
 
 planted-here : (old : List (List ℕ) → Option Entry) (path : List (List ℕ)) (entry : Entry) → planted old path directory_meta entry path ≡ Some entry
 planted-here old path entry = ap (λ b. cond b (Some entry) (option_or (old path) (cond (is_front path path) (Some (Directory directory_meta)) None))) (path_itself path)

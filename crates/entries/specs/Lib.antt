@@ -7,6 +7,5 @@ pub mod PrivateOrder
 pub mod PrivateFingerprint
 pub mod PrivateFront
 pub mod PrivateSought
-pub mod Whole
 pub mod Written
 pub mod PrivatePrinting

@@ -5,7 +5,7 @@ ghost use Rattle.std.specs.FinMap.{get};
 ghost use Rattle.trees.specs.declared.entry.Entry.{Entry};
 ghost use Rattle.trees.specs.Row.{Row, Has};
 ghost use Rattle.entries.specs.Listing.{is_listing};
-ghost use Rattle.entries.specs.Whole.{tree_of, StandsAt};
+ghost use Rattle.trees.specs.Whole.{tree_of, StandsAt};
 ghost use Rattle.entries.specs.Reading.{mode_of};
 ghost use Rattle.entries.specs.Written.{mode_text};
 

@@ -1,6 +1,6 @@
 ghost use Rattle.std.specs.Prelude.{◌≡◌, [], true, IfOk};
 ghost use Rattle.entries.specs.Listing.{is_listing};
-ghost use Rattle.entries.specs.Whole.{tree_of};
+ghost use Rattle.trees.specs.Whole.{tree_of};
 
 use crate::apart::is_listing;
 use crate::pulling::pull_rows;
@@ -107,11 +107,6 @@ impl Listing {
     pub fn into_tree(self, alloc: Global) -> Result<Tree, Memory>
         ensures { IfOk result (λ tree. tree ≡ tree_of self) }
     {
-        let mut left = self.into_rows();
-        let mut tree = Tree::empty(alloc);
-        while let Some((path, entry)) = left.pop() {
-            tree.place(alloc, &path, entry)?;
-        }
-        Ok(tree)
+        Tree::of_rows(alloc, self.into_rows())
     }
 }
