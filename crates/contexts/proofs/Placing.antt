@@ -1,10 +1,11 @@
 -- One row more is placed.
-use Rattle.std.proofs.Common.{◌≡◌, ◌∙◌, ◌+◌, ◌≤◌, ◌⊎◌, ℕ, Bool, true, false, List, [], Option, Some, None, sym, ap, refl, subst, inl, inr, true≢false, arith, length, cond}
+use Rattle.std.proofs.Common.{◌≡◌, ◌∙◌, ◌+◌, ◌≤◌, ◌⊎◌, ℕ, Bool, true, false, List, [], ◌∷◌, ◌++◌, reverse, Option, Some, None, sym, ap, refl, subst, inl, inr, true≢false, arith, length, cond}
 use Rattle.std.specs.Option.{option_or, is_some}
 use Rattle.std.specs.Prelude.{slice_get, nat_lt}
 use Rattle.std.specs.FinMap.{get}
 use Rattle.std.specs.Ordering.{eq_by_cmp}
 use Rattle.std.proofs.lemmas.Bool.{le-ltb}
+use Rattle.std.proofs.lemmas.List.{reverse-append}
 use Rattle.std.proofs.lemmas.Option.{same_Some, none-some}
 use Rattle.plain.specs.Limits.{most_components}
 use Rattle.paths.specs.Order.{path_cmp}
@@ -16,11 +17,12 @@ use Rattle.trees.specs.declared.entry.Entry.{Entry}
 use Rattle.trees.specs.declared.entry.Entry.TheVariants.{Directory, File}
 use Rattle.trees.specs.TreeMap.{TreeMap, directory_meta, is_directory, is_file, is_blocked, empty_tree}
 use Rattle.trees.specs.Put.{planted, cause_at, clash_of}
-use Rattle.trees.proofs.TreeLaws.{get-empty_tree}
+use Rattle.trees.proofs.TreeLaws.{get-empty_tree, get-placed}
 use Rattle.trees.proofs.WayLaws.{open-from_fronts}
 use Rattle.trees.specs.Row.{Row}
+use Rattle.trees.specs.Whole.{tree_of}
 use Rattle.contexts.specs.Context.{IsListing, owned}
-use Rattle.contexts.specs.PrivatePlaces.{Wanted, From, ComesFrom, IsPlaced}
+use Rattle.contexts.specs.PrivatePlaces.{Wanted, From, ComesFrom, IsPlaced, AreWanted}
 use Rattle.contexts.proofs.Rows.{get-within, at-or-after, same-or-not, planted-here, planted-other, planted-kept}
 
 some-of : (o : Option Entry) (e : Entry) → o ≡ Some e → is_some o ≡ true
@@ -154,3 +156,29 @@ module _ (rows : List Row) (flags : List Bool) (listing : IsListing rows) where
         from-old path entry None e true f h =
             inr (sym (same_Some (Directory directory_meta) entry (sym (λ i. option_or (e i) (cond (f i) (Some (Directory directory_meta)) None)) ∙ h)), inr (k, (row, ((omega arith, here), (wants, f)))))
         from-old path entry None e false f h = absurd (none-some entry (sym (λ i. option_or (e i) (cond (f i) (Some (Directory directory_meta)) None)) ∙ h))
+
+-- ---- the rows that are wanted, gathered from the last to the first
+
+module _ (rows : List Row) (flags : List Bool) (listing : IsListing rows) where
+  pub wanted-start : (wanted : List Row) → wanted ≡ [] → (k : ℕ) → length rows ≤ k → AreWanted rows flags k (reverse wanted)
+  wanted-start wanted none k end =
+      subst (λ (l : List Row). AreWanted rows flags k (reverse l)) (sym none) (record { placeable = tt; placed = placed-start rows flags listing empty_tree refl k end })
+
+  module _ (k : ℕ) (row : Row) (here : slice_get rows k ≡ Some row) (wanted : List Row) (old : AreWanted rows flags (k + 1) (reverse wanted)) where
+    pub wanted-skip : (Wanted flags k row → ⊥) → AreWanted rows flags k (reverse wanted)
+    wanted-skip off = record { placeable = old.placeable; placed = placed-skip rows flags listing k row here (tree_of (reverse wanted)) old.placed off }
+
+    pub wanted-more : Wanted flags k row → (entry : Entry) → entry ≡ owned row.1 → (new : List Row) → new ≡ wanted ++ (row.0, entry) ∷ [] → AreWanted rows flags k (reverse new)
+    wanted-more wants entry is new pushed = subst (AreWanted rows flags k) (sym whole) (record {
+      placeable = (no-cause rows flags listing k row here (tree_of (reverse wanted)) old.placed, old.placeable);
+      placed = placed-more rows flags listing k row here (tree_of (reverse wanted)) old.placed wants (tree_of ((row.0, owned row.1) ∷ reverse wanted)) (get-placed directory_meta (tree_of (reverse wanted)) row.0 (owned row.1));
+    })
+      where
+        whole : reverse new ≡ (row.0, owned row.1) ∷ reverse wanted
+        whole = ap reverse pushed ∙ reverse-append wanted ((row.0, entry) ∷ []) ∙ ap (λ (x : Entry). (row.0, x) ∷ reverse wanted) is
+
+pub wanted-end : (rows : List Row) (flags : List Bool) (k : ℕ) (wanted turned : List Row) → k ≡ 0 → turned ≡ reverse wanted → AreWanted rows flags k (reverse wanted) → AreWanted rows flags 0 turned
+wanted-end rows flags k wanted turned none is h = subst (λ (n : ℕ). AreWanted rows flags n turned) none (subst (AreWanted rows flags k) (sym is) h)
+
+pub wanted-placed : (rows : List Row) (flags : List Bool) (wanted : List Row) (tree : TreeMap) → tree ≡ tree_of wanted → AreWanted rows flags 0 wanted → IsPlaced rows flags 0 tree
+wanted-placed rows flags wanted tree is h = subst (IsPlaced rows flags 0) (sym is) h.placed

@@ -8,6 +8,7 @@ use Rattle.trees.specs.declared.entry.Entry.TheVariants.{Directory}
 use Rattle.trees.specs.declared.meta.Meta.{Meta}
 use Rattle.trees.specs.TreeMap.{TreeMap, directory_meta, is_directory}
 use Rattle.trees.specs.Row.{Row}
+use Rattle.trees.specs.Whole.{tree_of, ArePlaceable}
 use Rattle.contexts.specs.Context.{owned, owned_meta}
 
 -- a row is wanted: its flag says so, or it is the root
@@ -30,6 +31,11 @@ pub record IsPlaced (rows : List Row) (flags : List Bool) (k : ℕ) (tree : Tree
   pub ways_there : (n : ℕ) (row : Row) (front : List (List ℕ)) → From rows k n row → Wanted flags n row → is_front front row.0 ≡ true → is_some (get tree front) ≡ true
   pub root_there : is_some (get tree []) ≡ true
   pub comes_from : (path : List (List ℕ)) (entry : Entry) → get tree path ≡ Some entry → ComesFrom rows flags k path entry
+
+-- rows of one tree, which has the wanted rows from this position on
+pub record AreWanted (rows : List Row) (flags : List Bool) (k : ℕ) (wanted : List Row) : Type 0 where
+  pub placeable : ArePlaceable wanted
+  pub placed : IsPlaced rows flags k (tree_of wanted)
 
 -- a list of directories has those of the rows from this position on that aren't wanted
 pub record AreFolders (rows : List Row) (flags : List Bool) (k : ℕ) (folders : List (List (List ℕ) × Meta)) : Type 0 where

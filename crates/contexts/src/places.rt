@@ -2,7 +2,7 @@ ghost use Rattle.std.specs.Prelude.{◌≡◌, ◌<◌, ◌↔◌, ◌⊎◌, tr
 ghost use Rattle.std.specs.FinMap.{get};
 ghost use Rattle.trees.specs.TreeMap.{IsTree};
 ghost use Rattle.contexts.specs.Context.{IsListing, owned, owned_meta};
-ghost use Rattle.contexts.specs.PrivatePlaces.{IsPlaced, AreFolders, HasModes, AreApart};
+ghost use Rattle.contexts.specs.PrivatePlaces.{IsPlaced, AreWanted, AreFolders, HasModes, AreApart};
 
 use paths::Path;
 use plain::Memory;
@@ -38,6 +38,31 @@ fn is_wanted(flags: &[bool], position: usize, path: &Path) -> bool
     flags[position] || path.is_root()
 }
 
+/// The rows that are wanted, owned by 0:0, in their order, and the directories among the others, the last first.
+fn part_rows(
+    alloc: Global,
+    rows: Vec<(Path, Entry)>,
+    flags: &[bool],
+) -> Result<(Vec<(Path, Entry)>, Vec<(Path, Meta)>), Memory>
+    requires listing { IsListing rows.items }
+    requires flagged { length flags.now ≡ length rows.items }
+    ensures wanted { IfOk result (λ parts. AreWanted rows.items flags.now 0 parts.0.items) }
+    ensures folders { IfOk result (λ parts. AreFolders rows.items flags.now 0 parts.1.items) }
+{
+    let mut left = rows;
+    let mut wanted = Vec::with_capacity(alloc, flags.len())?;
+    let mut folders = Vec::new(alloc);
+    while let Some((path, entry)) = left.pop() {
+        if is_wanted(flags, left.len(), &path) {
+            wanted.push((path, owned(entry)))?;
+        } else if let Entry::Directory(meta) = entry {
+            folders.push((path, meta))?;
+        }
+    }
+    wanted.reverse();
+    Ok((wanted, folders))
+}
+
 /// The tree of the rows that are wanted, and the directories among the others.
 pub(crate) fn place_rows(
     alloc: Global,
@@ -49,16 +74,8 @@ pub(crate) fn place_rows(
     ensures tree { IfOk result (λ made. IsPlaced rows.items flags.now 0 made.0) }
     ensures folders { IfOk result (λ made. AreFolders rows.items flags.now 0 made.1.items) }
 {
-    let mut left = rows;
-    let mut tree = Tree::empty(alloc);
-    let mut folders = Vec::new(alloc);
-    while let Some((path, entry)) = left.pop() {
-        if is_wanted(flags, left.len(), &path) {
-            tree.place(alloc, &path, owned(entry))?;
-        } else if let Entry::Directory(meta) = entry {
-            folders.push((path, meta))?;
-        }
-    }
+    let (wanted, folders) = part_rows(alloc, rows, flags)?;
+    let tree = Tree::of_rows(alloc, wanted)?;
     Ok((tree, folders))
 }
 
