@@ -15,7 +15,7 @@ use std::alloc::Global;
 use strict::{NotRead, ReadFault};
 use trees::Entry;
 
-/// Reads what comes next as what stands at a key of an entry.
+/// Reads what comes next as what stands at a key of an entry. Keys are compared one after another, so those come first that most entries have.
 fn pull_key<'a>(
     spelled: &mut Spelled<'a>,
     reader: &mut Reader<'a>,
@@ -25,12 +25,12 @@ fn pull_key<'a>(
 {
     match key {
         "path" => spelled.path = Some(next_text(reader)?),
-        "text" => spelled.text = Some(next_text(reader)?),
         "hex" => spelled.hex = Some(next_text(reader)?),
         "mode" => spelled.mode = Some(next_text(reader)?),
         "uid" => spelled.uid = Some(next_number(reader)?),
         "gid" => spelled.gid = Some(next_number(reader)?),
         "dir" => spelled.dir = Some(next_flag(reader)?),
+        "text" => spelled.text = Some(next_text(reader)?),
         _ => return Err(Fault::Because(NotRead)),
     }
     Ok(())
