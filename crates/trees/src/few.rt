@@ -1,14 +1,14 @@
 ghost use Rattle.std.specs.Prelude.{◌≡◌, ◌≤◌, IfSome, take};
 
-/// The most bytes of a file that lie in the value itself: with their number they fill what a pointer and its tag take.
-const SHORT: usize = 14;
+/// The most bytes of a file that lie in the value itself: as many as a pointer takes, since every entry has room for them.
+const SHORT: usize = 8;
 
-/// Few bytes, and how many of them count.
+/// Few bytes, and how many of them count. Their number is as wide as there is room for beside a tag, so that a copy is one of two whole words.
 #[derive(Clone, Copy, Debug, Drop)]
 pub(crate) struct Few {
-    len: u8,
+    len: u32,
     bytes: [u8; SHORT],
-    ghost fits: { len ≤ 14 },
+    ghost fits: { len ≤ 8 },
 }
 
 impl Few {
@@ -22,7 +22,7 @@ impl Few {
         let mut held = [0; SHORT];
         held[..bytes.len()].copy_from_slice(bytes);
         Some(Few {
-            len: bytes.len() as u8,
+            len: bytes.len() as u32,
             bytes: held,
         })
     }
