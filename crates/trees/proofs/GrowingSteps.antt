@@ -1,7 +1,7 @@
 -- What rows place below a folder, child by child, and what is grown of them.
-use Rattle.std.specs.Prelude.{◌≡◌, ◌<◌, ◌≤◌, ◌+◌, ℕ, Bool, true, false, ◌&&◌, cond, Option, Some, None, Result, Ok, Err, IfOk, List, [], ◌∷◌, ◌++◌, length, map, take, drop, get_or, option_and_then}
+use Rattle.std.specs.Prelude.{◌≡◌, ◌<◌, ◌≤◌, ◌+◌, ℕ, Bool, true, false, ◌&&◌, cond, Option, Some, None, Result, Ok, Err, IfOk, List, [], ◌∷◌, ◌++◌, length, take, drop, get_or, option_and_then}
 use Rattle.std.proofs.Common.{sym, ap, refl, ◌∙◌, subst, append_assoc, append-nil, arith}
-use Rattle.std.proofs.lemmas.List.{map-append, length-append, get_or_at, length-take-le, take_at, drop_at, take_more, drop_more, take-append-drop, drop_all}
+use Rattle.std.proofs.lemmas.List.{map-append, length-append, get_or_at, length-take-le, take_at, drop_at, take_more, drop_more, drop_all}
 use Rattle.std.specs.Option.{option_or}
 use Rattle.std.specs.Ordering.{eq_by_cmp}
 use Rattle.std.specs.FinMap.{get, empty, find, get-empty}
@@ -15,11 +15,11 @@ use Rattle.trees.specs.declared.meta.Meta.{Meta}
 use Rattle.trees.specs.declared.entry.Entry.{Entry}
 use Rattle.trees.specs.declared.entry.Entry.TheVariants.{Directory}
 use Rattle.trees.specs.TreeMap.{TreeMap, IsTree, directory_meta, empty_tree}
-use Rattle.trees.specs.Put.{planted, placed, cause_at}
+use Rattle.trees.specs.Put.{placed, cause_at}
 use Rattle.trees.specs.Row.{Row}
 use Rattle.trees.specs.Whole.{tree_of, ArePlaceable}
 use Rattle.trees.specs.PrivateNode.{NodeValue, map_of, joined, rows_under}
-use Rattle.trees.specs.PrivateGrowing.{nothing, grown, AreClean, IsGrown, AreGrown, ComesNext, IsLast}
+use Rattle.trees.specs.PrivateGrowing.{nothing, grown, AreClean, IsGrown, AreGrown, ComesNext}
 use Rattle.trees.proofs.NodeLaws.{get-map_of_root, get-map_of_cons, get-joined}
 use Rattle.trees.proofs.PartLists.{not-above}
 use Rattle.trees.proofs.TreeLaws.{same_tree, get-placed, get-empty_tree, free-from_cause, placed-IsTree, empty-IsTree}

@@ -8,7 +8,7 @@ use Rattle.paths.specs.Order.{name_cmp}
 use Rattle.paths.specs.Path.{IsClean}
 use Rattle.trees.specs.declared.entry.Entry.{Entry}
 use Rattle.trees.specs.declared.entry.Entry.TheVariants.{Directory}
-use Rattle.trees.specs.TreeMap.{TreeMap, directory_meta}
+use Rattle.trees.specs.TreeMap.{directory_meta}
 use Rattle.trees.specs.Put.{planted}
 use Rattle.trees.specs.Row.{Row}
 use Rattle.trees.specs.PrivateNode.{NodeValue, map_of, joined, flat, are_full, rows_under, IsDepth}

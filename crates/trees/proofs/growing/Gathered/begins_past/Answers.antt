@@ -1,6 +1,6 @@
 use Rattle.std.proofs.Common.{sym, ◌∙◌, length, take, ◌-◌}
 use Rattle.trees.specs.PrivateNode.{lists_of}
-use Rattle.trees.proofs.GatheredSteps.{before-first, before-none, last-split}
+use Rattle.trees.proofs.GatheredSteps.{before-first, last-split}
 use Rattle.trees.proofs.growing.Gathered.begins_past.Goals as goal
 
 pub returns-in-len1-up : goal.returns-in-len1-up

@@ -1,6 +1,5 @@
-use Rattle.std.proofs.Common.{ap, sym, ◌∙◌, subst, List, ℕ}
-use Rattle.trees.specs.PrivateNode.{NodeValue, lists_of, joined, IsDepth}
-use Rattle.trees.specs.PrivateGrowing.{gathered}
+use Rattle.std.proofs.Common.{ap, ◌∙◌}
+use Rattle.trees.specs.PrivateNode.{lists_of, joined}
 use Rattle.trees.proofs.GatheredSteps.{rows-rise, all-parts, all-are_parts, rise-of, deep-of}
 use Rattle.trees.proofs.growing.Gathered.into_node.Goals as goal
 

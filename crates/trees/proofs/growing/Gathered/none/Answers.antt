@@ -1,6 +1,5 @@
-use Rattle.std.proofs.Common.{ap, ◌∙◌, refl, [], subst, List, ℕ}
-use Rattle.trees.specs.PrivateNode.{lists_of, NodeValue, joined, IsDepth}
-use Rattle.trees.specs.PrivateGrowing.{gathered}
+use Rattle.std.proofs.Common.{ap}
+use Rattle.trees.specs.PrivateNode.{lists_of}
 use Rattle.trees.proofs.GatheredSteps.{gathered-none}
 use Rattle.trees.proofs.growing.Gathered.none.Goals as goal
 

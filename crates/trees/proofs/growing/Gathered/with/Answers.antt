@@ -1,4 +1,3 @@
-use Rattle.std.proofs.Common.{ap, sym, ◌∙◌, refl}
 use Rattle.trees.specs.PrivateNode.{lists_of}
 use Rattle.trees.proofs.DepthSteps.{max-left, max-right}
 use Rattle.trees.proofs.GatheredSteps.{rows-rise, gathered-more, gathered-view}
