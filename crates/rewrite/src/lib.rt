@@ -6,6 +6,7 @@
 // let plan = lower_program(alloc, rows, 1, config, sources)?;   // stages 0 and 1, and 1 doesn't name 0
 // let plan = prune(alloc, plan)?;                               // the vertices of stage 1 alone
 // let plan = flatten_links(alloc, plan)?;                       // its COPY --link one after another as one merge
+// let plan = shrink(alloc, plan)?;                              // both, as far as nothing is made twice for it
 // ```
 #![tactic(auto)]
 
@@ -14,7 +15,9 @@ pub mod laws;
 mod links;
 mod marks;
 mod pruning;
+mod shrinking;
 mod spelling;
 
 pub use links::flatten_links;
 pub use pruning::prune;
+pub use shrinking::shrink;

@@ -11,7 +11,7 @@ use plain::{Items, Memory, no_marks};
 use std::alloc::Global;
 
 /// Whether the operation is a merge.
-fn is_merge(op: &Op) -> bool
+pub(crate) fn is_merge(op: &Op) -> bool
     ensures { result ≡ is_merge op.now }
 {
     match op {
