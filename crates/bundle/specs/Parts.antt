@@ -15,7 +15,7 @@ use Rattle.trees.specs.TreeMap.{TreeMap}
 use Rattle.trees.specs.Row.{Row}
 use Rattle.entries.specs.Reading.{content_in}
 use Rattle.entries.specs.Listing.{listing_in}
-use Rattle.trees.specs.Whole.{tree_of}
+use Rattle.entries.specs.Whole.{tree_of}
 use Rattle.plans.specs.Images.{ImagesValue}
 use Rattle.plans.specs.declared.images.Image.{Image}
 use Rattle.scopes.specs.Args.{BuildArguments}

@@ -7,5 +7,6 @@ pub mod PrivateOrder
 pub mod PrivateFingerprint
 pub mod PrivateFront
 pub mod PrivateSought
+pub mod Whole
 pub mod Written
 pub mod PrivatePrinting

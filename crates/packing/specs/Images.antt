@@ -9,7 +9,7 @@ use Rattle.serde_json.specs.Read.{read}
 use Rattle.serde_json.specs.Written.{has_float}
 use Rattle.paths.specs.Order.{name_cmp}
 use Rattle.strict.specs.Strict.{strict}
-use Rattle.trees.specs.Whole.{tree_of}
+use Rattle.entries.specs.Whole.{tree_of}
 use Rattle.scopes.specs.Scope.{names_differ}
 use Rattle.imageconfig.specs.Reading.{config_in}
 use Rattle.imageconfig.specs.declared.config.Config.{Config}
