@@ -14,7 +14,6 @@ ghost use Rattle.build.specs.PrivateTelling.{TellsAsked, TellsBundle, TellsPlan,
 ghost use Rattle.build.specs.declared.status.Status.TheVariants.{Built, Failed, Refused};
 
 use crate::asking::{Asked, ask};
-use crate::remains::Remains;
 use crate::told::Told;
 use crate::{BuildFault, Status, plan_of};
 use bundle::{failed_answer, put_built, refused_answer};
@@ -31,7 +30,7 @@ use std::alloc::Global;
 use std::sync::Wait;
 use std::thread::Threads;
 use trees::{Cause, Tree, Walk};
-use workers::solve_keeping;
+use workers::solve;
 
 /// Tells of a bundle's bytes: writes one answer.
 pub(crate) fn tell_bundle<W: CountedWrite, E: Executor, G: Gate>(
@@ -43,7 +42,6 @@ pub(crate) fn tell_bundle<W: CountedWrite, E: Executor, G: Gate>(
     workers: u32,
     gate: &G,
     memo: &mut Memo<E>,
-    remains: &mut Remains,
 ) -> Result<Status, BuildFault>
     requires executor { E.out memo.old.executor ≡ E.out executor.now }
     requires workers { (0 < workers) × (workers ≤ most_workers) }
@@ -53,9 +51,7 @@ pub(crate) fn tell_bundle<W: CountedWrite, E: Executor, G: Gate>(
     ensures memo { Grows memo.old memo.new }
 {
     match ask(alloc, rt, bytes) {
-        Ok(asked) => tell_asked(
-            alloc, rt, asked, output, executor, workers, gate, memo, remains,
-        ),
+        Ok(asked) => tell_asked(alloc, rt, asked, output, executor, workers, gate, memo),
         Err(Fault::Because(refusal)) => tell_refusal(alloc, refusal, output),
         Err(Fault::Memory) => Err(BuildFault::Memory),
     }
@@ -71,7 +67,6 @@ fn tell_asked<W: CountedWrite, E: Executor, G: Gate>(
     workers: u32,
     gate: &G,
     memo: &mut Memo<E>,
-    remains: &mut Remains,
 ) -> Result<Status, BuildFault>
     requires executor { E.out memo.old.executor ≡ E.out executor.now }
     requires workers { (0 < workers) × (workers ≤ most_workers) }
@@ -98,9 +93,9 @@ fn tell_asked<W: CountedWrite, E: Executor, G: Gate>(
                 gate,
                 &mut caches,
                 memo,
-                remains,
             );
-            remains.keep_asked(plan, caches);
+            drop(plan);
+            drop(caches);
             ended
         }
         Err(_) => {
@@ -121,7 +116,6 @@ fn tell_plan<W: CountedWrite, E: Executor, G: Gate>(
     gate: &G,
     caches: &mut CacheStore,
     memo: &mut Memo<E>,
-    remains: &mut Remains,
 ) -> Result<Status, BuildFault>
     requires executor { E.out memo.old.executor ≡ E.out executor.now }
     requires workers { (0 < workers) × (workers ≤ most_workers) }
@@ -131,20 +125,10 @@ fn tell_plan<W: CountedWrite, E: Executor, G: Gate>(
         (W.contents output.old) (W.failures output.old) (W.contents output.new) (W.failures output.new) result }
     ensures memo { Grows memo.old memo.new }
 {
-    match solve_keeping(
-        alloc,
-        rt,
-        plan,
-        executor,
-        workers,
-        gate,
-        caches,
-        memo,
-        remains.leftover(),
-    ) {
+    match solve(alloc, rt, plan, executor, workers, gate, caches, memo) {
         Ok(solution) => {
             let ended = tell_solution(alloc, plan.config(), &solution, output);
-            remains.keep_solution(solution);
+            drop(solution);
             ended
         }
         Err(_) => Err(BuildFault::Memory),
