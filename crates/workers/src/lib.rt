@@ -12,9 +12,7 @@
 // ```
 #![tactic(auto)]
 
-mod leftover;
 mod solving;
 mod working;
 
-pub use leftover::Leftover;
-pub use solving::{solve, solve_keeping};
+pub use solving::solve;
