@@ -3,6 +3,6 @@ use Rattle.build.proofs.planning.plan_of.Goals as goal
 
 pub returns-clause-tells : goal.returns-clause-tells
 returns-clause-tells c = λ out solution is.
-    tells out c.in_ok-plan.plan c.in_ok-pruned.pruned c.args.evaluated solution c.in_ok-plan.ensures.means c.in_ok-plan.ensures.stands c.requires.order c.requires.needs
-    c.in_ok-plan.ensures.config c.in_ok-plan.ensures.sources c.graph-known.ensures.plan c.in_ok-pruned.ensures.pruned
-    c.in_ok-pruned.ensures.keeps (c.in_ok-pruned.ensures.needed out) is
+    tells out c.in_ok-plan.plan c.in_ok-smaller.smaller c.args.evaluated solution c.in_ok-plan.ensures.means c.in_ok-plan.ensures.stands c.requires.order c.requires.needs
+    c.in_ok-plan.ensures.config c.in_ok-plan.ensures.sources c.graph-known.ensures.plan c.in_ok-smaller.ensures.order c.in_ok-smaller.ensures.lined
+    c.in_ok-smaller.ensures.keeps (c.in_ok-smaller.ensures.needed out) is
