@@ -12,7 +12,9 @@
 // ```
 #![tactic(auto)]
 
+mod leftover;
 mod solving;
 mod working;
 
-pub use solving::solve;
+pub use leftover::Leftover;
+pub use solving::{solve, solve_keeping};

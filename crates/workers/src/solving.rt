@@ -10,6 +10,7 @@ ghost use Rattle.memo.specs.Memo.{Grows, Knows};
 ghost use Rattle.solver.specs.Recall.{AreOf, MayStay, leaves_or_stays};
 ghost use Rattle.solver.specs.Solution.{IsSolution};
 
+use crate::leftover::Leftover;
 use crate::working::{Tools, work_all};
 use board::{Board, Job, NoBoard};
 use cachemounts::CacheStore;
@@ -62,10 +63,52 @@ pub fn solve<C, E: Executor, G: Gate, R: Threads + Wait + Sync>(
     ensures one { IsTrue memo.old.is_for_one_build → memo.new ≡ memo.old }
     ensures err { OnErr result (memo.new ≡ memo.old) }
 {
+    let mut leftover = Leftover::none(alloc);
+    let solution = solve_keeping(
+        alloc,
+        rt,
+        plan,
+        executor,
+        workers,
+        gate,
+        caches,
+        memo,
+        &mut leftover,
+    );
+    drop(leftover);
+    solution
+}
+
+/// Does what [`solve`] does, and adds to what is left over the trees that it made, as far as there is memory for that. Nothing else is said of them.
+pub fn solve_keeping<C, E: Executor, G: Gate, R: Threads + Wait + Sync>(
+    alloc: Global,
+    rt: &R,
+    plan: &Plan<C>,
+    executor: &E,
+    workers: u32,
+    gate: &G,
+    caches: &mut CacheStore,
+    memo: &mut Memo<E>,
+    leftover: &mut Leftover,
+) -> Result<Solution, Memory>
+    requires executor { E.out memo.old.executor ≡ E.out executor.now }
+    requires workers { (0 < workers) × (workers ≤ most_workers) }
+    requires idle { caches.old.holds ≡ [] }
+    ensures solution { IfOk result (IsSolution (problem_of (E.out executor.now) plan.now)) }
+    ensures idle { caches.new.holds ≡ [] }
+    ensures left { AreLeft (problem_of (E.out executor.now) plan.now) caches.old.contents caches.new.contents }
+    ensures runs { AreLeftByRuns (leaves_or_stays (Knows memo.old) (E.leaves executor.now)) (problem_of (E.out executor.now) plan.now)
+        caches.old.contents caches.new.contents }
+    ensures ended { OnOk result (AreLeftAtEnd (leaves_or_stays (Knows memo.old) (E.leaves executor.now)) (problem_of (E.out executor.now) plan.now)
+        caches.old.contents caches.new.contents) }
+    ensures memo { Grows memo.old memo.new }
+    ensures one { IsTrue memo.old.is_for_one_build → memo.new ≡ memo.old }
+    ensures err { OnErr result (memo.new ≡ memo.old) }
+{
     let opened = Opened::new(alloc)?;
     let lent = mem::replace(caches, CacheStore::new(alloc));
     let outcome = solved::<C, E, G, Brand, R>(
-        alloc, rt, plan, executor, workers, gate, lent, opened, memo,
+        alloc, rt, plan, executor, workers, gate, lent, opened, memo, leftover,
     );
     let Ended {
         solution,
@@ -99,6 +142,7 @@ fn solved<
     caches: CacheStore,
     opened: Opened,
     memo: &mut Memo<E>,
+    leftover: &mut Leftover,
 ) -> Ended
     requires problem { problem_of (E.out executor.now) plan.now ≡ J.problem }
     requires first { caches.contents ≡ J.first }
@@ -141,6 +185,7 @@ fn solved<
                 None => None,
             };
             remember(alloc, memo, &board, findings.as_ref());
+            leftover.add(alloc, &board);
             let _known = board.history();
             Ended {
                 solution: Ok(solution),

@@ -2,7 +2,7 @@ use Rattle.plans.specs.Plan.{problem_of}
 use Rattle.board.specs.Problem.{values_in}
 use Rattle.memo.specs.Memo.{Knows}
 use Rattle.solver.specs.Recall.{leaves_or_stays}
-use Rattle.workers.proofs.solving.solve.Given as goal
+use Rattle.workers.proofs.solving.solve_keeping.Given as goal
 
 -- the site's problem is that of the plan, the contents at the start are those of the store that is lent, and in the caches may be left what the executor leaves,
 -- or stay what was there, where the memo knows the request

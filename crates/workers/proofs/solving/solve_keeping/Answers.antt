@@ -5,7 +5,7 @@ use Rattle.memo.specs.Memo.{Knows}
 use Rattle.memo.proofs.GrowLemmas.{grows-same}
 use Rattle.solver.specs.Recall.{leaves_or_stays}
 use Rattle.solver.proofs.SolutionLemmas.{left-same, runs-same}
-use Rattle.workers.proofs.solving.solve.Goals as goal
+use Rattle.workers.proofs.solving.solve_keeping.Goals as goal
 
 -- where there is no roll nothing has happened
 pub returns-in_err-opened-clause-left : goal.returns-in_err-opened-clause-left
