@@ -4,6 +4,7 @@ ghost use Rattle.plain.specs.Limits.{most_bundle_bytes, most_workers};
 ghost use Rattle.memo.specs.Memo.{Grows};
 ghost use Rattle.build.specs.Ends.{Ends, devices};
 
+use crate::remains::Remains;
 use crate::telling::tell_bundle;
 use crate::{BuildFault, Status};
 use counted::{CountedRead, CountedWrite, read_all};
@@ -32,7 +33,6 @@ use std::thread::Threads;
 /// counts of failed calls are what is said. One body serves all: it doesn't know what it reads from or writes to.
 ///
 /// The counts of failed calls are machine numbers, so a caller has to know that there is room for one more in each.
-#[tactic(auto, unfolding(plain::specs::Limits::most_bundle_bytes))]
 pub fn run_build<R: CountedRead, W: CountedWrite, E: Executor, G: Gate>(
     alloc: Global,
     rt: &(impl Threads + Wait + Sync),
@@ -42,6 +42,47 @@ pub fn run_build<R: CountedRead, W: CountedWrite, E: Executor, G: Gate>(
     workers: u32,
     gate: &G,
     memo: &mut Memo<E>,
+) -> Result<Status, BuildFault>
+    requires executor { E.out memo.old.executor ≡ E.out executor.now }
+    requires workers { (0 < workers) × (workers ≤ most_workers) }
+    requires reads { R.failures input.old < u64.MAX }
+    requires writes { W.failures output.old < u64.MAX }
+    ensures ends { Ends (E.out executor.now)
+        (devices (R.remaining input.old) (R.failures input.old) (W.contents output.old) (W.failures output.old))
+        (devices (R.remaining input.new) (R.failures input.new) (W.contents output.new) (W.failures output.new))
+        result }
+    ensures taken { LosesBeginning (most_bundle_bytes + 1) (R.remaining input.old) (R.remaining input.new) }
+    ensures memo { Grows memo.old memo.new }
+{
+    let mut remains = Remains::none(alloc);
+    let ended = run_build_keeping(
+        alloc,
+        rt,
+        input,
+        output,
+        executor,
+        workers,
+        gate,
+        memo,
+        &mut remains,
+    );
+    drop(remains);
+    ended
+}
+
+/// Does what [`run_build`] does, and keeps what it holds at its end, so that the caller may choose when to let that go. Nothing else is said of what is
+/// kept.
+#[tactic(auto, unfolding(plain::specs::Limits::most_bundle_bytes))]
+pub fn run_build_keeping<R: CountedRead, W: CountedWrite, E: Executor, G: Gate>(
+    alloc: Global,
+    rt: &(impl Threads + Wait + Sync),
+    input: &mut R,
+    output: &mut W,
+    executor: &E,
+    workers: u32,
+    gate: &G,
+    memo: &mut Memo<E>,
+    remains: &mut Remains,
 ) -> Result<Status, BuildFault>
     requires executor { E.out memo.old.executor ≡ E.out executor.now }
     requires workers { (0 < workers) × (workers ≤ most_workers) }
@@ -64,6 +105,7 @@ pub fn run_build<R: CountedRead, W: CountedWrite, E: Executor, G: Gate>(
         workers,
         gate,
         memo,
+        remains,
     )
 }
 
@@ -78,6 +120,7 @@ fn build_within<R: CountedRead, W: CountedWrite, E: Executor, G: Gate>(
     workers: u32,
     gate: &G,
     memo: &mut Memo<E>,
+    remains: &mut Remains,
 ) -> Result<Status, BuildFault>
     requires executor { E.out memo.old.executor ≡ E.out executor.now }
     requires workers { (0 < workers) × (workers ≤ most_workers) }
@@ -102,5 +145,6 @@ fn build_within<R: CountedRead, W: CountedWrite, E: Executor, G: Gate>(
         workers,
         gate,
         memo,
+        remains,
     )
 }

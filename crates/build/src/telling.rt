@@ -14,6 +14,7 @@ ghost use Rattle.build.specs.PrivateTelling.{TellsAsked, TellsBundle, TellsPlan,
 ghost use Rattle.build.specs.declared.status.Status.TheVariants.{Built, Failed, Refused};
 
 use crate::asking::{Asked, ask};
+use crate::remains::Remains;
 use crate::told::Told;
 use crate::{BuildFault, Status, plan_of};
 use bundle::{failed_answer, put_built, refused_answer};
@@ -30,7 +31,7 @@ use std::alloc::Global;
 use std::sync::Wait;
 use std::thread::Threads;
 use trees::{Cause, Tree, Walk};
-use workers::solve;
+use workers::solve_keeping;
 
 /// Tells of a bundle's bytes: writes one answer.
 pub(crate) fn tell_bundle<W: CountedWrite, E: Executor, G: Gate>(
@@ -42,6 +43,7 @@ pub(crate) fn tell_bundle<W: CountedWrite, E: Executor, G: Gate>(
     workers: u32,
     gate: &G,
     memo: &mut Memo<E>,
+    remains: &mut Remains,
 ) -> Result<Status, BuildFault>
     requires executor { E.out memo.old.executor ≡ E.out executor.now }
     requires workers { (0 < workers) × (workers ≤ most_workers) }
@@ -51,7 +53,9 @@ pub(crate) fn tell_bundle<W: CountedWrite, E: Executor, G: Gate>(
     ensures memo { Grows memo.old memo.new }
 {
     match ask(alloc, rt, bytes) {
-        Ok(asked) => tell_asked(alloc, rt, asked, output, executor, workers, gate, memo),
+        Ok(asked) => tell_asked(
+            alloc, rt, asked, output, executor, workers, gate, memo, remains,
+        ),
         Err(Fault::Because(refusal)) => tell_refusal(alloc, refusal, output),
         Err(Fault::Memory) => Err(BuildFault::Memory),
     }
@@ -67,6 +71,7 @@ fn tell_asked<W: CountedWrite, E: Executor, G: Gate>(
     workers: u32,
     gate: &G,
     memo: &mut Memo<E>,
+    remains: &mut Remains,
 ) -> Result<Status, BuildFault>
     requires executor { E.out memo.old.executor ≡ E.out executor.now }
     requires workers { (0 < workers) × (workers ≤ most_workers) }
@@ -93,9 +98,9 @@ fn tell_asked<W: CountedWrite, E: Executor, G: Gate>(
                 gate,
                 &mut caches,
                 memo,
+                remains,
             );
-            drop(plan);
-            drop(caches);
+            remains.keep_asked(plan, caches);
             ended
         }
         Err(_) => {
@@ -116,6 +121,7 @@ fn tell_plan<W: CountedWrite, E: Executor, G: Gate>(
     gate: &G,
     caches: &mut CacheStore,
     memo: &mut Memo<E>,
+    remains: &mut Remains,
 ) -> Result<Status, BuildFault>
     requires executor { E.out memo.old.executor ≡ E.out executor.now }
     requires workers { (0 < workers) × (workers ≤ most_workers) }
@@ -125,10 +131,20 @@ fn tell_plan<W: CountedWrite, E: Executor, G: Gate>(
         (W.contents output.old) (W.failures output.old) (W.contents output.new) (W.failures output.new) result }
     ensures memo { Grows memo.old memo.new }
 {
-    match solve(alloc, rt, plan, executor, workers, gate, caches, memo) {
+    match solve_keeping(
+        alloc,
+        rt,
+        plan,
+        executor,
+        workers,
+        gate,
+        caches,
+        memo,
+        remains.leftover(),
+    ) {
         Ok(solution) => {
             let ended = tell_solution(alloc, plan.config(), &solution, output);
-            drop(solution);
+            remains.keep_solution(solution);
             ended
         }
         Err(_) => Err(BuildFault::Memory),
