@@ -26,7 +26,7 @@ use crate::picturing::PictureTeller;
 use crate::saying::{NO_MEMORY_LINE, say};
 use crate::telling::{Teller, tell_bundle};
 use crate::why::PathTeller;
-use build::{BuildFault, Status, run_build, run_graph, status_code};
+use build::{BuildFault, Remains, Status, run_build_keeping, run_graph, status_code};
 use checks::Form;
 use command::{BuildOptions, CheckOptions, GraphOptions, LlbOptions, WhyOptions};
 use counted::{CountedRead, CountedWrite};
@@ -37,6 +37,7 @@ use solver::OpenGate;
 use std::alloc::{AllocError, Global};
 use std::io;
 use std::io::ErrorKind;
+use std::mem::ManuallyDrop;
 use std::rt::Files;
 use std::sync::Wait;
 use std::thread::Threads;
@@ -81,7 +82,7 @@ pub(crate) fn build_bundle<F: Files, R: CountedRead, W: CountedWrite, S: Counted
     }
 }
 
-/// Builds a bundle without anything of earlier builds.
+/// Builds a bundle without anything of earlier builds. What it holds in the end is left to the system: the program ends after it.
 fn build_anew<R: CountedRead, W: CountedWrite, E: Executor>(
     alloc: Global,
     rt: &(impl Threads + Wait + Sync),
@@ -100,11 +101,26 @@ fn build_anew<R: CountedRead, W: CountedWrite, E: Executor>(
     ensures taken { LosesBeginning (most_bundle_bytes + 1) (R.remaining input.old) (R.remaining input.new) }
 {
     let mut memo = Memo::for_one_build(alloc, executor);
-    let ended = run_build(
-        alloc, rt, input, output, executor, workers, &OpenGate, &mut memo,
+    let mut remains = Remains::none(alloc);
+    let ended = run_build_keeping(
+        alloc,
+        rt,
+        input,
+        output,
+        executor,
+        workers,
+        &OpenGate,
+        &mut memo,
+        &mut remains,
     );
     drop(memo);
+    leave(remains);
     ended
+}
+
+/// Leaves what a build held to the system, which takes it back at once where letting it go would take a step for each file.
+fn leave(remains: Remains) {
+    let _left = ManuallyDrop::new(remains);
 }
 
 /// Draws the graph of a bundle, and gives the status to end with.
