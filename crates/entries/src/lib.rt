@@ -16,6 +16,7 @@ mod fingerprint;
 mod front;
 pub mod laws;
 mod listing;
+mod making;
 mod pieces;
 mod printing;
 mod pulling;
@@ -25,6 +26,7 @@ mod spelled;
 mod writing;
 
 pub use listing::Listing;
+pub use making::{Alone, Hands, Together};
 pub use printing::put_tree;
 pub use reading::read_content;
 pub use writing::tree_to_json;
