@@ -24,39 +24,29 @@ use std::alloc::Global;
 use std::collections::BTreeMap;
 use strict::{NotRead, ReadFault};
 
-/// Values of a kind that is read token by token. `H` are the hands that make what was read: what that is, each kind says.
-pub trait FromTokens<H>: Sized + Drop {
+/// Values of a kind that is read token by token.
+pub trait FromTokens: Sized + Drop {
     ghost use Rattle.std.specs.Prelude.{Option, IfOk};
     ghost use Rattle.serde_json.specs.Data.{Data};
     ghost use Rattle.borrowed.specs.Pulled.{Pulls};
 
     ghost reading: { Data → Option Self };
 
-    // What has to hold of the hands, such as that threads may share them, which a bound alone doesn't say in a trait.
-    ghost ready: { H → Type 0 };
-
     /// What the value is that comes next, which may nest so deep. `NotRead` where it is nothing of this kind, and where that can't be told
     /// without what comes later.
-    fn from_tokens(
-        alloc: Global,
-        hands: &H,
-        reader: &mut Reader<'_>,
-        depth: usize,
-    ) -> Result<Self, ReadFault>
-        requires { ready hands.now }
+    fn from_tokens(alloc: Global, reader: &mut Reader<'_>, depth: usize) -> Result<Self, ReadFault>
         ensures { IfOk result (λ x. Pulls depth reading reader.old reader.new x) };
 }
 
-/// What a text is, read token by token. After `NotRead` it may still be something of this kind. What the hands need is said by the kind.
-pub fn pull<H, T: FromTokens<H>>(alloc: Global, hands: &H, text: &str) -> Result<T, ReadFault>
-    requires { T.ready hands.now }
+/// What a text is, read token by token. After `NotRead` it may still be something of this kind.
+pub fn pull<T: FromTokens>(alloc: Global, text: &str) -> Result<T, ReadFault>
     ensures { IfOk result (λ x. option_and_then T.reading (read text.now) ≡ Some x) }
 {
     let mut scratch = Scratch::new(alloc);
     let Ok(mut reader) = Reader::new(text, &mut scratch) else {
         return Err(Fault::Memory);
     };
-    let found = T::from_tokens(alloc, hands, &mut reader, MAX_DEPTH)?;
+    let found = T::from_tokens(alloc, &mut reader, MAX_DEPTH)?;
     if reader.next().is_none() {
         return Ok(found);
     }
@@ -164,20 +154,18 @@ pub fn inner_depth(depth: usize) -> Result<usize, ReadFault>
 
 /// The keys of an object with their values, as [`read_rows`](crate::read_rows) gives them. `NotRead` where no object comes next, or a value
 /// isn't of this kind, even if its key stands again.
-pub fn pull_rows<H, T: FromTokens<H>>(
+pub fn pull_rows<T: FromTokens>(
     alloc: Global,
-    hands: &H,
     reader: &mut Reader<'_>,
     depth: usize,
 ) -> Result<Items<(Text, T)>, ReadFault>
-    requires { T.ready hands.now }
     ensures { IfOk result (λ rows. Pulls depth (rows_in T.reading) reader.old reader.new rows) }
 {
     let inner = inner_depth(depth)?;
     open_object(reader)?;
     let mut found: BTreeMap<&str, T> = BTreeMap::new(alloc);
     while let Some(key) = next_key(reader)? {
-        let value = T::from_tokens(alloc, hands, reader, inner)?;
+        let value = T::from_tokens(alloc, reader, inner)?;
         drop(found.insert(key, value)?);
     }
     Ok(into_rows(alloc, found)?)

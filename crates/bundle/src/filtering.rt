@@ -7,7 +7,6 @@ ghost use Rattle.bundle.specs.PrivateLeftOut.{CompletesFiltered};
 use crate::parts::Parts;
 use crate::whole::{Bundle, complete, no_bundle, parts_of};
 use contexts::left_out;
-use entries::Together;
 use paths::Path;
 use plain::{Exact, Fault, Items, Memory, Refusal};
 use std::alloc::Global;
@@ -72,7 +71,7 @@ pub fn read_with_left_out<C: FromJson>(
 ) -> Result<(Bundle<C>, Items<Path>), Fault<Refusal>>
     ensures { LeavesOut C.reading bytes.now result }
 {
-    let parts: Result<Parts<C>, ReadFault> = parts_of(alloc, &Together { rt }, bytes);
+    let parts: Result<Parts<C>, ReadFault> = parts_of(alloc, bytes);
     match parts {
         Ok(parts) => complete_filtered(alloc, rt, parts),
         Err(Fault::Because(_)) => Err(Fault::Because(no_bundle())),

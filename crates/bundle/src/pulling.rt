@@ -16,7 +16,7 @@ use crate::parts::{
 use borrowed::{
     FromTokens, inner_depth, next_key, open_object, optional_of, pull_rows, pull_value,
 };
-use entries::{Hands, Listing};
+use entries::Listing;
 use json::{Reader, Value};
 use plain::{Fault, Items, Memory, Text};
 use std::alloc::Global;
@@ -54,15 +54,13 @@ impl<'a> FoundImage<'a> {
     }
 
     /// Reads what comes next as what stands at a key.
-    fn pull<H: Hands>(
+    fn pull(
         &mut self,
         alloc: Global,
-        hands: &H,
         reader: &mut Reader<'a>,
         depth: usize,
         key: &str,
     ) -> Result<(), ReadFault>
-        requires { H.ready hands.now }
         ensures { OnOk result ((d : Data) × IsNext depth reader.old reader.new d × ((members : Members) → FindsImage self.old members → FindsImage self.new (put key.now d members))) }
     {
         match key {
@@ -75,7 +73,7 @@ impl<'a> FoundImage<'a> {
                 drop(self.digest.replace(digest));
             }
             "tree" => {
-                let tree: Listing = Listing::from_tokens(alloc, hands, reader, depth)?;
+                let tree: Listing = Listing::from_tokens(alloc, reader, depth)?;
                 drop(self.tree.replace(tree));
             }
             _ => return Err(Fault::Because(NotRead)),
@@ -85,20 +83,18 @@ impl<'a> FoundImage<'a> {
 }
 
 /// What stands at the keys of the image that comes next.
-fn pull_image<'a, H: Hands>(
+fn pull_image<'a>(
     alloc: Global,
-    hands: &H,
     reader: &mut Reader<'a>,
     depth: usize,
 ) -> Result<FoundImage<'a>, ReadFault>
-    requires { H.ready hands.now }
     ensures { IfOk result (λ found. (members : Members) × IsNext depth reader.old reader.new (object members) × FindsImage found members) }
 {
     let inner = inner_depth(depth)?;
     open_object(reader)?;
     let mut found = FoundImage::none();
     while let Some(key) = next_key(reader)? {
-        found.pull(alloc, hands, reader, inner, key)?;
+        found.pull(alloc, reader, inner, key)?;
     }
     Ok(found)
 }
@@ -126,20 +122,17 @@ fn image_of<C: FromJson>(
     }
 }
 
-impl<H: Hands, C: FromJson> FromTokens<H> for ListedImage<C> {
+impl<C: FromJson> FromTokens for ListedImage<C> {
     ghost use Rattle.bundle.specs.Parts.{image_in};
 
     ghost reading = { image_in C.reading };
 
-    ghost ready = { λ hands. H.ready hands };
-
     fn from_tokens(
         alloc: Global,
-        hands: &H,
         reader: &mut Reader<'_>,
         depth: usize,
     ) -> Result<ListedImage<C>, ReadFault> {
-        let mut found = pull_image(alloc, hands, reader, depth)?;
+        let mut found = pull_image(alloc, reader, depth)?;
         let image = image_of(alloc, &mut found);
         drop(found);
         image
@@ -186,15 +179,13 @@ impl<'a, C: FromJson> Found<'a, C> {
     }
 
     /// Reads what comes next as what stands at a key.
-    fn pull<H: Hands>(
+    fn pull(
         &mut self,
         alloc: Global,
-        hands: &H,
         reader: &mut Reader<'a>,
         depth: usize,
         key: &str,
     ) -> Result<(), ReadFault>
-        requires { H.ready hands.now }
         ensures { OnOk result ((d : Data) × IsNext depth reader.old reader.new d × ((members : Members) → Finds C.reading self.old members → Finds C.reading self.new (put key.now d members))) }
     {
         match key {
@@ -203,11 +194,11 @@ impl<'a, C: FromJson> Found<'a, C> {
                 drop(self.args.replace(args));
             }
             "caches" => {
-                let caches: Items<(Text, Listing)> = pull_rows(alloc, hands, reader, depth)?;
+                let caches: Items<(Text, Listing)> = pull_rows(alloc, reader, depth)?;
                 drop(self.caches.replace(caches));
             }
             "context" => {
-                let context: Listing = Listing::from_tokens(alloc, hands, reader, depth)?;
+                let context: Listing = Listing::from_tokens(alloc, reader, depth)?;
                 drop(self.context.replace(context));
             }
             "dockerfile" => {
@@ -215,7 +206,7 @@ impl<'a, C: FromJson> Found<'a, C> {
                 drop(self.dockerfile.replace(dockerfile));
             }
             "images" => {
-                let images: Items<(Text, ListedImage<C>)> = pull_rows(alloc, hands, reader, depth)?;
+                let images: Items<(Text, ListedImage<C>)> = pull_rows(alloc, reader, depth)?;
                 drop(self.images.replace(images));
             }
             "target" => {
@@ -229,20 +220,18 @@ impl<'a, C: FromJson> Found<'a, C> {
 }
 
 /// What stands at the keys of the bundle that comes next.
-fn pull_bundle<'a, H: Hands, C: FromJson>(
+fn pull_bundle<'a, C: FromJson>(
     alloc: Global,
-    hands: &H,
     reader: &mut Reader<'a>,
     depth: usize,
 ) -> Result<Found<'a, C>, ReadFault>
-    requires { H.ready hands.now }
     ensures { IfOk result (λ found. (members : Members) × IsNext depth reader.old reader.new (object members) × Finds C.reading found members) }
 {
     let inner = inner_depth(depth)?;
     open_object(reader)?;
     let mut found = Found::none();
     while let Some(key) = next_key(reader)? {
-        found.pull(alloc, hands, reader, inner, key)?;
+        found.pull(alloc, reader, inner, key)?;
     }
     Ok(found)
 }
@@ -344,20 +333,17 @@ fn parts_of_found<C: FromJson>(
     }
 }
 
-impl<H: Hands, C: FromJson> FromTokens<H> for Parts<C> {
+impl<C: FromJson> FromTokens for Parts<C> {
     ghost use Rattle.bundle.specs.Parts.{parts_in};
 
     ghost reading = { parts_in C.reading };
 
-    ghost ready = { λ hands. H.ready hands };
-
     fn from_tokens(
         alloc: Global,
-        hands: &H,
         reader: &mut Reader<'_>,
         depth: usize,
     ) -> Result<Parts<C>, ReadFault> {
-        let mut found: Found<'_, C> = pull_bundle(alloc, hands, reader, depth)?;
+        let mut found: Found<'_, C> = pull_bundle(alloc, reader, depth)?;
         let parts = parts_of_found(alloc, &mut found);
         drop(found);
         parts

@@ -13,7 +13,7 @@ use crate::parts::{Files, Named, Parts, read_parts};
 use borrowed::pull;
 use cachemounts::CacheStore;
 use contexts::Context;
-use entries::{Alone, Hands, Listing, Together};
+use entries::Listing;
 use ignorefile::Ignore;
 use json::Scratch;
 use named::NamedRows;
@@ -203,15 +203,10 @@ fn ignore_in(alloc: Global, context: &Listing) -> Result<IgnoreFile, Fault<Refus
 }
 
 /// The parts of a bundle's text. Most bundles are read token by token; what can't be told so is read as a value.
-fn parts_in_text<H: Hands, C: FromJson>(
-    alloc: Global,
-    hands: &H,
-    text: &str,
-) -> Result<Parts<C>, ReadFault>
-    requires { H.ready hands.now }
+fn parts_in_text<C: FromJson>(alloc: Global, text: &str) -> Result<Parts<C>, ReadFault>
     ensures { Gives result (option_and_then (parts_in C.reading) (read text.now)) }
 {
-    match pull(alloc, hands, text) {
+    match pull(alloc, text) {
         Ok(parts) => Ok(parts),
         Err(Fault::Memory) => Err(Fault::Memory),
         Err(Fault::Because(_)) => parts_in_value(alloc, text),
@@ -234,35 +229,28 @@ fn parts_in_value<C: FromJson>(alloc: Global, text: &str) -> Result<Parts<C>, Re
 }
 
 /// The parts of a bundle of at most so many bytes.
-fn parts_within<H: Hands, C: FromJson>(
+fn parts_within<C: FromJson>(
     alloc: Global,
-    hands: &H,
     most: usize,
     bytes: &[u8],
 ) -> Result<Parts<C>, ReadFault>
-    requires { H.ready hands.now }
     ensures { Gives result (parts_within most C.reading bytes.now) }
 {
     if bytes.len() > most {
         return Err(Fault::Because(NotRead));
     }
     match str::from_utf8(bytes) {
-        Ok(text) => parts_in_text(alloc, hands, text),
+        Ok(text) => parts_in_text(alloc, text),
         Err(_) => Err(Fault::Because(NotRead)),
     }
 }
 
 /// The parts of a bundle.
 #[tactic(auto, unfolding(plain::specs::Limits::most_bundle_bytes))]
-pub(crate) fn parts_of<H: Hands, C: FromJson>(
-    alloc: Global,
-    hands: &H,
-    bytes: &[u8],
-) -> Result<Parts<C>, ReadFault>
-    requires { H.ready hands.now }
+pub(crate) fn parts_of<C: FromJson>(alloc: Global, bytes: &[u8]) -> Result<Parts<C>, ReadFault>
     ensures { Gives result (parts_of C.reading bytes.now) }
 {
-    parts_within(alloc, hands, MOST_BUNDLE_BYTES, bytes)
+    parts_within(alloc, MOST_BUNDLE_BYTES, bytes)
 }
 
 /// The refusal of bytes that are no bundle.
@@ -287,7 +275,7 @@ pub fn read_bundle<C: FromJson>(
 ) -> Result<Bundle<C>, Fault<Refusal>>
     ensures { ReadsBundle C.reading bytes.now result }
 {
-    match parts_of(alloc, &Together { rt }, bytes) {
+    match parts_of(alloc, bytes) {
         Ok(parts) => complete(alloc, rt, parts),
         Err(Fault::Because(_)) => Err(Fault::Because(no_bundle())),
         Err(Fault::Memory) => Err(Fault::Memory),
@@ -301,7 +289,7 @@ pub fn read_ignore_file<C: FromJson>(
 ) -> Result<IgnoreFile, Fault<Refusal>>
     ensures { ReadsIgnoreFile C.reading bytes.now result }
 {
-    let parts: Result<Parts<C>, ReadFault> = parts_of(alloc, &Alone, bytes);
+    let parts: Result<Parts<C>, ReadFault> = parts_of(alloc, bytes);
     match parts {
         Ok(parts) => {
             let found = ignore_in(alloc, &parts.files.context);
@@ -318,7 +306,7 @@ pub fn read_ignore_file<C: FromJson>(
 pub fn read_ignore_bytes<C: FromJson>(alloc: Global, bytes: &[u8]) -> Result<Bytes, ReadFault>
     ensures { Gives result (ignore_bytes_of C.reading bytes.now) }
 {
-    let parts: Result<Parts<C>, ReadFault> = parts_of(alloc, &Alone, bytes);
+    let parts: Result<Parts<C>, ReadFault> = parts_of(alloc, bytes);
     match parts {
         Ok(parts) => {
             let found = Bytes::from_slice(alloc, ignore_bytes(parts.files.context.rows()));

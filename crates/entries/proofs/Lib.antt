@@ -8,4 +8,3 @@ mod PrintingFacts
 mod HeldFacts
 mod PieceFacts
 mod KeyFacts
-mod MadeFacts

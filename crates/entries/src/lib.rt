@@ -16,7 +16,6 @@ mod fingerprint;
 mod front;
 pub mod laws;
 mod listing;
-mod making;
 mod pieces;
 mod printing;
 mod pulling;
@@ -26,7 +25,6 @@ mod spelled;
 mod writing;
 
 pub use listing::Listing;
-pub use making::{Alone, Hands, Together};
 pub use printing::put_tree;
 pub use reading::read_content;
 pub use writing::tree_to_json;

@@ -3,7 +3,6 @@ ghost use Rattle.entries.specs.Listing.{is_listing};
 ghost use Rattle.trees.specs.Whole.{tree_of};
 
 use crate::apart::is_listing;
-use crate::making::Hands;
 use crate::pulling::pull_rows;
 use crate::reading::read_rows;
 use borrowed::{FromLent, FromTokens};
@@ -54,22 +53,19 @@ impl FromLent for Listing {
     }
 }
 
-impl<H: Hands> FromTokens<H> for Listing {
+impl FromTokens for Listing {
     ghost use Rattle.entries.specs.Listing.{listing_in};
 
     ghost reading = { listing_in };
-
-    ghost ready = { λ hands. H.ready hands };
 
     /// The list that comes next.
     #[tactic(auto, unfolding(crate::specs::Listing::listing_in))]
     fn from_tokens(
         alloc: Global,
-        hands: &H,
         reader: &mut Reader<'_>,
         depth: usize,
     ) -> Result<Listing, ReadFault> {
-        let rows = pull_rows(alloc, hands, reader, depth)?;
+        let rows = pull_rows(alloc, reader, depth)?;
         if is_listing(alloc, rows.as_slice())? {
             Ok(Listing { rows })
         } else {
