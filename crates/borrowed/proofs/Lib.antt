@@ -4,4 +4,4 @@ pub mod LookFacts
 pub mod PutFacts
 mod FewDigits
 mod NumberFacts
-mod RowFacts
+pub mod RowFacts

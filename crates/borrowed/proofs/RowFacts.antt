@@ -6,7 +6,8 @@ use Rattle.std.specs.Ordering.{match_ordering}
 use Rattle.json.specs.declared.value.Value.{Value}
 use Rattle.serde_json.specs.Data.{Data, Members, no_members, member, put}
 use Rattle.strict.specs.Strict.{with_first, members_in}
-use Rattle.borrowed.specs.PrivateRows.{rows_data, owned_rows}
+use Rattle.borrowed.specs.PrivateRows.{rows_data}
+use Rattle.borrowed.specs.Rows.{owned_rows}
 use Rattle.borrowed.specs.Seen.{data_of}
 
 abbrev pub key_cmp : Bor (List ℕ) → Bor (List ℕ) → Ordering

@@ -1,58 +1,28 @@
 // Reading token by token: what is read of a text is made while its tokens come, and no value of the text stands in memory in between. So a
 // list of a million entries costs what the entries cost.
 //
+// Here is what such a reader takes at a time. Who pulls an object opens it, and takes a key and a value until there is no next key.
+//
 // Of a key that stands twice only the last value counts, and when the first comes nobody knows that another will. So a first value that
 // can't be read makes such a reader give up. Here `NotRead` says nothing of the text, and the reader of tokens is of no more use after it:
 // whoever pulls a text reads it as a value where that fails.
 
 ghost use Rattle.std.specs.Prelude.{◌≡◌, ◌∷◌, ◌+◌, ℕ, Some, IfOk, OnOk, option_map};
-ghost use Rattle.std.specs.Option.{option_and_then};
 ghost use Rattle.json.specs.Json.{read_key};
 ghost use Rattle.json.specs.Token.{begin_object, begin_array};
 ghost use Rattle.serde_json.specs.Find.{as_bool, as_str};
-ghost use Rattle.serde_json.specs.Read.{read};
-ghost use Rattle.strict.specs.Strict.{rows_in, short_number_in};
+ghost use Rattle.strict.specs.Strict.{short_number_in};
 ghost use Rattle.borrowed.specs.Seen.{data_of};
 ghost use Rattle.borrowed.specs.Pulled.{IsNext, Pulls};
-ghost use Rattle.borrowed.specs.PrivateRows.{owned_rows};
+ghost use Rattle.borrowed.specs.Rows.{owned_rows};
 
 use crate::numbers::read_few_digits;
-use crate::whole::{MAX_DEPTH, is_in_range};
-use json::{Error, Reader, Scratch, Token, Value};
+use crate::whole::is_in_range;
+use json::{Error, Reader, Token, Value};
 use plain::{Fault, Items, Memory, Text};
 use std::alloc::Global;
 use std::collections::BTreeMap;
 use strict::{NotRead, ReadFault};
-
-/// Values of a kind that is read token by token.
-pub trait FromTokens: Sized + Drop {
-    ghost use Rattle.std.specs.Prelude.{Option, IfOk};
-    ghost use Rattle.serde_json.specs.Data.{Data};
-    ghost use Rattle.borrowed.specs.Pulled.{Pulls};
-
-    ghost reading: { Data → Option Self };
-
-    /// What the value is that comes next, which may nest so deep. `NotRead` where it is nothing of this kind, and where that can't be told
-    /// without what comes later.
-    fn from_tokens(alloc: Global, reader: &mut Reader<'_>, depth: usize) -> Result<Self, ReadFault>
-        ensures { IfOk result (λ x. Pulls depth reading reader.old reader.new x) };
-}
-
-/// What a text is, read token by token. After `NotRead` it may still be something of this kind.
-pub fn pull<T: FromTokens>(alloc: Global, text: &str) -> Result<T, ReadFault>
-    ensures { IfOk result (λ x. option_and_then T.reading (read text.now) ≡ Some x) }
-{
-    let mut scratch = Scratch::new(alloc);
-    let Ok(mut reader) = Reader::new(text, &mut scratch) else {
-        return Err(Fault::Memory);
-    };
-    let found = T::from_tokens(alloc, &mut reader, MAX_DEPTH)?;
-    if reader.next().is_none() {
-        return Ok(found);
-    }
-    drop(found);
-    Err(Fault::Because(NotRead))
-}
 
 /// The value that comes next, as it is lent. `NotRead` where there is none, it nests deeper than so, or it has a number that is out of
 /// range.
@@ -152,27 +122,8 @@ pub fn inner_depth(depth: usize) -> Result<usize, ReadFault>
     }
 }
 
-/// The keys of an object with their values, as [`read_rows`](crate::read_rows) gives them. `NotRead` where no object comes next, or a value
-/// isn't of this kind, even if its key stands again.
-pub fn pull_rows<T: FromTokens>(
-    alloc: Global,
-    reader: &mut Reader<'_>,
-    depth: usize,
-) -> Result<Items<(Text, T)>, ReadFault>
-    ensures { IfOk result (λ rows. Pulls depth (rows_in T.reading) reader.old reader.new rows) }
-{
-    let inner = inner_depth(depth)?;
-    open_object(reader)?;
-    let mut found: BTreeMap<&str, T> = BTreeMap::new(alloc);
-    while let Some(key) = next_key(reader)? {
-        let value = T::from_tokens(alloc, reader, inner)?;
-        drop(found.insert(key, value)?);
-    }
-    Ok(into_rows(alloc, found)?)
-}
-
-/// Keys with their values, in order.
-fn into_rows<T: Drop>(
+/// The rows of an object that was read key by key: its keys with their values, in order.
+pub fn owned_rows<T: Drop>(
     alloc: Global,
     mut found: BTreeMap<&str, T>,
 ) -> Result<Items<(Text, T)>, Memory>

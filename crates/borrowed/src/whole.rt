@@ -12,7 +12,7 @@ use std::alloc::Global;
 use strict::{NotRead, ReadFault};
 
 /// How deep arrays and objects may nest, as in `serde_json`.
-pub(crate) const MAX_DEPTH: usize = 127;
+pub const MAX_DEPTH: usize = 127;
 
 /// The value that a text is. `NotRead` where it is none: no JSON, nested too deep, or with a number that is out of range. The value's
 /// strings are parts of the text, or of `scratch` where they were written with escapes.

@@ -1,6 +1,6 @@
 use Rattle.std.proofs.Common.{◌≡◌, ◌++◌, length}
-use Rattle.borrowed.specs.PrivateRows.{owned_rows}
-use Rattle.borrowed.proofs.pulling.into_rows.Given as goal
+use Rattle.borrowed.specs.Rows.{owned_rows}
+use Rattle.borrowed.proofs.pulling.owned_rows.Given as goal
 
 -- the rows that were made, and those that are left, are all
 abbrev pub invariant-loop-key : goal.invariant-loop-key
