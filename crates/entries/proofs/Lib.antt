@@ -8,3 +8,4 @@ mod PrintingFacts
 mod HeldFacts
 mod PieceFacts
 mod KeyFacts
+mod MadeFacts

@@ -1,6 +1,6 @@
 -- The tree of a list of rows, and the placing of one row more.
-use Rattle.std.specs.Prelude.{◌≡◌, ℕ, zero, suc, Bool, true, false, not, ◌||◌, Option, Some, None, List, [], ◌∷◌, ◌++◌, length, is_some, nat_lt, cond}
-use Rattle.std.proofs.Common.{sym, ap, ◌∙◌, ◌⊎◌, subst, true≢false, inl, inr, refl, append_assoc, append-nil}
+use Rattle.std.specs.Prelude.{◌≡◌, ℕ, zero, suc, Bool, true, false, not, ◌||◌, Option, Some, None, List, [], ◌∷◌, length, is_some, nat_lt, cond}
+use Rattle.std.proofs.Common.{sym, ap, ◌∙◌, ◌⊎◌, subst, true≢false, inl, inr, refl}
 use Rattle.std.specs.Option.{option_or}
 use Rattle.std.specs.List.{list_any}
 use Rattle.std.specs.FinMap.{get}
@@ -15,8 +15,8 @@ use Rattle.paths.proofs.FrontLaws.{path_same, path_itself, both_first, both_seco
 use Rattle.trees.specs.declared.entry.Entry.{Entry}
 use Rattle.trees.specs.declared.entry.Entry.TheVariants.{Directory, File}
 use Rattle.trees.specs.declared.cause.Cause.TheVariants.{F5, F2}
-use Rattle.trees.specs.TreeMap.{TreeMap, directory_meta, is_file, is_blocked, empty_tree}
-use Rattle.trees.specs.Put.{planted, cause_at, clash_of, placed}
+use Rattle.trees.specs.TreeMap.{directory_meta, is_file, is_blocked}
+use Rattle.trees.specs.Put.{planted, cause_at, clash_of}
 use Rattle.trees.proofs.TreeLaws.{get-empty_tree, get-placed}
 use Rattle.trees.proofs.WayLaws.{open-from_fronts}
 use Rattle.trees.specs.Row.{Row, Has}

@@ -1,11 +1,13 @@
 -- What stands at the keys that an entry may have.
-use Rattle.std.specs.Prelude.{◌≡◌, ℕ, Bool, true, Option, Some, List, [], ◌∷◌, bytes_eq, codes, option_map}
+use Rattle.std.specs.Prelude.{◌≡◌, ℕ, Bool, true, Option, Some, List, [], ◌∷◌, ◌++◌, bytes_eq, codes, option_map}
 use Rattle.std.specs.Borrow.{Bor}
-use Rattle.std.specs.List.{list_any}
-use Rattle.serde_json.specs.Data.{Data, Members}
+use Rattle.std.specs.List.{AllZip, list_any}
+use Rattle.serde_json.specs.Data.{Data, Members, object}
 use Rattle.serde_json.specs.Find.{as_bool, as_str, get_member}
 use Rattle.strict.specs.Strict.{at_most_one, has_only, short_number_in}
 use Rattle.borrowed.specs.Lent.{lent_data}
+use Rattle.trees.specs.Row.{Row}
+use Rattle.entries.specs.Reading.{row_in}
 use Rattle.entries.specs.declared.spelled.Spelled.{Spelled}
 use Rattle.entries.specs.declared.reading.Keys.{Keys}
 
@@ -37,3 +39,15 @@ pub record Spells (spelled : Spelled) (found : Members) : Type 0 where
   pub path : at_most_one as_str (get_member (codes "path") found) ≡ Some (lent_text spelled.path)
   pub text : at_most_one as_str (get_member (codes "text") found) ≡ Some (lent_text spelled.text)
   pub uid : at_most_one short_number_in (get_member (codes "uid") found) ≡ Some spelled.uid
+
+-- whatever members are spelled so, the object with these is the row
+abbrev pub IsRowOf : Spelled → Row → Type 0
+IsRowOf spelled row = (found : Members) → Spells spelled found → row_in (object found) ≡ Some row
+
+-- the rows of entries, in their order
+abbrev pub AreRowsOf : List Spelled → List Row → Type 0
+AreRowsOf spelled rows = AllZip IsRowOf spelled rows
+
+-- of the entries that wait the first got their rows, behind those that are there, and the others wait on
+abbrev pub MakesSome : List Spelled → List Row → List Spelled → List Row → Type 0
+MakesSome waiting rows later more = (first : List Spelled) × (made : List Row) × (waiting ≡ first ++ later) × (more ≡ rows ++ made) × AreRowsOf first made

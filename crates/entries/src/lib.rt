@@ -16,6 +16,7 @@ mod fingerprint;
 mod front;
 pub mod laws;
 mod listing;
+mod making;
 mod pieces;
 mod printing;
 mod pulling;

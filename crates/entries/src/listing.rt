@@ -1,16 +1,18 @@
 ghost use Rattle.std.specs.Prelude.{◌≡◌, [], true, IfOk};
-ghost use Rattle.entries.specs.Listing.{is_listing};
+ghost use Rattle.borrowed.specs.Pulled.{Pulls};
+ghost use Rattle.entries.specs.Listing.{is_listing, listing_in};
 ghost use Rattle.trees.specs.Whole.{tree_of};
 
 use crate::apart::is_listing;
 use crate::pulling::pull_rows;
 use crate::reading::read_rows;
-use borrowed::{FromLent, FromTokens};
+use borrowed::FromLent;
 use json::{Reader, Value};
 use paths::Path;
 use plain::{Fault, Items, Memory};
 use std::alloc::Global;
 use std::marker::Model;
+use std::thread::Threads;
 use strict::{NotRead, ReadFault};
 use trees::{Entry, Tree};
 
@@ -53,28 +55,26 @@ impl FromLent for Listing {
     }
 }
 
-impl FromTokens for Listing {
-    ghost use Rattle.entries.specs.Listing.{listing_in};
-
-    ghost reading = { listing_in };
-
-    /// The list that comes next.
+impl Listing {
+    /// The list that comes next in a text that is read token by token, nested no deeper than so. Its rows are made by several threads, where
+    /// they are many. `NotRead` where no list comes next, and where that can't be told without what comes later.
     #[tactic(auto, unfolding(crate::specs::Listing::listing_in))]
-    fn from_tokens(
+    pub fn pull(
         alloc: Global,
+        rt: &(impl Threads + Sync),
         reader: &mut Reader<'_>,
         depth: usize,
-    ) -> Result<Listing, ReadFault> {
-        let rows = pull_rows(alloc, reader, depth)?;
+    ) -> Result<Listing, ReadFault>
+        ensures { IfOk result (λ listing. Pulls depth listing_in reader.old reader.new listing) }
+    {
+        let rows = pull_rows(alloc, rt, reader, depth)?;
         if is_listing(alloc, rows.as_slice())? {
             Ok(Listing { rows })
         } else {
             Err(Fault::Because(NotRead))
         }
     }
-}
 
-impl Listing {
     /// The empty list, that of the empty tree. It takes no memory.
     #[tactic(auto, unfolding(crate::specs::Listing::is_listing))]
     pub fn empty(alloc: Global) -> Listing

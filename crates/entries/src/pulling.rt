@@ -1,17 +1,22 @@
 // Entries that are read token by token: of a list of a million entries no value of JSON stands in memory.
+//
+// One thread reads the tokens, and keeps of each entry what its text says, lent. Of a batch of such entries the rows are made at once, by
+// several threads.
 
 ghost use Rattle.std.specs.Prelude.{◌≡◌, ℕ, IfOk, OnOk};
 ghost use Rattle.serde_json.specs.Data.{Data, Members, object, put};
 ghost use Rattle.borrowed.specs.Pulled.{IsNext, Pulls};
 ghost use Rattle.entries.specs.Reading.{row_in, rows_of};
-ghost use Rattle.entries.specs.PrivateKeys.{Spells};
+ghost use Rattle.entries.specs.PrivateKeys.{MakesSome, Spells};
 
+use crate::making::add_rows;
 use crate::spelled::Spelled;
 use borrowed::{inner_depth, next_flag, next_key, next_number, next_text, open_list, open_object};
 use json::Reader;
 use paths::Path;
 use plain::{Fault, Items};
 use std::alloc::Global;
+use std::thread::Threads;
 use strict::{NotRead, ReadFault};
 use trees::Entry;
 
@@ -49,32 +54,44 @@ fn pull_spelled<'a>(reader: &mut Reader<'a>, depth: usize) -> Result<Spelled<'a>
     Ok(spelled)
 }
 
-/// The entry that comes next, with its path.
-fn pull_row(
+/// How many entries are read before their rows are made. A batch is a megabyte, and threads are started once for each.
+const BATCH: usize = 8192;
+
+/// Makes the rows of the entries that wait, once they are so many that several threads are worth it.
+fn make_batch(
     alloc: Global,
-    reader: &mut Reader<'_>,
-    depth: usize,
-) -> Result<(Path, Entry), ReadFault>
-    ensures { IfOk result (λ row. Pulls depth row_in reader.old reader.new row) }
+    rt: &(impl Threads + Sync),
+    waiting: &mut Vec<Spelled<'_>>,
+    rows: &mut Vec<(Path, Entry)>,
+) -> Result<(), ReadFault>
+    ensures { OnOk result (MakesSome waiting.old.items rows.old.items waiting.new.items rows.new.items) }
 {
-    let spelled = pull_spelled(reader, depth)?;
-    spelled.row(alloc)
+    if waiting.len() < BATCH {
+        return Ok(());
+    }
+    add_rows(alloc, rt, waiting.as_slice(), rows)?;
+    waiting.clear();
+    Ok(())
 }
 
 /// The list of entries that comes next.
-pub(crate) fn pull_rows(
+pub(crate) fn pull_rows<'a>(
     alloc: Global,
-    reader: &mut Reader<'_>,
+    rt: &(impl Threads + Sync),
+    reader: &mut Reader<'a>,
     depth: usize,
 ) -> Result<Items<(Path, Entry)>, ReadFault>
     ensures { IfOk result (λ rows. Pulls depth rows_of reader.old reader.new rows) }
 {
     let inner = inner_depth(depth)?;
     open_list(reader)?;
-    let mut rows = Items::new(alloc);
-    while !reader.take_end_array() {
-        let row = pull_row(alloc, reader, inner)?;
-        rows.push(row)?;
+    let mut rows: Vec<(Path, Entry)> = Vec::new(alloc);
+    let mut waiting: Vec<Spelled<'a>> = Vec::new(alloc);
+    'reading: while !reader.take_end_array() {
+        make_batch(alloc, rt, &mut waiting, &mut rows)?;
+        let spelled = pull_spelled(reader, inner)?;
+        waiting.push(spelled)?;
     }
-    Ok(rows)
+    add_rows(alloc, rt, waiting.as_slice(), &mut rows)?;
+    Ok(Items::from_vec(rows))
 }

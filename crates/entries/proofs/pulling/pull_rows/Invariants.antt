@@ -1,11 +1,10 @@
 use Rattle.std.proofs.Common.{length}
-use Rattle.borrowed.proofs.PulledFacts.{ListGoesOn}
-use Rattle.entries.specs.Reading.{row_in}
+use Rattle.entries.proofs.MadeFacts.{Waits}
 use Rattle.entries.proofs.pulling.pull_rows.Given as goal
 
--- the rows are what is read of the items so far
-abbrev pub invariant-loop-alloc : goal.invariant-loop-alloc
-invariant-loop-alloc l = ListGoesOn l.inner row_in l.initial.reader l.reader l.rows
+-- the rows, and those that the entries that wait will get, are what is read of the items so far
+abbrev pub invariant-reading : goal.invariant-reading
+invariant-reading g l = Waits l.inner l.initial.reader l.reader l.rows.items l.waiting.items
 
-abbrev pub decreases-loop-alloc : goal.decreases-loop-alloc
-decreases-loop-alloc l = length l.reader
+abbrev pub decreases-reading : goal.decreases-reading
+decreases-reading g l = length l.reader

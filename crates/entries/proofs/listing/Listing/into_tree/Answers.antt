@@ -1,5 +1,5 @@
-use Rattle.std.proofs.Common.{subst, sym, ◌∙◌, ap}
-use Rattle.trees.specs.Whole.{tree_of, ArePlaceable}
+use Rattle.std.proofs.Common.{subst, sym}
+use Rattle.trees.specs.Whole.{ArePlaceable}
 use Rattle.entries.proofs.RowFacts.{placeable}
 use Rattle.entries.proofs.listing.Listing.into_tree.Goals as goal
 

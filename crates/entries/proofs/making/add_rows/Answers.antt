@@ -1,0 +1,18 @@
+use Rattle.std.proofs.Common.{List, lit<, flat_map, subst}
+use Rattle.rayon.specs.Lists.{chunks_of}
+use Rattle.rayon.proofs.ToStd.{chunks_of-concat}
+use Rattle.entries.specs.PrivateKeys.{AreRowsOf}
+use Rattle.entries.specs.declared.spelled.Spelled.{Spelled}
+use Rattle.entries.proofs.MadeFacts.{ok_then, runs_made}
+use Rattle.entries.proofs.making.add_rows.Goals as goal
+
+pub returns : goal.returns
+returns g c =
+    let spelled = c.args.spelled.now in
+    ok_then c.add_runs.result _ _
+    (λ all. (
+      flat_map (λ rows. rows.items) all.0,
+      all.2,
+      subst (λ (l : List Spelled). AreRowsOf l (flat_map (λ rows. rows.items) all.0)) (chunks_of-concat 512 spelled (lit< tt)) (runs_made (chunks_of 512 spelled) c.in_ok-runs.runs.items all.0 c.in_ok-runs.ensures all.1),
+    ))
+    c.add_runs.ensures
