@@ -71,7 +71,7 @@ pub fn read_with_left_out<C: FromJson>(
 ) -> Result<(Bundle<C>, Items<Path>), Fault<Refusal>>
     ensures { LeavesOut C.reading bytes.now result }
 {
-    let parts: Result<Parts<C>, ReadFault> = parts_of(alloc, bytes);
+    let parts: Result<Parts<C>, ReadFault> = parts_of(alloc, rt, bytes);
     match parts {
         Ok(parts) => complete_filtered(alloc, rt, parts),
         Err(Fault::Because(_)) => Err(Fault::Because(no_bundle())),

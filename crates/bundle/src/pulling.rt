@@ -1,6 +1,8 @@
 // A bundle that is read token by token. Its lists of files, which are most of it, never stand in memory as JSON.
 
 ghost use Rattle.std.specs.Prelude.{◌≡◌, Option, Some, [], IfOk, OnOk};
+ghost use Rattle.std.specs.Option.{option_and_then};
+ghost use Rattle.serde_json.specs.Read.{read};
 ghost use Rattle.serde_json.specs.Data.{Data, Members, no_members, object, put};
 ghost use Rattle.strict.specs.Strict.{at_most_one, rows_in};
 ghost use Rattle.borrowed.specs.Lent.{lent_data};
@@ -14,12 +16,14 @@ use crate::parts::{
     dockerfile_of, images_with, no_images,
 };
 use borrowed::{
-    FromTokens, inner_depth, next_key, open_object, optional_of, pull_rows, pull_value,
+    MAX_DEPTH, inner_depth, next_key, open_object, optional_of, owned_rows, pull_value,
 };
 use entries::Listing;
-use json::{Reader, Value};
+use json::{Reader, Scratch, Value};
 use plain::{Fault, Items, Memory, Text};
 use std::alloc::Global;
+use std::collections::BTreeMap;
+use std::thread::Threads;
 use strict::{FromJson, NotRead, ReadFault};
 use trees::Tree;
 
@@ -57,6 +61,7 @@ impl<'a> FoundImage<'a> {
     fn pull(
         &mut self,
         alloc: Global,
+        rt: &(impl Threads + Sync),
         reader: &mut Reader<'a>,
         depth: usize,
         key: &str,
@@ -73,7 +78,7 @@ impl<'a> FoundImage<'a> {
                 drop(self.digest.replace(digest));
             }
             "tree" => {
-                let tree: Listing = Listing::from_tokens(alloc, reader, depth)?;
+                let tree = Listing::pull(alloc, rt, reader, depth)?;
                 drop(self.tree.replace(tree));
             }
             _ => return Err(Fault::Because(NotRead)),
@@ -85,6 +90,7 @@ impl<'a> FoundImage<'a> {
 /// What stands at the keys of the image that comes next.
 fn pull_image<'a>(
     alloc: Global,
+    rt: &(impl Threads + Sync),
     reader: &mut Reader<'a>,
     depth: usize,
 ) -> Result<FoundImage<'a>, ReadFault>
@@ -94,7 +100,7 @@ fn pull_image<'a>(
     open_object(reader)?;
     let mut found = FoundImage::none();
     while let Some(key) = next_key(reader)? {
-        found.pull(alloc, reader, inner, key)?;
+        found.pull(alloc, rt, reader, inner, key)?;
     }
     Ok(found)
 }
@@ -122,21 +128,57 @@ fn image_of<C: FromJson>(
     }
 }
 
-impl<C: FromJson> FromTokens for ListedImage<C> {
-    ghost use Rattle.bundle.specs.Parts.{image_in};
+/// The image that comes next.
+fn pull_listed_image<C: FromJson>(
+    alloc: Global,
+    rt: &(impl Threads + Sync),
+    reader: &mut Reader<'_>,
+    depth: usize,
+) -> Result<ListedImage<C>, ReadFault>
+    ensures { IfOk result (λ image. Pulls depth (image_in C.reading) reader.old reader.new image) }
+{
+    let mut found = pull_image(alloc, rt, reader, depth)?;
+    let image = image_of(alloc, &mut found);
+    drop(found);
+    image
+}
 
-    ghost reading = { image_in C.reading };
-
-    fn from_tokens(
-        alloc: Global,
-        reader: &mut Reader<'_>,
-        depth: usize,
-    ) -> Result<ListedImage<C>, ReadFault> {
-        let mut found = pull_image(alloc, reader, depth)?;
-        let image = image_of(alloc, &mut found);
-        drop(found);
-        image
+/// The images that come next, each by its name; of a name that stands twice the last image counts.
+fn pull_images<C: FromJson>(
+    alloc: Global,
+    rt: &(impl Threads + Sync),
+    reader: &mut Reader<'_>,
+    depth: usize,
+) -> Result<Items<(Text, ListedImage<C>)>, ReadFault>
+    ensures { IfOk result (λ images. Pulls depth (rows_in (image_in C.reading)) reader.old reader.new images) }
+{
+    let inner = inner_depth(depth)?;
+    open_object(reader)?;
+    let mut images: BTreeMap<&str, ListedImage<C>> = BTreeMap::new(alloc);
+    while let Some(name) = next_key(reader)? {
+        let image = pull_listed_image(alloc, rt, reader, inner)?;
+        drop(images.insert(name, image)?);
     }
+    Ok(owned_rows(alloc, images)?)
+}
+
+/// The contents of caches that come next, each by its cache's id; of an id that stands twice the last content counts.
+fn pull_caches(
+    alloc: Global,
+    rt: &(impl Threads + Sync),
+    reader: &mut Reader<'_>,
+    depth: usize,
+) -> Result<Items<(Text, Listing)>, ReadFault>
+    ensures { IfOk result (λ caches. Pulls depth (rows_in listing_in) reader.old reader.new caches) }
+{
+    let inner = inner_depth(depth)?;
+    open_object(reader)?;
+    let mut caches: BTreeMap<&str, Listing> = BTreeMap::new(alloc);
+    while let Some(id) = next_key(reader)? {
+        let content = Listing::pull(alloc, rt, reader, inner)?;
+        drop(caches.insert(id, content)?);
+    }
+    Ok(owned_rows(alloc, caches)?)
 }
 
 /// What was found at each key that a bundle may have; of a key that stands twice the last value counts.
@@ -182,6 +224,7 @@ impl<'a, C: FromJson> Found<'a, C> {
     fn pull(
         &mut self,
         alloc: Global,
+        rt: &(impl Threads + Sync),
         reader: &mut Reader<'a>,
         depth: usize,
         key: &str,
@@ -194,11 +237,11 @@ impl<'a, C: FromJson> Found<'a, C> {
                 drop(self.args.replace(args));
             }
             "caches" => {
-                let caches: Items<(Text, Listing)> = pull_rows(alloc, reader, depth)?;
+                let caches = pull_caches(alloc, rt, reader, depth)?;
                 drop(self.caches.replace(caches));
             }
             "context" => {
-                let context: Listing = Listing::from_tokens(alloc, reader, depth)?;
+                let context = Listing::pull(alloc, rt, reader, depth)?;
                 drop(self.context.replace(context));
             }
             "dockerfile" => {
@@ -206,7 +249,7 @@ impl<'a, C: FromJson> Found<'a, C> {
                 drop(self.dockerfile.replace(dockerfile));
             }
             "images" => {
-                let images: Items<(Text, ListedImage<C>)> = pull_rows(alloc, reader, depth)?;
+                let images = pull_images(alloc, rt, reader, depth)?;
                 drop(self.images.replace(images));
             }
             "target" => {
@@ -222,6 +265,7 @@ impl<'a, C: FromJson> Found<'a, C> {
 /// What stands at the keys of the bundle that comes next.
 fn pull_bundle<'a, C: FromJson>(
     alloc: Global,
+    rt: &(impl Threads + Sync),
     reader: &mut Reader<'a>,
     depth: usize,
 ) -> Result<Found<'a, C>, ReadFault>
@@ -231,7 +275,7 @@ fn pull_bundle<'a, C: FromJson>(
     open_object(reader)?;
     let mut found = Found::none();
     while let Some(key) = next_key(reader)? {
-        found.pull(alloc, reader, inner, key)?;
+        found.pull(alloc, rt, reader, inner, key)?;
     }
     Ok(found)
 }
@@ -333,19 +377,37 @@ fn parts_of_found<C: FromJson>(
     }
 }
 
-impl<C: FromJson> FromTokens for Parts<C> {
-    ghost use Rattle.bundle.specs.Parts.{parts_in};
+/// The parts of the bundle that comes next.
+fn pull_parts<C: FromJson>(
+    alloc: Global,
+    rt: &(impl Threads + Sync),
+    reader: &mut Reader<'_>,
+    depth: usize,
+) -> Result<Parts<C>, ReadFault>
+    ensures { IfOk result (λ parts. Pulls depth (parts_in C.reading) reader.old reader.new parts) }
+{
+    let mut found: Found<'_, C> = pull_bundle(alloc, rt, reader, depth)?;
+    let parts = parts_of_found(alloc, &mut found);
+    drop(found);
+    parts
+}
 
-    ghost reading = { parts_in C.reading };
-
-    fn from_tokens(
-        alloc: Global,
-        reader: &mut Reader<'_>,
-        depth: usize,
-    ) -> Result<Parts<C>, ReadFault> {
-        let mut found: Found<'_, C> = pull_bundle(alloc, reader, depth)?;
-        let parts = parts_of_found(alloc, &mut found);
-        drop(found);
-        parts
+/// The parts of a bundle's text, read token by token. After `NotRead` it may still be a bundle's.
+pub(crate) fn pull_text<C: FromJson>(
+    alloc: Global,
+    rt: &(impl Threads + Sync),
+    text: &str,
+) -> Result<Parts<C>, ReadFault>
+    ensures { IfOk result (λ parts. option_and_then (parts_in C.reading) (read text.now) ≡ Some parts) }
+{
+    let mut scratch = Scratch::new(alloc);
+    let Ok(mut reader) = Reader::new(text, &mut scratch) else {
+        return Err(Fault::Memory);
+    };
+    let parts = pull_parts(alloc, rt, &mut reader, MAX_DEPTH)?;
+    if reader.next().is_none() {
+        return Ok(parts);
     }
+    drop(parts);
+    Err(Fault::Because(NotRead))
 }

@@ -10,7 +10,7 @@ ghost use Rattle.bundle.specs.IgnoreFile.{ReadsIgnoreFile, ignore_bytes_of};
 ghost use Rattle.bundle.specs.PrivateIgnore.{FindsIgnore};
 
 use crate::parts::{Files, Named, Parts, read_parts};
-use borrowed::pull;
+use crate::pulling::pull_text;
 use cachemounts::CacheStore;
 use contexts::Context;
 use entries::Listing;
@@ -203,10 +203,14 @@ fn ignore_in(alloc: Global, context: &Listing) -> Result<IgnoreFile, Fault<Refus
 }
 
 /// The parts of a bundle's text. Most bundles are read token by token; what can't be told so is read as a value.
-fn parts_in_text<C: FromJson>(alloc: Global, text: &str) -> Result<Parts<C>, ReadFault>
+fn parts_in_text<C: FromJson>(
+    alloc: Global,
+    rt: &(impl Threads + Sync),
+    text: &str,
+) -> Result<Parts<C>, ReadFault>
     ensures { Gives result (option_and_then (parts_in C.reading) (read text.now)) }
 {
-    match pull(alloc, text) {
+    match pull_text(alloc, rt, text) {
         Ok(parts) => Ok(parts),
         Err(Fault::Memory) => Err(Fault::Memory),
         Err(Fault::Because(_)) => parts_in_value(alloc, text),
@@ -231,6 +235,7 @@ fn parts_in_value<C: FromJson>(alloc: Global, text: &str) -> Result<Parts<C>, Re
 /// The parts of a bundle of at most so many bytes.
 fn parts_within<C: FromJson>(
     alloc: Global,
+    rt: &(impl Threads + Sync),
     most: usize,
     bytes: &[u8],
 ) -> Result<Parts<C>, ReadFault>
@@ -240,17 +245,21 @@ fn parts_within<C: FromJson>(
         return Err(Fault::Because(NotRead));
     }
     match str::from_utf8(bytes) {
-        Ok(text) => parts_in_text(alloc, text),
+        Ok(text) => parts_in_text(alloc, rt, text),
         Err(_) => Err(Fault::Because(NotRead)),
     }
 }
 
 /// The parts of a bundle.
 #[tactic(auto, unfolding(plain::specs::Limits::most_bundle_bytes))]
-pub(crate) fn parts_of<C: FromJson>(alloc: Global, bytes: &[u8]) -> Result<Parts<C>, ReadFault>
+pub(crate) fn parts_of<C: FromJson>(
+    alloc: Global,
+    rt: &(impl Threads + Sync),
+    bytes: &[u8],
+) -> Result<Parts<C>, ReadFault>
     ensures { Gives result (parts_of C.reading bytes.now) }
 {
-    parts_within(alloc, MOST_BUNDLE_BYTES, bytes)
+    parts_within(alloc, rt, MOST_BUNDLE_BYTES, bytes)
 }
 
 /// The refusal of bytes that are no bundle.
@@ -275,7 +284,7 @@ pub fn read_bundle<C: FromJson>(
 ) -> Result<Bundle<C>, Fault<Refusal>>
     ensures { ReadsBundle C.reading bytes.now result }
 {
-    match parts_of(alloc, bytes) {
+    match parts_of(alloc, rt, bytes) {
         Ok(parts) => complete(alloc, rt, parts),
         Err(Fault::Because(_)) => Err(Fault::Because(no_bundle())),
         Err(Fault::Memory) => Err(Fault::Memory),
@@ -285,11 +294,12 @@ pub fn read_bundle<C: FromJson>(
 /// Reads the ignore file of a bundle. The bundle is read whole, and its context isn't filtered. The refusals are those of `read_bundle`.
 pub fn read_ignore_file<C: FromJson>(
     alloc: Global,
+    rt: &(impl Threads + Sync),
     bytes: &[u8],
 ) -> Result<IgnoreFile, Fault<Refusal>>
     ensures { ReadsIgnoreFile C.reading bytes.now result }
 {
-    let parts: Result<Parts<C>, ReadFault> = parts_of(alloc, bytes);
+    let parts: Result<Parts<C>, ReadFault> = parts_of(alloc, rt, bytes);
     match parts {
         Ok(parts) => {
             let found = ignore_in(alloc, &parts.files.context);
@@ -303,10 +313,14 @@ pub fn read_ignore_file<C: FromJson>(
 
 /// Reads the bytes of the ignore file of a bundle, none where it has none. Unlike for `read_ignore_file`, its lines may be bad: they are not
 /// looked at, so the line that a refusal with R19 is about can be shown. `NotRead` where the bytes are no bundle.
-pub fn read_ignore_bytes<C: FromJson>(alloc: Global, bytes: &[u8]) -> Result<Bytes, ReadFault>
+pub fn read_ignore_bytes<C: FromJson>(
+    alloc: Global,
+    rt: &(impl Threads + Sync),
+    bytes: &[u8],
+) -> Result<Bytes, ReadFault>
     ensures { Gives result (ignore_bytes_of C.reading bytes.now) }
 {
-    let parts: Result<Parts<C>, ReadFault> = parts_of(alloc, bytes);
+    let parts: Result<Parts<C>, ReadFault> = parts_of(alloc, rt, bytes);
     match parts {
         Ok(parts) => {
             let found = Bytes::from_slice(alloc, ignore_bytes(parts.files.context.rows()));
