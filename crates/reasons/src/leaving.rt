@@ -11,6 +11,7 @@ use ignorefile::line_numbers;
 use paths::Path;
 use plain::{Bytes, Fault, Memory, Refusal};
 use std::alloc::Global;
+use std::thread::Threads;
 use strict::FromJson;
 
 /// A line of an ignore file that leaves a path out.
@@ -117,12 +118,13 @@ fn leaving_word(alloc: Global, file: &IgnoreFile, word: &str) -> Result<Option<L
 /// The refusals are those of `reasons`.
 pub fn leaving_line<C: FromJson>(
     alloc: Global,
+    rt: &(impl Threads + Sync),
     bundle: &[u8],
     word: &str,
 ) -> Result<Option<LeavingLine>, Fault<Refusal>>
     ensures { LeavesWord C.reading bundle.now word.now result }
 {
-    match read_ignore_file::<C>(alloc, bundle) {
+    match read_ignore_file::<C>(alloc, rt, bundle) {
         Ok(file) => Ok(leaving_word(alloc, &file, word)?),
         Err(fault) => Err(fault),
     }

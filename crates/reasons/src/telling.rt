@@ -10,6 +10,7 @@ use ignorefile::line_numbers;
 use paths::Path;
 use plain::{Bytes, Fault, Memory, Refusal, Text};
 use std::alloc::Global;
+use std::thread::Threads;
 use strict::FromJson;
 
 /// What is told first of a path that a line decides, which is an exception or not.
@@ -176,12 +177,13 @@ fn reasons_by(alloc: Global, file: &IgnoreFile, words: &[Text]) -> Result<Bytes,
 /// The refusals are those of `bundle::read_bundle`: R20 where the bytes are no bundle, else R19 with the first bad line of its ignore file.
 pub fn reasons<C: FromJson>(
     alloc: Global,
+    rt: &(impl Threads + Sync),
     bundle: &[u8],
     words: &[Text],
 ) -> Result<Bytes, Fault<Refusal>>
     ensures { TellsReasons C.reading bundle.now words.now result }
 {
-    match read_ignore_file::<C>(alloc, bundle) {
+    match read_ignore_file::<C>(alloc, rt, bundle) {
         Ok(file) => Ok(reasons_by(alloc, &file, words)?),
         Err(fault) => Err(fault),
     }
