@@ -409,6 +409,22 @@ pub ready-available : (problem : Problem) (state : State) (vertex : ℕ) → is_
 ready-available problem state vertex ready =
     (and_parts (is_available problem.vertices state.settled state.claims vertex) (can_take state.holds (uses_at problem vertex) && not (stops problem (value_at state.settled) vertex)) (sym (ready-is problem state vertex) ∙ ready)).0
 
+-- a ready vertex is in the set
+pub ready-kept : (problem : Problem) (state : State) (frontier : Frontier) → IsFrontier problem.vertices problem.places state.settled state.claims frontier → length state.settled ≡ length problem.vertices → (vertex : ℕ) → is_ready problem state vertex ≡ true → has frontier.available vertex ≡ true
+ready-kept problem state frontier is long vertex ready = by_target (is_some (value_at state.settled problem.target)) refl
+  where
+    goes : not (stops problem (value_at state.settled) vertex) ≡ true
+    goes =
+        let parts = and_parts (is_available problem.vertices state.settled state.claims vertex) (can_take state.holds (uses_at problem vertex) && not (stops problem (value_at state.settled) vertex)) (sym (ready-is problem state vertex) ∙ ready) in
+        (and_parts (can_take state.holds (uses_at problem vertex)) (not (stops problem (value_at state.settled) vertex)) parts.1).1
+
+    by_target : (b : Bool) → is_some (value_at state.settled problem.target) ≡ b → has frontier.available vertex ≡ true
+    by_target true over =
+        let stopped : stops problem (value_at state.settled) vertex ≡ true = rw over refl in
+        absurd (both_ways (stops problem (value_at state.settled) vertex) (not-true _ goes) stopped)
+    by_target false over =
+        is.kept vertex (ready-available problem state vertex ready) (sym (stops-before problem state.settled frontier.failed vertex long over is.failed) ∙ goes)
+
 -- where nothing is settled and no claim is out
 pub frontier-begun : (vertices : List Vertex) (places : List (List ℕ)) (frontier : Frontier) → AreUsers vertices frontier.users.items → frontier.waiting.items ≡ map (λ vertex. length vertex.inputs) vertices → frontier.available ≡ map (λ count. count == 0) frontier.waiting.items → frontier.failed ≡ None → IsFrontier vertices places (replicate (length vertices) None) [] frontier
 frontier-begun vertices places frontier users counts empty failed = record {

@@ -1,5 +1,5 @@
 -- What the machine tests is what the rules say of histories.
-use Rattle.std.proofs.Common.{◌≡◌, ◌≢◌, ℕ, ◌<◌, Bool, true, false, not, ◌&&◌, cond, ◌⊎◌, inl, inr, List, length, Option, Some, None, is_some, Ok, Err, refl, sym, ap, ◌∙◌}
+use Rattle.std.proofs.Common.{◌≡◌, ◌≢◌, ℕ, ◌<◌, Bool, true, false, not, ◌&&◌, ◌||◌, cond, ◌⊎◌, inl, inr, List, length, Option, Some, None, is_some, Ok, Err, refl, sym, ap, ◌∙◌}
 use Rattle.std.specs.Prelude.{slice_get}
 use Rattle.std.specs.List.{list_any, slice_index_or, All}
 use Rattle.std.specs.Option.{option_map_or}
@@ -19,10 +19,11 @@ use Rattle.board.specs.Readiness.{has_tree, has_cause, stops}
 use Rattle.board.proofs.CacheLemmas.{AreHeld, stops-same}
 use Rattle.plans.specs.Plan.{uses_at}
 use Rattle.board.specs.Play.{State, value_at, claim_of, is_claimed, have_trees, is_ready, least, claimable}
-use Rattle.board.specs.Legal.{vertex_out, settles, IsSettled, HasTree, HasCause, IsReady, IsNext, IsSettledOnce, held_caches, settled_by}
+use Rattle.board.specs.Legal.{vertex_out, settles, IsSettled, HasTree, HasCause, IsAvailable, IsReady, IsNext, IsSettledOnce, held_caches, settled_by}
 use Rattle.board.proofs.ListLemmas.{is_claimed-false, is_claimed-none, least-some, least-none}
 use Rattle.board.specs.Play.{vertex_of}
 use Rattle.board.specs.PrivateClaim.{AreApart}
+use Rattle.board.specs.PrivateFrontier.{is_begun, is_available}
 use Rattle.board.specs.declared.event.Happened.{Happened}
 use Rattle.board.specs.declared.claim.ClaimOut.{ClaimOut}
 
@@ -140,6 +141,32 @@ stops-is problem history state agrees vertex = stops-same problem (value_at stat
 
 caches-is : (problem : Problem) (history : List Happened) (state : State) → Agrees problem history state → (vertex : ℕ) → can_take state.holds (uses_at problem vertex) ≡ can_take (held_caches problem history) (uses_at problem vertex)
 caches-is problem history state agrees vertex = ap (λ holds. can_take holds (uses_at problem vertex)) agrees.holds
+
+neither : (a b : Bool) → not (a || b) ≡ true → (a ≡ false) × (b ≡ false)
+neither true b e = cc
+neither false true e = cc
+neither false false e = (refl, refl)
+
+-- a vertex that is available by what a board holds is so by its history
+pub available-is : (problem : Problem) (history : List Happened) (state : State) → Agrees problem history state → (vertex : ℕ) → is_available problem.vertices state.settled state.claims vertex ≡ true → IsAvailable problem history vertex
+available-is problem history state agrees vertex e = by_vertex (slice_get problem.vertices vertex) refl parts.0
+  where
+    parts : (option_map_or (λ (v : Vertex). have_trees state.settled v.inputs) (slice_get problem.vertices vertex) false ≡ true) × (not (is_begun state.settled state.claims vertex) ≡ true)
+    parts = and_parts _ _ e
+
+    free : (is_some (value_at state.settled vertex) ≡ false) × (is_claimed vertex state.claims ≡ false)
+    free = neither (is_some (value_at state.settled vertex)) (is_claimed vertex state.claims) parts.1
+
+    unsettled : list_any (settles vertex) history ≡ false
+    unsettled = sym (settled-is problem history state agrees vertex) ∙ free.0
+
+    by_vertex : (o : Option Vertex) → slice_get problem.vertices vertex ≡ o → option_map_or (λ (v : Vertex). have_trees state.settled v.inputs) o false ≡ true → IsAvailable problem history vertex
+    by_vertex None there all = cc
+    by_vertex (Some v) there all = record {
+      unclaimed = λ worker h. is_claimed-false vertex state.claims free.1 worker (agrees.claims worker ∙ h);
+      unsettled = λ s. both_ways _ unsettled s;
+      inputs = (v, there, have_trees-is problem history state agrees v.inputs all);
+    }
 
 -- a vertex that the machine finds ready is ready
 pub ready-is : (problem : Problem) (history : List Happened) (state : State) → Agrees problem history state → (vertex : ℕ) → is_ready problem state vertex ≡ true → IsReady problem history vertex

@@ -70,6 +70,12 @@ change_of problem (Abandoned worker vertex) = Leaves worker
 abbrev pub held_caches : Problem → List Happened → List Hold
 held_caches problem history = holders (map (change_of problem) history)
 
+-- a vertex is available after a history: it is neither claimed nor settled, and every input of it is settled with a tree (own)
+pub record IsAvailable (problem : Problem) (history : List Happened) (vertex : ℕ) : Type 0 where
+  pub unclaimed : (worker : ℕ) → vertex_out history worker ≢ Some vertex
+  pub unsettled : ¬ IsSettled history vertex
+  pub inputs : (v : Vertex) × (slice_get problem.vertices vertex ≡ Some v) × All (λ input. IsSettled history input × HasTree problem input) v.inputs
+
 -- a vertex is ready after a history: it is neither claimed nor settled, every input of it is settled with a tree, its caches can be taken, and nothing
 -- stops it (own)
 pub record IsReady (problem : Problem) (history : List Happened) (vertex : ℕ) : Type 0 where

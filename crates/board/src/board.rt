@@ -1,4 +1,4 @@
-ghost use Rattle.std.specs.Prelude.{◌≡◌, ◌↔◌, ◌<◌, [], Some, map, IsTrue, IfOk, IfSome, IfNone, IfErr, OnOk, OnErr, slice_get};
+ghost use Rattle.std.specs.Prelude.{◌≡◌, ◌↔◌, ◌<◌, [], Some, ℕ, map, IsTrue, IsFalse, IfOk, IfSome, IfNone, IfErr, OnOk, OnErr, slice_get};
 ghost use Rattle.std.specs.Option.{option_map};
 ghost use Rattle.cachemounts.specs.Holds.{new_holds};
 ghost use Rattle.cachemounts.specs.Content.{tree_held};
@@ -12,7 +12,7 @@ ghost use Rattle.board.specs.Claim.{IsClaim, IsOut, IsResult, IsGivenBack};
 ghost use Rattle.board.specs.PrivateShelf.{AreInputIds};
 ghost use Rattle.board.specs.Clearing.{IsCleared};
 ghost use Rattle.board.specs.Leaving.{IsLent, IsLeftFor, GivesBackWhatIsLeft, AreLeftByRuns};
-ghost use Rattle.board.specs.Legal.{IsNextClaim};
+ghost use Rattle.board.specs.Legal.{IsAvailable, IsReady, IsNextClaim};
 
 use crate::frontier::Frontier;
 use crate::shelf::Shelf;
@@ -258,6 +258,15 @@ impl<'a, E: Executor, P: Place<TreeOrCause>> Board<'a, E, P> {
         ensures { IsTrue result ↔ (self.now.run.state.claims ≡ []) }
     {
         self.claims.is_empty()
+    }
+
+    /// Whether a vertex may be left to claim: no vertex is ready if not. If so, a vertex is available, and a cache that is held or a failure may still keep
+    /// it from being ready. It looks at no cache, so that it takes no longer where many vertices wait for one.
+    pub fn has_more(&self) -> bool
+        ensures more { IsTrue result → (vertex : ℕ) × IsAvailable (board_problem E.out self.now) self.now.run.history vertex }
+        ensures none { IsFalse result → (vertex : ℕ) → ¬ IsReady (board_problem E.out self.now) self.now.run.history vertex }
+    {
+        self.frontier.has_any()
     }
 
     /// The job that it solves.

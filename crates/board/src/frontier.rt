@@ -1,11 +1,11 @@
 // Which vertices are available: what a board keeps so that a claim needn't look for a ready vertex.
-ghost use Rattle.std.specs.Prelude.{◌≡◌, ◌<◌, ◌≤◌, ◌^◌, ◌==◌, ◌&&◌, ℕ, true, false, length, map, replicate, slice_index, slice_set, IfOk, OnOk, None, [], vec_len};
+ghost use Rattle.std.specs.Prelude.{◌≡◌, ◌<◌, ◌≤◌, ◌^◌, ◌==◌, ◌&&◌, ℕ, true, false, length, map, replicate, slice_index, slice_set, IsTrue, IsFalse, IfOk, OnOk, None, [], vec_len};
 ghost use Rattle.std.specs.List.{All};
 ghost use Rattle.llb.specs.Graph.{AreVertices};
 ghost use Rattle.cachemounts.specs.Holds.{can_take};
 ghost use Rattle.plans.specs.Plan.{uses_in};
 ghost use Rattle.board.specs.Play.{least};
-ghost use Rattle.board.specs.PrivateNumbers.{has};
+ghost use Rattle.board.specs.PrivateNumbers.{has, HasNone};
 ghost use Rattle.board.specs.PrivateFrontier.{users_at, line_in, comes_before, with_failed, IsFrontier, IsThinned, AreUsers, IsNoted, IsLowered, IsSettledIn, CanLower};
 
 use crate::number_set::NumberSet;
@@ -69,6 +69,14 @@ impl Frontier {
             from = number + 1;
         }
         None
+    }
+
+    /// Whether a vertex is in the set.
+    pub(crate) fn has_any(&self) -> bool
+        ensures some { IsTrue result → (vertex : ℕ) × (has self.now.available vertex ≡ true) }
+        ensures none { IsFalse result → HasNone self.now.available 0 }
+    {
+        self.available.first_from(0).is_some()
     }
 
     /// Whether a line comes before the least failed line, if there is one.
