@@ -1,4 +1,4 @@
-ghost use Rattle.std.specs.Prelude.{◌≡◌, ◌↔◌, ◌≤◌, ◌<◌, ◌+◌, ◌^◌, ◌++◌, ◌∷◌, ℕ, [], None, Some, Contains, map, slice_get, IsTrue, IfOk, IfErr, IfSome, IfNone, OnOk, OnErr};
+ghost use Rattle.std.specs.Prelude.{◌≡◌, ◌↔◌, ◌≤◌, ◌<◌, ◌+◌, ◌^◌, ◌++◌, ◌∷◌, ℕ, [], None, Some, Contains, map, slice_get, IsTrue, IsFalse, IfOk, IfErr, IfSome, IfNone, OnOk, OnErr};
 ghost use Rattle.std.specs.Option.{option_map};
 ghost use Rattle.cachemounts.specs.Holds.{new_holds};
 ghost use Rattle.cachemounts.specs.Content.{tree_held};
@@ -6,7 +6,7 @@ ghost use Rattle.plans.specs.Plan.{uses_at};
 ghost use Rattle.board.specs.Board.{board_problem, IsStep, AreContents};
 ghost use Rattle.board.specs.Claim.{ClaimValue, IsClaim, IsOut, IsResult, IsGivenBack, claim_out};
 ghost use Rattle.board.specs.Leaving.{LeaveTheSame, lent_to, IsLeftFor, GivesBackWhatIsLeft};
-ghost use Rattle.board.specs.Legal.{IsNextClaim};
+ghost use Rattle.board.specs.Legal.{IsAvailable, IsReady, IsNextClaim};
 ghost use Rattle.board.specs.Play.{IsReplay};
 ghost use Rattle.board.specs.Play.{Claim as Claiming, Settle as Settling, Abandon as Abandoning};
 ghost use Rattle.board.specs.Problem.{IsProblem};
@@ -160,6 +160,15 @@ impl<'a, E: Executor, J: Case + Room> Held<'a, E, J> {
         ensures { IsTrue result ↔ (self.now.run.state.claims ≡ []) }
     {
         self.board.is_idle()
+    }
+
+    /// Whether a vertex may be left to claim: no vertex is ready if not. If so, a vertex is available, and a cache that is held or a failure may still keep
+    /// it from being ready.
+    pub fn has_more(&self) -> bool
+        ensures more { IsTrue result → (vertex : ℕ) × IsAvailable J.problem self.now.run.history vertex }
+        ensures none { IsFalse result → (vertex : ℕ) → ¬ IsReady J.problem self.now.run.history vertex }
+    {
+        self.board.has_more()
     }
 
     /// Tells that a seat says what the board has of its worker. It changes nothing.
