@@ -62,8 +62,22 @@ pub(crate) fn work_all<
 /// The work of one seat: claim, run, settle, until nothing is left to claim or memory is wanting. What a run gave stands in the vertex's cell before the lock is
 /// taken, and what wasn't settled is let go after the lock, so that no tree is copied or let go under it.
 ///
-/// A vertex gets ready by the end of a claim. Whoever settles one looks for the next itself; having found it, it wakes one sleeper, who looks for another
-/// and does the same. Whoever leaves wakes all, since it may leave something behind. So no ready vertex waits for a sleeper, and an end wakes no crowd.
+/// A vertex is ready from the start, or gets so by the end of a claim: its last input gets its tree, a cache that it waits for comes back, or its own claim is
+/// given up. Each worker looks at the board first of all, and whoever ends a claim looks again, or leaves. A look claims a vertex, and wakes one sleeper if
+/// more may be left (`Held::has_more`). Or it finds none ready: then it sleeps while a claim is out, and else leaves. Where memory is wanting, it leaves too.
+/// Whoever leaves wakes all.
+///
+/// Each look is under the lock, and who falls asleep lets go of the lock only as a sleeper, so that no ring gets lost. From this follows, though no clause says
+/// it:
+///
+/// - Nobody sleeps for good while a vertex is ready. If nobody is awake, whoever looked last neither claimed, since it would have a claim to end, nor left
+///   others asleep, since it would have woken them. So it sleeps, and found nothing ready; and no claim has ended since.
+/// - Nobody sleeps for good when all is over. A sleeper's look found a claim out. Its worker looks again, or leaves; the last one to look finds no claim out,
+///   leaves, and wakes all, and none of these finds one.
+/// - No ready vertex waits for a sleeper. If one end makes several ready, as that of a cache's holder does, each look that claims one and leaves others wakes
+///   one sleeper more. Where that one finds nothing, whoever took the vertex has looked since, and has woken another if more was left.
+///
+/// A chain of vertices wakes nobody. A vertex whose cache is held, or which a failure stops, may wake a sleeper for nothing.
 fn work<E: Executor, M: Executor, G: Gate, J: Case + Room + Numbering, R: Wait>(
     rt: &R,
     desk: &Desk<E, J>,
@@ -76,10 +90,12 @@ fn work<E: Executor, M: Executor, G: Gate, J: Case + Room + Numbering, R: Wait>(
     requires stays { MayStay J.knows J.leaves }
 {
     for _ in rt.forever() {
-        let Some(claim) = draw(rt, desk, tools, seat) else {
+        let Some(Drawn { claim, is_more }) = draw(rt, desk, tools, seat) else {
             break;
         };
-        tools.bell.notify_one();
+        if is_more {
+            tools.bell.notify_one();
+        }
         let ran = run_recalled(tools.alloc, tools.job, tools.recall, tools.gate, &claim);
         let kept = keep(tools, desk, &claim, ran);
         let ended = {
@@ -93,6 +109,12 @@ fn work<E: Executor, M: Executor, G: Gate, J: Case + Room + Numbering, R: Wait>(
     tools.bell.notify_all();
 }
 
+/// A claim, and whether there may be more: if not, the claim left no vertex ready.
+struct Drawn<'a, J: Case> {
+    claim: Claim<Known<'a, J>>,
+    is_more: bool,
+}
+
 /// A claim for a seat, as soon as there is one: none where no claim is out and none is to be had, or where memory is wanting. It sleeps while others
 /// have claims out, until it is woken.
 fn draw<'a, E: Executor, M: Executor, G, J: Case + Room + Numbering, R: Wait>(
@@ -100,10 +122,10 @@ fn draw<'a, E: Executor, M: Executor, G, J: Case + Room + Numbering, R: Wait>(
     desk: &Desk<'a, E, J>,
     tools: &Tools<E, M, G, J>,
     seat: &mut Seat<J>,
-) -> Option<Claim<Known<'a, J>>>
-    ensures mine { IfSome result (IsMine seat.new) }
-    ensures of { IfSome result (IsClaim J.problem) }
-    ensures lent { IfSome result (IsLentTo seat.new) }
+) -> Option<Drawn<'a, J>>
+    ensures mine { IfSome result (λ drawn. IsMine seat.new drawn.claim) }
+    ensures of { IfSome result (λ drawn. IsClaim J.problem drawn.claim) }
+    ensures lent { IfSome result (λ drawn. IsLentTo seat.new drawn.claim) }
 {
     let mut held = desk.lock(rt);
     for _ in rt.forever() {
@@ -120,13 +142,16 @@ fn draw_now<'a, E: Executor, J: Case + Room>(
     alloc: Global,
     held: &mut Held<'a, E, J>,
     seat: &mut Seat<J>,
-) -> ControlFlow<Option<Claim<Known<'a, J>>>>
-    ensures mine { IfSome (break_value result) (λ drawn. IfSome drawn (IsMine seat.new)) }
-    ensures of { IfSome (break_value result) (λ drawn. IfSome drawn (IsClaim J.problem)) }
-    ensures lent { IfSome (break_value result) (λ drawn. IfSome drawn (IsLentTo seat.new)) }
+) -> ControlFlow<Option<Drawn<'a, J>>>
+    ensures mine { IfSome (break_value result) (λ found. IfSome found (λ drawn. IsMine seat.new drawn.claim)) }
+    ensures of { IfSome (break_value result) (λ found. IfSome found (λ drawn. IsClaim J.problem drawn.claim)) }
+    ensures lent { IfSome (break_value result) (λ found. IfSome found (λ drawn. IsLentTo seat.new drawn.claim)) }
 {
     match held.claim(alloc, seat) {
-        Ok(Some(claim)) => ControlFlow::Break(Some(claim)),
+        Ok(Some(claim)) => {
+            let is_more = held.has_more();
+            ControlFlow::Break(Some(Drawn { claim, is_more }))
+        }
         Ok(None) => {
             if held.is_idle() {
                 return ControlFlow::Break(None);
