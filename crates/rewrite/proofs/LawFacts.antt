@@ -83,6 +83,15 @@ flat_failure_is out plan flat rows target id line cause means are plans is keeps
     failure_lined out plan flat rows target id line cause means (flat_lined plan flat id are is (failed_within out flat id cause fails)) plans keeps
     needs fails least
 
+-- a plan keeps its own meaning
+pub kept_as_is : {C : Type 0} (plan : PlanValue C) → KeepsMeaning plan plan
+kept_as_is plan = record {
+  config = refl;
+  sources = refl;
+  last = λ out. refl;
+  failures = λ out line cause. (λ f. f, λ f. f);
+}
+
 -- what keeps the meaning twice keeps it
 pub kept_on : {C : Type 0} (first second third : PlanValue C) → KeepsMeaning first second → KeepsMeaning second third → KeepsMeaning first third
 kept_on first second third one two = record {

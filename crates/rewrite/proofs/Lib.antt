@@ -2,6 +2,7 @@ pub mod FlatFacts
 pub mod FlattenedFacts
 pub mod JoinFacts
 pub mod LawFacts
+pub mod LinkFacts
 pub mod MarkFacts
 pub mod OnceFacts
 pub mod OrderFacts

@@ -1,5 +1,6 @@
 -- How vertices come on their flat inputs.
-use Rattle.std.specs.Prelude.{◌≡◌, ℕ, Bool, true, false, List, Some, length, slice_get}
+use Rattle.std.specs.Prelude.{◌≡◌, ℕ, Bool, true, false, List, [], ◌∷◌, not, Option, Some, None, if◌then◌else◌, length, slice_get}
+use Rattle.std.specs.Option.{is_some}
 use Rattle.llb.specs.declared.op.Op.{Op}
 use Rattle.llb.specs.declared.op.Op.TheVariants.{Source as SourceOp, Exec as ExecOp, Copy as CopyOp, MakeDirs as MakeDirsOp, Merge as MergeOp}
 use Rattle.llb.specs.declared.vertex.Vertex.{Vertex}
@@ -14,6 +15,24 @@ is_merge (ExecOp exec) = false
 is_merge (CopyOp files) = false
 is_merge (MakeDirsOp path) = false
 is_merge MergeOp = true
+
+-- what stands at a number, if it is a merge
+abbrev pub merge_at : ℕ → Option Vertex → Option ℕ
+merge_at id None = None
+merge_at id (Some vertex) = if is_merge vertex.op then Some id else None
+
+-- the first of some inputs, if it is a merge
+abbrev pub first_merge : List Vertex → List ℕ → Option ℕ
+first_merge vertices [] = None
+first_merge vertices (first ∷ rest) = merge_at first (slice_get vertices first)
+
+-- the merge that is the first input of a vertex, if that is a merge too
+abbrev pub link_below : List Vertex → Vertex → Option ℕ
+link_below vertices vertex = if is_merge vertex.op then first_merge vertices vertex.inputs else None
+
+-- whether a vertex isn't a merge on a merge
+abbrev pub stands_flat : List Vertex → Vertex → Bool
+stands_flat vertices vertex = not (is_some (link_below vertices vertex))
 
 -- the vertices that are marked are on their flat inputs; what the others are on isn't said
 pub record AreOnFlat (old : List Vertex) (marks : List Bool) (new : List Vertex) : Type 0 where

@@ -18,6 +18,6 @@ mod pruning;
 mod shrinking;
 mod spelling;
 
-pub use links::flatten_links;
+pub use links::{flatten_links, is_flat};
 pub use pruning::prune;
 pub use shrinking::shrink;

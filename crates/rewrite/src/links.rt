@@ -1,12 +1,14 @@
 // Puts the links of a plan into one.
-ghost use Rattle.std.specs.Prelude.{IfOk};
+ghost use Rattle.std.specs.Prelude.{◌≡◌, ◌↔◌, IfOk, IsTrue};
 ghost use Rattle.plans.specs.Plan.{problem_of, NeedsAll};
 ghost use Rattle.plans.specs.Value.{Out};
 ghost use Rattle.rewrite.specs.Flat.{IsFlattened, MergesAreFlat};
+ghost use Rattle.rewrite.specs.PrivateFlat.{link_below};
 ghost use Rattle.rewrite.specs.Pruned.{KeepsMeaning};
 
 use crate::joining::{Joined, find_name, join_all};
-use crate::spelling::{Flattened, flatten_reached};
+use crate::spelling::{Flattened, flatten_reached, is_merge};
+use llb::{Vertex, VertexId};
 use plain::Memory;
 use plans::Plan;
 use std::alloc::Global;
@@ -31,4 +33,34 @@ pub fn flatten_links<C: Drop>(alloc: Global, plan: Plan<C>) -> Result<Plan<C>, M
     let _known = flat.vertices();
     let target = find_name(names.as_slice(), target);
     Ok(Plan::new(flat, target, config, sources))
+}
+
+/// Whether no merge is the first input of a merge, so that there is nothing to flatten. It takes as many steps as there are vertices.
+pub fn is_flat(vertices: &[Vertex]) -> bool
+    ensures { IsTrue result ↔ MergesAreFlat vertices.now }
+{
+    for vertex in vertices {
+        if link_below(vertices, vertex).is_some() {
+            return false;
+        }
+    }
+    true
+}
+
+/// The merge that is the first input of a merge.
+pub(crate) fn link_below(vertices: &[Vertex], vertex: &Vertex) -> Option<VertexId>
+    ensures { result ≡ link_below vertices.now vertex.now }
+{
+    if !is_merge(&vertex.op) {
+        return None;
+    }
+    let [first, ..] = vertex.inputs.as_slice() else {
+        return None;
+    };
+    let below = vertices.get(first.index())?;
+    if is_merge(&below.op) {
+        Some(*first)
+    } else {
+        None
+    }
 }

@@ -6,9 +6,8 @@ ghost use Rattle.lowering.specs.Means.{AreLined};
 ghost use Rattle.lowering.specs.Order.{LinesInOrder};
 ghost use Rattle.rewrite.specs.Pruned.{KeepsMeaning};
 
-use crate::links::flatten_links;
+use crate::links::{flatten_links, link_below};
 use crate::pruning::prune;
-use crate::spelling::is_merge;
 use llb::{Vertex, VertexId};
 use plain::{Memory, no_marks};
 use plans::Plan;
@@ -62,16 +61,4 @@ fn mark_need(needed: &mut Vec<bool>, again: &mut Vec<bool>, id: VertexId) {
         }
     }
     *once = true;
-}
-
-/// The merge that is the first input of a merge.
-fn link_below(vertices: &[Vertex], vertex: &Vertex) -> Option<VertexId> {
-    let [first, ..] = vertex.inputs.as_slice() else {
-        return None;
-    };
-    let below = vertices.get(first.index())?;
-    if is_merge(&vertex.op) && is_merge(&below.op) {
-        return Some(*first);
-    }
-    None
 }
