@@ -1,4 +1,4 @@
--- Whatever answers the plan that is made smaller of what a bundle asks for tells what that gives.
+-- Whatever answers the plan of what a bundle asks for, or what that plan is shrunk to, tells what that gives.
 use Rattle.std.proofs.Common.{◌≡◌, Ok, Err, refl, ap, ◌∙◌, subst}
 use Rattle.std.specs.FinMap.{entries}
 use Rattle.plans.specs.Plan.{PlanValue, IsPlan, NeedsAll, problem_of}
@@ -13,7 +13,7 @@ use Rattle.lowering.proofs.NeededFacts.{stands_needed}
 use Rattle.lowering.proofs.OrderFacts.{stands_in_order, in_order_least}
 use Rattle.lowering.specs.Outcome.{IsOutcome}
 use Rattle.rewrite.specs.Pruned.{KeepsMeaning}
-use Rattle.rewrite.proofs.LawFacts.{built_is}
+use Rattle.rewrite.proofs.LawFacts.{built_is, kept_as_is}
 use Rattle.rewrite.proofs.OrderFacts.{first_is}
 use Rattle.solver.specs.Solution.{IsSolution}
 use Rattle.solver.specs.declared.solution.Solution.{Solution}
@@ -38,3 +38,11 @@ tells out plan new made (solution.Failed vertex place cause) means stands in_ord
     first_is out plan new made.rows made.target vertex place cause means in_order (stands_needed out plan made.rows made.target stands all) lined is keeps
     needed a.value a.least (a.first needed (in_order_least out new ordered lined)) in
     (place, cause, subst (λ s. IsOutcome (world out s) made.rows made.target (Err (place, cause))) sources outcome, refl)
+
+-- the plan as it was lowered
+pub tells_as_is : (out : Out) (plan : PlanValue Config) (made : Evaluated) (s : Solution)
+    → Means plan made.rows made.target → StandsFor plan made.rows made.target → IsInOrder made.rows → NeedsAllStages made.rows made.target → plan.config ≡ made.config → plan.sources ≡ made.sources → IsPlan plan
+    → IsSolution (problem_of out plan) s → Tells out (Ok made) (status_of s) (text_of plan.config s)
+tells_as_is out plan made s means stands in_order all configs sources is =
+    tells out plan plan made s means stands in_order all configs sources is (λ orders. orders) (λ lined. lined) (kept_as_is plan)
+    (stands_needed out plan made.rows made.target stands all)

@@ -12,10 +12,10 @@ use imageconfig::Config;
 use lowering::lower_program;
 use plain::Memory;
 use plans::Plan;
-use rewrite::shrink;
+use rewrite::{is_flat, shrink};
 use std::alloc::Global;
 
-/// The plan of a file's needed stages, without what the target doesn't need. Its links are one merge, unless a tree between them is needed elsewhere too.
+/// The plan of a file's needed stages. Its links are one merge, unless a tree between them is needed elsewhere too.
 ///
 /// Under every executor, whatever solves the plan tells what the stages give, with the plan's configuration: the target's tree, or the first
 /// instruction of the file that fails. The target needs every vertex. It asks for what evaluation gives.
@@ -32,6 +32,10 @@ pub fn plan_of(alloc: Global, evaluated: Evaluated) -> Result<Plan<Config>, Memo
         sources,
     } = evaluated;
     let plan = lower_program(alloc, rows, target, config, sources)?;
+    // The target needs every vertex of what was lowered: without links there is nothing to shrink, and to shrink is to build the graph again.
+    if is_flat(plan.graph().vertices()) {
+        return Ok(plan);
+    }
     let smaller = shrink(alloc, plan)?;
     let _known = smaller.graph();
     Ok(smaller)
