@@ -123,7 +123,7 @@ fn show_failure(
 {
     let dockerfile = dockerfile_of(alloc, rt, bytes)?;
     let missed = missed_of(alloc, rt, bytes, line, cause)?;
-    show_missed(alloc, bytes, dockerfile.as_slice(), line, cause, missed)
+    show_missed(alloc, rt, bytes, dockerfile.as_slice(), line, cause, missed)
 }
 
 /// The Dockerfile of a bundle that isn't refused.
@@ -175,6 +175,7 @@ fn missed_of(
 #[tactic(auto, using(crate::proofs::FailureFacts::left_known, crate::proofs::FailureFacts::left_none))]
 fn left_out_by(
     alloc: Global,
+    rt: &(impl Threads + Sync),
     bytes: &[u8],
     source: &str,
     is_path: bool,
@@ -185,7 +186,7 @@ fn left_out_by(
     if !is_path {
         return Ok(None);
     }
-    match leaving_line::<Config>(alloc, bytes, source) {
+    match leaving_line::<Config>(alloc, rt, bytes, source) {
         Ok(left) => Ok(left),
         Err(Fault::Because(_)) => {
             build::laws::a_bundle_asks_for_one_thing();
@@ -198,6 +199,7 @@ fn left_out_by(
 /// What is shown of an instruction, by the source that it misses, if that is known.
 fn show_missed(
     alloc: Global,
+    rt: &(impl Threads + Sync),
     bytes: &[u8],
     dockerfile: &[u8],
     line: u32,
@@ -211,7 +213,7 @@ fn show_missed(
         None => shown_failure(alloc, dockerfile, line, cause),
         Some(missed) => {
             let source = missed.source.as_str();
-            let left = left_out_by(alloc, bytes, source, missed.is_context_path)?;
+            let left = left_out_by(alloc, rt, bytes, source, missed.is_context_path)?;
             show_source(alloc, dockerfile, line, source, left)
         }
     }
