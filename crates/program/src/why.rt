@@ -35,18 +35,23 @@ impl<'a> Teller for PathTeller<'a> {
     fn tell<H: Threads + Sync>(
         &self,
         alloc: Global,
-        _rt: &H,
+        rt: &H,
         bundle: &[u8],
     ) -> Result<Told, BuildFault> {
-        Ok(tell_paths(alloc, bundle, self.paths)?)
+        Ok(tell_paths(alloc, rt, bundle, self.paths)?)
     }
 }
 
 /// What a bundle's bytes tell of these paths, or their refusal.
-fn tell_paths(alloc: Global, bundle: &[u8], paths: &[Text]) -> Result<Told, Memory>
+fn tell_paths(
+    alloc: Global,
+    rt: &(impl Threads + Sync),
+    bundle: &[u8],
+    paths: &[Text],
+) -> Result<Told, Memory>
     ensures { IfOk result (λ told. TellsWhy paths.now bundle.now told.status told.text) }
 {
-    match reasons::<Config>(alloc, bundle, paths) {
+    match reasons::<Config>(alloc, rt, bundle, paths) {
         Ok(text) => Ok(Told {
             status: Status::Built,
             text,
