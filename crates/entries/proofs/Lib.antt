@@ -5,7 +5,9 @@ pub mod ApartFacts
 mod FingerprintFacts
 pub mod WrittenFacts
 mod PrintingFacts
+mod TogetherFacts
 mod HeldFacts
 mod PieceFacts
 mod KeyFacts
 mod MadeFacts
+mod Crosses

@@ -1,8 +1,8 @@
 -- The text of an entry, piece by piece.
-use Rattle.std.proofs.Common.{◌≡◌, ℕ, zero, suc, ◌+◌, ◌/◌, ◌%◌, ◌<◌, Bool, true, false, ◌&&◌, List, [], ◌∷◌, ◌++◌, map, slice_index, refl, sym, ap, ◌∙◌, inl, inr, append_assoc, arith, codes, decimal, Bor, take, drop, drop-cons, length, get_or, add-one}
+use Rattle.std.proofs.Common.{◌≡◌, ℕ, zero, suc, ◌+◌, ◌/◌, ◌%◌, ◌<◌, ◌≤◌, Bool, true, false, ◌&&◌, List, [], ◌∷◌, ◌++◌, map, slice_index, refl, sym, ap, ◌∙◌, inl, inr, append_assoc, arith, codes, decimal, Bor, take, drop, drop-cons, length, get_or, add-one}
 use Rattle.std.specs.List.{list_all}
 use Rattle.std.proofs.lemmas.Bool.{and_parts, cases_lt}
-use Rattle.std.proofs.lemmas.List.{take-append-drop}
+use Rattle.std.proofs.lemmas.List.{take-append-drop, take_all, drop_all, length-drop}
 use Rattle.std.proofs.lemmas.Grind.{flat_map-append}
 use Rattle.hex.specs.Hex.{IsBytes, encode_with, encode_lower, lower_digits}
 use Rattle.json.specs.Print.{escape_byte, escape, quoted}
@@ -13,9 +13,10 @@ use Rattle.serde_json.specs.Written.{comma_if, compact_text, items_text, members
 use Rattle.trees.specs.declared.meta.Meta.{Meta}
 use Rattle.trees.specs.declared.entry.Entry.{Entry}
 use Rattle.trees.specs.declared.entry.Entry.TheVariants.{Directory, File}
+use Rattle.trees.specs.Row.{Row}
 use Rattle.trees.specs.Rows.{lent_names}
 use Rattle.entries.specs.Written.{mode_text, entry_data}
-use Rattle.entries.specs.PrivatePrinting.{is_plain, end_text, entry_text}
+use Rattle.entries.specs.PrivatePrinting.{is_plain, end_text, entry_text, rows_text, rest_text}
 
 both_hold : (a b : Bool) → a ≡ true → b ≡ true → (a && b) ≡ true
 both_hold true b p q = q
@@ -174,22 +175,69 @@ names-from names name bytes i lt is same =
 
 -- ---- entries
 
--- the text of entries that are still to come, with the closing bracket
-abbrev pub rows_text : Bool → List (List (List ℕ) × Entry) → List ℕ
-rows_text later [] = 93 ∷ []
-rows_text later (row ∷ rows) = (comma_if later ++ entry_text row.0 row.1) ++ rows_text true rows
+rest-cons : (later : Bool) (row : Row) (rows : List Row) → rest_text later (row ∷ rows) ≡ (comma_if later ++ entry_text row.0 row.1) ++ rest_text true rows
+rest-cons later row rows = append_assoc (comma_if later ++ entry_text row.0 row.1) (rows_text true rows) (codes "]")
 
-pub rows-are : (later : Bool) (rows : List (List (List ℕ) × Entry)) → rows_text later rows ≡ items_text later (items_of (map {A = List (List ℕ) × Entry} (λ row. entry_data row.0 row.1) rows))
+pub rows-are : (later : Bool) (rows : List Row) → rest_text later rows ≡ items_text later (items_of (map {A = Row} (λ row. entry_data row.0 row.1) rows))
 unfolding entry_text
 rows-are later [] = refl
 rows-are later (row ∷ rows) =
-    append_assoc (comma_if later) (compact_text (entry_data row.0 row.1)) (rows_text true rows)
+    rest-cons later row rows
+    ∙ append_assoc (comma_if later) (compact_text (entry_data row.0 row.1)) (rest_text true rows)
     ∙ ap (λ e. comma_if later ++ (compact_text (entry_data row.0 row.1) ++ e)) (rows-are true rows)
 
--- the text of the entries that a walk has left, the next one first
-pub rows-next : (later : Bool) (rows rest : List (List (List ℕ) × Entry)) (path names : List (List ℕ)) (entry : Entry) → rows ≡ (path, entry) ∷ rest → names ≡ path → (comma_if later ++ entry_text names entry) ++ rows_text true rest ≡ rows_text later rows
-rows-next later rows rest path names entry next same = ap (λ p. (comma_if later ++ entry_text p entry) ++ rows_text true rest) same ∙ sym (ap (rows_text later) next)
+-- the text of the next entries of a walk, the next one first
+pub rows-next : (later : Bool) (k : ℕ) (rows rest : List Row) (path names : List (List ℕ)) (entry : Entry) → rows ≡ (path, entry) ∷ rest → names ≡ path
+    → (comma_if later ++ entry_text names entry) ++ rows_text true (take k rest) ≡ rows_text later (take (suc k) rows)
+rows-next later k rows rest path names entry next same =
+    ap (λ p. (comma_if later ++ entry_text p entry) ++ rows_text true (take k rest)) same
+    ∙ sym (ap (λ rs. rows_text later (take (suc k) rs)) next)
 
--- nothing is left but the bracket
-pub rows-none : (later : Bool) (rows : List (List (List ℕ) × Entry)) → rows ≡ [] → 93 ∷ [] ≡ rows_text later rows
-rows-none later rows none = sym (ap (rows_text later) none)
+-- of no entries, or of none that are left, nothing is said
+pub rows-none : (later : Bool) (k : ℕ) (rows : List Row) → k ≡ 0 → [] ≡ rows_text later (take k rows)
+rows-none later k rows none = sym (ap (λ n. rows_text later (take n rows)) none)
+
+pub rows-end : (later : Bool) (k : ℕ) (rows : List Row) → rows ≡ [] → [] ≡ rows_text later (take k rows)
+rows-end later k rows none = sym (ap (λ rs. rows_text later (take k rs)) none ∙ ap (rows_text later) (take_all k [] (omega arith)))
+
+split-later : (n : ℕ) (rows : List Row) → rows_text true (take n rows) ++ rest_text true (drop n rows) ≡ rest_text true rows
+split-later zero rows = refl
+split-later (suc n) [] = refl
+split-later (suc n) (row ∷ rows) =
+    append_assoc (comma_if true ++ entry_text row.0 row.1) (rows_text true (take n rows)) (rest_text true (drop n rows))
+    ∙ ap (λ t. (comma_if true ++ entry_text row.0 row.1) ++ t) (split-later n rows)
+    ∙ sym (rest-cons true row rows)
+
+-- the text of some entries, and then that of the rest with the bracket
+pub rows-split : (n : ℕ) (later : Bool) (rows : List Row) → 0 < n → rows_text later (take n rows) ++ rest_text true (drop n rows) ≡ rest_text later rows
+rows-split zero later rows some = absurd (omega arith)
+rows-split (suc n) later [] some = refl
+rows-split (suc n) later (row ∷ rows) some =
+    append_assoc (comma_if later ++ entry_text row.0 row.1) (rows_text true (take n rows)) (rest_text true (drop n rows))
+    ∙ ap (λ t. (comma_if later ++ entry_text row.0 row.1) ++ t) (split-later n rows)
+    ∙ sym (rest-cons later row rows)
+
+-- no entry is left behind some
+pub rows-last : (n : ℕ) (later : Bool) (rows rest : List Row) → 0 < n → rest ≡ drop n rows → rest ≡ [] → rows_text later (take n rows) ++ codes "]" ≡ rest_text later rows
+rows-last n later rows rest some is none =
+    ap (λ rs. rows_text later (take n rows) ++ rest_text true rs) (sym none ∙ is) ∙ rows-split n later rows some
+
+-- ---- steps of a walk
+
+step_suc : {A : Type 0} (n : ℕ) (xs rest : List A) (x : A) → drop n xs ≡ x ∷ rest → (drop (suc n) xs ≡ rest) × (n < length xs)
+step_suc zero [] rest x is = absurd (cc)
+step_suc zero (y ∷ xs) rest x is = (cc, omega arith)
+step_suc (suc n) [] rest x is = absurd (cc)
+step_suc (suc n) (y ∷ xs) rest x is = let below = step_suc n xs rest x is in (below.0, omega (arith, below.1))
+
+-- the item that a walk gives next is the first of what is behind the others
+pub drop-step : {A : Type 0} (n : ℕ) (xs left rest : List A) (x : A) → left ≡ drop n xs → left ≡ x ∷ rest → (rest ≡ drop (n + 1) xs) × (n < length xs)
+drop-step n xs left rest x is next =
+    let both = step_suc n xs rest x (sym is ∙ next) in
+    (sym both.0 ∙ ap (λ k. drop k xs) (sym (add-one n)), both.1)
+
+-- nothing is behind more items than there are
+pub drop-end : {A : Type 0} (n m : ℕ) (xs left : List A) → left ≡ drop n xs → left ≡ [] → n ≤ m → drop m xs ≡ []
+drop-end n m xs left is none more =
+    let gone : length (drop n xs) ≡ 0 = ap length (sym is ∙ none) in
+    drop_all m xs (omega (arith, length-drop n xs, gone))

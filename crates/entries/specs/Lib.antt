@@ -10,3 +10,4 @@ pub mod PrivateSought
 pub mod Whole
 pub mod Written
 pub mod PrivatePrinting
+pub mod PrivateTogether

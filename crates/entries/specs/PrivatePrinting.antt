@@ -1,10 +1,11 @@
 -- How an entry's text ends, and which bytes aren't escaped.
-use Rattle.std.specs.Prelude.{ℕ, Bool, not, ◌&&◌, ◌==◌, ◌++◌, List, [], ◌∷◌, drop, nat_le, codes, decimal}
+use Rattle.std.specs.Prelude.{ℕ, Bool, true, not, ◌&&◌, ◌==◌, ◌++◌, List, [], ◌∷◌, drop, nat_le, codes, decimal}
 use Rattle.json.specs.Print.{escape}
 use Rattle.paths.specs.Path.{rooted, text_of}
 use Rattle.serde_json.specs.Written.{comma_if, compact_text}
 use Rattle.trees.specs.declared.meta.Meta.{Meta}
 use Rattle.trees.specs.declared.entry.Entry.{Entry}
+use Rattle.trees.specs.Row.{Row}
 use Rattle.entries.specs.Written.{mode_text, entry_data}
 
 -- a byte that stands for itself in a string: it is no control character, no `"` and no `\`
@@ -40,3 +41,12 @@ text_behind first (name ∷ names) = escape (rooted (drop first (name ∷ names)
 -- an entry as text
 unfoldable pub entry_text : List (List ℕ) → Entry → List ℕ
 entry_text path entry = compact_text (entry_data path entry)
+
+-- entries as text, each behind a comma, but for the first where none stands before
+abbrev pub rows_text : Bool → List Row → List ℕ
+rows_text later [] = []
+rows_text later (row ∷ rows) = (comma_if later ++ entry_text row.0 row.1) ++ rows_text true rows
+
+-- the same with the closing bracket
+abbrev pub rest_text : Bool → List Row → List ℕ
+rest_text later rows = rows_text later rows ++ codes "]"

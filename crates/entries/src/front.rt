@@ -40,6 +40,18 @@ impl PathFront {
         }
     }
 
+    /// Holds what has room of a path, given that it holds names of it.
+    pub(crate) fn hold(&mut self, names: &[&Text])
+        requires { HoldsNames (lent_names names.now) self.old.names self.old }
+        ensures { HoldsNames (lent_names names.now) self.new.names self.new }
+    {
+        for tried in 0..names.len() {
+            if self.names < names.len() {
+                self.add(names);
+            }
+        }
+    }
+
     /// Goes on to a path, given that names are held of that of its folder.
     pub(crate) fn go_to(&mut self, names: &[&Text])
         requires { HoldsNames (lent_names names.now) (min self.old.names (length names.now - 1)) self.old }

@@ -23,9 +23,10 @@ mod pulling;
 mod reading;
 mod sought;
 mod spelled;
+mod together;
 mod writing;
 
 pub use listing::Listing;
-pub use printing::put_tree;
 pub use reading::read_content;
+pub use together::put_tree;
 pub use writing::tree_to_json;

@@ -1,4 +1,4 @@
-ghost use Rattle.std.specs.Prelude.{◌≡◌, ◌+◌, ◌<◌, ◌≤◌, ◌∷◌, ◌++◌, length, codes, decimal};
+ghost use Rattle.std.specs.Prelude.{◌≡◌, ◌+◌, ◌<◌, ◌≤◌, [], ◌∷◌, ◌++◌, IsTrue, false, length, take, drop, codes, decimal};
 ghost use Rattle.std.specs.Char.{digit_char};
 ghost use Rattle.std.specs.List.{list_all};
 ghost use Rattle.hex.specs.Hex.{encode_lower};
@@ -8,8 +8,8 @@ ghost use Rattle.counted.specs.Gathering.{sink, Says, HasRoom};
 ghost use Rattle.serde_json.specs.Written.{comma_if, compact_text};
 ghost use Rattle.trees.specs.declared.entry.Entry.TheVariants.{Directory, File};
 ghost use Rattle.trees.specs.Rows.{lent_names};
-ghost use Rattle.entries.specs.Written.{mode_text, entry_data, tree_data};
-ghost use Rattle.entries.specs.PrivatePrinting.{is_plain, end_text, entry_text, text_behind};
+ghost use Rattle.entries.specs.Written.{mode_text, entry_data};
+ghost use Rattle.entries.specs.PrivatePrinting.{is_plain, end_text, entry_text, text_behind, rows_text, rest_text};
 ghost use Rattle.entries.specs.PrivateFront.{HoldsNames};
 
 use crate::front::PathFront;
@@ -21,26 +21,63 @@ use trees::{Entry, Meta, Walk};
 /// How many bytes are turned into hexadecimal at once: their digits are the most that a piece has.
 const PIECE: usize = 4096;
 
-/// Says the entries of a tree that a walk has left, in the order that it gives them in: what `tree_to_json` gives, as compact JSON, and no
-/// value and no list in between. It takes no memory, and after a failed write it does nothing.
-pub fn put_tree<W: CountedWrite>(output: &mut W, gathered: &mut Gathered, walk: Walk<'_>)
+/// How many entries are said before the next are asked for, where all of a walk's are said.
+const AT_ONCE: usize = 4096;
+
+/// Says the entries that a walk has left, each behind a comma but the first of the whole tree, and the bracket that ends the list. It takes no
+/// memory.
+pub(crate) fn put_rest<W: CountedWrite>(
+    output: &mut W,
+    gathered: &mut Gathered,
+    walk: Walk<'_>,
+    later: bool,
+)
     requires room { HasRoom (W.failures output.old) gathered.old }
     ensures says { Says
         (sink (W.contents output.old) (W.failures output.old) gathered.old)
         (sink (W.contents output.new) (W.failures output.new) gathered.new)
-        (compact_text (tree_data walk.entry.left)) }
+        (rest_text later walk.entry.left) }
     ensures room { HasRoom (W.failures output.new) gathered.new }
 {
-    gather(output, gathered, b"[");
     let mut walk = walk;
+    let mut later = later;
+    'saying: while put_rows(output, gathered, &mut walk, later, AT_ONCE) {
+        later = true;
+    }
+    gather(output, gathered, b"]");
+}
+
+/// Says the next entries of a walk, so many at most, each behind a comma but the first of the whole tree, and tells whether there were so many.
+/// It takes no memory, and after a failed write it only walks.
+pub(crate) fn put_rows<W: CountedWrite>(
+    output: &mut W,
+    gathered: &mut Gathered,
+    walk: &mut Walk<'_>,
+    later: bool,
+    most: usize,
+) -> bool
+    requires room { HasRoom (W.failures output.old) gathered.old }
+    ensures says { Says
+        (sink (W.contents output.old) (W.failures output.old) gathered.old)
+        (sink (W.contents output.new) (W.failures output.new) gathered.new)
+        (rows_text later (take most walk.old.left)) }
+    ensures left { walk.new.left ≡ drop most walk.old.left }
+    ensures whole { IsTrue result → most ≤ length walk.old.left }
+    ensures ended { result ≡ false → walk.new.left ≡ [] }
+    ensures room { HasRoom (W.failures output.new) gathered.new }
+{
     let mut front = PathFront::none();
-    let mut later = false;
-    while let Some(entry) = walk.next() {
+    front.hold(walk.names());
+    let mut later = later;
+    for done in 0..most {
+        let Some(entry) = walk.next() else {
+            return false;
+        };
         front.go_to(walk.names());
         put_row(output, gathered, later, &front, walk.names(), entry);
         later = true;
     }
-    gather(output, gathered, b"]");
+    true
 }
 
 /// Says an entry with its path, which has these names, behind a comma where others stand before.
