@@ -143,7 +143,7 @@ fn tell_plan<W: CountedWrite, E: Executor, G: Gate>(
         remains.leftover(),
     ) {
         Ok(solution) => {
-            let ended = tell_solution(alloc, plan.config(), &solution, output);
+            let ended = tell_solution(alloc, rt, plan.config(), &solution, output);
             remains.keep_solution(solution);
             ended
         }
@@ -152,8 +152,9 @@ fn tell_plan<W: CountedWrite, E: Executor, G: Gate>(
 }
 
 /// Tells of a solution, with this configuration.
-fn tell_solution<W: CountedWrite>(
+fn tell_solution<W: CountedWrite, R: Threads + Sync>(
     alloc: Global,
+    rt: &R,
     config: &Config,
     solution: &Solution,
     output: &mut W,
@@ -163,7 +164,7 @@ fn tell_solution<W: CountedWrite>(
         (W.contents output.old) (W.failures output.old) (W.contents output.new) (W.failures output.new) result }
 {
     match solution {
-        Solution::Built(tree) => tell_tree(alloc, config, tree, output),
+        Solution::Built(tree) => tell_tree(alloc, rt, config, tree, output),
         Solution::Failed {
             vertex: _,
             place,
@@ -172,9 +173,11 @@ fn tell_solution<W: CountedWrite>(
     }
 }
 
-/// Tells that a build gave this tree, with this configuration. All memory that it wants is taken before the first byte is written.
-fn tell_tree<W: CountedWrite>(
+/// Tells that a build gave this tree, with this configuration. All memory that it needs is taken before the first byte is written: what is asked
+/// for later, so that several threads may print a large tree, it can do without.
+fn tell_tree<W: CountedWrite, R: Threads + Sync>(
     alloc: Global,
+    rt: &R,
     config: &Config,
     tree: &Tree,
     output: &mut W,
@@ -186,7 +189,7 @@ fn tell_tree<W: CountedWrite>(
     let config = config_text(alloc, config)?;
     let gathered = Gathered::new(alloc)?;
     let walk = tree.walk(alloc)?;
-    write_built(output, gathered, config.as_str(), walk)
+    write_built(alloc, rt, output, gathered, config.as_str(), tree, walk)
 }
 
 /// A configuration as compact JSON.
@@ -198,22 +201,26 @@ fn config_text(alloc: Global, config: &Config) -> Result<String, Memory>
     Ok(text)
 }
 
-/// Writes the answer of a build that gave a tree through which this walk goes, with this text of a configuration, piece by piece. It takes
-/// no memory.
-fn write_built<W: CountedWrite>(
+/// Writes the answer of a build that gave this tree, given a walk that is at its beginning, with this text of a configuration, piece by piece.
+/// Want of memory changes nothing of it.
+fn write_built<W: CountedWrite, R: Threads + Sync>(
+    alloc: Global,
+    rt: &R,
     output: &mut W,
     gathered: Gathered,
     config: &str,
+    tree: &Tree,
     walk: Walk<'_>,
 ) -> Result<Status, BuildFault>
+    requires walk { walk.left ≡ entries tree.now }
     requires empty { gathered ≡ nothing }
     requires writes { W.failures output.old < u64.MAX }
     ensures { (value : Data) → config.now ≡ compact_text value
-        → IsTold (TellsText Built (built_text value walk.entry.left))
+        → IsTold (TellsText Built (built_text value (entries tree.now)))
         (W.contents output.old) (W.failures output.old) (W.contents output.new) (W.failures output.new) result }
 {
     let mut gathered = gathered;
-    put_built(output, &mut gathered, config, walk);
+    put_built(alloc, rt, output, &mut gathered, config, tree, walk);
     gather(output, &mut gathered, b"\n");
     match finish(output, gathered) {
         Ok(()) => Ok(Status::Built),

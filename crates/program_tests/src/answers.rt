@@ -45,7 +45,8 @@ fn answers_are_compact_text(rt: HostRuntime) -> Result<(), Fail> {
     let tree = odd_tree(alloc)?;
     let mut output = Counted::new(Vec::with_capacity(alloc, 4096)?);
     let mut gathered = Gathered::new(alloc)?;
-    put_built(&mut output, &mut gathered, "true", tree.walk(alloc)?);
+    let walk = tree.walk(alloc)?;
+    put_built(alloc, &rt, &mut output, &mut gathered, "true", &tree, walk);
     assert!(rt; finish(&mut output, gathered).is_ok());
     let wanted =
         r#"{"config":true,"result":"built","tree":[{"dir":true,"gid":7,"mode":"7001","path":"/","uid":4294967295},{"gid":0,"hex":"00ff","mode":"0644","path":"/a \"b\"\n\u0001","uid":0}]}"#;
