@@ -1,4 +1,5 @@
 ghost use Rattle.std.specs.Prelude.{◌≡◌, IfOk};
+ghost use Rattle.std.specs.FinMap.{entries};
 ghost use Rattle.counted.specs.Gathering.{sink, Says, HasRoom};
 ghost use Rattle.serde_json.specs.Data.{Data};
 ghost use Rattle.serde_json.specs.Written.{compact_text};
@@ -11,27 +12,32 @@ use expand::{Reason, Rejection};
 use plain::{Code, Memory, Text};
 use serde_json::{Value, json};
 use std::alloc::Global;
-use trees::{Cause, Walk};
+use std::thread::Threads;
+use trees::{Cause, Tree, Walk};
 
-/// Says the answer of a build that gave a tree through which this walk goes, with this text of the image's configuration, which is compact
-/// JSON: one line of compact JSON, without the LF that ends it. It takes no memory.
-pub fn put_built<W: CountedWrite>(
+/// Says the answer of a build that gave this tree, given a walk that is at its beginning, with this text of the image's configuration, which is
+/// compact JSON: one line of compact JSON, without the LF that ends it. Want of memory changes nothing of it.
+pub fn put_built<W: CountedWrite, R: Threads + Sync>(
+    alloc: Global,
+    rt: &R,
     output: &mut W,
     gathered: &mut Gathered,
     config: &str,
+    tree: &Tree,
     walk: Walk<'_>,
 )
+    requires walk { walk.left ≡ entries tree.now }
     requires room { HasRoom (W.failures output.old) gathered.old }
     ensures says { (value : Data) → config.now ≡ compact_text value → Says
         (sink (W.contents output.old) (W.failures output.old) gathered.old)
         (sink (W.contents output.new) (W.failures output.new) gathered.new)
-        (built_text value walk.entry.left) }
+        (built_text value (entries tree.now)) }
     ensures room { HasRoom (W.failures output.new) gathered.new }
 {
     gather(output, gathered, b"{\"config\":");
     gather(output, gathered, config.as_bytes());
     gather(output, gathered, b",\"result\":\"built\",\"tree\":");
-    put_tree(output, gathered, walk);
+    put_tree(alloc, rt, output, gathered, tree, walk);
     gather(output, gathered, b"}");
 }
 
