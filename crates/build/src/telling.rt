@@ -20,6 +20,7 @@ use crate::{BuildFault, Status, plan_of};
 use bundle::{failed_answer, put_built, refused_answer};
 use cachemounts::CacheStore;
 use counted::{CountedWrite, Gathered, finish, gather, write_all};
+use entries::Unsaid;
 use executor::Executor;
 use expand::Rejection;
 use imageconfig::Config;
@@ -30,7 +31,7 @@ use solver::{Gate, Solution};
 use std::alloc::Global;
 use std::sync::Wait;
 use std::thread::Threads;
-use trees::{Cause, Tree, Walk};
+use trees::{Cause, Tree};
 use workers::solve_keeping;
 
 /// Tells of a bundle's bytes: writes one answer.
@@ -188,8 +189,8 @@ fn tell_tree<W: CountedWrite, R: Threads + Sync>(
 {
     let config = config_text(alloc, config)?;
     let gathered = Gathered::new(alloc)?;
-    let walk = tree.walk(alloc)?;
-    write_built(alloc, rt, output, gathered, config.as_str(), tree, walk)
+    let unsaid = Unsaid::of(alloc, tree)?;
+    write_built(alloc, rt, output, gathered, config.as_str(), unsaid)
 }
 
 /// A configuration as compact JSON.
@@ -201,26 +202,23 @@ fn config_text(alloc: Global, config: &Config) -> Result<String, Memory>
     Ok(text)
 }
 
-/// Writes the answer of a build that gave this tree, given a walk that is at its beginning, with this text of a configuration, piece by piece.
-/// Want of memory changes nothing of it.
+/// Writes the answer of a build that gave this tree, with this text of a configuration, piece by piece. Want of memory changes nothing of it.
 fn write_built<W: CountedWrite, R: Threads + Sync>(
     alloc: Global,
     rt: &R,
     output: &mut W,
     gathered: Gathered,
     config: &str,
-    tree: &Tree,
-    walk: Walk<'_>,
+    unsaid: Unsaid<'_>,
 ) -> Result<Status, BuildFault>
-    requires walk { walk.left ≡ entries tree.now }
     requires empty { gathered ≡ nothing }
     requires writes { W.failures output.old < u64.MAX }
     ensures { (value : Data) → config.now ≡ compact_text value
-        → IsTold (TellsText Built (built_text value (entries tree.now)))
+        → IsTold (TellsText Built (built_text value unsaid.entry))
         (W.contents output.old) (W.failures output.old) (W.contents output.new) (W.failures output.new) result }
 {
     let mut gathered = gathered;
-    put_built(alloc, rt, output, &mut gathered, config, tree, walk);
+    put_built(alloc, rt, output, &mut gathered, config, unsaid);
     gather(output, &mut gathered, b"\n");
     match finish(output, gathered) {
         Ok(()) => Ok(Status::Built),

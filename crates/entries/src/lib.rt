@@ -28,5 +28,5 @@ mod writing;
 
 pub use listing::Listing;
 pub use reading::read_content;
-pub use together::put_tree;
+pub use together::{Unsaid, put_tree};
 pub use writing::tree_to_json;

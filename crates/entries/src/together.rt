@@ -13,6 +13,7 @@ use crate::printing::{put_rest, put_rows};
 use counted::{Counted, CountedWrite, Gathered, finish, gather};
 use plain::Memory;
 use std::alloc::Global;
+use std::marker::Model;
 use std::thread::Threads;
 use std::{mem, thread};
 use trees::{Tree, Walk};
@@ -48,8 +49,48 @@ struct Block {
     is_whole: bool,
 }
 
-/// Says the entries of a tree, given a walk that is at its beginning: what `tree_to_json` gives, as compact JSON, and no value and no list in
-/// between.
+/// A tree that is to be said, with all memory that one thread needs for that. Contracts see its entries in path order.
+#[derive(Drop)]
+pub struct Unsaid<'a> {
+    tree: &'a Tree,
+    walk: Walk<'a>,
+}
+
+impl<'a> Model for Unsaid<'a> {
+    ghost use Rattle.std.specs.Prelude.{◌≡◌, List};
+    ghost use Rattle.std.specs.FinMap.{entries};
+    ghost use Rattle.trees.specs.Row.{Row};
+    ghost use Rattle.entries.specs.Row.{rows_code};
+
+    ghost Value = { List Row };
+
+    ghost coded = { rows_code };
+
+    ghost view = { λ u. entries u.tree.now };
+
+    ghost invariant = { λ u. u.walk.left ≡ entries u.tree.now };
+}
+
+impl<'a> Unsaid<'a> {
+    /// A tree of which nothing was said yet.
+    pub fn of(alloc: Global, tree: &'a Tree) -> Result<Unsaid<'a>, Memory>
+        ensures { IfOk result (λ unsaid. unsaid ≡ entries tree.now) }
+    {
+        let walk = tree.walk(alloc)?;
+        Ok(Unsaid { tree, walk })
+    }
+
+    /// The tree, and a walk that is at its beginning.
+    fn into_parts(self) -> (&'a Tree, Walk<'a>)
+        ensures tree { entries result.0.now ≡ self.entry }
+        ensures walk { result.1.left ≡ entries result.0.now }
+    {
+        let Unsaid { tree, walk } = self;
+        (tree, walk)
+    }
+}
+
+/// Says the entries of a tree: what `tree_to_json` gives, as compact JSON, and no value and no list in between.
 ///
 /// The entries of a large tree are printed by several threads. They take memory for what they print, and for want of it the rest is printed by
 /// one thread, which takes none. So nothing of it fails, and after a failed write nothing more is written.
@@ -58,17 +99,16 @@ pub fn put_tree<W: CountedWrite, R: Threads + Sync>(
     rt: &R,
     output: &mut W,
     gathered: &mut Gathered,
-    tree: &Tree,
-    walk: Walk<'_>,
+    unsaid: Unsaid<'_>,
 )
-    requires walk { walk.left ≡ entries tree.now }
     requires room { HasRoom (W.failures output.old) gathered.old }
     ensures says { Says
         (sink (W.contents output.old) (W.failures output.old) gathered.old)
         (sink (W.contents output.new) (W.failures output.new) gathered.new)
-        (compact_text (tree_data (entries tree.now))) }
+        (compact_text (tree_data unsaid.entry)) }
     ensures room { HasRoom (W.failures output.new) gathered.new }
 {
+    let (tree, walk) = unsaid.into_parts();
     gather(output, gathered, b"[");
     match shares_of(alloc, tree) {
         Ok(Some(shares)) => put_shares(alloc, rt, output, gathered, shares, walk),

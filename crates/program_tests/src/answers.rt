@@ -1,5 +1,6 @@
 use bundle::{Bundle, failed_answer, put_built, read_bundle, refused_answer};
 use counted::{Counted, Gathered, finish};
+use entries::Unsaid;
 use expand::{Reason, Rejection};
 use imageconfig::Config;
 use lines::LineFault;
@@ -45,8 +46,8 @@ fn answers_are_compact_text(rt: HostRuntime) -> Result<(), Fail> {
     let tree = odd_tree(alloc)?;
     let mut output = Counted::new(Vec::with_capacity(alloc, 4096)?);
     let mut gathered = Gathered::new(alloc)?;
-    let walk = tree.walk(alloc)?;
-    put_built(alloc, &rt, &mut output, &mut gathered, "true", &tree, walk);
+    let unsaid = Unsaid::of(alloc, &tree)?;
+    put_built(alloc, &rt, &mut output, &mut gathered, "true", unsaid);
     assert!(rt; finish(&mut output, gathered).is_ok());
     let wanted =
         r#"{"config":true,"result":"built","tree":[{"dir":true,"gid":7,"mode":"7001","path":"/","uid":4294967295},{"gid":0,"hex":"00ff","mode":"0644","path":"/a \"b\"\n\u0001","uid":0}]}"#;

@@ -9,5 +9,5 @@ pub returns : goal.returns
 returns g c =
     let config = config_data c.args.config.now in
     subst (λ rows. IsTold (TellsText Built (built_text config rows)) (g.W.CountedWrite.contents c.args.output.now) (g.W.CountedWrite.failures c.args.output.now)
-    (g.W.CountedWrite.contents c.write_built.new.output) (g.W.CountedWrite.failures c.write_built.new.output) c.write_built.result) c.in_ok-walk.ensures
+    (g.W.CountedWrite.contents c.write_built.new.output) (g.W.CountedWrite.failures c.write_built.new.output) c.write_built.result) c.in_ok-unsaid.ensures
     (c.write_built.ensures config (c.as_str.ensures.value ∙ c.in_ok-config.ensures))

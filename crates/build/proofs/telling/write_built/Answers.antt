@@ -1,5 +1,4 @@
 use Rattle.std.proofs.Common.{ℕ, List, subst}
-use Rattle.std.specs.FinMap.{entries}
 use Rattle.counted.specs.Gathering.{nothing, sink, Says}
 use Rattle.counted.proofs.GatheringFacts.{says_both}
 use Rattle.bundle.specs.Answer.{built_text}
@@ -12,7 +11,7 @@ pub returns-in-Ok : goal.returns-in-Ok
 returns-in-Ok g c = λ value is.
     let old = g.W.CountedWrite.contents c.args.output.now in
     let before = g.W.CountedWrite.failures c.args.output.now in
-    let text : List ℕ = built_text value (entries c.args.tree.now) in
+    let text : List ℕ = built_text value c.args.unsaid in
     let said = says_both (c.put_built.ensures.says value is) c.gather.ensures.says in
     let whole : Says (sink old before nothing) (sink (g.W.CountedWrite.contents c.gather.new.output) (g.W.CountedWrite.failures c.gather.new.output) c.gather.new.gathered) (line_of text) =
     subst (λ start. Says (sink old before start) (sink (g.W.CountedWrite.contents c.gather.new.output) (g.W.CountedWrite.failures c.gather.new.output) c.gather.new.gathered) (line_of text)) c.requires.empty said in
@@ -23,7 +22,7 @@ pub returns-in-Err : goal.returns-in-Err
 returns-in-Err g c = λ value is.
     let old = g.W.CountedWrite.contents c.args.output.now in
     let before = g.W.CountedWrite.failures c.args.output.now in
-    let text : List ℕ = built_text value (entries c.args.tree.now) in
+    let text : List ℕ = built_text value c.args.unsaid in
     let said = says_both (c.put_built.ensures.says value is) c.gather.ensures.says in
     let whole : Says (sink old before nothing) (sink (g.W.CountedWrite.contents c.gather.new.output) (g.W.CountedWrite.failures c.gather.new.output) c.gather.new.gathered) (line_of text) =
     subst (λ start. Says (sink old before start) (sink (g.W.CountedWrite.contents c.gather.new.output) (g.W.CountedWrite.failures c.gather.new.output) c.gather.new.gathered) (line_of text)) c.requires.empty said in
