@@ -1,6 +1,5 @@
 use Rattle.std.proofs.Common.{refl}
 use Rattle.plans.specs.Plan.{problem_of}
-use Rattle.board.proofs.LeavingLemmas.{leave-same}
 use Rattle.memo.specs.Memo.{Knows}
 use Rattle.memo.proofs.GrowLemmas.{grows-same}
 use Rattle.solver.specs.Recall.{leaves_or_stays}

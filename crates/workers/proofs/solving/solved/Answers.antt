@@ -1,4 +1,4 @@
-use Rattle.std.proofs.Common.{◌∙◌, ◌≡◌, ℕ, ap, sym, subst}
+use Rattle.std.proofs.Common.{◌∙◌, ℕ, ap, sym, subst}
 use Rattle.plans.specs.Plan.{Problem}
 use Rattle.board.specs.Board.{AreLeft, board_problem}
 use Rattle.board.specs.Leaving.{AreLeftByRuns, AreLeftAtEnd}
