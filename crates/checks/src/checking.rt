@@ -55,20 +55,25 @@ pub fn check_bundle(
     flaws::laws::a_bundle_has_no_flaw::<Config>();
     match read_bundle(alloc, rt, bytes) {
         Ok(bundle) => check_whole(alloc, bundle),
-        Err(Fault::Because(refusal)) => refused(alloc, bytes, refusal),
+        Err(Fault::Because(refusal)) => refused(alloc, rt, bytes, refusal),
         Err(Fault::Memory) => Err(Memory),
     }
 }
 
 /// The fault of bytes that are refused before their Dockerfile is read.
-fn refused(alloc: Global, bytes: &[u8], refusal: Refusal) -> Result<Findings, Memory>
+fn refused(
+    alloc: Global,
+    rt: &(impl Threads + Sync),
+    bytes: &[u8],
+    refusal: Refusal,
+) -> Result<Findings, Memory>
     requires { ReadsBundle config_in bytes.now (Err (Because refusal)) }
     ensures faults { IfOk result (λ found. found.faults ≡ rejection_of refusal ∷ []) }
     ensures text { IfOk result (λ found. found.text ≡ faulty_text bytes.now) }
     ensures target { IfOk result (λ found. found.target ≡ asked_target bytes.now) }
     ensures flaw { IfOk result (λ found. found.flaw ≡ flaw_in config_in bytes.now) }
 {
-    let text = ignore_file_or_none(alloc, bytes)?;
+    let text = ignore_file_or_none(alloc, rt, bytes)?;
     let flaw = find::<Config>(alloc, bytes)?;
     let faults = alone(alloc, Rejection::of(refusal))?;
     Ok(Findings {
@@ -80,10 +85,14 @@ fn refused(alloc: Global, bytes: &[u8], refusal: Refusal) -> Result<Findings, Me
 }
 
 /// The bytes of a bundle's ignore file; there are none if there is no bundle.
-fn ignore_file_or_none(alloc: Global, bytes: &[u8]) -> Result<Bytes, Memory>
+fn ignore_file_or_none(
+    alloc: Global,
+    rt: &(impl Threads + Sync),
+    bytes: &[u8],
+) -> Result<Bytes, Memory>
     ensures { IfOk result (λ text. text ≡ unwrap_or (ignore_bytes_of config_in bytes.now) []) }
 {
-    match read_ignore_bytes::<Config>(alloc, bytes) {
+    match read_ignore_bytes::<Config>(alloc, rt, bytes) {
         Ok(text) => Ok(text),
         Err(Fault::Because(_)) => Ok(Bytes::from_vec(Vec::new(alloc))),
         Err(Fault::Memory) => Err(Memory),

@@ -6,8 +6,8 @@ use Rattle.checks.proofs.CheckFacts.{bundle_refused, bundle_checked}
 use Rattle.checks.proofs.TextFacts.{bundle_text, found_text, bundle_target, found_target, found_flaw}
 use Rattle.checks.proofs.checking.check_bundle.Goals as goal
 
-pub refused-requires : goal.refused-requires
-refused-requires g c = subst (λ f. ReadsBundle config_in c.args.bytes.now (Err f)) c.in-Err-Because.field-0-is c.in-Err-Because.ensures
+pub refused-requires-after_bounds : goal.refused-requires-after_bounds
+refused-requires-after_bounds g c κs within = subst (λ f. ReadsBundle config_in c.args.bytes.now (Err f)) c.in-Err-Because.field-0-is c.in-Err-Because.ensures
 
 pub returns-in-Ok-clause-faults : goal.returns-in-Ok-clause-faults
 returns-in-Ok-clause-faults g c = bundle_checked c.args.bytes.now c.in-Ok.bundle c.check_whole.result c.in-Ok.ensures c.check_whole.ensures.faults

@@ -3,7 +3,7 @@ use Rattle.checks.proofs.TextFacts.{refused_text, refused_target}
 use Rattle.checks.proofs.checking.refused.Goals as goal
 
 pub returns-clause-text : goal.returns-clause-text
-returns-clause-text c = c.in_ok-text.ensures ∙ refused_text c.args.bytes.now c.args.refusal c.requires
+returns-clause-text g c = c.in_ok-text.ensures ∙ refused_text c.args.bytes.now c.args.refusal c.requires
 
 pub returns-clause-target : goal.returns-clause-target
-returns-clause-target c = refused_target c.args.bytes.now c.args.refusal c.requires
+returns-clause-target g c = refused_target c.args.bytes.now c.args.refusal c.requires
