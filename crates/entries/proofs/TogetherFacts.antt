@@ -1,6 +1,5 @@
 -- Rounds of entries that several threads print.
-use Rattle.std.proofs.Common.{◌≡◌, ℕ, zero, suc, ◌+◌, ◌-◌, ◌*◌, ◌<◌, ◌≤◌, Bool, true, false, ◌||◌, nat_lt, List, [], ◌∷◌, ◌++◌, refl, sym, ap, ◌∙◌, subst, arith, take, drop, length, get_or, codes, Option, Some, Result, Ok, Err, is_ok}
-use Rattle.std.proofs.lemmas.List.{drop_all, length-drop}
+use Rattle.std.proofs.Common.{◌≡◌, ℕ, zero, suc, ◌+◌, ◌*◌, ◌<◌, true, ◌||◌, nat_lt, List, [], ◌∷◌, ◌++◌, refl, sym, ap, ◌∙◌, subst, arith, take, drop, length, codes, Option, Some, Result, Ok, Err, is_ok}
 use Rattle.std.proofs.lemmas.Bool.{false≢true}
 use Rattle.std.proofs.lemmas.Bool.Decides.{nat_tests}
 use Rattle.std.specs.Io.KnownBytes.{Appends}
@@ -8,12 +7,9 @@ use Rattle.plain.specs.declared.fault.Fault.{Fault}
 use Rattle.plain.specs.declared.fault.Fault.TheVariants.{Because, Memory}
 use Rattle.counted.specs.declared.fault.Device.{Device}
 use Rattle.counted.specs.Gathering.{Gathering, nothing, Sink, sink, Says, IsWritten}
-use Rattle.counted.proofs.GatheringFacts.{says_both, says_as}
 use Rattle.trees.specs.Row.{Row}
 use Rattle.entries.specs.PrivatePrinting.{rows_text, rest_text}
-use Rattle.entries.specs.PrivateTogether.{text_behind_rows, IsBlock, IsPast, ArePast, AreBlocks, HavePrinted}
-use Rattle.entries.specs.declared.together.Share.{Share}
-use Rattle.entries.specs.declared.together.Block.{Block}
+use Rattle.entries.specs.PrivateTogether.{text_behind_rows}
 use Rattle.entries.proofs.PrintingFacts.{rows-split}
 
 drop_nothing : {A : Type 0} (n : ℕ) → drop {A = A} n [] ≡ []

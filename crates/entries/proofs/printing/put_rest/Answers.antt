@@ -1,4 +1,4 @@
-use Rattle.std.proofs.Common.{◌≡◌, ◌≤◌, ap, arith, true, length}
+use Rattle.std.proofs.Common.{◌≤◌, ap, arith, true, length}
 use Rattle.std.proofs.lemmas.List.{length-drop}
 use Rattle.counted.proofs.GatheringFacts.{says_both, says_as}
 use Rattle.entries.specs.PrivatePrinting.{rest_text}

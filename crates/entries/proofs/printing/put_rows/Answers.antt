@@ -1,7 +1,6 @@
-use Rattle.std.proofs.Common.{◌≡◌, ◌+◌, ◌-◌, ◌<◌, ◌≤◌, ◌∷◌, ◌++◌, ℕ, List, suc, length, take, drop, refl, sym, ap, ◌∙◌, subst, arith, rules}
+use Rattle.std.proofs.Common.{◌≡◌, ◌+◌, ◌-◌, ℕ, List, suc, take, sym, ap, ◌∙◌, subst, arith}
 use Rattle.counted.proofs.GatheringFacts.{says_none, says_both, says_as}
-use Rattle.serde_json.specs.Written.{comma_if}
-use Rattle.entries.specs.PrivatePrinting.{rows_text, entry_text}
+use Rattle.entries.specs.PrivatePrinting.{rows_text}
 use Rattle.entries.specs.PrivateFront.{HoldsNames}
 use Rattle.entries.proofs.PrintingFacts.{rows-next, rows-end, drop-step, drop-end}
 use Rattle.entries.proofs.HeldFacts.{holds-on}

@@ -1,4 +1,4 @@
-use Rattle.std.proofs.Common.{◌≡◌, ◌+◌, ◌*◌, ◌<◌, ◌≤◌, sym, ap, ◌∙◌, subst, length, arith}
+use Rattle.std.proofs.Common.{◌+◌, ◌*◌, sym, ap, ◌∙◌, subst, arith}
 use Rattle.entries.specs.declared.together.Share.{Share}
 use Rattle.entries.specs.PrivateTogether.{IsBlock}
 use Rattle.entries.proofs.TogetherFacts.{some_item}

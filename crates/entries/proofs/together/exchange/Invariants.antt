@@ -1,4 +1,4 @@
-use Rattle.std.proofs.Common.{◌≡◌, ℕ, ◌<◌, ◌≤◌, List, length, get_or}
+use Rattle.std.proofs.Common.{◌≡◌, ℕ, ◌<◌, ◌≤◌, length, get_or}
 use Rattle.entries.specs.declared.together.Share.{Share}
 use Rattle.entries.specs.declared.together.Block.{Block}
 use Rattle.entries.specs.declared.together.TheConstants.{SHARES}

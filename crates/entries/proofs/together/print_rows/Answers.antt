@@ -1,4 +1,4 @@
-use Rattle.std.proofs.Common.{◌≡◌, true, take, sym, ◌∙◌, arith}
+use Rattle.std.proofs.Common.{take, sym, ◌∙◌}
 use Rattle.entries.specs.PrivatePrinting.{rows_text}
 use Rattle.entries.proofs.TogetherFacts.{printed-whole}
 use Rattle.entries.proofs.together.print_rows.Goals as goal

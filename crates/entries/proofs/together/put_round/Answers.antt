@@ -1,4 +1,4 @@
-use Rattle.std.proofs.Common.{◌≡◌, ◌+◌, ◌*◌, ◌<◌, ℕ, List, true, sym, ap, ◌∙◌, subst, take, drop, nat_lt, arith, rules, tests, length}
+use Rattle.std.proofs.Common.{◌≡◌, ◌+◌, ◌*◌, ◌<◌, true, sym, ap, ◌∙◌, subst, take, drop, nat_lt, arith, rules, tests, length}
 use Rattle.counted.proofs.GatheringFacts.{says_both, says_as}
 use Rattle.entries.specs.PrivatePrinting.{rows_text}
 use Rattle.entries.specs.PrivateTogether.{text_behind_rows, IsBlock}

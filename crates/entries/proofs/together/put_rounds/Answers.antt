@@ -1,4 +1,4 @@
-use Rattle.std.proofs.Common.{◌≡◌, ◌+◌, ◌*◌, ◌<◌, ◌≤◌, ◌∷◌, ℕ, List, [], refl, sym, ap, ◌∙◌, subst, drop, length, arith, rules}
+use Rattle.std.proofs.Common.{◌≡◌, ◌+◌, ◌*◌, [], refl, sym, ap, ◌∙◌, subst, drop, arith, rules}
 use Rattle.counted.proofs.GatheringFacts.{says_as}
 use Rattle.entries.specs.PrivateTogether.{text_behind_rows, HavePrinted}
 use Rattle.entries.proofs.TogetherFacts.{positive, text-done}

@@ -1,4 +1,4 @@
-use Rattle.std.proofs.Common.{◌≡◌, ℕ, ◌*◌, false, List, length}
+use Rattle.std.proofs.Common.{◌≡◌, ◌*◌, false, List, length}
 use Rattle.counted.specs.Gathering.{Sink, sink, Says, HasRoom}
 use Rattle.trees.specs.Row.{Row}
 use Rattle.entries.specs.declared.together.TheConstants.{SHARES, ROUND}

@@ -1,4 +1,4 @@
-use Rattle.std.proofs.Common.{◌≡◌, ◌<◌, ◌≤◌, drop, length, sym, ◌∙◌, arith}
+use Rattle.std.proofs.Common.{sym, ◌∙◌, arith}
 use Rattle.entries.proofs.PrintingFacts.{drop-step, drop-end}
 use Rattle.entries.proofs.together.skip_rows.Goals as goal
 

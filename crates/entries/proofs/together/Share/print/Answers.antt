@@ -1,4 +1,4 @@
-use Rattle.std.proofs.Common.{◌≡◌, ◌+◌, ◌-◌, ◌*◌, ◌<◌, ◌≤◌, ◌||◌, true, false, ℕ, List, [], take, drop, nat_lt, refl, sym, ap, ◌∙◌, arith, length}
+use Rattle.std.proofs.Common.{◌+◌, ◌-◌, ◌*◌, ◌||◌, take, drop, nat_lt, refl, sym, ap, ◌∙◌, arith}
 use Rattle.entries.specs.PrivatePrinting.{rows_text}
 use Rattle.entries.proofs.TogetherFacts.{drop-behind, later-either}
 use Rattle.entries.proofs.together.Share.print.Goals as goal
