@@ -27,7 +27,7 @@ holds b e = subst T (sym e) tt
 -- ---- all entries of a tree
 
 -- what holds of each path at which something is found holds of each path in a list
-found-all : (P : List (List ℕ) → Type 0) (rows : List (List (List ℕ) × Entry)) → ((q : List (List ℕ)) → is_some (find path_cmp q rows) ≡ true → P q) → AllByRecursion (λ row. P row.0) rows
+pub found-all : (P : List (List ℕ) → Type 0) (rows : List (List (List ℕ) × Entry)) → ((q : List (List ℕ)) → is_some (find path_cmp q rows) ≡ true → P q) → AllByRecursion (λ row. P row.0) rows
 found-all P [] h = tt
 found-all P (row ∷ rows) h = (h row.0 (here row rows), found-all P rows (λ q s. h q (later q row rows s)))
   where

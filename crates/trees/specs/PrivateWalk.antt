@@ -1,5 +1,5 @@
 -- What is left of a walk: the children that aren't gone through yet, of the folder that was entered last and of each folder above it.
-use Rattle.std.specs.Prelude.{◌≡◌, ◌≤◌, ℕ, true, Option, Some, None, List, [], ◌∷◌, ◌++◌, length, vec_capacity}
+use Rattle.std.specs.Prelude.{◌≡◌, ◌≤◌, ◌+◌, ℕ, Bool, true, IsTrue, Option, Some, None, List, [], ◌∷◌, ◌++◌, length, vec_capacity}
 use Rattle.std.specs.List.{AllByRecursion}
 use Rattle.std.specs.declared.vec.Vec.{Vec}
 use Rattle.std.specs.FinMap.{entries}
@@ -41,10 +41,20 @@ root_row names (Some entry) = (names, entry.now) ∷ []
 abbrev pub left_below_root : {Z : Type 0} → Vec (Bor (List ℕ)) Z → Vec (List (List ℕ × NodeValue)) Z → List (List ℕ × NodeValue) → List (List (List ℕ) × Entry)
 left_below_root names above kids = rows_left (lent_names names.items) above.items kids
 
--- There is a name for each folder above the last; what is left has clean paths, so there is room for all names and folders that may be
--- entered.
-pub record IsOnWay {Z : Type 0} (names : Vec (Bor (List ℕ)) Z) (above : Vec (List (List ℕ × NodeValue)) Z) (kids : List (List ℕ × NodeValue)) : Type 0 where
-  pub level : length names.items ≡ length above.items
+-- nothing is below a node
+abbrev pub IsBare : NodeValue → Type 0
+IsBare node = entries (map_of node) ≡ ([], node.top) ∷ []
+
+-- nothing is below any of these children
+abbrev pub AreBare : List (List ℕ × NodeValue) → Type 0
+AreBare kids = AllByRecursion (λ kid. IsBare kid.1) kids
+
+-- There is a name for each folder above the last, and one more if nothing is below the entry that was given last. What is left has clean
+-- paths, so there is room for all names and folders that may be entered.
+pub record IsOnWay {Z : Type 0} (names : Vec (Bor (List ℕ)) Z) (above : Vec (List (List ℕ × NodeValue)) Z) (kids : List (List ℕ × NodeValue)) (are_bare : Bool) : Type 0 where
+  pub least : length above.items ≤ length names.items
+  pub most : length names.items ≤ length above.items + 1
   pub clean : AllByRecursion (λ row. IsClean row.0) (left_below_root names above kids)
+  pub bare : IsTrue are_bare → AreBare kids
   pub room_names : most_components ≤ vec_capacity names
   pub room_above : most_components ≤ vec_capacity above

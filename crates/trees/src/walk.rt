@@ -1,9 +1,9 @@
-ghost use Rattle.std.specs.Prelude.{◌≡◌, ◌-◌, [], ◌∷◌, IfOk, MatchOption, length, take};
+ghost use Rattle.std.specs.Prelude.{◌≡◌, ◌-◌, ℕ, List, [], ◌∷◌, IfOk, IsTrue, MatchOption, length, take};
 ghost use Rattle.std.specs.FinMap.{entries};
 ghost use Rattle.trees.specs.Rows.{lent_names};
 ghost use Rattle.trees.specs.TreeMap.{IsTree};
-ghost use Rattle.trees.specs.PrivateNode.{map_of};
-ghost use Rattle.trees.specs.PrivateWalk.{IsOnWay, left_below_root};
+ghost use Rattle.trees.specs.PrivateNode.{NodeValue, map_of};
+ghost use Rattle.trees.specs.PrivateWalk.{IsOnWay, IsBare, AreBare, rows_of, left_below_root};
 
 use crate::Entry;
 use crate::kids::Kids;
@@ -23,12 +23,14 @@ use std::mem;
 pub struct Walk<'a> {
     /// The root's entry, until it is given.
     root: Option<&'a Entry>,
-    /// The children that are left of the entry that was given last, or of the root.
+    /// The children that are left of the folder that was entered last, or of the root. An entry with nothing below it isn't entered.
     kids: Kids<'a>,
     /// Those of each folder on the way to it, the root's first.
     above: Vec<Kids<'a>>,
-    /// The names on the way to it.
+    /// The names on the way to the entry that was given last.
     names: Vec<&'a Text>,
+    /// Whether it is known that nothing is below any of `kids`.
+    are_bare: bool,
 }
 
 impl<'a> Model for Walk<'a> {
@@ -43,7 +45,7 @@ impl<'a> Model for Walk<'a> {
 
     ghost view = { λ w. record { at = lent_names w.names.items; left = root_row (lent_names w.names.items) w.root ++ left_below_root w.names w.above w.kids } };
 
-    ghost invariant = { λ w. IsOnWay w.names w.above w.kids };
+    ghost invariant = { λ w. IsOnWay w.names w.above w.kids w.are_bare };
 }
 
 impl<'a> Walk<'a> {
@@ -59,6 +61,7 @@ impl<'a> Walk<'a> {
             kids: root.kids(),
             above,
             names,
+            are_bare: has_bare_kids(root),
         })
     }
 
@@ -76,7 +79,12 @@ impl<'a> Walk<'a> {
     {
         match self.root.take() {
             Some(entry) => Some(entry),
-            None => step(&mut self.names, &mut self.above, &mut self.kids),
+            None => step(
+                &mut self.names,
+                &mut self.above,
+                &mut self.kids,
+                &mut self.are_bare,
+            ),
         }
     }
 }
@@ -86,25 +94,50 @@ fn step<'a>(
     names: &mut Vec<&'a Text>,
     above: &mut Vec<Kids<'a>>,
     kids: &mut Kids<'a>,
+    are_bare: &mut bool,
 ) -> Option<&'a Entry>
-    requires { IsOnWay names.old above.old kids.old }
-    ensures way { IsOnWay names.new above.new kids.new }
+    requires { IsOnWay names.old above.old kids.old are_bare.old }
+    ensures way { IsOnWay names.new above.new kids.new are_bare.new }
     ensures next { MatchOption result
         ((left_below_root names.old above.old kids.old ≡ []) × (left_below_root names.new above.new kids.new ≡ []))
         (λ entry. left_below_root names.old above.old kids.old ≡ (lent_names names.new.items, entry.now) ∷ left_below_root names.new above.new kids.new) }
     ensures keeps { take (length names.new.items - 1) (lent_names names.new.items) ≡ take (length names.new.items - 1) (lent_names names.old.items) }
 {
+    // Nothing was below the entry that was given last, so no folder was entered for its name.
+    if names.len() > above.len() {
+        names.pop();
+    }
     loop {
         if let Some((name, kid)) = kids.next() {
-            let left = mem::replace(kids, kid.kids());
-            above.push(left).unwrap();
             names.push(name).unwrap();
+            if !is_bare(kid, *are_bare) {
+                let left = mem::replace(kids, kid.kids());
+                above.push(left).unwrap();
+                *are_bare = has_bare_kids(kid);
+            }
             return Some(kid.entry());
         }
         let Some(left) = above.pop() else {
             return None;
         };
         *kids = left;
+        *are_bare = false;
         names.pop();
     }
+}
+
+/// Whether nothing is below a node. Where that is known, the node isn't looked at: to fetch it from memory costs more than all else that a
+/// walk does to go past it.
+fn is_bare(node: &Node, is_known: bool) -> bool
+    requires { IsTrue is_known → IsBare node.now }
+    ensures { IsTrue result → IsBare node.now }
+{
+    is_known || node.is_bare()
+}
+
+/// Whether it is known that nothing is below any child of a node.
+fn has_bare_kids(node: &Node) -> bool
+    ensures { IsTrue result → (kids : List (List ℕ × NodeValue)) → entries (map_of node.now) ≡ ([], node.now.top) ∷ rows_of kids → AreBare kids }
+{
+    node.depth() <= 1
 }
