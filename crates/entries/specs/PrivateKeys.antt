@@ -1,11 +1,14 @@
 -- What stands at the keys that an entry may have.
-use Rattle.std.specs.Prelude.{◌≡◌, ℕ, Bool, true, Option, Some, List, [], ◌∷◌, ◌++◌, bytes_eq, codes, option_map}
+use Rattle.std.specs.Prelude.{◌≡◌, ℕ, ◌<◌, Bool, true, false, Option, Some, None, List, [], ◌∷◌, ◌++◌, length, bytes_eq, codes, option_map}
 use Rattle.std.specs.Borrow.{Bor}
 use Rattle.std.specs.List.{AllZip, list_any}
+use Rattle.json.specs.Json.{after_end_array}
+use Rattle.json.specs.Token.{Token}
 use Rattle.serde_json.specs.Data.{Data, Members, object}
 use Rattle.serde_json.specs.Find.{as_bool, as_str, get_member}
 use Rattle.strict.specs.Strict.{at_most_one, has_only, short_number_in}
 use Rattle.borrowed.specs.Lent.{lent_data}
+use Rattle.borrowed.specs.Pulled.{IsNext}
 use Rattle.trees.specs.Row.{Row}
 use Rattle.entries.specs.Reading.{row_in}
 use Rattle.entries.specs.declared.spelled.Spelled.{Spelled}
@@ -48,6 +51,20 @@ IsRowOf spelled row = (found : Members) → Spells spelled found → row_in (obj
 abbrev pub AreRowsOf : List Spelled → List Row → Type 0
 AreRowsOf spelled rows = AllZip IsRowOf spelled rows
 
--- of the entries that wait the first got their rows, behind those that are there, and the others wait on
-abbrev pub MakesSome : List Spelled → List Row → List Spelled → List Row → Type 0
-MakesSome waiting rows later more = (first : List Spelled) × (made : List Row) × (waiting ≡ first ++ later) × (more ≡ rows ++ made) × AreRowsOf first made
+-- behind some rows those of these entries were added
+abbrev pub AddsRows : List Spelled → List Row → List Row → Type 0
+AddsRows spelled rows more = (made : List Row) × (more ≡ rows ++ made) × AreRowsOf spelled made
+
+-- these entries are the next items of a list, and its tokens go on behind them
+abbrev pub Reads : ℕ → List Token → List Spelled → List Token → Type 0
+Reads depth first [] left = first ≡ left
+Reads depth first (one ∷ more) left = (mid : List Token) × (found : Members) × (after_end_array first ≡ None) × IsNext depth first mid (object found) × Spells one found × Reads depth mid more left
+
+-- behind its items so far a list goes on, or the bracket that closes it was taken
+abbrev pub StopsAt : List Token → List Token → Bool → Type 0
+StopsAt last left true = last ≡ left
+StopsAt last left false = after_end_array last ≡ Some left
+
+-- these entries are the next items of a list, which goes on behind them or not
+abbrev pub ReadsBatch : ℕ → List Token → List Token → List Spelled → Bool → Type 0
+ReadsBatch depth first left spelled more = (last : List Token) × Reads depth first spelled last × StopsAt last left more × (length left < length first)

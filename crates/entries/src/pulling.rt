@@ -1,13 +1,14 @@
 // Entries that are read token by token: of a list of a million entries no value of JSON stands in memory.
 //
-// One thread reads the tokens, and keeps of each entry what its text says, lent. Of a batch of such entries the rows are made at once, by
-// several threads.
+// One thread reads the tokens, and keeps of each entry what its text says, lent. The rows of a batch of such entries are made by several other
+// threads while it reads the next.
 
 ghost use Rattle.std.specs.Prelude.{◌≡◌, ℕ, IfOk, OnOk};
+ghost use denote.Param.Send.{IsSync};
 ghost use Rattle.serde_json.specs.Data.{Data, Members, object, put};
 ghost use Rattle.borrowed.specs.Pulled.{IsNext, Pulls};
 ghost use Rattle.entries.specs.Reading.{row_in, rows_of};
-ghost use Rattle.entries.specs.PrivateKeys.{MakesSome, Spells};
+ghost use Rattle.entries.specs.PrivateKeys.{AddsRows, ReadsBatch, Spells};
 
 use crate::making::add_rows;
 use crate::spelled::Spelled;
@@ -17,6 +18,7 @@ use paths::Path;
 use plain::{Fault, Items};
 use std::alloc::Global;
 use std::thread::Threads;
+use std::{mem, thread};
 use strict::{NotRead, ReadFault};
 use trees::Entry;
 
@@ -57,21 +59,52 @@ fn pull_spelled<'a>(reader: &mut Reader<'a>, depth: usize) -> Result<Spelled<'a>
 /// How many entries are read before their rows are made. A batch is a megabyte, and threads are started once for each.
 const BATCH: usize = 8192;
 
-/// Makes the rows of the entries that wait, once they are so many that several threads are worth it.
-fn make_batch(
-    alloc: Global,
-    rt: &(impl Threads + Sync),
-    waiting: &mut Vec<Spelled<'_>>,
-    rows: &mut Vec<(Path, Entry)>,
-) -> Result<(), ReadFault>
-    ensures { OnOk result (MakesSome waiting.old.items rows.old.items waiting.new.items rows.new.items) }
+/// Reads the next entries of a list, at most a batch, in place of those that it read before. It tells whether the list goes on behind them.
+fn read_batch<'a>(
+    reader: &mut Reader<'a>,
+    inner: usize,
+    read: &mut Vec<Spelled<'a>>,
+) -> Result<bool, ReadFault>
+    ensures { IfOk result (λ more. ReadsBatch inner reader.old reader.new read.new.items more) }
 {
-    if waiting.len() < BATCH {
-        return Ok(());
+    read.clear();
+    'reading: while !reader.take_end_array() {
+        if read.len() >= BATCH {
+            return Ok(true);
+        }
+        let spelled = pull_spelled(reader, inner)?;
+        read.push(spelled)?;
     }
-    add_rows(alloc, rt, waiting.as_slice(), rows)?;
-    waiting.clear();
-    Ok(())
+    Ok(false)
+}
+
+/// Makes the rows of the entries that wait, while the next batch is read. It tells whether the list goes on behind that.
+///
+/// The reader stays in this thread. It is the rows that another makes.
+fn make_and_read<'a, R: Threads + Sync>(
+    alloc: Global,
+    rt: &R,
+    waiting: &[Spelled<'_>],
+    rows: &mut Vec<(Path, Entry)>,
+    reader: &mut Reader<'a>,
+    inner: usize,
+    read: &mut Vec<Spelled<'a>>,
+) -> Result<bool, ReadFault>
+    ensures made { OnOk result (AddsRows waiting.now rows.old.items rows.new.items) }
+    ensures read { IfOk result (λ more. ReadsBatch inner reader.old reader.new read.new.items more) }
+{
+    let (made, more) = thread::join_mut(
+        rt,
+        &mut || -> Result<(), ReadFault>
+            requires { IsSync R.row }
+            ensures { OnOk result (AddsRows waiting.entry.now rows.entry.now.items rows.exit.now.items) }
+        { add_rows(alloc, rt, waiting, rows) },
+        &mut || read_batch(reader, inner, read),
+    );
+    match made {
+        Ok(()) => more,
+        Err(fault) => Err(fault),
+    }
 }
 
 /// The list of entries that comes next.
@@ -87,10 +120,12 @@ pub(crate) fn pull_rows<'a>(
     open_list(reader)?;
     let mut rows: Vec<(Path, Entry)> = Vec::new(alloc);
     let mut waiting: Vec<Spelled<'a>> = Vec::new(alloc);
-    'reading: while !reader.take_end_array() {
-        make_batch(alloc, rt, &mut waiting, &mut rows)?;
-        let spelled = pull_spelled(reader, inner)?;
-        waiting.push(spelled)?;
+    let mut read: Vec<Spelled<'a>> = Vec::new(alloc);
+    let mut more = read_batch(reader, inner, &mut waiting)?;
+    'making: while more {
+        let now = waiting.as_slice();
+        more = make_and_read(alloc, rt, now, &mut rows, reader, inner, &mut read)?;
+        mem::swap(&mut waiting, &mut read);
     }
     add_rows(alloc, rt, waiting.as_slice(), &mut rows)?;
     Ok(Items::from_vec(rows))

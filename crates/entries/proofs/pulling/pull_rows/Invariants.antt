@@ -1,10 +1,11 @@
-use Rattle.std.proofs.Common.{length}
-use Rattle.entries.proofs.MadeFacts.{Waits}
+use Rattle.std.proofs.Common.{◌≡◌, ◌∷◌, List, length}
+use Rattle.json.specs.Token.{Token, begin_array}
+use Rattle.entries.proofs.MadeFacts.{WaitsAt}
 use Rattle.entries.proofs.pulling.pull_rows.Given as goal
 
 -- the rows, and those that the entries that wait will get, are what is read of the items so far
-abbrev pub invariant-reading : goal.invariant-reading
-invariant-reading g l = Waits l.inner l.initial.reader l.reader l.rows.items l.waiting.items
+abbrev pub invariant-making : goal.invariant-making
+invariant-making g l = (first : List Token) × (l.fn.reader ≡ begin_array ∷ first) × WaitsAt l.inner first l.reader l.rows.items l.waiting.items l.more
 
-abbrev pub decreases-reading : goal.decreases-reading
-decreases-reading g l = length l.reader
+abbrev pub decreases-making : goal.decreases-making
+decreases-making g l = length l.reader
