@@ -125,12 +125,12 @@ pub fn inner_depth(depth: usize) -> Result<usize, ReadFault>
 /// The rows of an object that was read key by key: its keys with their values, in order.
 pub fn owned_rows<T: Drop>(
     alloc: Global,
-    mut found: BTreeMap<&str, T>,
+    found: BTreeMap<&str, T>,
 ) -> Result<Items<(Text, T)>, Memory>
     ensures { IfOk result (λ rows. rows ≡ owned_rows found.entry.entries) }
 {
     let mut rows = Items::new(alloc);
-    while let Some((key, value)) = found.pop_first() {
+    for (key, value) in found {
         rows.push((Text::from_str(alloc, key)?, value))?;
     }
     Ok(rows)
