@@ -9,10 +9,9 @@ use Rattle.paths.specs.Order.{name_cmp}
 use Rattle.trees.specs.declared.entry.Entry.{Entry}
 use Rattle.trees.specs.TreeMap.{TreeMap}
 use Rattle.trees.specs.Branch.{rows_of_children, AreChildren, AreChildrenFrom}
-use Rattle.trees.specs.PrivateNode.{NodeValue, map_of, kid_maps, below_name}
+use Rattle.trees.specs.PrivateNode.{NodeValue, map_of, kid_maps, below_name, node_of}
 use Rattle.trees.specs.PrivateWalk.{rows_of, AreKidsFrom}
 use Rattle.trees.proofs.NodeLaws.{get-map_of_root, get-map_of_cons, get-joined, lookup-find}
-use Rattle.trees.proofs.NodeSteps.{node_of}
 use Rattle.trees.proofs.KidLists.{is_sorted-kid_maps}
 use Rattle.trees.proofs.FromSteps.{kid_maps-from}
 

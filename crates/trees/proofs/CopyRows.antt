@@ -14,7 +14,7 @@ use Rattle.trees.specs.declared.copy.Change.{Change}
 use Rattle.trees.specs.declared.copy.Change.TheVariants.{Place, Make}
 use Rattle.paths.specs.Order.{name_cmp}
 use Rattle.trees.specs.TreeMap.{TreeMap, IsTree, is_directory}
-use Rattle.trees.specs.PrivateNode.{NodeValue, map_of, joined, below_name, IsBelow}
+use Rattle.trees.specs.PrivateNode.{NodeValue, map_of, joined, below_name, IsBelow, node_of}
 use Rattle.trees.specs.declared.entry.Entry.TheVariants.{Directory, File}
 use Rattle.trees.proofs.SubtreeLaws.{same-below, entries_below-IsBelow, below-IsTree}
 use Rattle.trees.proofs.TreeSteps.{own-entry}
@@ -22,7 +22,6 @@ use Rattle.trees.specs.Copy.{placed_entry, placements, match_changes, path_chang
 use Rattle.trees.specs.Subtree.{map_below}
 use Rattle.paths.proofs.FrontLaws.{both_first, both_second}
 use Rattle.trees.proofs.NodeLaws.{get-map_of_root}
-use Rattle.trees.proofs.NodeSteps.{node_of}
 use Rattle.trees.specs.PrivateWalk.{rows_of}
 use Rattle.trees.proofs.RowLists.{entries-node, entries-kids}
 

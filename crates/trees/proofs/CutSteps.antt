@@ -12,14 +12,14 @@ use Rattle.trees.specs.declared.entry.Entry.{Entry}
 use Rattle.trees.specs.declared.cause.Cause.TheVariants.{F1}
 use Rattle.paths.specs.Order.{name_cmp}
 use Rattle.trees.specs.TreeMap.{TreeMap, IsTree}
-use Rattle.trees.specs.PrivateNode.{NodeValue, map_of, joined}
+use Rattle.trees.specs.PrivateNode.{NodeValue, map_of, joined, node_of}
 use Rattle.paths.proofs.FrontLaws.{name_same}
 use Rattle.trees.specs.Remove.{without, remove_cause, removed}
 use Rattle.trees.specs.PrivateNode.{IsCut, AreCut, AreKids}
 use Rattle.trees.proofs.CauseLaws.{tree_or-none}
 use Rattle.trees.proofs.RemoveLaws.{under-cons, without-from_cut, without-IsTree}
 use Rattle.trees.proofs.NodeLaws.{get-map_of_root, get-map_of_cons, get-joined, lookup-find}
-use Rattle.trees.proofs.NodeSteps.{node_of, at_kid, path-parts}
+use Rattle.trees.proofs.NodeSteps.{at_kid, path-parts}
 
 pub kids-kept : (old new : List (List ℕ × NodeValue)) (name : List ℕ) → new ≡ old → None ≡ lookup (is_at (name_cmp name)) old → AreKids old new name None
 kids-kept old new name same none = record { at = λ d. ap (find name_cmp d) same ∙ by d (eq_by_cmp name_cmp d name) refl }

@@ -17,10 +17,10 @@ use Rattle.trees.specs.declared.entry.Entry.TheVariants.{Directory}
 use Rattle.trees.specs.declared.copy.CopyOptions.{CopyOptions}
 use Rattle.trees.specs.TreeMap.{TreeMap}
 use Rattle.trees.specs.Put.{planted}
-use Rattle.trees.specs.PrivateNode.{NodeValue, map_of, joined, filled, IsDepth, IsDeeper, IsPlanted, ArePlanted, AreCut, AreFilled, AreLaid}
+use Rattle.trees.specs.PrivateNode.{NodeValue, map_of, joined, filled, IsDepth, IsDeeper, IsPlanted, ArePlanted, AreCut, AreFilled, AreLaid, node_of}
 use Rattle.trees.specs.PrivateCopy.{IsPlacedNode}
 use Rattle.trees.proofs.NodeLaws.{get-map_of_root, get-map_of_cons, get-joined, lookup-find}
-use Rattle.trees.proofs.NodeSteps.{node_of, path-parts, blocked_in, at_kid}
+use Rattle.trees.proofs.NodeSteps.{path-parts, blocked_in, at_kid, chain-step}
 use Rattle.trees.proofs.KidLists.{found-among}
 use Rattle.trees.proofs.OverSteps.{laid-get}
 use Rattle.trees.proofs.PlacedSteps.{placed-some}
@@ -95,6 +95,10 @@ depth-chain top kids path parent entry h = record { few = by }
     by few (c ∷ cs) some =
         planted-few (λ _. None) path (c ∷ cs) parent entry (length path) (omega arith) (λ stood. absurd (true≢false (sym stood)))
         (sym (ap is_some (sym (get-map_of_cons (node_of top kids) c cs) ∙ h.at (c ∷ cs))) ∙ some)
+
+-- so is one child that is made so
+pub depth-one : (path : Path) (name : List ℕ) (parent : Meta) (entry : Entry) (kid : NodeValue) → 1 ≤ length path → name ≡ get_or path 0 name → IsPlanted (λ _. None) (map_of kid) (take (length path - 1) (drop 1 path)) parent entry → IsDepth (length path) (joined ((name, kid) ∷ []))
+depth-one path name parent entry kid more first chain = depth-chain (Directory parent) ((name, kid) ∷ []) path parent entry (chain-step ((name, kid) ∷ []) path name parent entry kid more first refl chain)
 
 -- ---- a path is cut
 

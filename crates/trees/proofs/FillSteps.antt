@@ -1,6 +1,7 @@
 -- One step down a path below whose end other things are put.
-use Rattle.std.specs.Prelude.{◌≡◌, ℕ, ◌-◌, ◌<◌, ◌≤◌, Bool, true, false, ◌&&◌, cond, Option, Some, None, List, [], ◌∷◌, ◌++◌, length, get_or, take, drop, is_some, option_and_then}
-use Rattle.std.proofs.Common.{sym, ap, refl, ◌∙◌, true≢false}
+use Rattle.std.specs.Prelude.{◌≡◌, ℕ, ◌-◌, ◌≤◌, Bool, true, false, ◌&&◌, cond, Option, Some, None, List, [], ◌∷◌, ◌++◌, length, get_or, take, drop, is_some, option_and_then, Result, Ok, Err, OnOk, ◌==◌}
+use Rattle.std.proofs.Common.{sym, ap, refl, ◌∙◌, true≢false, arith}
+use Rattle.std.proofs.lemmas.Bool.{eqb-true}
 use Rattle.std.specs.Map.{lookup}
 use Rattle.std.specs.BTreeMap.{is_at}
 use Rattle.std.specs.Ordering.{eq_by_cmp}
@@ -9,10 +10,10 @@ use Rattle.paths.specs.Order.{name_cmp}
 use Rattle.paths.specs.Fronts.{is_front}
 use Rattle.trees.specs.declared.entry.Entry.{Entry}
 use Rattle.trees.specs.TreeMap.{TreeMap}
-use Rattle.trees.specs.PrivateNode.{NodeValue, map_of, joined, filled, IsFilled, AreFilled}
+use Rattle.trees.specs.PrivateNode.{NodeValue, map_of, joined, filled, IsFilled, AreFilled, node_of}
 use Rattle.paths.proofs.FrontLaws.{name_same, name_itself}
 use Rattle.trees.proofs.NodeLaws.{get-map_of_root, get-map_of_cons, get-joined, lookup-find}
-use Rattle.trees.proofs.NodeSteps.{node_of, at_kid, path-parts, empty-path, IsKid, find_changed}
+use Rattle.trees.proofs.NodeSteps.{at_kid, path-parts, IsKid, find_changed}
 
 pulled : (b : Bool) (f : NodeValue → Option Entry) (kid : NodeValue) (o : Option NodeValue) → option_and_then f (cond b (Some kid) o) ≡ cond b (f kid) (option_and_then f o)
 pulled true f kid o = refl
@@ -82,22 +83,18 @@ fill-step value top old_kids kids path name below is more first h =
     kept_at none [] = get-map_of_root (node_of top kids) ∙ sym ((λ i. get (map_of (sym is i)) []) ∙ get-map_of_root (node_of top old_kids))
     kept_at none (d ∷ ds) = get-map_of_cons (node_of top kids) d ds ∙ h.kept (ap is_some (under name (take (length path - 1) (drop 1 path))) ∙ none) d ds ∙ under d ds
 
--- the node itself
-pub fill-own : (value : NodeValue) (top : Entry) (old_kids kids : List (List ℕ × NodeValue)) (path : List (List ℕ)) (below : TreeMap) → node_of top old_kids ≡ value → length path < 1 → joined kids ≡ below → IsFilled (get (map_of value)) (get (map_of (node_of top kids))) path below
-fill-own value top old_kids kids path below is less same =
-    record {
-      at = λ some q. by q ∙ (λ i. filled (get (map_of value)) below (sym (empty-path path less) i) q);
-      kept = λ none. absurd (true≢false (sym (ap is_some own) ∙ (λ i. is_some (get (map_of value) (sym (empty-path path less) i))) ∙ none));
-    }
+-- at the node itself, which keeps its entry
+pub fill-own : {X E : Type 0} (r : Result X E) (value new : NodeValue) (path : List (List ℕ)) (below : TreeMap) (told : Bool) → told ≡ (length path == 0) → told ≡ true → OnOk r (new.top ≡ value.top) → OnOk r (new.below ≡ below) → OnOk r (IsFilled (get (map_of value)) (get (map_of new)) path below)
+fill-own (Err e) value new path below told is empty top same = tt
+fill-own (Ok x) value new (c ∷ cs) below told is empty top same = absurd (omega (arith, eqb-true (length (c ∷ cs)) 0 (sym is ∙ empty)))
+fill-own (Ok x) value new [] below told is empty top same = record {
+  at = λ some q. by q;
+  kept = λ none q. absurd (true≢false (sym (ap is_some (get-map_of_root value)) ∙ none));
+}
   where
-    own : get (map_of value) [] ≡ Some top
-    own = (λ i. get (map_of (sym is i)) []) ∙ get-map_of_root (node_of top old_kids)
-
-    by : (q : List (List ℕ)) → get (map_of (node_of top kids)) q ≡ filled (get (map_of value)) below [] q
-    by [] = get-map_of_root (node_of top kids) ∙ sym ((λ i. get (map_of (sym is i)) []) ∙ get-map_of_root (node_of top old_kids))
-    by (c ∷ cs) = get-map_of_cons (node_of top kids) c cs ∙ ap (λ m. get m (c ∷ cs)) same
-
--- ---- what stands where
+    by : (q : List (List ℕ)) → get (map_of new) q ≡ filled (get (map_of value)) below [] q
+    by [] = get-map_of_root new ∙ ap Some top ∙ sym (get-map_of_root value)
+    by (c ∷ cs) = get-map_of_cons new c cs ∙ ap (λ m. get m (c ∷ cs)) same
 
 pub filled-under : (old : List (List ℕ) → Option Entry) (below : TreeMap) (path : List (List ℕ)) (c : List ℕ) (cs : List (List ℕ)) → filled old below path (path ++ c ∷ cs) ≡ get below (c ∷ cs)
 filled-under old below [] c cs = refl

@@ -13,11 +13,13 @@ use Rattle.std.specs.FinMap.Entries.{is_sorted, below_all}
 use Rattle.paths.specs.Order.{name_cmp}
 use Rattle.paths.proofs.FrontLaws.{both_hold, both_first, both_second}
 use Rattle.trees.specs.Branch.{from_name}
-use Rattle.trees.specs.PrivateNode.{NodeValue, lists_of, flat, are_full, are_below, IsPlace, StandsAt, GoesAt, kid_maps}
+use Rattle.trees.specs.PrivateNode.{NodeValue, lists_of, flat, are_full, are_below, IsPlace, StandsAt, GoesAt, kid_maps, node_of}
+use Rattle.trees.specs.PrivateWalk.{AreKidsFrom}
 use Rattle.trees.proofs.PartLists.{less, below-from_under, sorted-under, sorted-second, flat-cut, full-second}
 use Rattle.trees.proofs.PartSteps.{lists-length, lists-drop, lists-get}
 use Rattle.trees.proofs.NameSteps.{equal}
 use Rattle.trees.proofs.KidLists.{sorted-from_keys}
+use Rattle.trees.proofs.RowLists.{kids-rows}
 
 module _ {V : Type 0} (front : List ℕ) where
   first : (row : List ℕ × V) (rows : List (List ℕ × V)) (b : Bool) → is_lt (name_cmp row.0 front) ≡ b → from_name front (row ∷ rows) ≡ cond (not b) (row ∷ from_name front rows) (from_name front rows)
@@ -137,3 +139,8 @@ kid_maps-from front (kid ∷ kids) = by (is_lt (name_cmp kid.0 front)) (kid_maps
         → kid_maps (cond (not b) (kid ∷ from_name front kids) (from_name front kids)) ≡ cond (not b) (kid_maps (kid ∷ []) ++ from_name front (kid_maps kids)) (from_name front (kid_maps kids))
     by true more = more
     by false more = ap (λ maps. kid_maps (kid ∷ []) ++ maps) more
+
+-- the children of a node from a text on, as they are lent
+pub node-from : (value : NodeValue) (kids its : List (List ℕ × NodeValue)) (front : List ℕ) → node_of value.top kids ≡ value → IsStrictlySortedBy name_cmp (keys_of kids) → its ≡ from_name front kids → AreKidsFrom value front its
+node-from value kids its front is ordered from =
+    record { all = kids; whole = kids-rows value kids kids is refl ordered; left = from; rise = kids-from front kids its ordered from }

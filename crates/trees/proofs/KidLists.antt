@@ -9,15 +9,15 @@ use Rattle.std.specs.List.Sorted.{IsStrictlySortedBy}
 use Rattle.std.specs.Map.{keys_of, lookup}
 use Rattle.std.specs.Option.{option_or}
 use Rattle.std.specs.BTreeMap.{is_at}
+use Rattle.std.proofs.lemmas.Option.{same_Some}
 use Rattle.std.specs.FinMap.{get, find, insert, slice_cmp-IsAntisymmetric, nat_cmp-IsAntisymmetric}
 use Rattle.std.specs.FinMap.Entries.{is_sorted, below_all, same_entries}
 use Rattle.trees.specs.declared.entry.Entry.{Entry}
 use Rattle.paths.specs.Order.{name_cmp}
 use Rattle.trees.specs.TreeMap.{TreeMap}
-use Rattle.trees.specs.PrivateNode.{NodeValue, map_of, kid_maps, joined}
+use Rattle.trees.specs.PrivateNode.{NodeValue, map_of, kid_maps, joined, node_of}
 use Rattle.trees.proofs.TreeLaws.{same_tree}
 use Rattle.paths.proofs.FrontLaws.{both_hold, both_first, both_second, name_itself}
-use Rattle.trees.proofs.NodeSteps.{node_of}
 use Rattle.trees.proofs.PartLists.{less, find-append, not-below, below-from_under, sorted-under}
 use Rattle.trees.proofs.NodeLaws.{get-map_of_root, get-map_of_cons, get-joined, get-joined_root, lookup-find}
 
@@ -109,18 +109,14 @@ node-same v w top top' kids others v-is w-is tops = (
     below_same [] same = get-joined_root kids ∙ sym (get-joined_root others)
     below_same (c ∷ cs) same = sym (get-map_of_cons (node_of top kids) c cs) ∙ ap (λ m. get m (c ∷ cs)) same ∙ get-map_of_cons (node_of top' others) c cs
 
--- and with different entries they stand for different maps
-node-apart : (v w : NodeValue) (top top' : Entry) (kids others : List (List ℕ × NodeValue)) → node_of top kids ≡ v → node_of top' others ≡ w → map_of v ≡ map_of w → top ≡ top'
-node-apart v w top top' kids others v-is w-is same =
-    own-same top top' (sym (get-map_of_root (node_of top kids)) ∙ (λ i. get (map_of (v-is i)) []) ∙ ap (λ m. get m []) same ∙ (λ i. get (map_of (sym w-is i)) []) ∙ get-map_of_root (node_of top' others))
-
 -- what two comparisons say of two nodes
 pub same-both : (v w : NodeValue) (top top' : Entry) (kids others : List (List ℕ × NodeValue)) (told : Bool) → node_of top kids ≡ v → node_of top' others ≡ w → top ≡ top' → IsTrue told ↔ (joined kids ≡ joined others) → IsTrue told ↔ (map_of v ≡ map_of w)
 same-both v w top top' kids others told v-is w-is tops says =
     let h = node-same v w top top' kids others v-is w-is tops in (λ t. h.1 (says.0 t), λ e. says.1 (h.0 e))
 
-pub same-not : (v w : NodeValue) (top top' : Entry) (kids others : List (List ℕ × NodeValue)) (told : Bool) → node_of top kids ≡ v → node_of top' others ≡ w → told ≡ false → IsTrue told ↔ (top ≡ top') → (map_of v ≡ map_of w) → ⊥
-same-not v w top top' kids others told v-is w-is not_told says e = true≢false (sym (says.1 (node-apart v w top top' kids others v-is w-is e)) ∙ not_told)
+-- nodes that stand for the same map have the same entry
+pub tops-same : (v w : NodeValue) → map_of v ≡ map_of w → v.top ≡ w.top
+tops-same v w same = same_Some v.top w.top (sym (get-map_of_root v) ∙ ap (λ m. get m []) same ∙ get-map_of_root w)
 
 -- ---- a child that is gone through
 

@@ -9,10 +9,10 @@ use Rattle.paths.specs.Order.{name_cmp}
 use Rattle.paths.proofs.FrontLaws.{name_same, name_itself}
 use Rattle.trees.specs.declared.entry.Entry.{Entry}
 use Rattle.trees.specs.TreeMap.{is_directory}
-use Rattle.trees.specs.PrivateNode.{NodeValue, joined}
+use Rattle.trees.specs.PrivateNode.{NodeValue, joined, node_of}
 use Rattle.trees.specs.PrivateCopy.{MeetInDirectories}
 use Rattle.trees.proofs.NodeLaws.{get-map_of_root, get-map_of_cons, get-joined, lookup-find}
-use Rattle.trees.proofs.NodeSteps.{node_of, at_kid}
+use Rattle.trees.proofs.NodeSteps.{at_kid}
 
 abbrev Kids : Type 0
 Kids = List (List ℕ × NodeValue)

@@ -1,8 +1,9 @@
 -- One step down a path, as the code of a node takes it: the path's first name, the child of that name, and the rest of the path.
-use Rattle.std.specs.Prelude.{◌≡◌, ℕ, max, ◌+◌, ◌-◌, ◌<◌, ◌≤◌, Bool, true, false, not, cond, ◌||◌, ◌&&◌, Option, Some, None, List, [], ◌∷◌, length, get_or, take, drop, ◌++◌, MatchOption, option_and_then, Result, Ok, Err, OnErr, is_ok}
+use Rattle.std.specs.Prelude.{◌≡◌, ℕ, max, ◌+◌, ◌-◌, ◌<◌, ◌≤◌, Bool, true, false, not, cond, ◌||◌, ◌&&◌, Option, Some, None, List, [], ◌∷◌, length, get_or, take, drop, ◌++◌, MatchOption, option_and_then, Result, Ok, Err, IfOk, OnErr, is_ok}
 use Rattle.std.proofs.Common.{sym, ap, refl, ◌∙◌, subst, true≢false, arith, Bor}
 use Rattle.std.proofs.lemmas.Grind.{common_steps}
 use Rattle.std.proofs.lemmas.Option.{same_Some, none-some}
+use Rattle.std.proofs.lemmas.Result.{IfOk-weaker}
 use Rattle.std.specs.Map.{lookup}
 use Rattle.std.specs.BTreeMap.{is_at}
 use Rattle.std.specs.Ordering.{eq_by_cmp}
@@ -17,17 +18,13 @@ use Rattle.trees.specs.declared.entry.Entry.{Entry}
 use Rattle.paths.specs.Order.{name_cmp}
 use Rattle.paths.specs.Fronts.{is_front}
 use Rattle.trees.specs.TreeMap.{is_blocked, is_file, is_directory}
-use Rattle.trees.specs.PrivateNode.{NodeValue, map_of, joined, height_of, IsPlanted, ArePlanted, AreKids}
+use Rattle.trees.specs.PrivateNode.{NodeValue, map_of, joined, height_of, node_of, IsPlanted, ArePlanted, AreKids}
 use Rattle.trees.specs.Put.{planted}
 use Rattle.trees.specs.PrivateNode.{IsBelow}
 use Rattle.paths.proofs.FrontLaws.{name_same, path_eq-cons}
 use Rattle.trees.proofs.WayLaws.{is_blocked-cons, open-from_fronts}
 use Rattle.trees.proofs.TreeLaws.{same_tree}
 use Rattle.trees.proofs.NodeLaws.{get-map_of_root, get-map_of_cons, get-joined, get-joined_root, lookup-find}
-
--- the value of a node with this entry and these children
-abbrev pub node_of : Entry → List (List ℕ × NodeValue) → NodeValue
-node_of top kids = record { top = top; below = joined kids; height = height_of kids + 2 }
 
 whole_rest : {A : Type 0} (x : A) (xs : List A) → take (length (x ∷ xs) - 1) (drop 1 (x ∷ xs)) ≡ xs
 whole_rest x xs = grind (arith, common_steps)
@@ -42,17 +39,17 @@ empty-path [] less = refl
 empty-path (c ∷ cs) less = absurd (omega arith)
 
 -- at the root stands the node's own entry
-pub get-own : (value : NodeValue) (top : Entry) (kids : List (List ℕ × NodeValue)) (path : List (List ℕ)) → node_of top kids ≡ value → length path < 1 → Some top ≡ get (map_of value) path
-get-own value top kids path is less = sym ((λ i. get (map_of (sym is i)) (empty-path path less i)) ∙ get-map_of_root (node_of top kids))
+pub get-own : (value : NodeValue) (path : List (List ℕ)) → length path < 1 → get (map_of value) path ≡ Some value.top
+get-own value path less = ap (get (map_of value)) (empty-path path less) ∙ get-map_of_root value
 
--- below it stands what the child of the first name has
-pub get-kid : (value : NodeValue) (top : Entry) (kids : List (List ℕ × NodeValue)) (path : List (List ℕ)) (name : List ℕ) (kid : Option NodeValue) → node_of top kids ≡ value → 1 ≤ length path → name ≡ get_or path 0 name → kid ≡ lookup (is_at (name_cmp name)) kids
+-- what stands below a name is what its child has
+abbrev pub IsBelowName : NodeValue → List ℕ → Option NodeValue → Type 0
+IsBelowName value name kid = (rest : List (List ℕ)) → get (map_of value) (name ∷ rest) ≡ option_and_then (λ v. get (map_of v) rest) kid
+
+-- at a path that isn't the root stands what the child of the first name has
+pub get-kid : (value : NodeValue) (path : List (List ℕ)) (name : List ℕ) (kid : Option NodeValue) → 1 ≤ length path → name ≡ get_or path 0 name → IsBelowName value name kid
     → get (map_of value) path ≡ option_and_then (λ v. get (map_of v) (take (length path - 1) (drop 1 path))) kid
-get-kid value top kids path name kid is more first found =
-    let rest = take (length path - 1) (drop 1 path) in
-    (λ i. get (map_of (sym is i)) (path-parts path name more first i))
-    ∙ get-map_of_cons (node_of top kids) name rest ∙ get-joined kids name rest
-    ∙ ap (option_and_then (λ v. get (map_of v) rest)) (sym (found ∙ lookup-find name kids))
+get-kid value path name kid more first below = ap (get (map_of value)) (path-parts path name more first) ∙ below (take (length path - 1) (drop 1 path))
 
 -- ---- whether a file stands on the way
 
@@ -83,21 +80,14 @@ pub blocked-in_kid : (kid : Option NodeValue) (rest : List (List ℕ)) → is_bl
 blocked-in_kid None rest = open-from_fronts (λ _. None) rest (λ f g. refl)
 blocked-in_kid (Some kid) rest = refl
 
-module _ (value : NodeValue) (top : Entry) (kids : List (List ℕ × NodeValue)) (path : List (List ℕ)) (name : List ℕ) (is : node_of top kids ≡ value) (more : 1 ≤ length path) (first : name ≡ get_or path 0 name) where
-  -- what stands below the path's first name
-  pub below_first : (kid : Option NodeValue) → kid ≡ lookup (is_at (name_cmp name)) kids → (p : List (List ℕ)) → get (map_of value) (name ∷ p) ≡ option_and_then (λ v. get (map_of v) p) kid
-  below_first kid found p =
-      (λ i. get (map_of (sym is i)) (name ∷ p)) ∙ get-map_of_cons (node_of top kids) name p ∙ get-joined kids name p
-      ∙ ap (option_and_then (λ v. get (map_of v) p)) (sym (found ∙ lookup-find name kids))
-
-  pub blocked-step : (kid : Option NodeValue) → kid ≡ lookup (is_at (name_cmp name)) kids → is_blocked (get (map_of value)) path ≡ (not (is_directory (Some top)) || blocked_in kid (take (length path - 1) (drop 1 path)))
-  blocked-step kid found =
-      let rest = take (length path - 1) (drop 1 path) in
-      (λ i. is_blocked (get (map_of value)) (path-parts path name more first i))
-      ∙ is_blocked-cons (get (map_of value)) name rest
-      ∙ (λ i. is_file (get (map_of (sym is i)) []) || is_blocked (λ p. below_first kid found p i) rest)
-      ∙ (λ i. is_file (get-map_of_root (node_of top kids) i) || blocked-in_kid kid rest i)
-      ∙ ap (λ b. b || blocked_in kid rest) (file_top top)
+pub blocked-step : (value : NodeValue) (path : List (List ℕ)) (name : List ℕ) (kid : Option NodeValue) → 1 ≤ length path → name ≡ get_or path 0 name → IsBelowName value name kid
+    → is_blocked (get (map_of value)) path ≡ (not (is_directory (Some value.top)) || blocked_in kid (take (length path - 1) (drop 1 path)))
+blocked-step value path name kid more first below =
+    let rest = take (length path - 1) (drop 1 path) in
+    ap (is_blocked (get (map_of value))) (path-parts path name more first)
+    ∙ is_blocked-cons (get (map_of value)) name rest
+    ∙ (λ i. is_file (get-map_of_root value i) || is_blocked (λ p. below p i) rest)
+    ∙ (λ i. file_top value.top i || blocked-in_kid kid rest i)
 
 -- ---- an entry is put at a path
 
@@ -238,6 +228,10 @@ chain-step kids path name parent entry kid more first one changed_tree =
         ∙ kids-planted [] kids name rest parent entry kid None refl changed changed_tree d ds
         ∙ ap (λ o. cond (eq_by_cmp path_cmp (d ∷ ds) (name ∷ rest)) (Some entry) (option_or o (cond (is_front (d ∷ ds) (name ∷ rest)) (Some (Directory parent)) None))) (get-empty path_cmp (d ∷ ds))
 
+-- what holds of a node holds of what was made of it
+pub made-node : {E : Type 0} (made : Result NodeValue E) (P : NodeValue → Type 0) (inner node : NodeValue) → IfOk made (λ n. n ≡ inner) → inner ≡ node → P node → IfOk made P
+made-node made P inner node is same holds = IfOk-weaker made (λ n. n ≡ inner) P (λ n here. subst P (sym (here ∙ same)) holds) is
+
 -- a child is less high than the folder
 pub kid-lower : (kids : List (List ℕ × NodeValue)) (name : List ℕ) (kid : NodeValue) → lookup (is_at (name_cmp name)) kids ≡ Some kid → kid.height + 1 ≤ height_of kids
 kid-lower [] name kid has = absurd (none-some kid has)
@@ -257,8 +251,8 @@ abbrev pub IsFound : NodeValue → List (List ℕ) → Option (Bor NodeValue) �
 IsFound value path found = MatchOption found (get (map_of value) path ≡ None) (λ node. IsBelow (map_of value) path (map_of node.now))
 
 -- what is found in the child of the first name is found
-pub at-kid : (value : NodeValue) (top : Entry) (kids : List (List ℕ × NodeValue)) (path : List (List ℕ)) (name : List ℕ) (kid : NodeValue) (found : Option (Bor NodeValue)) → node_of top kids ≡ value → 1 ≤ length path → name ≡ get_or path 0 name → Some kid ≡ lookup (is_at (name_cmp name)) kids
+pub at-kid : (value : NodeValue) (path : List (List ℕ)) (name : List ℕ) (kid : NodeValue) (found : Option (Bor NodeValue)) → 1 ≤ length path → name ≡ get_or path 0 name → IsBelowName value name (Some kid)
     → IsFound kid (take (length path - 1) (drop 1 path)) found → IsFound value path found
-at-kid value top kids path name kid None is more first has none = get-kid value top kids path name (Some kid) is more first has ∙ none
-at-kid value top kids path name kid (Some node) is more first has lies =
-    record { at = λ q. lies.at q ∙ sym (below_first value top kids path name is more first (Some kid) has (take (length path - 1) (drop 1 path) ++ q)) ∙ (λ i. get (map_of value) (sym (path-parts path name more first) i ++ q)) }
+at-kid value path name kid None more first below none = get-kid value path name (Some kid) more first below ∙ none
+at-kid value path name kid (Some node) more first below lies =
+    record { at = λ q. lies.at q ∙ sym (below (take (length path - 1) (drop 1 path) ++ q)) ∙ (λ i. get (map_of value) (sym (path-parts path name more first) i ++ q)) }

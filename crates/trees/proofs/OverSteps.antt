@@ -13,13 +13,13 @@ use Rattle.trees.specs.declared.entry.Entry.{Entry}
 use Rattle.trees.specs.declared.entry.Entry.TheVariants.{Directory, File}
 use Rattle.paths.specs.Order.{name_cmp, path_cmp}
 use Rattle.trees.specs.TreeMap.{TreeMap, is_blocked, is_file, is_directory}
-use Rattle.trees.specs.PrivateNode.{NodeValue, map_of, joined, laid_kid, AreLaid}
+use Rattle.trees.specs.PrivateNode.{NodeValue, map_of, joined, laid_kid, AreLaid, node_of}
 use Rattle.trees.specs.Over.{over}
 use Rattle.paths.proofs.FrontLaws.{name_same}
 use Rattle.trees.proofs.WayLaws.{is_blocked-cons}
 use Rattle.trees.proofs.TreeLaws.{same_tree, get-over}
 use Rattle.trees.proofs.NodeLaws.{get-map_of_root, get-map_of_cons, get-joined, lookup-find}
-use Rattle.trees.proofs.NodeSteps.{node_of, IsKid, find_changed, blocked_in, blocked-in_kid, at_kid}
+use Rattle.trees.proofs.NodeSteps.{IsKid, find_changed, blocked_in, blocked-in_kid, at_kid}
 
 keep_some : (o d : Option Entry) (e : Entry) → o ≡ Some e → option_or o d ≡ o
 keep_some o d e is = (λ i. option_or (is i) d) ∙ sym is
@@ -155,9 +155,30 @@ laid-get old upper new laid c cs =
     ∙ both (find name_cmp c old) (find name_cmp c upper) cs
     ∙ (λ i. option_or (sym (get-joined upper c cs) i) (cond (blocked_in (find name_cmp c upper) cs) None (sym (get-joined old c cs) i)))
 
--- what the test for a directory said of the upper node
-pub told_file : (up : NodeValue) (top : Entry) (kids : List (List ℕ × NodeValue)) (told : Bool) → node_of top kids ≡ up → told ≡ is_directory (Some top) → told ≡ false → is_directory (Some up.top) ≡ false
-told_file up top kids told is said held = (λ i. is_directory (Some (sym is i).top)) ∙ sym said ∙ held
+-- over a node, a directory with nothing below it gives its own entry alone
+pub over-leaf : (lower upper new : NodeValue) → is_directory (Some upper.top) ≡ true → upper.below ≡ empty → new.top ≡ upper.top → new.below ≡ lower.below → map_of new ≡ over (map_of lower) (map_of upper)
+over-leaf lower upper new dir bare top same = same_tree _ _ at
+  where
+    none : (c : List ℕ) (cs : List (List ℕ)) → get (map_of upper) (c ∷ cs) ≡ None
+    none c cs = get-map_of_cons upper c cs ∙ ap (λ m. get m (c ∷ cs)) bare ∙ get-empty path_cmp (c ∷ cs)
+
+    open_way : (c : List ℕ) (cs : List (List ℕ)) → is_blocked (get (map_of upper)) (c ∷ cs) ≡ false
+    open_way c cs =
+        is_blocked-cons (get (map_of upper)) c cs
+        ∙ (λ i. (ap is_file (get-map_of_root upper) ∙ directory_top upper.top dir) i || is_blocked (λ p. none c p i) cs)
+        ∙ blocked-in_kid None cs
+
+    at : (q : List (List ℕ)) → get (map_of new) q ≡ get (over (map_of lower) (map_of upper)) q
+    at [] = get-map_of_root new ∙ ap Some top ∙ sym (get-over (map_of lower) (map_of upper) [] ∙ keep_some (get (map_of upper) []) _ upper.top (get-map_of_root upper) ∙ get-map_of_root upper)
+    at (c ∷ cs) =
+        get-map_of_cons new c cs ∙ ap (λ m. get m (c ∷ cs)) same ∙ sym (get-map_of_cons lower c cs)
+        ∙ (λ i. option_or (sym (none c cs) i) (cond (sym (open_way c cs) i) None (get (map_of lower) (c ∷ cs))))
+        ∙ sym (get-over (map_of lower) (map_of upper) (c ∷ cs))
+
+-- nodes whose children hide those below them
+pub hidden-whole : (low up below above : NodeValue) (old upper : List (List ℕ × NodeValue)) → node_of below.top old ≡ below → below ≡ low → node_of above.top upper ≡ above → above ≡ up → is_directory (Some up.top) ≡ true → AreLaid old upper upper → map_of up ≡ over (map_of low) (map_of up)
+hidden-whole low up below above old upper low-kids low-is up-kids up-is dir laid =
+    ap map_of (sym (up-kids ∙ up-is)) ∙ laid-all low up below.top above.top old upper upper (low-kids ∙ low-is) (up-kids ∙ up-is) (ap (λ (n : NodeValue). is_directory (Some n.top)) up-is ∙ dir) laid
 
 -- all are laid, rest being those that are left
 pub laid-done : (old upper new rest : List (List ℕ × NodeValue)) → AreLaying old upper new rest → rest ≡ [] → AreLaid old upper new

@@ -17,10 +17,9 @@ use Rattle.trees.specs.declared.copy.CopyOptions.{CopyOptions}
 use Rattle.trees.specs.declared.copy.Change.TheVariants.{Place}
 use Rattle.trees.specs.TreeMap.{IsTree, is_directory}
 use Rattle.trees.specs.Copy.{placed_entry, placements}
-use Rattle.trees.specs.PrivateNode.{NodeValue, map_of, below_name, lists_of, flat, is_full, are_full, are_parts, height_of, height_of-append}
+use Rattle.trees.specs.PrivateNode.{NodeValue, map_of, below_name, lists_of, flat, is_full, are_full, are_parts, height_of, height_of-append, node_of}
 use Rattle.trees.specs.PrivateWalk.{rows_of}
 use Rattle.trees.specs.PrivateCopy.{placed_rows, IsPlacedNode, ArePlacedKids, ArePlacedParts, keeping}
-use Rattle.trees.proofs.NodeSteps.{node_of}
 use Rattle.trees.proofs.KidLists.{passed-more}
 use Rattle.trees.proofs.PartLists.{names-append, same-sorted, same-full, full-append, full-second, flat-one}
 use Rattle.trees.proofs.PartSteps.{lists-append}

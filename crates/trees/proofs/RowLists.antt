@@ -17,13 +17,13 @@ use Rattle.paths.specs.Order.{path_cmp}
 use Rattle.paths.specs.Path.{IsClean}
 use Rattle.trees.specs.declared.entry.Entry.{Entry}
 use Rattle.paths.specs.Order.{name_cmp}
-use Rattle.trees.specs.PrivateNode.{NodeValue, map_of, joined, below_name}
+use Rattle.trees.specs.PrivateNode.{NodeValue, map_of, joined, below_name, node_of}
 use Rattle.trees.specs.Rows.{lent_rows}
 use Rattle.trees.specs.PrivateNode.{rows_under}
 use Rattle.trees.specs.PrivateWalk.{rows_of}
 use Rattle.paths.proofs.FrontLaws.{both_hold, both_first, both_second, name_same}
 use Rattle.trees.proofs.NodeLaws.{get-map_of_root, get-map_of_cons, get-joined, get-joined_root, find-below_name, find-below_name_root, lookup-find}
-use Rattle.trees.proofs.NodeSteps.{node_of, at_kid}
+use Rattle.trees.proofs.NodeSteps.{at_kid}
 use Rattle.trees.proofs.KidLists.{sorted-from_keys}
 
 less : (o : Ordering) → is_lt o ≡ true → o ≡ Less
@@ -150,6 +150,10 @@ pub below-clean : (kids : List (List ℕ × NodeValue)) (name : List ℕ) (kid :
     → ((q : List (List ℕ)) → is_some (get (joined kids) q) ≡ true → IsClean (at ++ q)) → (q : List (List ℕ)) → is_some (get (map_of kid) q) ≡ true → IsClean (below ++ q)
 below-clean kids name kid at below has same clean q s =
     subst IsClean (sym (append_assoc at (name ∷ []) q) ∙ ap (λ x. x ++ q) (sym same)) (clean (name ∷ q) (ap is_some (kid-there kids name kid has q) ∙ s))
+
+-- the rows of a node whose children are lent
+pub kids-rows : (value : NodeValue) (kids its : List (List ℕ × NodeValue)) → node_of value.top kids ≡ value → its ≡ kids → IsStrictlySortedBy name_cmp (keys_of kids) → entries (map_of value) ≡ ([], value.top) ∷ rows_of its
+kids-rows value kids its is lent ordered = entries-node value value.top kids is ∙ ap (λ (rows : List (List (List ℕ) × Entry)). ([], value.top) ∷ rows) (entries-kids kids ordered ∙ ap rows_of (sym lent))
 
 -- what is clean at and below a node is so below it
 pub kids-clean : {P : List (List ℕ) → Type 0} (value : NodeValue) (top : Entry) (kids : List (List ℕ × NodeValue)) → node_of top kids ≡ value → ((q : List (List ℕ)) → is_some (get (map_of value) q) ≡ true → P q) → (q : List (List ℕ)) → is_some (get (joined kids) q) ≡ true → P q

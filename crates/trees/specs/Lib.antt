@@ -18,3 +18,4 @@ pub mod PrivateFall
 pub mod PrivateLent
 pub mod PrivateCopy
 pub mod PrivateGrowing
+pub mod PrivateHeld

@@ -48,11 +48,6 @@ abbrev pub lists_of : {Z : Type 0} → List (Arc (List (List ℕ × NodeValue)) 
 lists_of [] = []
 lists_of (part ∷ parts) = (arc_value part) ∷ lists_of parts
 
--- the children behind a pointer, if there is one
-abbrev pub shared_kids : {Z : Type 0} → Option (Arc (List (List ℕ × NodeValue)) Z) → List (List ℕ × NodeValue)
-shared_kids None = []
-shared_kids (Some kids) = arc_value kids
-
 -- lists, one after the other
 abbrev pub flat : {V : Type 0} → List (List (List ℕ × V)) → List (List ℕ × V)
 flat [] = []
@@ -164,6 +159,10 @@ joined (kid ∷ kids) = insert_all (below_name kid.0 (entries (map_of kid.1))) (
 -- how high these children stand below their node: none at all is the height 0
 abbrev pub height_of : List (List ℕ × NodeValue) → ℕ
 height_of kids = most (λ kid. kid.height + 1) (values_of kids)
+
+-- the value of a node with this entry and these children
+abbrev pub node_of : Entry → List (List ℕ × NodeValue) → NodeValue
+node_of top kids = record { top = top; below = joined kids; height = height_of kids + 2 }
 
 -- of two lists, one after the other, the higher one counts
 pub height_of-append : (xs ys : List (List ℕ × NodeValue)) → height_of (xs ++ ys) ≡ max (height_of xs) (height_of ys)

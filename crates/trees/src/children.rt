@@ -16,8 +16,9 @@ ghost use Rattle.trees.specs.PrivateLent.{LendsKid};
 ghost use Rattle.trees.specs.PrivateCopy.{ArePlacedKids, MeetInDirectories};
 
 use crate::copy::Change;
+use crate::inner::lifted;
 use crate::kids::Kids;
-use crate::node::{Node, lifted};
+use crate::node::Node;
 use crate::part::{
     Part, has_room, make_room, own, part_of_one, place, placed_parts, put, share, take_away,
 };

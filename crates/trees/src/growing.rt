@@ -8,9 +8,9 @@ ghost use Rattle.paths.specs.Path.{IsClean};
 ghost use Rattle.trees.specs.PrivateNode.{joined, lists_of, are_full};
 ghost use Rattle.trees.specs.PrivateGrowing.{AreMoved, IsGrown, ComesNext, IsLast};
 
-use crate::below::Below;
+use crate::inner::lifted;
 use crate::names::Names;
-use crate::node::{Node, lifted};
+use crate::node::Node;
 use crate::part::Part;
 use crate::{Entry, Meta};
 use paths::Path;
@@ -101,8 +101,7 @@ impl Gathered {
         } = self;
         close(alloc, &mut parts, &mut rows)?;
         parts.reverse();
-        let kids = Below::of_parts(alloc, parts)?;
-        Ok(Node::folder(entry, kids, depth))
+        Node::of_parts(alloc, entry, parts, depth)
     }
 }
 

@@ -15,7 +15,6 @@
 #![tactic(auto)]
 
 mod apply;
-mod below;
 mod branch;
 mod cause;
 mod changes;
@@ -26,6 +25,7 @@ mod entry;
 mod few;
 mod folder;
 mod growing;
+mod inner;
 mod kids;
 pub mod laws;
 mod meta;

@@ -5,96 +5,129 @@ ghost use Rattle.trees.specs.TreeMap.{is_blocked, is_directory, meta_of};
 ghost use Rattle.trees.specs.Rows.{lent_rows};
 ghost use Rattle.trees.specs.Over.{over};
 ghost use Rattle.trees.specs.Copy.{placements, kind_of};
-ghost use Rattle.plain.specs.Limits.{most_components};
-ghost use Rattle.trees.specs.PrivateNode.{map_of, joined, IsDepth, IsDeeper, IsPlanted, IsBelow, IsCut, IsFilled, rows_under};
+ghost use Rattle.trees.specs.PrivateNode.{map_of, joined, node_of, IsDepth, IsDeeper, IsPlanted, IsBelow, IsCut, IsFilled, rows_under, are_parts, lists_of, kids_of};
+ghost use Rattle.trees.specs.PrivateHeld.{kids_in};
 ghost use Rattle.trees.specs.PrivateWalk.{rows_of, AreKidsFrom};
 ghost use Rattle.trees.specs.PrivateCopy.{IsPlacedNode, MeetInDirectories};
 
-use crate::below::Below;
+use crate::children::Children;
 use crate::copy::Change;
+use crate::inner::{Inner, own};
 use crate::kids::Kids;
+use crate::part::Part;
 use crate::{CopyOptions, Entry, Meta};
 use paths::{LongPath, Path};
-use plain::limits::MOST_COMPONENTS;
 use plain::{Exact, Memory, Text};
 use std::alloc::Global;
 use std::marker::Model;
-
-/// A depth that says nothing: no path of a tree has so many names.
-const UNKNOWN: usize = MOST_COMPONENTS + 1;
+use std::sync::Arc;
 
 /// An entry, with all that stands below it by the names of its directory. A file has no children.
 ///
-/// A copy of a node has the same entry and shares what is below it. So a small tree may stand for more paths than can be gone through, and
-/// a node knows how deep it is.
+/// Most nodes are files, so one takes no more than its entry, and what else a node with children has lies behind a pointer that its copies
+/// share.
 #[derive(Drop)]
 #[cycle(nodes)]
 pub(crate) struct Node {
-    entry: Entry,
-    kids: Below,
-    /// How many names the longest path below this node has.
-    depth: usize,
+    held: Held,
+}
+
+/// What a node holds.
+#[derive(Drop)]
+#[cycle(nodes)]
+enum Held {
+    /// An entry with nothing below it. It takes no memory of its own.
+    Leaf(Entry),
+    Folder(Arc<Inner, Global>),
 }
 
 impl Model for Node {
     ghost use Rattle.std.specs.Prelude.{◌+◌};
-    ghost use Rattle.trees.specs.PrivateNode.{NodeValue, node_code, joined, height_of, IsDepth};
-    ghost use Rattle.std.proofs.Common.{arith};
+    ghost use Rattle.trees.specs.PrivateNode.{NodeValue, node_code};
+    ghost use Rattle.trees.specs.PrivateHeld.{held_value};
 
     ghost Value = { NodeValue };
 
     ghost coded = { node_code };
 
-    ghost view = { λ n. record { top = n.entry; below = joined n.kids; height = height_of n.kids + 2 } };
+    ghost view = { λ n. held_value n.held };
 
-    ghost invariant = { λ n. IsDepth n.depth (joined n.kids) };
+    ghost size = { λ v. v.height + v.height + 1 };
 
-    ghost size = { λ v. v.height + v.height };
+    ghost use Rattle.trees.specs.PrivateFall.{node_falls};
 
-    ghost size_decreases = { λ a h. omega arith };
+    ghost size_decreases = { λ a h. node_falls a };
 }
 
 impl Node {
     /// An entry with nothing below it. It takes no memory.
     pub(crate) fn leaf(entry: Entry) -> Node
-        ensures top { result.top ≡ entry }
-        ensures below { result.below ≡ empty }
+        ensures { result ≡ node_of entry [] }
     {
         Node {
-            entry,
-            kids: Below::none(),
-            depth: 0,
+            held: Held::Leaf(entry),
         }
     }
 
-    /// An entry with these children, no path among and below which has more names than so many.
-    pub(crate) fn folder(entry: Entry, kids: Below, depth: usize) -> Node
-        requires { IsDepth depth (joined kids) }
-        ensures top { result.top ≡ entry }
-        ensures below { result.below ≡ joined kids }
+    /// An entry with the children of these parts, no path among and below which has more names than so many.
+    pub(crate) fn of_parts(
+        alloc: Global,
+        entry: Entry,
+        parts: Vec<Part>,
+        depth: usize,
+    ) -> Result<Node, Memory>
+        requires parts { are_parts (lists_of parts.items) ≡ true }
+        requires depth { IsDepth depth (joined (kids_of parts)) }
+        ensures { IfOk result (λ n. n ≡ node_of entry (kids_of parts)) }
     {
-        Node { entry, kids, depth }
+        Node::of_inner(alloc, Inner::of_parts(entry, parts, depth))
+    }
+
+    /// A node with children.
+    fn of_inner(alloc: Global, inner: Inner) -> Result<Node, Memory>
+        ensures { IfOk result (λ n. n ≡ inner) }
+    {
+        let shared = Arc::new(alloc, inner)?;
+        Ok(Node {
+            held: Held::Folder(shared),
+        })
+    }
+
+    /// What stands right below this node, lent, if it takes memory.
+    fn children(&self) -> Option<&Children>
+        ensures { node_of self.now.top (kids_in result) ≡ self.now }
+    {
+        match &self.held {
+            Held::Leaf(_) => None,
+            Held::Folder(inner) => Some(inner.kids()),
+        }
     }
 
     /// How many names the longest path below this node has. A number greater than that of any path of a tree says nothing.
     pub(crate) fn depth(&self) -> usize
         ensures { IsDepth result self.now.below }
     {
-        self.depth
+        match &self.held {
+            Held::Leaf(_) => 0,
+            Held::Folder(inner) => inner.depth(),
+        }
     }
 
     /// The mode and owner of this node's entry.
     pub(crate) fn meta(&self) -> Meta
         ensures { result ≡ meta_of self.now.top }
     {
-        self.entry.meta()
+        self.entry().meta()
     }
 
     /// This node's entry, lent.
     pub(crate) fn entry(&self) -> &Entry
         ensures { result.now ≡ self.now.top }
     {
-        &self.entry
+        match &self.held {
+            Held::Leaf(entry) => entry,
+            Held::Folder(inner) => inner.entry(),
+        }
     }
 
     /// Whether a path below this node has more names than so many. It goes down where it is deep enough.
@@ -102,35 +135,47 @@ impl Node {
     pub(crate) fn is_deeper(&self, most: usize) -> bool
         ensures { IsTrue result → IsDeeper most self.now.below }
     {
-        self.depth > most && self.kids.is_deeper(most)
+        match self.children() {
+            None => false,
+            Some(kids) => self.depth() > most && kids.is_deeper(most),
+        }
     }
 
     /// What stands right below this node, in the order of the names.
     pub(crate) fn kids(&self) -> Kids<'_>
         ensures { entries (map_of self.now) ≡ ([], self.now.top) ∷ rows_of result }
     {
-        self.kids.iter()
+        match self.children() {
+            None => Kids::of(&[]),
+            Some(kids) => kids.iter(),
+        }
     }
 
     /// What stands right below this node under names that don't come before a text, in the order of the names.
     pub(crate) fn kids_from(&self, front: &Text) -> Kids<'_>
         ensures { AreKidsFrom self.now front.now result }
     {
-        self.kids.iter_from(front)
+        match self.children() {
+            None => Kids::of(&[]),
+            Some(kids) => kids.iter_from(front),
+        }
     }
 
     /// What stands right below this node under a name.
     pub(crate) fn child(&self, name: &Text) -> Option<&Node>
         ensures { (rest : List (List ℕ)) → get (map_of self.now) (name.now ∷ rest) ≡ option_and_then (λ child. get (map_of child.now) rest) result }
     {
-        self.kids.get(name)
+        match self.children() {
+            None => None,
+            Some(kids) => kids.get(name),
+        }
     }
 
     /// Whether this node's entry is a directory.
     pub(crate) fn is_directory(&self) -> bool
         ensures { result ≡ is_directory (Some self.now.top) }
     {
-        self.entry.is_directory()
+        self.entry().is_directory()
     }
 
     /// The entry at a path below this node.
@@ -138,8 +183,8 @@ impl Node {
         ensures { option_copied result ≡ get (map_of self.now) path.now }
     {
         match path {
-            [] => Some(&self.entry),
-            [name, rest @ ..] => match self.kids.get(name) {
+            [] => Some(self.entry()),
+            [name, rest @ ..] => match self.child(name) {
                 Some(kid) => kid.find(rest),
                 None => None,
             },
@@ -162,7 +207,7 @@ impl Node {
     {
         match path {
             [] => Some(self),
-            [name, rest @ ..] => match self.kids.get(name) {
+            [name, rest @ ..] => match self.child(name) {
                 Some(kid) => kid.node_at(rest),
                 None => None,
             },
@@ -175,9 +220,9 @@ impl Node {
     {
         match path {
             [] => false,
-            [name, rest @ ..] => match self.kids.get(name) {
-                Some(kid) => !self.entry.is_directory() || kid.is_blocked(rest),
-                None => !self.entry.is_directory(),
+            [name, rest @ ..] => match self.child(name) {
+                Some(kid) => !self.is_directory() || kid.is_blocked(rest),
+                None => !self.is_directory(),
             },
         }
     }
@@ -195,11 +240,8 @@ impl Node {
             [] => Ok(Node::leaf(entry)),
             [name, rest @ ..] => {
                 let kid = Node::chain(alloc, rest, parent, entry)?;
-                Ok(Node {
-                    entry: Entry::Directory(parent),
-                    kids: Below::one(alloc, name, kid)?,
-                    depth: path.len(),
-                })
+                let top = Entry::Directory(parent);
+                Node::of_inner(alloc, Inner::one(alloc, top, name, kid, path.len())?)
             }
         }
     }
@@ -217,16 +259,58 @@ impl Node {
         ensures ok { OnOk result (IsPlanted (get (map_of self.old)) (map_of self.new) path.now parent entry) }
         ensures err { OnErr result (map_of self.new ≡ map_of self.old) }
     {
+        let Held::Folder(shared) = &mut self.held else {
+            return self.plant_leaf(alloc, path, parent, entry);
+        };
+        own(alloc, shared)?;
+        let Some(inner) = Arc::get_mut(shared) else {
+            return Err(Memory);
+        };
+        inner.plant(alloc, path, parent, entry)
+    }
+
+    /// Does so where nothing is below this node.
+    fn plant_leaf(
+        &mut self,
+        alloc: Global,
+        path: &[Text],
+        parent: Meta,
+        entry: Entry,
+    ) -> Result<(), Memory>
+        requires { self.old.below ≡ empty }
+        ensures ok { OnOk result (IsPlanted (get (map_of self.old)) (map_of self.new) path.now parent entry) }
+        ensures err { OnErr result (map_of self.new ≡ map_of self.old) }
+    {
         match path {
             [] => {
-                self.entry = entry;
+                *self = Node::leaf(entry);
                 Ok(())
             }
             [name, rest @ ..] => {
-                self.depth = self.depth.max(path.len());
-                self.kids.plant(alloc, name, rest, parent, entry)
+                let top = self.entry().copy(alloc)?;
+                let first = Node::chain(alloc, rest, parent, entry)?;
+                *self = Node::of_inner(alloc, Inner::one(alloc, top, name, first, path.len())?)?;
+                Ok(())
             }
         }
+    }
+
+    /// Gives this node another entry. What is below it stays. Where there is no memory, nothing has changed.
+    fn set_entry(&mut self, alloc: Global, entry: Entry) -> Result<(), Memory>
+        ensures top { OnOk result (self.new.top ≡ entry) }
+        ensures below { self.new.below ≡ self.old.below }
+        ensures err { OnErr result (self.new.top ≡ self.old.top) }
+    {
+        let Held::Folder(shared) = &mut self.held else {
+            *self = Node::leaf(entry);
+            return Ok(());
+        };
+        own(alloc, shared)?;
+        let Some(inner) = Arc::get_mut(shared) else {
+            return Err(Memory);
+        };
+        inner.set_entry(entry);
+        Ok(())
     }
 }
 
@@ -236,20 +320,31 @@ impl Node {
     pub(crate) fn same(&self, other: &Node) -> bool
         ensures { IsTrue result ↔ (map_of self.now ≡ map_of other.now) }
     {
-        self.entry.same(&other.entry) && self.kids.same(&other.kids)
+        if !self.entry().same(other.entry()) {
+            return false;
+        }
+        let Some(kids) = self.children() else {
+            return other.is_bare();
+        };
+        match other.children() {
+            None => kids.is_none(),
+            Some(others) => kids.same(others),
+        }
     }
 
     /// A node that stands for the same map and shares what is below it.
     pub(crate) fn copy(&self, alloc: Global) -> Result<Node, Memory>
         ensures { IfOk result (λ n. n ≡ self.now) }
     {
-        let entry = self.entry.copy(alloc)?;
-        let kids = self.kids.copy()?;
-        Ok(Node {
-            entry,
-            kids,
-            depth: self.depth,
-        })
+        match &self.held {
+            Held::Leaf(entry) => Ok(Node::leaf(entry.copy(alloc)?)),
+            Held::Folder(inner) => {
+                let shared = Arc::try_clone(inner)?;
+                Ok(Node {
+                    held: Held::Folder(shared),
+                })
+            }
+        }
     }
 
     /// Adds a row for each entry, in path order, this node's own path being `at`.
@@ -263,8 +358,11 @@ impl Node {
         requires { (q : List (List ℕ)) → is_some (get (map_of self.now) q) ≡ true → IsClean (at.now ++ q) }
         ensures { OnOk result (lent_rows rows.new.items ≡ lent_rows rows.old.items ++ rows_under at.now (entries (map_of self.now))) }
     {
-        rows.push((at.copy(alloc)?, &self.entry))?;
-        self.kids.push_rows(alloc, at, rows)
+        rows.push((at.copy(alloc)?, self.entry()))?;
+        match self.children() {
+            None => Ok(()),
+            Some(kids) => kids.push_rows(alloc, at, rows),
+        }
     }
 
     /// Adds a change for each entry below this node, in path order: it is placed below `at`, at its path from this node.
@@ -279,7 +377,10 @@ impl Node {
         requires { (q : List (List ℕ)) → is_some (get (map_of self.now) q) ≡ true → IsClean q }
         ensures { OnOk result (changes.new.items ≡ changes.old.items ++ placements options.now at.now (drop 1 (entries (map_of self.now)))) }
     {
-        self.kids.push_changes(alloc, options, at, changes)
+        match self.children() {
+            None => Ok(()),
+            Some(kids) => kids.push_changes(alloc, options, at, changes),
+        }
     }
 
     /// A node with the same paths, each entry of which has the mode and owner with which it is placed.
@@ -287,13 +388,13 @@ impl Node {
     pub(crate) fn placed(&self, alloc: Global, options: &CopyOptions) -> Result<Node, Memory>
         ensures { IfOk result (λ node. IsPlacedNode options.now self.now node) }
     {
-        let entry = options.placed_entry(alloc, &self.entry)?;
-        let kids = self.kids.placed(alloc, options)?;
-        Ok(Node {
-            entry,
-            kids,
-            depth: self.depth,
-        })
+        match &self.held {
+            Held::Leaf(entry) => Ok(Node::leaf(options.placed_entry(alloc, entry)?)),
+            Held::Folder(inner) => {
+                let placed = inner.placed(alloc, options)?;
+                Node::of_inner(alloc, placed)
+            }
+        }
     }
 
     /// Lays another node over this one, and answers whether this one is less deep than before. Where there is no memory, it is left
@@ -302,25 +403,36 @@ impl Node {
     pub(crate) fn lay_over(&mut self, alloc: Global, upper: &Node) -> Result<bool, Memory>
         ensures { OnOk result (map_of self.new ≡ over (map_of self.old) (map_of upper.now)) }
     {
-        let before = self.depth;
-        if !upper.entry.is_directory() {
+        let before = self.depth();
+        if !upper.is_directory() {
             *self = upper.copy(alloc)?;
             return Ok(before > 0);
         }
-        self.entry = upper.entry.copy(alloc)?;
-        let deepest = before.max(upper.depth);
-        // Where there is no memory, what is half done may be anything.
-        self.depth = UNKNOWN;
-        let is_less = self.kids.lay_over(alloc, &upper.kids)?;
-        self.depth = depth_of(&self.kids, deepest, is_less);
-        Ok(self.depth < before)
+        let Held::Folder(uppers) = &upper.held else {
+            self.set_entry(alloc, upper.entry().copy(alloc)?)?;
+            return Ok(false);
+        };
+        let Held::Folder(shared) = &mut self.held else {
+            *self = upper.copy(alloc)?;
+            return Ok(false);
+        };
+        // Folders of files are mostly laid over others of the same names: they are shared then, and no name is copied.
+        if shared.kids().is_hidden_by(uppers.kids()) {
+            *self = upper.copy(alloc)?;
+            return Ok(self.depth() < before);
+        }
+        own(alloc, shared)?;
+        let Some(inner) = Arc::get_mut(shared) else {
+            return Err(Memory);
+        };
+        inner.lay_over(alloc, uppers)
     }
 
     /// Whether nothing of another node is left once this one is laid over it: this one is a file, or nothing is below the other.
     pub(crate) fn hides(&self, lower: &Node) -> bool
         ensures { IsTrue result → over (map_of lower.now) (map_of self.now) ≡ map_of self.now }
     {
-        !self.entry.is_directory() || lower.is_bare()
+        !self.is_directory() || lower.is_bare()
     }
 
     /// Puts what is below a folder below the node at a path, if there is one, in place of what was below that. All of it is shared.
@@ -328,19 +440,45 @@ impl Node {
     pub(crate) fn fill(&mut self, alloc: Global, path: &[Text], folder: &Node) -> Result<(), Memory>
         ensures { OnOk result (IsFilled (get (map_of self.old)) (get (map_of self.new)) path.now folder.now.below) }
     {
-        match path {
-            [] => {
-                self.kids = folder.kids.copy()?;
-                self.depth = folder.depth;
-                Ok(())
-            }
-            [name, rest @ ..] => {
-                let deepest = self.depth.max(lifted(folder.depth, path.len()));
-                // Where there is no memory, what is half done may be anything.
-                self.depth = UNKNOWN;
-                self.kids.fill(alloc, name, rest, folder)?;
-                self.depth = deepest;
-                Ok(())
+        if path.is_empty() {
+            return self.hold(alloc, folder);
+        }
+        let Held::Folder(shared) = &mut self.held else {
+            return Ok(());
+        };
+        own(alloc, shared)?;
+        let Some(inner) = Arc::get_mut(shared) else {
+            return Err(Memory);
+        };
+        inner.fill(alloc, path, folder)
+    }
+
+    /// Puts what is below a folder below this node, in place of what was there.
+    fn hold(&mut self, alloc: Global, folder: &Node) -> Result<(), Memory>
+        ensures top { OnOk result (self.new.top ≡ self.old.top) }
+        ensures below { OnOk result (self.new.below ≡ folder.now.below) }
+    {
+        let top = self.entry();
+        // A folder with the same entry is shared as a whole, and otherwise the parts of its children are.
+        if top.same(folder.entry()) {
+            *self = folder.copy(alloc)?;
+            return Ok(());
+        }
+        let entry = top.copy(alloc)?;
+        *self = folder.with_entry(alloc, entry)?;
+        Ok(())
+    }
+
+    /// A node with another entry, below which is the same. The parts of its children are shared.
+    fn with_entry(&self, alloc: Global, entry: Entry) -> Result<Node, Memory>
+        ensures top { IfOk result (λ n. n.top ≡ entry) }
+        ensures below { IfOk result (λ n. n.below ≡ self.now.below) }
+    {
+        match &self.held {
+            Held::Leaf(_) => Ok(Node::leaf(entry)),
+            Held::Folder(inner) => {
+                let other = inner.with_entry(alloc, entry)?;
+                Node::of_inner(alloc, other)
             }
         }
     }
@@ -350,7 +488,10 @@ impl Node {
         ensures bare { IsTrue result → self.now.below ≡ empty }
         ensures full { result ≡ false → (name : List ℕ) × (is_some (get self.now.below (name ∷ [])) ≡ true) }
     {
-        self.kids.is_none()
+        match self.children() {
+            None => true,
+            Some(kids) => kids.is_none(),
+        }
     }
 
     /// Whether something stands at one path below both, unless it is a directory in both. The names of the other are looked up here, and
@@ -359,7 +500,13 @@ impl Node {
     pub(crate) fn meets(&self, other: &Node) -> bool
         ensures { result ≡ false → MeetInDirectories self.now.below other.now.below }
     {
-        self.kids.meets(&other.kids)
+        let Some(kids) = self.children() else {
+            return false;
+        };
+        match other.children() {
+            None => false,
+            Some(others) => kids.meets(others),
+        }
     }
 
     /// Takes away what stands at a path below this node, with all below it. Where there is no memory, nothing has changed.
@@ -369,44 +516,13 @@ impl Node {
         ensures ok { OnOk result (IsCut (get (map_of self.old)) (get (map_of self.new)) path.now) }
         ensures err { OnErr result (map_of self.new ≡ map_of self.old) }
     {
-        match path {
-            [] => Ok(()),
-            [name, rest @ ..] => {
-                let is_deepest = self.is_deepest(name);
-                self.kids.cut(alloc, name, rest)?;
-                self.depth = depth_of(&self.kids, self.depth, is_deepest);
-                Ok(())
-            }
-        }
+        let Held::Folder(shared) = &mut self.held else {
+            return Ok(());
+        };
+        own(alloc, shared)?;
+        let Some(inner) = Arc::get_mut(shared) else {
+            return Err(Memory);
+        };
+        inner.cut(alloc, path)
     }
-
-    /// Whether no child is deeper than the one of a name. It is asked only to save going through all of them.
-    fn is_deepest(&self, name: &Text) -> bool {
-        match self.kids.get(name) {
-            Some(kid) => lifted(kid.depth, 1) >= self.depth,
-            None => false,
-        }
-    }
-}
-
-/// How deep children are that are no deeper than `deepest`, and as deep as that unless one of them is less deep than before.
-fn depth_of(kids: &Below, deepest: usize, is_less: bool) -> usize
-    requires { IsDepth deepest (joined kids.now) }
-    ensures { IsDepth result (joined kids.now) }
-{
-    if is_less {
-        kids.depth(deepest)
-    } else {
-        deepest
-    }
-}
-
-/// How deep it is below a node where it is so deep so many names further down.
-pub(crate) fn lifted(depth: usize, names: usize) -> usize
-    ensures { result ≤ most_components → depth + names ≤ result }
-{
-    if depth > MOST_COMPONENTS || names > MOST_COMPONENTS {
-        return UNKNOWN;
-    }
-    depth + names
 }

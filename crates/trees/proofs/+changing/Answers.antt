@@ -8,7 +8,7 @@ use Rattle.trees.proofs.KidLists.{found-among, passed-more}
 use Rattle.trees.specs.PrivateWalk.{rows_of}
 use Rattle.trees.proofs.RowLists.{child-clean, below-clean, kids-clean}
 use Rattle.trees.proofs.CopyRows.{items-step, items-all, items-node}
-use Rattle.trees.proofs.BelowSteps.{no-kids, none-changes}
+use Rattle.trees.proofs.BelowSteps.{none-changes}
 use Rattle.trees.proofs.+changing.Goals as goal
 
 pub children::Children::push_changes-loop-name-init : goal.children::Children::push_changes-loop-name-init
@@ -23,7 +23,7 @@ children::Children::push_changes-push_changes-requires t c =
     let has = found-among c.args.self.now c.loop-name.invariant.1.0 c.next.new.self c.loop-name.kids c.in-Some.name.now c.in-Some.kid.now c.iter-kids.ensures.ordered c.loop-name.invariant.1.1 c.in-Some.ensures in
     let low = kid-lower c.args.self.now c.in-Some.name.now c.in-Some.kid.now has in
     let d : height_of c.args.self.now + height_of c.args.self.now + 1 ≡ t = c.decreases in
-    let g : c.in-Some.kid.now.height + c.in-Some.kid.now.height < t = omega arith in
+    let g : c.in-Some.kid.now.height + c.in-Some.kid.now.height + 1 < t = omega arith in
     (g, λ q s. clean-below (c.in-Some.name.now ∷ []) q (below-clean c.args.self.now c.in-Some.name.now c.in-Some.kid.now [] (c.in-Some.name.now ∷ []) has refl c.requires q s))
 
 pub children::Children::push_changes-loop-name-preserved : goal.children::Children::push_changes-loop-name-preserved
@@ -40,14 +40,16 @@ children::Children::push_changes-returns t c =
 
 pub node::Node::push_changes-push_changes-requires : goal.node::Node::push_changes-push_changes-requires
 node::Node::push_changes-push_changes-requires t c =
-    let same : height_of c.self.inside.kids + 2 ≡ c.args.self.now.height = ap (λ v. v.height) c.self.view_is in
-    let d : c.args.self.now.height + c.args.self.now.height ≡ t = c.decreases in
-    let g : height_of c.self.inside.kids + height_of c.self.inside.kids + 2 < t = omega arith in
-    (g, kids-clean _ c.self.inside.entry c.self.inside.kids c.self.view_is c.requires)
+    let k = height_of c.in-Some.kids.now in
+    let same : k + 2 ≡ c.args.self.now.height = ap (λ v. v.height) c.in-Some.ensures in
+    let d : c.args.self.now.height + c.args.self.now.height + 1 ≡ t = c.decreases in
+    let g : k + k + 1 < t = omega arith in
+    (g, kids-clean _ c.args.self.now.top c.in-Some.kids.now c.in-Some.ensures c.requires)
 
-pub node::Node::push_changes-returns : goal.node::Node::push_changes-returns
-node::Node::push_changes-returns t c =
-    on_ok_weaker _ (items-node c.args.options.now c.args.at.now _ c.self.inside.entry c.self.inside.kids c.args.changes.now.items c.push_changes.new.changes.items c.self.view_is) c.push_changes.ensures
+pub node::Node::push_changes-returns-in-Some : goal.node::Node::push_changes-returns-in-Some
+node::Node::push_changes-returns-in-Some t c =
+    on_ok_weaker _ (items-node c.args.options.now c.args.at.now _ c.args.self.now.top c.in-Some.kids.now c.args.changes.now.items c.push_changes.new.changes.items c.in-Some.ensures) c.push_changes.ensures
 
-pub below::Below::push_changes-returns-in-None : goal.below::Below::push_changes-returns-in-None
-below::Below::push_changes-returns-in-None t c = none-changes c.args.changes.now.items c.args.options.now c.args.at.now c.args.self.now (no-kids c.self.inside.kids c.args.self.now c.self.view_is c.in-None.is)
+pub node::Node::push_changes-returns-in-None : goal.node::Node::push_changes-returns-in-None
+node::Node::push_changes-returns-in-None t c =
+    items-node c.args.options.now c.args.at.now _ c.args.self.now.top [] c.args.changes.now.items _ c.in-None.ensures (none-changes c.args.changes.now.items c.args.options.now c.args.at.now [] refl)

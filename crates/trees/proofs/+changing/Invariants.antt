@@ -5,7 +5,7 @@ use Rattle.trees.specs.PrivateWalk.{rows_of}
 use Rattle.trees.proofs.+changing.Given as goal
 
 abbrev pub decreases-node::Node::push_changes : goal.decreases-node::Node::push_changes
-decreases-node::Node::push_changes l = l.self.now.height + l.self.now.height
+decreases-node::Node::push_changes l = l.self.now.height + l.self.now.height + 1
 
 abbrev pub decreases-children::Children::push_changes : goal.decreases-children::Children::push_changes
 decreases-children::Children::push_changes l = height_of l.self.now + height_of l.self.now + 1
@@ -16,6 +16,3 @@ invariant-children::Children::push_changes-loop-name l = (l.changes.items ++ pla
 
 abbrev pub decreases-children::Children::push_changes-loop-name : goal.decreases-children::Children::push_changes-loop-name
 decreases-children::Children::push_changes-loop-name l = length l.kids
-
-abbrev pub decreases-below::Below::push_changes : goal.decreases-below::Below::push_changes
-decreases-below::Below::push_changes l = height_of l.self.now + height_of l.self.now + 2

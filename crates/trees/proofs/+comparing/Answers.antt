@@ -1,15 +1,22 @@
-use Rattle.std.proofs.Common.{◌∙◌, sym, [], ◌∷◌, ◌++◌, true≢false}
-use Rattle.trees.proofs.KidLists.{same-start, same-both, same-not, same-step, passed-more}
-use Rattle.trees.proofs.BelowSteps.{no-kids, some-kids, same-none, none-same}
+use Rattle.std.proofs.Common.{◌∙◌, sym, refl, [], ◌∷◌, ◌++◌, true≢false}
+use Rattle.trees.proofs.KidLists.{same-start, tops-same, same-both, same-step, passed-more}
+use Rattle.trees.proofs.BelowSteps.{bare-same, none-same}
 use Rattle.trees.proofs.+comparing.Goals as goal
 
-pub node::Node::same-returns-then-same : goal.node::Node::same-returns-then-same
-node::Node::same-returns-then-same t c =
-    same-both _ _ c.self.inside.entry c.other.inside.entry c.self.inside.kids c.other.inside.kids _ c.self.view_is c.other.view_is (c.same.ensures.0 c.if-same.true) c.same-then-same.ensures
+pub node::Node::same-returns-then-not-same : goal.node::Node::same-returns-then-not-same
+node::Node::same-returns-then-not-same t c =
+    (λ h. absurd (true≢false (sym h)), λ e. absurd (true≢false (sym (c.same.ensures.1 (c.entry.ensures ∙ tops-same c.args.self.now c.args.other.now e ∙ sym c.entry-2.ensures)) ∙ c.if-not-same.true)))
 
-pub node::Node::same-returns-else-same : goal.node::Node::same-returns-else-same
-node::Node::same-returns-else-same t c =
-    (λ h. absurd (true≢false (sym h ∙ c.if-same.false)), λ e. absurd (same-not _ _ c.self.inside.entry c.other.inside.entry c.self.inside.kids c.other.inside.kids _ c.self.view_is c.other.view_is c.if-same.false c.same.ensures e))
+pub node::Node::same-returns-in_default : goal.node::Node::same-returns-in_default
+node::Node::same-returns-in_default t c = bare-same c.args.self.now c.args.other.now c.is_bare.result c.in_default.ensures (sym c.entry.ensures ∙ c.same.ensures.0 c.if-not-same.false ∙ c.entry-2.ensures) c.is_bare.ensures.bare c.is_bare.ensures.full
+
+pub node::Node::same-returns-in-None : goal.node::Node::same-returns-in-None
+node::Node::same-returns-in-None t c =
+    same-both _ _ c.args.self.now.top c.args.other.now.top c.in-Some.kids.now [] _ c.in-Some.ensures c.in-None.ensures (sym c.entry.ensures ∙ c.same.ensures.0 c.if-not-same.false ∙ c.entry-2.ensures) (none-same c.in-Some.kids.now c.in-Some.kids.now [] _ refl refl c.is_none.ensures)
+
+pub node::Node::same-returns-in-Some-children : goal.node::Node::same-returns-in-Some-children
+node::Node::same-returns-in-Some-children t c =
+    same-both _ _ c.args.self.now.top c.args.other.now.top c.in-Some.kids.now c.in-Some-children.others.now _ c.in-Some.ensures c.in-Some-children.ensures (sym c.entry.ensures ∙ c.same.ensures.0 c.if-not-same.false ∙ c.entry-2.ensures) c.same-in-Some-children.ensures
 
 pub children::Children::same-loop-name-init : goal.children::Children::same-loop-name-init
 children::Children::same-loop-name-init t c =
@@ -20,11 +27,3 @@ children::Children::same-loop-name-preserved t c = (
   same-step c.loop-name.kids c.next.new.self c.loop-name.others c.next-in-Some.new.self c.in-Some.name.now c.in-Some-next.other_name.now c.in-Some.kid.now c.in-Some-next.other_kid.now c.loop-name.invariant.0 c.in-Some.ensures c.in-Some-next.ensures (c.same.ensures.0 c.if-not-same.false) (c.same-in-Some-next.ensures.0 c.if-not-same-2.false),
   (c.loop-name.invariant.1.0 ++ (c.in-Some.name.now, c.in-Some.kid.now) ∷ [], passed-more c.args.self.now c.loop-name.invariant.1.0 c.next.new.self c.loop-name.kids c.in-Some.name.now c.in-Some.kid.now c.loop-name.invariant.1.1 c.in-Some.ensures),
 )
-
-pub below::Below::same-returns-in_default : goal.below::Below::same-returns-in_default
-below::Below::same-returns-in_default t c = same-none c.args.self.now c.args.other.now _ (no-kids c.self.inside.kids c.args.self.now c.self.view_is c.in_default.is) c.is_none.ensures
-
-pub below::Below::same-returns-in-None : goal.below::Below::same-returns-in-None
-below::Below::same-returns-in-None t c =
-    none-same c.deref.result.now c.args.self.now c.args.other.now _ (some-kids c.self.inside.kids c.in-Some.kids c.deref.result.now c.args.self.now c.self.view_is c.in-Some.is c.deref.ensures)
-    (no-kids c.other.inside.kids c.args.other.now c.other.view_is c.in-None.is) c.is_none-in-None.ensures

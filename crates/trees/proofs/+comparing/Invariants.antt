@@ -10,10 +10,7 @@ abbrev pub decreases-children::Children::same-loop-name : goal.decreases-childre
 decreases-children::Children::same-loop-name l = length l.kids
 
 abbrev pub decreases-node::Node::same : goal.decreases-node::Node::same
-decreases-node::Node::same l = l.self.now.height + l.self.now.height
+decreases-node::Node::same l = l.self.now.height + l.self.now.height + 1
 
 abbrev pub decreases-children::Children::same : goal.decreases-children::Children::same
 decreases-children::Children::same l = height_of l.self.now + height_of l.self.now + 1
-
-abbrev pub decreases-below::Below::same : goal.decreases-below::Below::same
-decreases-below::Below::same l = height_of l.self.now + height_of l.self.now + 2

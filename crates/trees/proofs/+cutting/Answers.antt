@@ -1,36 +1,37 @@
-use Rattle.std.proofs.Common.{ap, refl, None, Some}
+use Rattle.std.proofs.Common.{ap, sym, subst, refl, None, Some}
 use Rattle.std.proofs.lemmas.Result.{on_ok_weaker, on_err_weaker}
 use Rattle.trees.proofs.NodeSteps.{keep-kid}
 use Rattle.trees.proofs.CutSteps.{cut-kid, cut-step, cut-empty, cut-none, kids-kept}
 use Rattle.std.proofs.Common.{◌≡◌, ◌+◌, ◌<◌, arith}
-use Rattle.trees.specs.PrivateNode.{height_of, joined}
+use Rattle.trees.specs.PrivateNode.{NodeValue, map_of, height_of, joined, IsCut}
 use Rattle.trees.proofs.CutSteps.{long-path}
 use Rattle.std.specs.Prelude.{is_ok}
+use Rattle.std.specs.FinMap.{get}
 use Rattle.trees.proofs.NodeSteps.{is-kid, at-err, there, found-lower}
 use Rattle.trees.proofs.DepthSteps.{depth-cut}
-use Rattle.trees.proofs.BelowSteps.{no-kids, none-cut}
+use Rattle.trees.proofs.BelowSteps.{leaf-bare, leaf-cut}
 use Rattle.trees.proofs.+cutting.Goals as goal
 
-pub node::Node::cut-returns-in_ok-cut-in-len1-up-clause-ok : goal.node::Node::cut-returns-in_ok-cut-in-len1-up-clause-ok
-node::Node::cut-returns-in_ok-cut-in-len1-up-clause-ok t c =
+pub inner::Inner::cut-returns-in_ok-cut-in-len1-up-clause-ok : goal.inner::Inner::cut-returns-in_ok-cut-in-len1-up-clause-ok
+inner::Inner::cut-returns-in_ok-cut-in-len1-up-clause-ok t c =
     cut-step _ _ c.self.inside.kids c.cut.new.self _ c.name-item.result c.self.view_is c.in-len1-up.len_at_least c.name-item.is c.in_ok-cut-in-len1-up.ensures.ok
 
-pub node::Node::cut-depth_of-self-inside-requires : goal.node::Node::cut-depth_of-self-inside-requires
-node::Node::cut-depth_of-self-inside-requires t c =
+pub inner::Inner::cut-depth_of-self-inside-requires : goal.inner::Inner::cut-depth_of-self-inside-requires
+inner::Inner::cut-depth_of-self-inside-requires t c =
     depth-cut c.self.inside.depth (joined c.self.inside.kids) (joined c.cut.new.self) c.name-item.result _ c.in_ok-cut-in-len1-up.ensures.ok c.self.invariant
 
 pub children::Children::cut-cut-requires : goal.children::Children::cut-cut-requires
 children::Children::cut-cut-requires t c =
     let low = found-lower c.args.self.now c.args.name.now c.in-Ok.kid.now c.in-Ok.ensures.kid in
     let d : height_of c.args.self.now + height_of c.args.self.now + 1 ≡ t = c.decreases in
-    let g : c.in-Ok.kid.now.height + c.in-Ok.kid.now.height < t = omega arith in
+    let g : c.in-Ok.kid.now.height + c.in-Ok.kid.now.height + 1 < t = omega arith in
     (g, long-path c.args.rest.now c.is_empty.result c.is_empty.ensures c.if-is_empty.false)
 
-pub node::Node::cut-cut-requires : goal.node::Node::cut-cut-requires
-node::Node::cut-cut-requires t c =
+pub inner::Inner::cut-cut-requires : goal.inner::Inner::cut-cut-requires
+inner::Inner::cut-cut-requires t c =
     let same : height_of c.self.inside.kids + 2 ≡ c.args.self.now.height = ap (λ v. v.height) c.self.view_is in
     let d : c.args.self.now.height + c.args.self.now.height ≡ t = c.decreases in
-    let g : height_of c.self.inside.kids + height_of c.self.inside.kids + 2 < t = omega arith in
+    let g : height_of c.self.inside.kids + height_of c.self.inside.kids + 1 < t = omega arith in
     (g, tt)
 
 pub children::Children::cut-returns-then-is_empty-clause-ok : goal.children::Children::cut-returns-then-is_empty-clause-ok
@@ -52,6 +53,7 @@ children::Children::cut-returns-in-Err-Because-clause-ok t c =
     let none = there c.args.self.now c.args.name.now None (c.in-Err-Because.ensures.absent c.in-Err-Because.field-0-0 c.in-Err-Because.field-0-is) in
     cut-kid c.args.self.now c.own_mut.follows.lender-at-none c.args.name.now _ None None none (kids-kept _ _ _ (at-err c.own_mut.result c.in-Err-Because.field-0 c.in-Err-Because.is c.own_mut.follows.holds-at-none) none) (cut-none _)
 
-pub below::Below::cut-returns-in_default-clause-ok : goal.below::Below::cut-returns-in_default-clause-ok
-below::Below::cut-returns-in_default-clause-ok t c =
-    none-cut c.args.self.now _ c.args.name.now c.args.rest.now (no-kids c.self.inside.kids c.args.self.now c.self.view_is c.in_default.is) c.self.view_is
+pub node::Node::cut-returns-in_default-clause-ok : goal.node::Node::cut-returns-in_default-clause-ok
+node::Node::cut-returns-in_default-clause-ok t c =
+    subst (λ (n : NodeValue). IsCut (get (map_of c.args.self.now)) (get (map_of n)) c.args.path.now) (sym c.self.view_is)
+    (leaf-cut c.args.self.now c.args.path.now (leaf-bare c.self.inside.held c.args.self.now c.in_default.field-0 c.self.view_is c.in_default.is) c.requires)

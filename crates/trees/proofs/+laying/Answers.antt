@@ -1,23 +1,39 @@
-use Rattle.std.proofs.Common.{ap, sym, ◌∙◌, [], ◌∷◌, ◌++◌, ◌≡◌, ◌<◌, ◌+◌, Some, None, arith}
+use Rattle.std.proofs.Common.{ap, sym, refl, true, ◌∙◌, [], ◌∷◌, ◌++◌, ◌≡◌, ◌<◌, ◌+◌, Some, None, arith}
+use Rattle.trees.specs.TreeMap.{is_directory}
 use Rattle.trees.specs.PrivateNode.{map_of, height_of}
 use Rattle.std.specs.Prelude.{is_ok}
 use Rattle.trees.proofs.NodeSteps.{is-kid, at-err, kids-from, there, kid-lower}
 use Rattle.trees.proofs.KidLists.{found-among, passed-more}
-use Rattle.trees.proofs.OverSteps.{over-file, told_file, laid-end, laid-start, laid-done, changed_tree-more}
+use Rattle.trees.proofs.OverSteps.{over-file, over-leaf, over-bare, hidden-whole, laid-end, laid-start, laid-done, changed_tree-more}
+use Rattle.trees.specs.PrivateHeld.{held_value}
+use Rattle.trees.proofs.BelowSteps.{leaf-bare}
 use Rattle.trees.proofs.DepthSteps.{depth-laid, max-left, max-right}
 use Rattle.trees.proofs.+laying.Goals as goal
 
 pub node::Node::lay_over-returns-then-not-is_directory : goal.node::Node::lay_over-returns-then-not-is_directory
 node::Node::lay_over-returns-then-not-is_directory t c =
-    ap map_of (c.branch.view_is ∙ c.in_ok-self-inside.ensures)
-    ∙ sym (over-file (map_of c.args.self.now) c.args.upper.now (told_file _ _ c.upper.inside.kids _ c.upper.view_is c.is_directory.ensures c.if-not-is_directory.true))
+    ap map_of (c.branch.view_is ∙ c.in_ok-self-inside.ensures) ∙ sym (over-file (map_of c.args.self.now) c.args.upper.now (sym c.is_directory.ensures ∙ c.if-not-is_directory.true))
 
-pub node::Node::lay_over-returns : goal.node::Node::lay_over-returns
-node::Node::lay_over-returns t c =
-    laid-end _ _ c.self.inside.entry _ c.upper.inside.entry c.self.inside.kids c.upper.inside.kids c.lay_over.new.self _ c.self.view_is c.upper.view_is c.is_directory.ensures c.if-not-is_directory.false c.in_ok-self-inside-2.ensures c.in_ok-is_less.ensures
+pub node::Node::lay_over-returns-in_default : goal.node::Node::lay_over-returns-in_default
+node::Node::lay_over-returns-in_default t c =
+    over-leaf c.args.self.now c.args.upper.now c.set_entry.new.self (sym c.is_directory.ensures ∙ c.if-not-is_directory.false) (leaf-bare c.upper.inside.held c.args.upper.now c.in_default.field-0 c.upper.view_is c.in_default.is)
+    (c.in_ok-set_entry.ensures.top ∙ c.in_ok-copy.ensures ∙ c.entry.ensures) c.set_entry.ensures.below
 
-pub node::Node::lay_over-depth_of-self-inside-requires : goal.node::Node::lay_over-depth_of-self-inside-requires
-node::Node::lay_over-depth_of-self-inside-requires t c =
+pub node::Node::lay_over-returns-in_default-held : goal.node::Node::lay_over-returns-in_default-held
+node::Node::lay_over-returns-in_default-held t c =
+    ap map_of (c.branch-in_default-held.view_is ∙ c.in_ok-self-inside-2.ensures) ∙ sym (over-bare c.args.self.now c.args.upper.now (leaf-bare c.self.inside.held c.args.self.now c.in_default-held.field-0 c.self.view_is c.in_default-held.is))
+
+pub node::Node::lay_over-returns-then-is_hidden_by : goal.node::Node::lay_over-returns-then-is_hidden_by
+node::Node::lay_over-returns-then-is_hidden_by t c =
+    ap map_of (c.branch-then-is_hidden_by.view_is ∙ c.in_ok-self-inside-3.ensures)
+    ∙ hidden-whole c.args.self.now c.args.upper.now c.deref.result.now c.deref-2.result.now c.kids.result.now c.kids-2.result.now c.kids.ensures (c.deref.ensures ∙ sym (ap held_value c.in-Folder-held.is) ∙ c.self.view_is) c.kids-2.ensures (c.deref-2.ensures ∙ sym (ap held_value c.in-Folder.is) ∙ c.upper.view_is) (sym c.is_directory.ensures ∙ c.if-not-is_directory.false) (c.is_hidden_by.ensures c.if-is_hidden_by.true)
+
+pub inner::Inner::lay_over-returns : goal.inner::Inner::lay_over-returns
+inner::Inner::lay_over-returns t c =
+    laid-end _ _ c.self.inside.entry _ c.upper.inside.entry c.self.inside.kids c.upper.inside.kids c.lay_over.new.self true c.self.view_is c.upper.view_is (sym c.requires ∙ (λ i. is_directory (Some (sym c.upper.view_is i).top))) refl c.in_ok-self-inside.ensures c.in_ok-is_less.ensures
+
+pub inner::Inner::lay_over-depth_of-self-inside-requires : goal.inner::Inner::lay_over-depth_of-self-inside-requires
+inner::Inner::lay_over-depth_of-self-inside-requires t c =
     let d = c.self.inside.depth in
     let f = c.upper.inside.depth in
     let e = c.max-deepest.result in
@@ -31,7 +47,7 @@ children::Children::lay_over-lay_over-requires t c =
     let has = found-among c.args.upper.now c.loop-name.invariant.1.0 c.next.new.self c.loop-name.uppers c.in-Some.name.now c.in-Some.kid.now c.iter-uppers.ensures.ordered c.loop-name.invariant.1.1 c.in-Some.ensures in
     let low = kid-lower c.args.upper.now c.in-Some.name.now c.in-Some.kid.now has in
     let d : height_of c.args.upper.now + height_of c.args.upper.now + 1 ≡ t = c.decreases in
-    let g : c.in-Some.kid.now.height + c.in-Some.kid.now.height < t = omega arith in
+    let g : c.in-Some.kid.now.height + c.in-Some.kid.now.height + 1 < t = omega arith in
     (g, tt)
 
 pub children::Children::lay_over-loop-name-preserved-then-branch : goal.children::Children::lay_over-loop-name-preserved-then-branch

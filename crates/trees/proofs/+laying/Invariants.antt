@@ -4,7 +4,10 @@ use Rattle.trees.proofs.OverSteps.{AreLaying}
 use Rattle.trees.proofs.+laying.Given as goal
 
 abbrev pub decreases-node::Node::lay_over : goal.decreases-node::Node::lay_over
-decreases-node::Node::lay_over l = l.upper.now.height + l.upper.now.height
+decreases-node::Node::lay_over l = l.upper.now.height + l.upper.now.height + 1
+
+abbrev pub decreases-inner::Inner::lay_over : goal.decreases-inner::Inner::lay_over
+decreases-inner::Inner::lay_over l = l.upper.now.height + l.upper.now.height
 
 abbrev pub decreases-children::Children::lay_over : goal.decreases-children::Children::lay_over
 decreases-children::Children::lay_over l = height_of l.upper.now + height_of l.upper.now + 1
@@ -15,6 +18,3 @@ invariant-children::Children::lay_over-loop-name l = AreLaying l.initial.self l.
 
 abbrev pub decreases-children::Children::lay_over-loop-name : goal.decreases-children::Children::lay_over-loop-name
 decreases-children::Children::lay_over-loop-name l = length l.uppers
-
-abbrev pub decreases-below::Below::lay_over : goal.decreases-below::Below::lay_over
-decreases-below::Below::lay_over l = height_of l.upper.now + height_of l.upper.now + 2

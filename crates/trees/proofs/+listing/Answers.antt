@@ -6,7 +6,7 @@ use Rattle.trees.proofs.NodeSteps.{kid-lower}
 use Rattle.trees.proofs.KidLists.{found-among, passed-more}
 use Rattle.trees.specs.PrivateWalk.{rows_of}
 use Rattle.trees.proofs.RowLists.{child-clean, below-clean, kids-clean, rows-step, rows-all, rows-node}
-use Rattle.trees.proofs.BelowSteps.{no-kids, none-rows}
+use Rattle.trees.proofs.BelowSteps.{none-rows}
 use Rattle.trees.proofs.+listing.Goals as goal
 
 pub children::Children::push_rows-loop-name-init : goal.children::Children::push_rows-loop-name-init
@@ -21,7 +21,7 @@ children::Children::push_rows-push_rows-requires t c =
     let has = found-among c.args.self.now c.loop-name.invariant.1.0 c.next.new.self c.loop-name.kids c.in-Some.name.now c.in-Some.kid.now c.iter-kids.ensures.ordered c.loop-name.invariant.1.1 c.in-Some.ensures in
     let low = kid-lower c.args.self.now c.in-Some.name.now c.in-Some.kid.now has in
     let d : height_of c.args.self.now + height_of c.args.self.now + 1 ≡ t = c.decreases in
-    let g : c.in-Some.kid.now.height + c.in-Some.kid.now.height < t = omega arith in
+    let g : c.in-Some.kid.now.height + c.in-Some.kid.now.height + 1 < t = omega arith in
     (g, below-clean c.args.self.now c.in-Some.name.now c.in-Some.kid.now c.args.at.now c.in_ok-below.below has c.in_ok-below.ensures c.requires)
 
 pub children::Children::push_rows-loop-name-preserved : goal.children::Children::push_rows-loop-name-preserved
@@ -37,14 +37,16 @@ children::Children::push_rows-returns t c =
 
 pub node::Node::push_rows-push_rows-requires : goal.node::Node::push_rows-push_rows-requires
 node::Node::push_rows-push_rows-requires t c =
-    let same : height_of c.self.inside.kids + 2 ≡ c.args.self.now.height = ap (λ v. v.height) c.self.view_is in
-    let d : c.args.self.now.height + c.args.self.now.height ≡ t = c.decreases in
-    let g : height_of c.self.inside.kids + height_of c.self.inside.kids + 2 < t = omega arith in
-    (g, kids-clean _ c.self.inside.entry c.self.inside.kids c.self.view_is c.requires)
+    let k = height_of c.in-Some.kids.now in
+    let same : k + 2 ≡ c.args.self.now.height = ap (λ v. v.height) c.in-Some.ensures in
+    let d : c.args.self.now.height + c.args.self.now.height + 1 ≡ t = c.decreases in
+    let g : k + k + 1 < t = omega arith in
+    (g, kids-clean _ c.args.self.now.top c.in-Some.kids.now c.in-Some.ensures c.requires)
 
-pub node::Node::push_rows-returns : goal.node::Node::push_rows-returns
-node::Node::push_rows-returns t c =
-    on_ok_weaker _ (rows-node _ c.self.inside.entry c.self.inside.kids c.args.at.now c.in_ok-copy.field-0 _ c.args.rows.now.items c.push.new.self.items (lent_rows c.push_rows.new.rows.items) c.self.view_is refl c.in_ok-copy.ensures c.in_ok-push.ensures.items) c.push_rows.ensures
+pub node::Node::push_rows-returns-in-Some : goal.node::Node::push_rows-returns-in-Some
+node::Node::push_rows-returns-in-Some t c =
+    on_ok_weaker _ (rows-node _ c.args.self.now.top c.in-Some.kids.now c.args.at.now c.in_ok-copy.field-0 c.entry.result c.args.rows.now.items c.push.new.self.items (lent_rows c.push_rows.new.rows.items) c.in-Some.ensures c.entry.ensures c.in_ok-copy.ensures c.in_ok-push.ensures.items) c.push_rows.ensures
 
-pub below::Below::push_rows-returns-in-None : goal.below::Below::push_rows-returns-in-None
-below::Below::push_rows-returns-in-None t c = none-rows _ c.args.at.now c.args.self.now (no-kids c.self.inside.kids c.args.self.now c.self.view_is c.in-None.is)
+pub node::Node::push_rows-returns-in-None : goal.node::Node::push_rows-returns-in-None
+node::Node::push_rows-returns-in-None t c =
+    rows-node _ c.args.self.now.top [] c.args.at.now c.in_ok-copy.field-0 c.entry.result c.args.rows.now.items c.push.new.self.items _ c.in-None.ensures c.entry.ensures c.in_ok-copy.ensures c.in_ok-push.ensures.items (none-rows _ c.args.at.now [] refl)

@@ -5,7 +5,7 @@ use Rattle.trees.specs.PrivateWalk.{rows_of}
 use Rattle.trees.proofs.+listing.Given as goal
 
 abbrev pub decreases-node::Node::push_rows : goal.decreases-node::Node::push_rows
-decreases-node::Node::push_rows l = l.self.now.height + l.self.now.height
+decreases-node::Node::push_rows l = l.self.now.height + l.self.now.height + 1
 
 abbrev pub decreases-children::Children::push_rows : goal.decreases-children::Children::push_rows
 decreases-children::Children::push_rows l = height_of l.self.now + height_of l.self.now + 1
@@ -16,6 +16,3 @@ invariant-children::Children::push_rows-loop-name l = (lent_rows l.rows.items ++
 
 abbrev pub decreases-children::Children::push_rows-loop-name : goal.decreases-children::Children::push_rows-loop-name
 decreases-children::Children::push_rows-loop-name l = length l.kids
-
-abbrev pub decreases-below::Below::push_rows : goal.decreases-below::Below::push_rows
-decreases-below::Below::push_rows l = height_of l.self.now + height_of l.self.now + 2

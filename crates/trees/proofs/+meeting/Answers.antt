@@ -1,9 +1,9 @@
-use Rattle.std.proofs.Common.{◌∙◌, sym, subst, [], ◌∷◌, ◌++◌, List, ℕ, Some, None}
+use Rattle.std.proofs.Common.{◌∙◌, sym, refl, subst, [], ◌∷◌, ◌++◌, List, ℕ, Some, None}
 use Rattle.trees.specs.PrivateNode.{NodeValue, joined}
 use Rattle.trees.specs.PrivateCopy.{MeetInDirectories}
 use Rattle.trees.proofs.KidLists.{passed-more}
 use Rattle.trees.proofs.MeetSteps.{kids-apart, kids-meet, meet-step, meet-none, none-meets}
-use Rattle.trees.proofs.BelowSteps.{no-kids, meets-none, meets-nothing}
+use Rattle.trees.proofs.BelowSteps.{meets-none, meets-nothing, meets-below}
 use Rattle.trees.proofs.+meeting.Goals as goal
 
 pub children::Children::meets-loop-name-preserved-in-Some-get : goal.children::Children::meets-loop-name-preserved-in-Some-get
@@ -27,8 +27,11 @@ children::Children::meets-returns t c = λ f.
 pub children::Children::meets-returns-then-is_none : goal.children::Children::meets-returns-then-is_none
 children::Children::meets-returns-then-is_none t c = λ f. none-meets c.args.self.now c.args.other.now (c.is_none.ensures.0 c.if-is_none.true)
 
-pub below::Below::meets-returns-in_default : goal.below::Below::meets-returns-in_default
-below::Below::meets-returns-in_default t c = λ _. meets-none c.args.self.now _ (no-kids c.self.inside.kids c.args.self.now c.self.view_is c.in_default.is)
+pub node::Node::meets-returns-in_default : goal.node::Node::meets-returns-in_default
+node::Node::meets-returns-in_default t c = λ _. subst (λ (n : NodeValue). MeetInDirectories n.below c.args.other.now.below) c.in_default.ensures (meets-none [] _ refl)
 
-pub below::Below::meets-returns-in-None : goal.below::Below::meets-returns-in-None
-below::Below::meets-returns-in-None t c = λ _. meets-nothing _ c.args.other.now (no-kids c.other.inside.kids c.args.other.now c.other.view_is c.in-None.is)
+pub node::Node::meets-returns-in-None : goal.node::Node::meets-returns-in-None
+node::Node::meets-returns-in-None t c = λ _. subst (λ (n : NodeValue). MeetInDirectories c.args.self.now.below n.below) c.in-None.ensures (meets-nothing _ [] refl)
+
+pub node::Node::meets-returns-in-Some-children : goal.node::Node::meets-returns-in-Some-children
+node::Node::meets-returns-in-Some-children t c = λ apart. meets-below c.args.self.now c.args.other.now c.in-Some.kids.now c.in-Some-children.others.now c.in-Some.ensures c.in-Some-children.ensures (c.meets.ensures apart)

@@ -4,7 +4,7 @@ use Rattle.trees.specs.PrivateCopy.{MeetInDirectories}
 use Rattle.trees.proofs.+meeting.Given as goal
 
 abbrev pub decreases-node::Node::meets : goal.decreases-node::Node::meets
-decreases-node::Node::meets l = l.other.now.height + l.other.now.height
+decreases-node::Node::meets l = l.other.now.height + l.other.now.height + 1
 
 abbrev pub decreases-children::Children::meets : goal.decreases-children::Children::meets
 decreases-children::Children::meets l = height_of l.other.now + height_of l.other.now + 1
@@ -15,6 +15,3 @@ invariant-children::Children::meets-loop-name l = (MeetInDirectories (joined l.s
 
 abbrev pub decreases-children::Children::meets-loop-name : goal.decreases-children::Children::meets-loop-name
 decreases-children::Children::meets-loop-name l = length l.others
-
-abbrev pub decreases-below::Below::meets : goal.decreases-below::Below::meets
-decreases-below::Below::meets l = height_of l.other.now + height_of l.other.now + 2

@@ -1,33 +1,34 @@
-use Rattle.std.proofs.Common.{◌∙◌, refl, sym, ap, ◌≡◌, ◌<◌, ◌+◌, drop, arith}
+use Rattle.std.proofs.Common.{◌∙◌, refl, sym, ap, subst, [], ◌≡◌, ◌<◌, ◌+◌, drop, arith}
 use Rattle.std.proofs.lemmas.List.{drop_all}
 use Rattle.std.specs.Arc.{arc_value}
 use Rattle.std.specs.FinMap.Entries.{is_sorted}
 use Rattle.paths.specs.Order.{name_cmp}
 use Rattle.paths.proofs.FrontLaws.{both_first, both_second}
 use Rattle.trees.specs.PrivateNode.{height_of, lists_of, flat, are_full}
+use Rattle.trees.specs.PrivateHeld.{held_value}
+use Rattle.trees.specs.PrivateCopy.{IsPlacedNode}
 use Rattle.trees.proofs.KidLists.{keys-from_sorted}
 use Rattle.trees.proofs.PlacedSteps.{moved, part-end, placed-rise, row-low, row-step, parts-step, parts-done, part-low, none-left, node-placed}
 use Rattle.trees.proofs.DepthSteps.{depth-placed}
-use Rattle.trees.proofs.BelowSteps.{no-kids, none-rise}
 use Rattle.trees.proofs.+placing.Goals as goal
 
-pub node::Node::placed-placed-requires : goal.node::Node::placed-placed-requires
-node::Node::placed-placed-requires t c =
+pub inner::Inner::placed-placed-requires : goal.inner::Inner::placed-placed-requires
+inner::Inner::placed-placed-requires t c =
     let same : height_of c.self.inside.kids + 2 ≡ c.args.self.now.height = ap (λ v. v.height) c.self.view_is in
     let k = height_of c.self.inside.kids in
     let h = c.args.self.now.height in
     let d : h + h + h + h ≡ t = c.decreases in
-    let g : k + k + k + k + 4 < t = omega arith in
+    let g : k + k + k + k + 3 < t = omega arith in
     (g, tt)
 
-pub node::Node::placed-invariant_of-result : goal.node::Node::placed-invariant_of-result
-node::Node::placed-invariant_of-result t c =
+pub inner::Inner::placed-invariant_of-result : goal.inner::Inner::placed-invariant_of-result
+inner::Inner::placed-invariant_of-result t c =
     depth-placed c.self.inside.depth c.args.options.now c.args.self.now c.self.inside.entry c.in_ok-entry.entry c.self.inside.kids c.in_ok-kids.kids c.self.view_is
     (node-placed c.args.options.now c.args.self.now c.self.inside.entry c.in_ok-entry.entry c.self.inside.kids c.in_ok-kids.kids c.self.view_is c.in_ok-entry.ensures c.in_ok-kids.ensures.ordered c.in_ok-kids.ensures.placed)
     c.self.invariant
 
-pub node::Node::placed-returns : goal.node::Node::placed-returns
-node::Node::placed-returns t c =
+pub inner::Inner::placed-returns : goal.inner::Inner::placed-returns
+inner::Inner::placed-returns t c =
     node-placed c.args.options.now c.args.self.now c.self.inside.entry c.in_ok-entry.entry c.self.inside.kids c.in_ok-kids.kids c.self.view_is c.in_ok-entry.ensures c.in_ok-kids.ensures.ordered c.in_ok-kids.ensures.placed
 
 pub children::Children::placed-returns-in_err-parts-clause-ordered : goal.children::Children::placed-returns-in_err-parts-clause-ordered
@@ -45,7 +46,7 @@ names::Names::placed-placed-requires t c =
     let h = c.row-item.result.1.height in
     let k = height_of c.args.self.now in
     let d : k + k + k + k + 1 ≡ t = c.decreases in
-    let g : h + h + h + h < t = omega arith in
+    let g : h + h + h + h + 1 < t = omega arith in
     (g, tt)
 
 pub names::Names::placed-loop-row-preserved : goal.names::Names::placed-loop-row-preserved
@@ -78,5 +79,7 @@ pub part::placed_parts-returns : goal.part::placed_parts-returns
 part::placed_parts-returns t c =
     parts-done c.args.options.now (lists_of (drop c.loop-part.part-index c.args.parts.now)) (lists_of c.args.parts.now) (lists_of c.loop-part.placed.items) c.loop-part.invariant (none-left c.loop-part.part-index c.args.parts.now c.loop-part-test.false) c.requires
 
-pub below::Below::placed-returns-in-None-clause-ordered : goal.below::Below::placed-returns-in-None-clause-ordered
-below::Below::placed-returns-in-None-clause-ordered t c = none-rise c.args.self.now (no-kids c.self.inside.kids c.args.self.now c.self.view_is c.in-None.is)
+pub node::Node::placed-returns-in_ok-placed_entry-in-Leaf : goal.node::Node::placed-returns-in_ok-placed_entry-in-Leaf
+node::Node::placed-returns-in_ok-placed_entry-in-Leaf t c =
+    subst (IsPlacedNode c.args.options.now c.args.self.now) (sym c.leaf.ensures)
+    (node-placed c.args.options.now c.args.self.now c.in-Leaf.entry c.in_ok-placed_entry-in-Leaf.field-0 [] [] (sym (ap held_value c.in-Leaf.is) ∙ c.self.view_is) c.in_ok-placed_entry-in-Leaf.ensures (keys-from_sorted [] refl) (record { names = refl; rows = refl }))

@@ -4,7 +4,10 @@ use Rattle.trees.proofs.PlacedSteps.{ArePlacedSoFar, ArePartsSoFar}
 use Rattle.trees.proofs.+placing.Given as goal
 
 abbrev pub decreases-node::Node::placed : goal.decreases-node::Node::placed
-decreases-node::Node::placed l = l.self.now.height + l.self.now.height + l.self.now.height + l.self.now.height
+decreases-node::Node::placed l = l.self.now.height + l.self.now.height + l.self.now.height + l.self.now.height + 1
+
+abbrev pub decreases-inner::Inner::placed : goal.decreases-inner::Inner::placed
+decreases-inner::Inner::placed l = l.self.now.height + l.self.now.height + l.self.now.height + l.self.now.height
 
 abbrev pub decreases-children::Children::placed : goal.decreases-children::Children::placed
 decreases-children::Children::placed l = height_of l.self.now + height_of l.self.now + height_of l.self.now + height_of l.self.now + 3
@@ -22,6 +25,3 @@ invariant-part::placed_parts-loop-part l = ArePartsSoFar l.options (lists_of (dr
 -- the rows made so far are as those before the ones that are left are placed
 abbrev pub invariant-names::Names::placed-loop-row : goal.invariant-names::Names::placed-loop-row
 invariant-names::Names::placed-loop-row l = ArePlacedSoFar l.options (drop l.row-index l.all) l.all l.rows.items
-
-abbrev pub decreases-below::Below::placed : goal.decreases-below::Below::placed
-decreases-below::Below::placed l = height_of l.self.now + height_of l.self.now + height_of l.self.now + height_of l.self.now + 4

@@ -9,22 +9,23 @@ use Rattle.std.specs.FinMap.{find}
 use Rattle.paths.specs.Order.{name_cmp}
 use Rattle.trees.specs.TreeMap.{TreeMap}
 use Rattle.trees.specs.PrivateNode.{NodeValue, height_of, flat, joined, IsDepth}
+use Rattle.trees.specs.PrivateHeld.{held_value}
 use Rattle.trees.proofs.NodeLaws.{lookup-find}
 use Rattle.trees.proofs.NodeSteps.{is-kid, kids-from, there, found-lower}
 use Rattle.trees.proofs.PartSteps.{none-found, place-of, item-same, item-same_parts, item-keys, item-found, item-changed, found-changed, put-parts, put-kids, put-from, either-way, anyway}
 use Rattle.trees.proofs.DepthSteps.{depth-planted, depth-more, max-left, max-right}
-use Rattle.trees.proofs.BelowSteps.{no-kids, none-planted}
+use Rattle.trees.proofs.BelowSteps.{leaf-bare}
 use Rattle.trees.proofs.+planting.Goals as goal
 
-pub node::Node::plant-returns-in-empty-clause-ok : goal.node::Node::plant-returns-in-empty-clause-ok
-node::Node::plant-returns-in-empty-clause-ok t c = own-planted _ _ _ _ _ _ c.self.view_is c.in-empty.len_below
+pub inner::Inner::plant-returns-in-empty-clause-ok : goal.inner::Inner::plant-returns-in-empty-clause-ok
+inner::Inner::plant-returns-in-empty-clause-ok t c = own-planted _ _ _ _ _ _ c.self.view_is c.in-empty.len_below
 
-pub node::Node::plant-returns-in-len1-up-clause-ok : goal.node::Node::plant-returns-in-len1-up-clause-ok
-node::Node::plant-returns-in-len1-up-clause-ok t c =
+pub inner::Inner::plant-returns-in-len1-up-clause-ok : goal.inner::Inner::plant-returns-in-len1-up-clause-ok
+inner::Inner::plant-returns-in-len1-up-clause-ok t c =
     on_ok_weaker _ (plant-step _ _ c.self.inside.kids c.plant.new.self _ c.name-item.result _ _ c.self.view_is c.in-len1-up.len_at_least c.name-item.is) c.plant.ensures.ok
 
-pub node::Node::plant-invariant_of-self-in-len1-up : goal.node::Node::plant-invariant_of-self-in-len1-up
-node::Node::plant-invariant_of-self-in-len1-up t c =
+pub inner::Inner::plant-invariant_of-self-in-len1-up : goal.inner::Inner::plant-invariant_of-self-in-len1-up
+inner::Inner::plant-invariant_of-self-in-len1-up t c =
     let d = c.self.inside.depth in
     let e = c.max-self-inside.result in
     let less : d ≤ e = max-left d (length c.args.path.now) e c.max-self-inside.ensures in
@@ -32,11 +33,11 @@ node::Node::plant-invariant_of-self-in-len1-up t c =
     (λ done. depth-planted d e (joined c.self.inside.kids) (joined c.plant.new.self) c.args.path.now c.name-item.result _ _ c.in-len1-up.len_at_least c.name-item.is less (max-right d (length c.args.path.now) e c.max-self-inside.ensures) done c.self.invariant)
     (λ kept. subst (λ (m : TreeMap). IsDepth e m) (sym kept) (depth-more d e (joined c.self.inside.kids) less c.self.invariant))
 
-pub node::Node::plant-plant-requires : goal.node::Node::plant-plant-requires
-node::Node::plant-plant-requires t c =
+pub inner::Inner::plant-plant-requires : goal.inner::Inner::plant-plant-requires
+inner::Inner::plant-plant-requires t c =
     let same : height_of c.self.inside.kids + 2 ≡ c.args.self.now.height = ap (λ v. v.height) c.self.view_is in
     let d : c.args.self.now.height + c.args.self.now.height ≡ t = c.decreases in
-    let g : height_of c.self.inside.kids + height_of c.self.inside.kids + 2 < t = omega arith in
+    let g : height_of c.self.inside.kids + height_of c.self.inside.kids + 1 < t = omega arith in
     (g, tt)
 
 pub children::Children::plant-plant-requires : goal.children::Children::plant-plant-requires
@@ -46,7 +47,7 @@ children::Children::plant-plant-requires t c =
     let found = item-found c.self.inside.parts.items c.place-at.result c.in-Some.part.now c.own.new.part c.in-Some.ensures.item.3.0 c.in-Some.ensures.item.1 c.args.name.now place c.args.self.now c.self.view_is ∙ ap (find name_cmp c.args.name.now) (sym map) ∙ sym (lookup-find c.args.name.now c.in-Some-get_mut.names.now) ∙ sym c.in-Some-get_mut-2.ensures.value in
     let low = found-lower c.args.self.now c.args.name.now c.in-Some-get_mut-2.kid.now found in
     let d : height_of c.args.self.now + height_of c.args.self.now + 1 ≡ t = c.decreases in
-    let g : c.in-Some-get_mut-2.kid.now.height + c.in-Some-get_mut-2.kid.now.height < t = omega arith in
+    let g : c.in-Some-get_mut-2.kid.now.height + c.in-Some-get_mut-2.kid.now.height + 1 < t = omega arith in
     (g, tt)
 
 pub children::Children::plant-returns-in_default-clause-ok : goal.children::Children::plant-returns-in_default-clause-ok
@@ -153,7 +154,5 @@ children::Children::plant-returns-clause-err t c =
     let part = arc_with_value c.own.new.part c.get_mut-3.follows.lender-at-none in
     on_err_weaker c.insert-2.result (λ kept. ap joined (kept ∙ (ap flat (item-same c.self.inside.parts.items c.place-at.result c.in-Some.part.now part c.in-Some.ensures.item.3.0 c.in-Some.ensures.item.1 same) ∙ c.self.view_is))) c.insert-2.ensures.err
 
-pub below::Below::plant-returns-in_default-clause-ok : goal.below::Below::plant-returns-in_default-clause-ok
-below::Below::plant-returns-in_default-clause-ok t c =
-    none-planted c.args.self.now _ c.args.name.now c.args.rest.now c.args.parent c.args.entry c.in_ok-kid.kid (no-kids c.self.inside.kids c.args.self.now c.self.view_is c.in_default.is)
-    (c.branch.view_is ∙ c.in_ok-self-inside.ensures) c.in_ok-kid.ensures
+pub node::Node::plant-plant_leaf-requires : goal.node::Node::plant-plant_leaf-requires
+node::Node::plant-plant_leaf-requires t c = leaf-bare c.self.inside.held (held_value c.self.inside.held) c.in_default.field-0 refl c.in_default.is

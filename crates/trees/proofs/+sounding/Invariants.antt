@@ -14,6 +14,3 @@ invariant-children::Children::is_deeper-loop-name l = (before : List (List â„• Ã
 
 abbrev pub decreases-children::Children::is_deeper-loop-name : goal.decreases-children::Children::is_deeper-loop-name
 decreases-children::Children::is_deeper-loop-name l = length l.kids
-
-abbrev pub decreases-below::Below::is_deeper : goal.decreases-below::Below::is_deeper
-decreases-below::Below::is_deeper l = l.most + l.most + l.most + 1

@@ -1,11 +1,12 @@
-use Rattle.std.proofs.Common.{take, drop, refl}
+use Rattle.std.proofs.Common.{take, drop, ap, refl}
+use Rattle.trees.specs.PrivateNode.{NodeValue}
 use Rattle.trees.proofs.GrowingSteps.{leaf-grown, no-more, start-kids, next-own, name-before, next-kids, with-row, without-row, both-ok, kept}
 use Rattle.trees.proofs.growing.+grow.Goals as goal
 
 pub returns-in_default : goal.returns-in_default
 returns-in_default t c =
     leaf-grown c.args.left.now.items c.args.left.now.items (take c.args.depth c.args.path.now) (drop c.args.depth c.args.path.now) c.args.entry c.leaf.result refl
-    (no-more c.args.path.now c.components-names.result.now c.components-names.ensures.value c.args.depth c.in_default.ensures.lookup.3) c.leaf.ensures.top c.leaf.ensures.below
+    (no-more c.args.path.now c.components-names.result.now c.components-names.ensures.value c.args.depth c.in_default.ensures.lookup.3) (ap (λ (n : NodeValue). n.top) c.leaf.ensures) (ap (λ (n : NodeValue). n.below) c.leaf.ensures)
 
 pub loop-next-init : goal.loop-next-init
 loop-next-init t c =

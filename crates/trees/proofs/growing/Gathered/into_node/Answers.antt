@@ -1,22 +1,24 @@
-use Rattle.std.proofs.Common.{ap, ◌∙◌}
-use Rattle.trees.specs.PrivateNode.{lists_of, joined}
+use Rattle.std.proofs.Common.{ap, ◌∙◌, ◌≡◌}
+use Rattle.std.proofs.lemmas.Result.{IfOk-weaker}
+use Rattle.trees.specs.PrivateNode.{NodeValue, lists_of, kids_of, joined, node_of}
 use Rattle.trees.proofs.GatheredSteps.{rows-rise, all-parts, all-are_parts, rise-of, deep-of}
 use Rattle.trees.proofs.growing.Gathered.into_node.Goals as goal
 
 pub close-requires-clause-rise : goal.close-requires-clause-rise
 close-requires-clause-rise c = rows-rise c.self.inside.rows.items (lists_of c.self.inside.parts.items) c.self.inside.depth c.self.invariant
 
-pub of_parts-requires : goal.of_parts-requires
-of_parts-requires c =
+pub of_parts-requires-clause-parts : goal.of_parts-requires-clause-parts
+of_parts-requires-clause-parts c =
     all-are_parts c.close.new.rows.items c.args.self c.close.new.parts.items c.reverse.new.self.items (c.in_ok-close.ensures.moved.same ∙ c.self.view_is) c.in_ok-close.ensures.none_left c.reverse.ensures.items c.in_ok-close.ensures.moved.full
     (rise-of c.args.self c.self.inside.rows.items (lists_of c.self.inside.parts.items) c.self.inside.depth c.self.view_is c.self.invariant)
 
-pub folder-requires : goal.folder-requires
-folder-requires c =
-    deep-of c.args.self c.self.inside.rows.items (lists_of c.self.inside.parts.items) c.self.inside.depth c.in_ok-kids.kids c.self.view_is c.self.invariant
-    (c.in_ok-kids.ensures ∙ all-parts c.close.new.rows.items c.args.self c.close.new.parts.items c.reverse.new.self.items (c.in_ok-close.ensures.moved.same ∙ c.self.view_is) c.in_ok-close.ensures.none_left c.reverse.ensures.items)
+pub of_parts-requires-clause-depth : goal.of_parts-requires-clause-depth
+of_parts-requires-clause-depth c =
+    deep-of c.args.self c.self.inside.rows.items (lists_of c.self.inside.parts.items) c.self.inside.depth (kids_of c.reverse.new.self) c.self.view_is c.self.invariant
+    (all-parts c.close.new.rows.items c.args.self c.close.new.parts.items c.reverse.new.self.items (c.in_ok-close.ensures.moved.same ∙ c.self.view_is) c.in_ok-close.ensures.none_left c.reverse.ensures.items)
 
 pub returns-clause-below : goal.returns-clause-below
 returns-clause-below c =
-    c.folder.ensures.below
-    ∙ ap joined (c.in_ok-kids.ensures ∙ all-parts c.close.new.rows.items c.args.self c.close.new.parts.items c.reverse.new.self.items (c.in_ok-close.ensures.moved.same ∙ c.self.view_is) c.in_ok-close.ensures.none_left c.reverse.ensures.items)
+    IfOk-weaker c.of_parts.result (λ n. n ≡ node_of c.args.entry (kids_of c.reverse.new.self)) (λ n. n.below ≡ joined c.args.self)
+    (λ n is. ap (λ (v : NodeValue). v.below) is ∙ ap joined (all-parts c.close.new.rows.items c.args.self c.close.new.parts.items c.reverse.new.self.items (c.in_ok-close.ensures.moved.same ∙ c.self.view_is) c.in_ok-close.ensures.none_left c.reverse.ensures.items))
+    c.of_parts.ensures

@@ -1,9 +1,10 @@
-use Rattle.std.proofs.Common.{◌∙◌, sym, ap, [], ◌∷◌}
-use Rattle.trees.specs.PrivateWalk.{rows_of}
-use Rattle.trees.proofs.RowLists.{entries-node, entries-kids}
+use Rattle.std.proofs.Common.{[], refl}
+use Rattle.trees.proofs.KidLists.{keys-from_sorted}
+use Rattle.trees.proofs.RowLists.{kids-rows}
 use Rattle.trees.proofs.node.Node.kids.Goals as goal
 
-pub returns : goal.returns
-returns c =
-    entries-node c.args.self.now c.self.inside.entry c.self.inside.kids c.self.view_is
-    ∙ (λ i. ([], (c.self.view_is i).top) ∷ (entries-kids c.self.inside.kids c.iter.ensures.ordered ∙ ap rows_of (sym c.iter.ensures.all)) i)
+pub returns-in-None : goal.returns-in-None
+returns-in-None c = kids-rows c.args.self.now [] c.of.result c.in-None.ensures c.of.ensures (keys-from_sorted [] refl)
+
+pub returns-in-Some : goal.returns-in-Some
+returns-in-Some c = kids-rows c.args.self.now c.in-Some.kids.now c.iter.result c.in-Some.ensures c.iter.ensures.all c.iter.ensures.ordered

@@ -1,14 +1,10 @@
-use Rattle.std.proofs.Common.{◌∙◌, [], ◌∷◌}
-use Rattle.trees.proofs.RowLists.{entries-node, entries-kids}
-use Rattle.trees.proofs.FromSteps.{kids-from}
+use Rattle.std.proofs.Common.{[], refl}
+use Rattle.trees.proofs.KidLists.{keys-from_sorted}
+use Rattle.trees.proofs.FromSteps.{node-from}
 use Rattle.trees.proofs.node.Node.kids_from.Goals as goal
 
-pub returns : goal.returns
-returns c = record {
-  all = c.self.inside.kids;
-  whole =
-      entries-node c.args.self.now c.self.inside.entry c.self.inside.kids c.self.view_is
-      ∙ (λ i. ([], (c.self.view_is i).top) ∷ entries-kids c.self.inside.kids c.iter_from.ensures.ordered i);
-  left = c.iter_from.ensures.from;
-  rise = kids-from c.args.front.now c.self.inside.kids c.iter_from.result c.iter_from.ensures.ordered c.iter_from.ensures.from;
-}
+pub returns-in-None : goal.returns-in-None
+returns-in-None c = node-from c.args.self.now [] c.of.result c.args.front.now c.in-None.ensures (keys-from_sorted [] refl) c.of.ensures
+
+pub returns-in-Some : goal.returns-in-Some
+returns-in-Some c = node-from c.args.self.now c.in-Some.kids.now c.iter_from.result c.args.front.now c.in-Some.ensures c.iter_from.ensures.ordered c.iter_from.ensures.from
