@@ -25,7 +25,7 @@ mod reading;
 mod whole;
 
 pub use lists::read_rows;
-pub use looking::{at, is_strict, list_of, text_of};
+pub use looking::{at, is_null, is_strict, list_of, text_of};
 pub use owning::owned;
 pub use pulling::{
     inner_depth, next_flag, next_key, next_number, next_text, open_list, open_object, owned_rows,

@@ -2,11 +2,12 @@ ghost use Rattle.std.specs.Prelude.{◌≡◌, option_map, bytes_eq, map, is_som
 ghost use Rattle.std.specs.List.{list_any};
 ghost use Rattle.json.specs.Value.{members_view};
 ghost use Rattle.serde_json.specs.Data.{no_members};
-ghost use Rattle.serde_json.specs.Find.{get, as_str, as_array};
+ghost use Rattle.serde_json.specs.Find.{get, as_null, as_str, as_array};
 ghost use Rattle.strict.specs.Strict.{has_only, strict};
 ghost use Rattle.borrowed.specs.Seen.{data_of, seen_members};
 ghost use Rattle.borrowed.specs.Lent.{items_data};
 
+use crate::numbers::read_number;
 use json::Value;
 use strict::is_among;
 
@@ -15,6 +16,17 @@ pub fn at<'v, 'a>(value: &'v Value<'a>, key: &str) -> Option<&'v Value<'a>>
     ensures { option_map (λ v. data_of v.now) result ≡ get key.now (data_of value.now) }
 {
     value.get(key)
+}
+
+/// Whether a value is null, as a number that is out of range is seen to be.
+pub fn is_null(value: &Value<'_>) -> bool
+    ensures { result ≡ is_some (as_null (data_of value.now)) }
+{
+    match value {
+        Value::Null => true,
+        Value::Number(text) => read_number(text).is_none(),
+        _ => false,
+    }
 }
 
 /// The text that a value is.
