@@ -7,6 +7,7 @@ use lines::LineFault;
 use paths::Path;
 use plain::{Bytes, Code, Mode, Refusal, Text};
 use std::alloc::Global;
+use std::ops::Range;
 use std::test::Fail;
 use trees::{Cause, Content, Entry, Meta, Tree};
 
@@ -73,5 +74,60 @@ fn answers_are_compact_text(rt: HostRuntime) -> Result<(), Fail> {
         refused.as_str(),
         r#"{"code":"R21","line":3,"result":"refused","text":"a \"b\"\n"}"#
     );
+    Ok(())
+}
+
+/// A folder's number has as many digits as another's, and so has a file's. So the order of numbers is that of names.
+const FOLDERS: Range<u32> = 100..166;
+const FILES: Range<u32> = 1000..1900;
+
+/// Puts an empty file or a folder into a tree, and its entry after those of an answer.
+fn put_both(
+    alloc: Global,
+    tree: &mut Tree,
+    answer: &mut String,
+    path: &str,
+    entry: Entry,
+) -> Result<(), Fail> {
+    let root = Path::root(alloc);
+    let at = Path::read(alloc, path, &root).map_err(|_| Fail::from("no path"))?;
+    let (front, behind) = match entry {
+        Entry::Directory(_) => (r#",{"dir":true,"gid":0,"mode":"0755","path":""#, r#"","uid":0}"#),
+        Entry::File(_, _) => (r#",{"gid":0,"hex":"","mode":"0644","path":""#, r#"","uid":0}"#),
+    };
+    tree.put(alloc, &at, entry)?;
+    answer.push_str(front)?;
+    answer.push_str(path)?;
+    answer.push_str(behind)?;
+    Ok(())
+}
+
+/// Several threads print it, in three rounds, the last of which isn't full.
+#[test]
+fn a_large_tree_is_printed_in_path_order(rt: HostRuntime) -> Result<(), Fail> {
+    let alloc = rt.alloc();
+    let mut tree = Tree::empty(alloc);
+    let mut wanted = String::from_str(
+        alloc,
+        r#"{"config":0,"result":"built","tree":[{"dir":true,"gid":0,"mode":"0755","path":"/","uid":0}"#,
+    )?;
+    for folder in FOLDERS {
+        let path = format!(in alloc; "/{folder}")?;
+        let entry = Entry::Directory(Meta::directory());
+        put_both(alloc, &mut tree, &mut wanted, path.as_str(), entry)?;
+        for file in FILES {
+            let path = format!(in alloc; "/{folder}/{file}")?;
+            let content = Content::new(alloc, Bytes::from_slice(alloc, &[])?)?;
+            let entry = Entry::File(Meta::file(), content);
+            put_both(alloc, &mut tree, &mut wanted, path.as_str(), entry)?;
+        }
+    }
+    wanted.push_str("]}")?;
+    let mut output = Counted::new(Vec::new(alloc));
+    let mut gathered = Gathered::new(alloc)?;
+    let unsaid = Unsaid::of(alloc, &tree)?;
+    put_built(alloc, &rt, &mut output, &mut gathered, "0", unsaid);
+    assert!(rt; finish(&mut output, gathered).is_ok());
+    assert!(rt; output.into_inner().as_slice() == wanted.as_bytes());
     Ok(())
 }
