@@ -12,7 +12,7 @@ use Rattle.std.proofs.Crossing as any
 use Rattle.std.proofs.MapsCrossing as maps
 use Rattle.plain.proofs.text.Text.TheSendSync as text
 use Rattle.trees.proofs.entry.Entry.TheSendSync as entry
-use Rattle.trees.proofs.below.Below.TheLaws.TheKnot as knot
+use Rattle.trees.proofs.children.Children.TheLaws.TheKnot as knot
 use Rattle.std.specs.contracts.alloc.Global as Heap
 use Rattle.trees.specs.contracts.walk.Walk as Walk
 use Rattle.trees.specs.contracts.walk.Walk.TheInside as WalkInside

@@ -8,7 +8,7 @@ use Rattle.std.proofs.MapsCrossing as maps
 use Rattle.plain.proofs.items.Items.TheSendSync as items
 use Rattle.plain.proofs.text.Text.TheSendSync as text
 use Rattle.trees.proofs.entry.Entry.TheSendSync as entry
-use Rattle.trees.proofs.below.Below.TheLaws.TheKnot as knot
+use Rattle.trees.proofs.children.Children.TheLaws.TheKnot as knot
 use Rattle.trees.specs.contracts.tree.Tree as Tree
 use Rattle.llb.proofs.op.Op.TheSendSync as op
 use Rattle.executor.specs.declared.executor.Executor.{Ghosts}

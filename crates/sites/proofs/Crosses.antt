@@ -11,7 +11,7 @@ use Rattle.plain.proofs.items.Items.TheSendSync as items
 use Rattle.plain.proofs.text.Text.TheSendSync as text
 use Rattle.trees.proofs.cause.Cause.TheSendSync as cause
 use Rattle.trees.proofs.entry.Entry.TheSendSync as entry
-use Rattle.trees.proofs.below.Below.TheLaws.TheKnot as knot
+use Rattle.trees.proofs.children.Children.TheLaws.TheKnot as knot
 use Rattle.trees.specs.contracts.cause.Cause as cause_row
 use Rattle.trees.specs.contracts.tree.Tree as Tree
 use Rattle.llb.proofs.graph.Graph.TheSendSync as graph
