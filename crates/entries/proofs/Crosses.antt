@@ -29,7 +29,7 @@ kids_send κ =
 walk_send : (κ : NamedLft) → IsSend (Walk.the_row κ)
 walk_send κ =
     let all : AllSend (fields (WalkInside.the_type κ)) =
-    (search (entry.the_field_sync, sendable, any.crosses) depth 20, (search (kids_send, sendable, any.crosses) depth 20, (search (kids_send, sendable, any.crosses) depth 20, (search (text.the_sync, sendable, any.crosses) depth 20, tt)))) in
+    (search (entry.the_field_sync, sendable, any.crosses) depth 20, (search (kids_send, sendable, any.crosses) depth 20, (search (kids_send, sendable, any.crosses) depth 20, (search (text.the_sync, sendable, any.crosses) depth 20, (search sendable depth 20, tt))))) in
     search (all, sendable) depth 20
 
 pub share_send : (κ : NamedLft) → IsSend (Share.the_row κ)
