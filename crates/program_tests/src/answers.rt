@@ -79,6 +79,7 @@ fn answers_are_compact_text(rt: HostRuntime) -> Result<(), Fail> {
 
 /// A folder's number has as many digits as another's, and so has a file's. So the order of numbers is that of names.
 const FOLDERS: Range<u32> = 100..166;
+
 const FILES: Range<u32> = 1000..1900;
 
 /// Puts an empty file or a folder into a tree, and its entry after those of an answer.
@@ -92,8 +93,14 @@ fn put_both(
     let root = Path::root(alloc);
     let at = Path::read(alloc, path, &root).map_err(|_| Fail::from("no path"))?;
     let (front, behind) = match entry {
-        Entry::Directory(_) => (r#",{"dir":true,"gid":0,"mode":"0755","path":""#, r#"","uid":0}"#),
-        Entry::File(_, _) => (r#",{"gid":0,"hex":"","mode":"0644","path":""#, r#"","uid":0}"#),
+        Entry::Directory(_) => (
+            r#",{"dir":true,"gid":0,"mode":"0755","path":""#,
+            r#"","uid":0}"#,
+        ),
+        Entry::File(_, _) => (
+            r#",{"gid":0,"hex":"","mode":"0644","path":""#,
+            r#"","uid":0}"#,
+        ),
     };
     tree.put(alloc, &at, entry)?;
     answer.push_str(front)?;
