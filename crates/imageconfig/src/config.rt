@@ -15,14 +15,16 @@ use crate::names::Names;
 use crate::reading::read_config;
 use crate::rows::Rows;
 use crate::writing::config_value;
+use borrowed::FromLent;
 use expand::{Rejection, RejectionFault};
 use instructions::Instruction;
+use json::Value as Lent;
 use paths::Path;
 use plain::{Exact, Fault, Items, Memory, Text};
 use scopes::Scope;
 use serde_json::Value;
 use std::alloc::Global;
-use strict::{FromJson, ReadFault};
+use strict::ReadFault;
 
 /// The configuration of an image, or of a stage at a line. A list, an object or a text that is empty isn't set: no rule tells the two apart.
 #[derive(Drop)]
@@ -122,7 +124,7 @@ impl Config {
     }
 }
 
-impl FromJson for Config {
+impl FromLent for Config {
     ghost use Rattle.imageconfig.specs.Reading.{config_in};
 
     ghost reading = { config_in };
@@ -131,7 +133,7 @@ impl FromJson for Config {
     /// value has a wrong type, as a `config` that is `null` has, while a field of it that is `null` counts as absent; `rootfs` has another `type`
     /// than `layers`, or a key beside `type` and `diff_ids`; a variable has no `=`, no name, or one that is there before; a working directory
     /// that isn't the empty text isn't absolute, or breaks a limit.
-    fn from_json(alloc: Global, value: &Value) -> Result<Config, ReadFault> {
+    fn from_lent(alloc: Global, value: &Lent<'_>) -> Result<Config, ReadFault> {
         read_config(alloc, value)
     }
 }
