@@ -1,11 +1,12 @@
-ghost use Rattle.std.specs.Prelude.{◌≡◌, IfOk, false};
+ghost use Rattle.std.specs.Prelude.{◌≡◌, IfOk, OnOk, OnErr, true, false};
+ghost use Rattle.std.specs.List.{list_all};
 ghost use Rattle.serde_json.specs.View.{view};
 ghost use Rattle.serde_json.specs.Written.{has_float};
 ghost use Rattle.instructions.specs.Instruction.{IsInstruction};
-ghost use Rattle.scopes.specs.Scope.{value_in};
+ghost use Rattle.scopes.specs.Scope.{value_in, is_environment_name, names_of as variable_names};
 ghost use Rattle.imageconfig.specs.Reading.{plain};
 ghost use Rattle.imageconfig.specs.Writing.{config_data};
-ghost use Rattle.imageconfig.specs.Steps.{dir_of, child_of, IsApplied};
+ghost use Rattle.imageconfig.specs.Steps.{dir_of, child_of, with_variables, IsApplied};
 
 use crate::changing::change;
 use crate::copying::copied_config;
@@ -20,7 +21,7 @@ use expand::{Rejection, RejectionFault};
 use instructions::Instruction;
 use json::Value as Lent;
 use paths::Path;
-use plain::{Exact, Fault, Items, Memory, Text};
+use plain::{Exact, Fault, Items, Memory, Text, Variable};
 use scopes::Scope;
 use serde_json::Value;
 use std::alloc::Global;
@@ -91,6 +92,19 @@ impl Config {
             Some(path) => path.copy(alloc),
             None => Ok(Path::root(alloc)),
         }
+    }
+
+    /// Gives variables of the environment their values, as `Environment::set_variables`.
+    pub(crate) fn set_variables(
+        &mut self,
+        alloc: Global,
+        variables: &[Variable],
+    ) -> Result<(), Memory>
+        requires { list_all is_environment_name (variable_names variables.now) ≡ true }
+        ensures ok { OnOk result (self.new ≡ with_variables self.old variables.now) }
+        ensures err { OnErr result (self.new ≡ self.old) }
+    {
+        self.env.set_variables(alloc, variables)
     }
 
     /// Applies an instruction, whose words have their values under the scope before its line. FROM, ARG, RUN and COPY change nothing.
