@@ -2,7 +2,7 @@ ghost use Rattle.std.specs.Prelude.{◌≡◌, ◌≤◌, length, IfOk};
 ghost use Rattle.std.specs.FinMap.{insert, len};
 ghost use Rattle.evaluation.specs.Images.{AreSources};
 
-use imageconfig::Config;
+use imageconfig::BoxedConfig;
 use plain::{Exact, Memory, Text};
 use plans::{Image, Images, Sources};
 use std::alloc::Global;
@@ -15,7 +15,7 @@ fn with_image(
     alloc: Global,
     sources: Sources,
     name: Text,
-    image: &Image<Config>,
+    image: &Image<BoxedConfig>,
 ) -> Result<Sources, Memory>
     ensures { IfOk result (λ more. more ≡ record sources { images = insert sources.images name image.now.tree }) }
 {
@@ -38,7 +38,7 @@ fn with_image(
 pub(crate) fn sources_of(
     alloc: Global,
     context: Tree,
-    images: Images<Config>,
+    images: Images<BoxedConfig>,
     names: Vec<Text>,
 ) -> Result<Sources, Memory>
     ensures sources { IfOk result (λ sources. AreSources context images names.items sources) }
