@@ -12,12 +12,11 @@ ghost use Rattle.bundle.specs.Parts.{or_none, files_at, image_in, images_in, no_
 ghost use Rattle.bundle.specs.PrivatePulled.{FindsImage, Finds};
 
 use crate::parts::{
-    Files, ListedImage, Named, Parts, ReadImages, args_or_none, caches_of, digest_of,
+    Files, ListedImage, Named, Parts, ReadImages, args_or_none, caches_of, config_of, digest_of,
     dockerfile_of, images_with, no_images,
 };
 use borrowed::{
-    FromLent, MAX_DEPTH, inner_depth, next_key, one_of, open_object, optional_of, owned_rows,
-    pull_value,
+    MAX_DEPTH, inner_depth, next_key, open_object, optional_of, owned_rows, pull_value,
 };
 use entries::Listing;
 use json::{Reader, Scratch, Value};
@@ -25,7 +24,7 @@ use plain::{Fault, Items, Memory, Text};
 use std::alloc::Global;
 use std::collections::BTreeMap;
 use std::thread::Threads;
-use strict::{NotRead, ReadFault};
+use strict::{FromJson, NotRead, ReadFault};
 use trees::Tree;
 
 /// What was found at each key that an image may have; of a key that stands twice the last value counts.
@@ -107,13 +106,13 @@ fn pull_image<'a>(
 }
 
 /// The image of what was found, from which its tree is taken.
-fn image_of<C: FromLent>(
+fn image_of<C: FromJson>(
     alloc: Global,
     found: &mut FoundImage<'_>,
 ) -> Result<ListedImage<C>, ReadFault>
     ensures { IfOk result (λ image. (members : Members) → FindsImage found.old members → image_in C.reading (object members) ≡ Some image) }
 {
-    let config: C = one_of(alloc, found.config.as_ref())?;
+    let config: C = config_of(alloc, found.config.as_ref())?;
     let digest = digest_of(alloc, found.digest.as_ref())?;
     match found.tree.take() {
         Some(tree) => Ok(ListedImage {
@@ -130,7 +129,7 @@ fn image_of<C: FromLent>(
 }
 
 /// The image that comes next.
-fn pull_listed_image<C: FromLent>(
+fn pull_listed_image<C: FromJson>(
     alloc: Global,
     rt: &(impl Threads + Sync),
     reader: &mut Reader<'_>,
@@ -145,7 +144,7 @@ fn pull_listed_image<C: FromLent>(
 }
 
 /// The images that come next, each by its name; of a name that stands twice the last image counts.
-fn pull_images<C: FromLent>(
+fn pull_images<C: FromJson>(
     alloc: Global,
     rt: &(impl Threads + Sync),
     reader: &mut Reader<'_>,
@@ -206,7 +205,7 @@ impl<'a, C: Drop> Drop for Found<'a, C> {
     }
 }
 
-impl<'a, C: FromLent> Found<'a, C> {
+impl<'a, C: FromJson> Found<'a, C> {
     /// Nothing was found yet.
     fn none() -> Found<'a, C>
         ensures { Finds C.reading result no_members }
@@ -264,7 +263,7 @@ impl<'a, C: FromLent> Found<'a, C> {
 }
 
 /// What stands at the keys of the bundle that comes next.
-fn pull_bundle<'a, C: FromLent>(
+fn pull_bundle<'a, C: FromJson>(
     alloc: Global,
     rt: &(impl Threads + Sync),
     reader: &mut Reader<'a>,
@@ -348,7 +347,7 @@ fn named_of<C: Drop>(
 }
 
 /// The bundle of what was found, from which its lists are taken.
-fn parts_of_found<C: FromLent>(
+fn parts_of_found<C: FromJson>(
     alloc: Global,
     found: &mut Found<'_, C>,
 ) -> Result<Parts<C>, ReadFault>
@@ -379,7 +378,7 @@ fn parts_of_found<C: FromLent>(
 }
 
 /// The parts of the bundle that comes next.
-fn pull_parts<C: FromLent>(
+fn pull_parts<C: FromJson>(
     alloc: Global,
     rt: &(impl Threads + Sync),
     reader: &mut Reader<'_>,
@@ -394,7 +393,7 @@ fn pull_parts<C: FromLent>(
 }
 
 /// The parts of a bundle's text, read token by token. After `NotRead` it may still be a bundle's.
-pub(crate) fn pull_text<C: FromLent>(
+pub(crate) fn pull_text<C: FromJson>(
     alloc: Global,
     rt: &(impl Threads + Sync),
     text: &str,

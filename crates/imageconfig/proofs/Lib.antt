@@ -1,6 +1,5 @@
 mod EnvLaws
 mod FloatFacts
-mod KeyFacts
 mod LawFacts
 mod LineFacts
 mod NameFacts

@@ -13,7 +13,6 @@
 // ```
 #![tactic(auto)]
 
-mod boxed;
 mod changing;
 mod config;
 mod copying;
@@ -28,7 +27,6 @@ mod rows;
 mod values;
 mod writing;
 
-pub use boxed::BoxedConfig;
 pub use config::Config;
 pub use environment::Environment;
 pub use names::Names;
