@@ -10,5 +10,4 @@ mod HeldFacts
 mod PieceFacts
 mod KeyFacts
 mod MadeFacts
-mod SlabFacts
 mod Crosses

@@ -33,7 +33,6 @@ mod names;
 mod node;
 mod part;
 mod put;
-mod slab;
 mod tree;
 mod walk;
 
@@ -43,6 +42,5 @@ pub use content::Content;
 pub use copy::{CopyOptions, CopySource};
 pub use entry::Entry;
 pub use meta::Meta;
-pub use slab::Slab;
 pub use tree::Tree;
 pub use walk::Walk;
