@@ -7,6 +7,7 @@ pub mod OverLaws
 pub mod RemoveLaws
 pub mod CopyLaws
 pub mod CopyTrees
+pub mod BuiltLaws
 mod NodeLaws
 mod NodeSteps
 mod KidLists
@@ -31,3 +32,7 @@ mod FolderSteps
 mod FolderDone
 mod GatheredSteps
 mod GrowingSteps
+mod PartedSteps
+mod SpineSteps
+mod ForkSteps
+mod BuilderSteps

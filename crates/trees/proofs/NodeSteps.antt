@@ -26,7 +26,7 @@ use Rattle.trees.proofs.WayLaws.{is_blocked-cons, open-from_fronts}
 use Rattle.trees.proofs.TreeLaws.{same_tree}
 use Rattle.trees.proofs.NodeLaws.{get-map_of_root, get-map_of_cons, get-joined, get-joined_root, lookup-find}
 
-whole_rest : {A : Type 0} (x : A) (xs : List A) → take (length (x ∷ xs) - 1) (drop 1 (x ∷ xs)) ≡ xs
+pub whole_rest : {A : Type 0} (x : A) (xs : List A) → take (length (x ∷ xs) - 1) (drop 1 (x ∷ xs)) ≡ xs
 whole_rest x xs = grind (arith, common_steps)
 
 -- a path that isn't the root is its first name and the rest

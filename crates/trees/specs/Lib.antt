@@ -18,4 +18,6 @@ pub mod PrivateFall
 pub mod PrivateLent
 pub mod PrivateCopy
 pub mod PrivateGrowing
+pub mod Builder
+pub mod PrivateSpine
 pub mod PrivateHeld

@@ -76,6 +76,14 @@ impl Tree {
         Ok(tree)
     }
 
+    /// The tree of a node.
+    pub(crate) fn of_root(root: Node) -> Tree
+        requires { IsTree (map_of root) }
+        ensures { result ≡ map_of root }
+    {
+        Tree { root }
+    }
+
     /// The mode and owner of the root, which is a directory in every tree, as the parents of all that it has are.
     pub fn root(&self) -> Meta
         ensures value { get self.now [] ≡ Some (Directory result) }
