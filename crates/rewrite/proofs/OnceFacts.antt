@@ -69,11 +69,11 @@ same_lines low (x ∷ xs) (y ∷ ys) a b on back =
 
 -- ---- numbers
 
-abbrev vertex_of : Op → List ℕ → Vertex
+abbrev pub vertex_of : Op → List ℕ → Vertex
 vertex_of op inputs = record { op = op; inputs = inputs }
 
 -- inputs that have the same new numbers are the same, where none of those below a number share one
-same_olds : (names : Names) (n : ℕ) (os ps news : List ℕ)
+pub same_olds : (names : Names) (n : ℕ) (os ps news : List ℕ)
     → ((j k a : ℕ) → j < n → k < n → slice_get names j ≡ Some (Some a) → slice_get names k ≡ Some (Some a) → j ≡ k)
     → All (λ i. i < n) os → All (λ i. i < n) ps → AreNames names os news → AreNames names ps news → os ≡ ps
 same_olds names n [] [] [] one low less a b = refl
