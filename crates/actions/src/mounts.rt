@@ -223,7 +223,7 @@ pub(crate) fn whole_binds(
 ) -> Result<Option<Items<Bind>>, Memory>
     ensures { IfOk result (λ found. found ≡ all_some (map whole_bind binds)) }
 {
-    let mut found = Items::new(alloc);
+    let mut found = Items::from_vec(Vec::with_capacity(alloc, binds.len())?);
     for bind in binds.into_vec() {
         match whole_bind(bind) {
             Some(bind) => found.push(bind)?,

@@ -180,8 +180,9 @@ pub(crate) fn near_sources(
     ensures patterns { IfOk result (λ found. found.patterns ≡ worst (map (pattern_fault (value_in scope.now)) sources)) }
     ensures documents { IfOk result (λ found. found.documents ≡ worst (map (heredoc_fault (value_in scope.now)) sources)) }
 {
+    let files = Items::from_vec(Vec::with_capacity(alloc, sources.len())?);
     let mut found = NearSources {
-        files: Items::new(alloc),
+        files,
         patterns: None,
         documents: None,
     };

@@ -89,7 +89,7 @@ impl NamedImages {
         ensures { IfOk result (λ names. names ≡ self) }
     {
         let NamedImages { names } = self;
-        let mut items = Items::new(alloc);
+        let mut items = Items::from_vec(Vec::with_capacity(alloc, names.len())?);
         for (name, _) in names.into_rows().into_vec() {
             items.push(name)?;
         }

@@ -17,13 +17,15 @@ pub struct Output {
 }
 
 impl Output {
-    pub fn new(alloc: Global) -> Output
-        ensures { made result ≡ [] }
+    /// No token, with room for one, which most words are.
+    pub fn new(alloc: Global) -> Result<Output, Memory>
+        ensures { IfOk result (λ output. made output ≡ []) }
     {
-        Output {
-            tokens: Items::new(alloc),
+        let tokens = Items::from_vec(Vec::with_capacity(alloc, 1)?);
+        Ok(Output {
+            tokens,
             plain: String::new(alloc),
-        }
+        })
     }
 
     /// Adds a character of plain text.

@@ -16,7 +16,7 @@ use std::alloc::Global;
 pub fn read(alloc: Global, characters: &[Character]) -> Result<Option<Items<Token>>, Memory>
     ensures { IfOk result (λ found. option_map bytewise found ≡ option_map tokens (pieces characters.now)) }
 {
-    let mut output = Output::new(alloc);
+    let mut output = Output::new(alloc)?;
     let mut reading = Reading::new(0, Begun::Nothing);
     for character in characters {
         match step(alloc, &mut output, reading, *character)? {

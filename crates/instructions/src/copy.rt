@@ -86,7 +86,7 @@ fn read_sources(
     ensures { Finds (all_some (sources is_list escape heredocs.now (lent_texts texts.now))) result }
 {
     let mut left = heredocs;
-    let mut found = Items::new(alloc);
+    let mut found = Items::from_vec(Vec::with_capacity(alloc, texts.len())?);
     for text in texts {
         let source = read_source(alloc, is_list, escape, left, text)?;
         found.push(source)?;

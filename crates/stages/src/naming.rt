@@ -163,7 +163,7 @@ fn copy_origins<C>(
     let Some(origin) = flag_origin(alloc, images, names, from)? else {
         return Ok(None);
     };
-    let mut origins = Items::new(alloc);
+    let mut origins = Items::from_vec(Vec::with_capacity(alloc, 1)?);
     origins.push(origin)?;
     Ok(Some(origins))
 }
@@ -178,7 +178,7 @@ fn run_origins<C>(
     requires { length names.now < 2 ^ 32 }
     ensures { IfOk result (λ found. found ≡ all_led (names_in images.now) names.now (filter_map (λ m. mount_reference m.kind) mounts.now)) }
 {
-    let mut origins = Items::new(alloc);
+    let mut origins = Items::from_vec(Vec::with_capacity(alloc, mounts.len())?);
     for mount in mounts {
         if let MountKind::Bind { from, .. } = &mount.kind {
             match bind_origin(alloc, images, names, from)? {
