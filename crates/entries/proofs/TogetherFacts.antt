@@ -37,14 +37,14 @@ pub positive : (n : ℕ) → 0 < n → nat_lt 0 n ≡ true
 positive n more = grind (arith, nat_tests)
 
 -- others stand before an entry of a round if any stand before the round, or its place isn't the first
-pub later-either : (behind place : ℕ) → (nat_lt 0 behind || nat_lt 0 place) ≡ nat_lt 0 (behind + place * 8192)
+pub later-either : (behind place : ℕ) → (nat_lt 0 behind || nat_lt 0 place) ≡ nat_lt 0 (behind + place * 2048)
 later-either zero zero =
-    let e : 0 ≡ zero + zero * 8192 = omega arith in
+    let e : 0 ≡ zero + zero * 2048 = omega arith in
     ap (nat_lt 0) e
-later-either zero (suc place) = positive (suc place) (omega arith) ∙ sym (positive (zero + suc place * 8192) (omega arith))
+later-either zero (suc place) = positive (suc place) (omega arith) ∙ sym (positive (zero + suc place * 2048) (omega arith))
 later-either (suc behind) place =
     ap (λ b. b || nat_lt 0 place) (positive (suc behind) (omega arith))
-    ∙ sym (positive (suc behind + place * 8192) (omega arith))
+    ∙ sym (positive (suc behind + place * 2048) (omega arith))
 
 -- a block, and then what is behind it
 pub block-then : (rows : List Row) (behind next size : ℕ) → 0 < size → behind + size ≡ next

@@ -22,7 +22,7 @@ use trees::{Tree, Walk};
 const SHARES: usize = 3;
 
 /// How many entries a thread prints before the text is handed on.
-const ROWS: usize = 8192;
+const ROWS: usize = 2048;
 
 /// How many entries a round has, but for the last.
 const ROUND: usize = SHARES * ROWS;

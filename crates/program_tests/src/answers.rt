@@ -80,7 +80,7 @@ fn answers_are_compact_text(rt: HostRuntime) -> Result<(), Fail> {
 /// A folder's number has as many digits as another's, and so has a file's. So the order of numbers is that of names.
 const FOLDERS: Range<u32> = 100..166;
 
-const FILES: Range<u32> = 1000..1900;
+const FILES: Range<u32> = 1000..1225;
 
 /// Puts an empty file or a folder into a tree, and its entry after those of an answer.
 fn put_both(

@@ -18,7 +18,7 @@ returns c = record {
         },
         record {
           count = kept.blocks;
-          each = λ i d lt. subst (IsBlock rows (behind + i * 8192)) (sym (kept.given i d any (omega arith))) (have.each i any lt);
+          each = λ i d lt. subst (IsBlock rows (behind + i * 2048)) (sym (kept.given i d any (omega arith))) (have.each i any lt);
         },
       );
 }

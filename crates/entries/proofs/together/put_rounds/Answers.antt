@@ -15,19 +15,19 @@ loop-round-init g c = record {
 
 pub loop-round-preserved : goal.loop-round-preserved
 loop-round-preserved g c =
-    let at = c.loop-round.round * 24576 in
+    let at = c.loop-round.round * 6144 in
     let said = c.put_and_print-said.result in
     record {
       said = λ rows past last rest.
           let given = c.exchange.ensures.printed rows at (c.loop-round.invariant.printed rows past) in
           let all : said ≡ 3 = omega (arith, given.1.count) in
-          let e : (c.loop-round.round + 1) * 24576 ≡ at + said * 8192 = omega arith in
+          let e : (c.loop-round.round + 1) * 6144 ≡ at + said * 2048 = omega arith in
           c.loop-round.invariant.said rows past last (c.put_and_print-said.ensures.says rows at given.1 last (says_as rest (ap (text_behind_rows rows) e)));
       printed = λ rows past.
           let given = c.exchange.ensures.printed rows at (c.loop-round.invariant.printed rows past) in
-          let e : at + 24576 ≡ (c.loop-round.round + 1) * 24576 = omega arith in
+          let e : at + 6144 ≡ (c.loop-round.round + 1) * 6144 = omega arith in
           subst (λ k. HavePrinted rows k c.put_and_print-said.new.shares) e
-          (c.put_and_print-said.ensures.printed.printed rows (at + 24576) (sym (positive (at + 24576) (omega arith))) given.0);
+          (c.put_and_print-said.ensures.printed.printed rows (at + 6144) (sym (positive (at + 6144) (omega arith))) given.0);
       shares = first_of (omega arith, search rules);
       blocks = first_of (omega arith, search rules);
       room = c.put_and_print-said.ensures.room;
@@ -35,22 +35,22 @@ loop-round-preserved g c =
 
 pub returns-then-said-lt-SHARES-clause-says : goal.returns-then-said-lt-SHARES-clause-says
 returns-then-said-lt-SHARES-clause-says g c = λ rows past last rest.
-    let at = c.loop-round.round * 24576 in
+    let at = c.loop-round.round * 6144 in
     let given = c.exchange.ensures.printed rows at (c.loop-round.invariant.printed rows past) in
     c.loop-round.invariant.said rows past last (c.put_and_print-said.ensures.says rows at given.1 last rest)
 
 pub returns-then-not-more-clause-says : goal.returns-then-not-more-clause-says
 returns-then-not-more-clause-says g c = λ rows past last rest.
-    let at = c.loop-round.round * 24576 in
+    let at = c.loop-round.round * 6144 in
     let said = c.put_and_print-said.result in
     let given = c.exchange.ensures.printed rows at (c.loop-round.invariant.printed rows past) in
     let all : said ≡ 3 = omega (arith, given.1.count) in
-    let none : drop (at + 24576) rows ≡ [] = (given.0.each 0 c.index-shares-0.result (omega arith)).ended c.if-not-more.true in
-    let e : at + said * 8192 ≡ at + 24576 = omega arith in
+    let none : drop (at + 6144) rows ≡ [] = (given.0.each 0 c.index-shares-0.result (omega arith)).ended c.if-not-more.true in
+    let e : at + said * 2048 ≡ at + 6144 = omega arith in
     c.loop-round.invariant.said rows past last
-    (c.put_and_print-said.ensures.says rows at given.1 last (says_as rest (text-done rows (at + said * 8192) (ap (λ k. drop k rows) e ∙ none))))
+    (c.put_and_print-said.ensures.says rows at given.1 last (says_as rest (text-done rows (at + said * 2048) (ap (λ k. drop k rows) e ∙ none))))
 
 pub returns-clause-says : goal.returns-clause-says
 returns-clause-says g c = λ rows past last rest.
     let end : c.loop-round.round ≡ 4294967295 = omega arith in
-    c.loop-round.invariant.said rows past last (says_as rest (ap (λ n. text_behind_rows rows (n * 24576)) (sym end)))
+    c.loop-round.invariant.said rows past last (says_as rest (ap (λ n. text_behind_rows rows (n * 6144)) (sym end)))
