@@ -1,5 +1,7 @@
+pub mod DifferFacts
 pub mod FlatFacts
 pub mod FlattenedFacts
+pub mod FreshFacts
 pub mod JoinFacts
 pub mod LawFacts
 pub mod LinkFacts

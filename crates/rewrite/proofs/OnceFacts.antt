@@ -1,20 +1,18 @@
 -- Joining the vertices of a graph makes none one: no two of them are equal, so each that comes is alone under its new number.
-use Rattle.std.proofs.Common.{◌≡◌, inl, inr, ◌<◌, ℕ, zero, suc, Bool, List, [], ◌∷◌, length, Some, refl, sym, ap, ap₂, ◌∙◌, subst, arith}
+use Rattle.std.proofs.Common.{◌≡◌, inl, inr, ◌<◌, ℕ, Bool, List, [], ◌∷◌, length, Some, refl, sym, ap₂, subst, arith}
 use Rattle.std.specs.Prelude.{Contains, slice_get}
-use Rattle.std.specs.List.{All}
 use Rattle.std.proofs.lemmas.Bool.{cases_lt}
-use Rattle.std.proofs.lemmas.List.Elements.{All-head, All-tail, All-weaker, All-contains}
+use Rattle.std.proofs.lemmas.List.Elements.{All-contains}
 use Rattle.std.proofs.lemmas.Option.{slice_get_within}
-use Rattle.llb.specs.declared.op.Op.{Op}
-use Rattle.llb.specs.declared.vertex.Vertex.{Vertex}
 use Rattle.llb.specs.Graph.{GraphValue, IsGraph}
 use Rattle.llb.specs.Places.{AscendFrom}
 use Rattle.llb.proofs.LineFacts.{contains_nil, contains_here, contains_there, contains_cases}
 use Rattle.lowering.specs.Means.{lines_at}
 use Rattle.rewrite.specs.PrivateJoined.{AreJoinable, AreJoined}
 use Rattle.rewrite.specs.PrivateMarks.{AreReached}
-use Rattle.rewrite.specs.Pruned.{Names, AreNames, IsRenamed}
-use Rattle.rewrite.proofs.JoinFacts.{there_is, lines_at_are}
+use Rattle.rewrite.specs.Pruned.{Names}
+use Rattle.rewrite.proofs.FreshFacts.{one_below, once_distinct}
+use Rattle.rewrite.proofs.JoinFacts.{lines_at_are}
 
 -- what a target reaches in a graph can make a graph
 pub graph_joinable : (graph : GraphValue) (target : ℕ) (marks : List Bool) → IsGraph graph → AreReached graph.vertices target marks → AreJoinable graph marks
@@ -69,52 +67,14 @@ same_lines low (x ∷ xs) (y ∷ ys) a b on back =
 
 -- ---- numbers
 
-abbrev vertex_of : Op → List ℕ → Vertex
-vertex_of op inputs = record { op = op; inputs = inputs }
-
--- inputs that have the same new numbers are the same, where none of those below a number share one
-same_olds : (names : Names) (n : ℕ) (os ps news : List ℕ)
-    → ((j k a : ℕ) → j < n → k < n → slice_get names j ≡ Some (Some a) → slice_get names k ≡ Some (Some a) → j ≡ k)
-    → All (λ i. i < n) os → All (λ i. i < n) ps → AreNames names os news → AreNames names ps news → os ≡ ps
-same_olds names n [] [] [] one low less a b = refl
-same_olds names n [] [] (m ∷ ms) one low less a b = absurd a
-same_olds names n [] (p ∷ ps) [] one low less a b = absurd b
-same_olds names n [] (p ∷ ps) (m ∷ ms) one low less a b = absurd a
-same_olds names n (o ∷ os) [] [] one low less a b = absurd a
-same_olds names n (o ∷ os) [] (m ∷ ms) one low less a b = absurd b
-same_olds names n (o ∷ os) (p ∷ ps) [] one low less a b = absurd a
-same_olds names n (o ∷ os) (p ∷ ps) (m ∷ ms) one low less a b =
-    ap₂ (λ (x : ℕ) (xs : List ℕ). x ∷ xs)
-    (one o p m (All-head (λ i. i < n) o os low) (All-head (λ i. i < n) p ps less) a.0 b.0)
-    (same_olds names n os ps ms one (All-tail (λ i. i < n) o os low) (All-tail (λ i. i < n) p ps less) a.1 b.1)
-
 module _ (old new : GraphValue) (marks : List Bool) (names : Names) (is : IsGraph old) (joined : AreJoined old marks (length old.vertices) new names) where
-  vertex_there : (k id : ℕ) → slice_get names k ≡ Some (Some id) → (v : Vertex) × (slice_get old.vertices k ≡ Some v)
-  vertex_there k id name = there_is old.vertices k (let within = slice_get_within names k (Some id) name in omega (arith, within, joined.long))
-
-  -- two vertices below a number don't have one new number, since none of their inputs do, and so they would be equal
-  one_below : (n j k a : ℕ) → j < n → k < n → slice_get names j ≡ Some (Some a) → slice_get names k ≡ Some (Some a) → j ≡ k
-  one_below zero j k a low less e f = absurd (omega (arith, low))
-  one_below (suc n) j k a low less e f =
-      let v = vertex_there j a e in
-      let w = vertex_there k a f in
-      let s = joined.same j a v.0 e v.1 in
-      let t = joined.same k a w.0 f w.1 in
-      let one : t.0 ≡ s.0 = (let g : Some t.0 ≡ Some s.0 = sym t.1 ∙ s.1 in cc) in
-      let other : IsRenamed names w.0 s.0 = subst (IsRenamed names w.0) one t.2 in
-      let inputs : v.0.inputs ≡ w.0.inputs = same_olds names n v.0.inputs w.0.inputs s.0.inputs (one_below n)
-      (All-weaker (λ i. i < j) (λ i. i < n) (λ i lt. omega (arith, lt, low)) v.0.inputs (is.vertices.after j v.0 v.1))
-      (All-weaker (λ i. i < k) (λ i. i < n) (λ i lt. omega (arith, lt, less)) w.0.inputs (is.vertices.after k w.0 w.1))
-      s.2.inputs other.inputs in
-      let ops : v.0.op ≡ w.0.op = sym s.2.op ∙ other.op in
-      is.vertices.once j k w.0 (v.1 ∙ ap Some (ap₂ vertex_of ops inputs)) w.1
-
   -- two vertices don't have one new number
   pub one_old : (j k a : ℕ) → slice_get names j ≡ Some (Some a) → slice_get names k ≡ Some (Some a) → j ≡ k
   one_old j k a e f =
       let low = slice_get_within names j (Some a) e in
       let less = slice_get_within names k (Some a) f in
-      one_below (length names) j k a low less e f
+      one_below old new marks names (length old.vertices) (omega arith) (λ n v marked there. is.vertices.after n v there)
+      (once_distinct old marks is) joined (length names) j k a low less e f
 
   -- they come in their order
   pub in_order : (j k a b : ℕ) → slice_get names j ≡ Some (Some a) → slice_get names k ≡ Some (Some b) → j < k → a < b

@@ -1,5 +1,5 @@
 -- How vertices come on their flat inputs.
-use Rattle.std.specs.Prelude.{◌≡◌, ℕ, Bool, true, false, List, [], ◌∷◌, not, Option, Some, None, if◌then◌else◌, length, slice_get}
+use Rattle.std.specs.Prelude.{◌≡◌, ℕ, Bool, true, false, List, [], ◌∷◌, not, Option, Some, None, if◌then◌else◌, ◌-◌, get_or, length, slice_get}
 use Rattle.std.specs.Option.{is_some}
 use Rattle.llb.specs.declared.op.Op.{Op}
 use Rattle.llb.specs.declared.op.Op.TheVariants.{Source as SourceOp, Exec as ExecOp, Copy as CopyOp, MakeDirs as MakeDirsOp, Merge as MergeOp}
@@ -38,6 +38,21 @@ stands_flat vertices vertex = not (is_some (link_below vertices vertex))
 pub record AreOnFlat (old : List Vertex) (marks : List Bool) (new : List Vertex) : Type 0 where
   pub long : length new ≡ length old
   pub there : (k : ℕ) (v : Vertex) → is_marked marks k ≡ true → slice_get old k ≡ Some v → slice_get new k ≡ Some (flat_vertex old v)
+
+-- no two of the merges that are marked have the same inputs
+abbrev pub MergesDiffer : List Vertex → List Bool → Type 0
+MergesDiffer vertices marks = (j k : ℕ) (v : Vertex) → is_marked marks j ≡ true → is_marked marks k ≡ true → slice_get vertices j ≡ Some v
+    → slice_get vertices k ≡ Some v → v.op ≡ MergeOp → j ≡ k
+
+-- the last of some inputs
+abbrev pub last_of : List ℕ → ℕ
+last_of ids = get_or ids (length ids - 1) 0
+
+-- the last of these wasn't marked and is, and what was marked is
+pub record MarksLast (old new : List Bool) (ids : List ℕ) : Type 0 where
+  pub before : is_marked old (last_of ids) ≡ false
+  pub now : is_marked new (last_of ids) ≡ true
+  pub kept : (k : ℕ) → is_marked old k ≡ true → is_marked new k ≡ true
 
 -- what the target reaches over flat inputs is marked, and is on its flat inputs
 abbrev pub AreFlattened : List Vertex → ℕ → List Bool → List Vertex → Type 0

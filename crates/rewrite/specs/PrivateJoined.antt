@@ -3,7 +3,7 @@ use Rattle.std.specs.Prelude.{◌≡◌, ◌<◌, ◌≤◌, ℕ, Bool, true, fa
 use Rattle.plain.specs.Limits.{most_vertices}
 use Rattle.plain.specs.Marks.{is_marked}
 use Rattle.llb.specs.declared.vertex.Vertex.{Vertex}
-use Rattle.llb.specs.Graph.{GraphValue, Adds}
+use Rattle.llb.specs.Graph.{GraphValue, Adds, IsNew}
 use Rattle.llb.specs.Places.{AreLines}
 use Rattle.llb.specs.Reach.{HasInput}
 use Rattle.llb.specs.WellFormed.{is_well_formed}
@@ -27,6 +27,15 @@ pub record AreJoinable (old : GraphValue) (marks : List Bool) : Type 0 where
   pub long : length marks ≡ length old.vertices
   pub well_formed : (k : ℕ) (v : Vertex) → is_marked marks k ≡ true → slice_get old.vertices k ≡ Some v → IsTrue (is_well_formed v)
   pub inputs : (k input : ℕ) → is_marked marks k ≡ true → HasInput old.vertices k input → (input < k) × (is_marked marks input ≡ true)
+
+-- no two of the vertices that are marked are equal
+abbrev pub AreDistinct : List Vertex → List Bool → Type 0
+AreDistinct vertices marks = (j k : ℕ) (v : Vertex) → is_marked marks j ≡ true → is_marked marks k ≡ true → slice_get vertices j ≡ Some v
+    → slice_get vertices k ≡ Some v → j ≡ k
+
+-- the vertex, on the new numbers of its inputs, isn't in the graph
+abbrev pub ComesNew : GraphValue → Names → Vertex → Type 0
+ComesNew graph names vertex = (renamed : Vertex) → IsRenamed names vertex renamed → IsNew graph.vertices renamed
 
 -- a vertex is in a graph, on the new numbers of its inputs, and these are among its lines
 pub record IsJoined (old new : GraphValue) (names : Names) (vertex : Vertex) (lines : List ℕ) (id : ℕ) : Type 0 where

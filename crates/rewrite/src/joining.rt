@@ -2,12 +2,13 @@
 ghost use Rattle.std.specs.Prelude.{◌≡◌, ◌<◌, length, IsTrue, IfOk, Some, true, slice_get};
 ghost use Rattle.std.specs.List.{All};
 ghost use Rattle.plain.specs.Limits.{most_vertices};
+ghost use Rattle.llb.specs.Graph.{IsAfterInputs, IsNew, Adds};
 ghost use Rattle.llb.specs.Places.{AreLines};
 ghost use Rattle.llb.specs.WellFormed.{is_well_formed};
 ghost use Rattle.rewrite.specs.Pruned.{AreNames};
-ghost use Rattle.rewrite.specs.PrivateJoined.{HasName, AreInside, AreJoinable, IsJoined, IsNamedJoined, AreJoined};
+ghost use Rattle.rewrite.specs.PrivateJoined.{HasName, AreInside, AreJoinable, AreDistinct, ComesNew, IsJoined, IsNamedJoined, AreJoined};
 
-use llb::{Full, Graph, Vertex, VertexId};
+use llb::{Full, Graph, GraphFault, Vertex, VertexId};
 use plain::{Fault, Items, Memory};
 use std::alloc::Global;
 
@@ -39,24 +40,52 @@ fn rename(
     Ok(found)
 }
 
-/// Adds a vertex, on the new numbers of its inputs and with its lines, to a graph that isn't full.
+/// Adds a vertex with its lines. With `is_new` it isn't compared with those that are there.
+fn put(
+    alloc: Global,
+    graph: &mut Graph,
+    vertex: Vertex,
+    lines: &[u32],
+    is_new: bool,
+) -> Result<VertexId, GraphFault>
+    requires inputs { IsAfterInputs (length graph.old.vertices) vertex }
+    requires well_formed { IsTrue (is_well_formed vertex) }
+    requires lines { AreLines lines.now }
+    requires fresh { is_new ≡ true → IsNew graph.old.vertices vertex }
+    ensures adds { Adds graph.old graph.new vertex lines.now result }
+{
+    if !is_new {
+        return graph.add_all(alloc, vertex, lines);
+    }
+    let Ok(lines) = Vec::from_slice(alloc, lines) else {
+        // Let go by name: at the end of the function the proof would walk all its parts.
+        drop(vertex);
+        return Err(Fault::Memory);
+    };
+    graph.append(vertex, Items::from_vec(lines))
+}
+
+/// Adds a vertex, on the new numbers of its inputs and with its lines, to a graph that isn't full. With `is_new` it isn't compared with those
+/// that are there.
 fn join(
     alloc: Global,
     graph: &mut Graph,
     names: &[Option<VertexId>],
     vertex: Vertex,
     lines: &[u32],
+    is_new: bool,
 ) -> Result<VertexId, Memory>
     requires named { All (HasName names.now) vertex.inputs }
     requires inside { AreInside names.now (length graph.old.vertices) }
     requires well_formed { IsTrue (is_well_formed vertex) }
     requires lines { AreLines lines.now }
     requires room { length graph.old.vertices < most_vertices }
+    requires fresh { is_new ≡ true → ComesNew graph.old names.now vertex }
     ensures { IfOk result (IsJoined graph.old graph.new names.now vertex lines.now) }
 {
     let Vertex { op, inputs } = vertex;
     let inputs = rename(alloc, names, inputs.as_slice())?;
-    match graph.add_all(alloc, Vertex { op, inputs }, lines) {
+    match put(alloc, graph, Vertex { op, inputs }, lines, is_new) {
         Ok(id) => Ok(id),
         Err(Fault::Memory) => Err(Memory),
         Err(Fault::Because(Full)) => unreachable!(),
@@ -71,16 +100,18 @@ fn join_marked(
     vertex: Vertex,
     lines: &[u32],
     mark: bool,
+    is_new: bool,
 ) -> Result<Option<VertexId>, Memory>
     requires named { mark ≡ true → All (HasName names.now) vertex.inputs }
     requires inside { AreInside names.now (length graph.old.vertices) }
     requires well_formed { mark ≡ true → IsTrue (is_well_formed vertex) }
     requires lines { AreLines lines.now }
     requires room { length graph.old.vertices < most_vertices }
+    requires fresh { mark ≡ true → is_new ≡ true → ComesNew graph.old names.now vertex }
     ensures { IfOk result (IsNamedJoined graph.old graph.new names.now vertex lines.now mark) }
 {
     if mark {
-        let id = join(alloc, graph, names, vertex, lines)?;
+        let id = join(alloc, graph, names, vertex, lines, is_new)?;
         Ok(Some(id))
     } else {
         Ok(None)
@@ -95,14 +126,16 @@ pub(crate) struct Joined {
 }
 
 /// The graph of the vertices that are marked, in their order. Equal ones are one, which stands where the first of them stood and has the
-/// lines of all.
+/// lines of all. With `differ` no two are equal, so equal ones aren't looked for.
 pub(crate) fn join_all(
     alloc: Global,
     vertices: Items<Vertex>,
     places: Items<Items<u32>>,
     marks: &[bool],
+    differ: bool,
 ) -> Result<Joined, Memory>
-    requires { AreJoinable (record { vertices = vertices; places = places }) marks.now }
+    requires joinable { AreJoinable (record { vertices = vertices; places = places }) marks.now }
+    requires differ { differ ≡ true → AreDistinct vertices marks.now }
     ensures { IfOk result (λ joined. AreJoined (record { vertices = vertices; places = places }) marks.now (length vertices) joined.graph joined.names) }
 {
     let mut graph = Graph::new(alloc);
@@ -117,6 +150,7 @@ pub(crate) fn join_all(
             vertex,
             lines,
             marks[at],
+            differ,
         )?;
         names.push(name)?;
         at += 1;

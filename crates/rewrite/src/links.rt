@@ -1,17 +1,18 @@
 // Puts the links of a plan into one.
-ghost use Rattle.std.specs.Prelude.{◌≡◌, ◌↔◌, IfOk, IsTrue};
+ghost use Rattle.std.specs.Prelude.{◌≡◌, ◌↔◌, true, length, IfOk, IsTrue};
 ghost use Rattle.plans.specs.Plan.{problem_of, NeedsAll};
 ghost use Rattle.plans.specs.Value.{Out};
 ghost use Rattle.rewrite.specs.Flat.{IsFlattened, MergesAreFlat};
-ghost use Rattle.rewrite.specs.PrivateFlat.{link_below};
+ghost use Rattle.rewrite.specs.PrivateFlat.{link_below, MergesDiffer, MarksLast};
 ghost use Rattle.rewrite.specs.Pruned.{KeepsMeaning};
 
 use crate::joining::{Joined, find_name, join_all};
 use crate::spelling::{Flattened, flatten_reached, is_merge};
 use llb::{Vertex, VertexId};
-use plain::Memory;
+use plain::{Memory, no_marks};
 use plans::Plan;
 use std::alloc::Global;
+use std::mem;
 
 /// The plan with its links put into one: a merge that is the first input of a merge is replaced by its inputs, and no other merge is. So a
 /// stage with several `COPY --link` one after another is one merge of its base and of what each of them copied.
@@ -29,10 +30,47 @@ pub fn flatten_links<C: Drop>(alloc: Global, plan: Plan<C>) -> Result<Plan<C>, M
     let (graph, target, config, sources) = plan.into_parts();
     let (vertices, places) = graph.into_parts();
     let Flattened { vertices, marks } = flatten_reached(alloc, vertices, target)?;
-    let Joined { graph: flat, names } = join_all(alloc, vertices, places, marks.as_slice())?;
+    let differ = do_merges_differ(alloc, vertices.as_slice(), marks.as_slice())?;
+    let Joined { graph: flat, names } = join_all(
+        alloc,
+        vertices,
+        places,
+        marks.as_slice(),
+        differ,
+    )?;
     let _known = flat.vertices();
     let target = find_name(names.as_slice(), target);
     Ok(Plan::new(flat, target, config, sources))
+}
+
+/// Whether each of the merges that are marked has a last input of its own, so that no two of them are equal. It takes one pass and compares no
+/// lists. It is `false` also where merges differ, but not in their last input.
+fn do_merges_differ(alloc: Global, vertices: &[Vertex], marks: &[bool]) -> Result<bool, Memory>
+    requires { length marks.now ≡ length vertices.now }
+    ensures { IfOk result (λ differ. differ ≡ true → MergesDiffer vertices.now marks.now) }
+{
+    let mut lasts = no_marks(alloc, vertices.len())?;
+    for (at, vertex) in vertices.iter().enumerate() {
+        if marks[at] && is_merge(&vertex.op) {
+            if !mark_last(&mut lasts, vertex.inputs.as_slice()) {
+                return Ok(false);
+            }
+        }
+    }
+    Ok(true)
+}
+
+/// Marks the last of these, and reports whether it wasn't marked before. It is `false` too where there is no last one, or no mark for it.
+fn mark_last(marks: &mut Vec<bool>, ids: &[VertexId]) -> bool
+    ensures { result ≡ true → MarksLast marks.old.items marks.new.items ids.now }
+{
+    let [.., last] = ids else {
+        return false;
+    };
+    match marks.get_mut(last.index()) {
+        Some(mark) => !mem::replace(mark, true),
+        None => false,
+    }
 }
 
 /// Whether no merge is the first input of a merge, so that there is nothing to flatten. It takes as many steps as there are vertices.

@@ -23,7 +23,7 @@ pub fn prune<C: Drop>(alloc: Global, plan: Plan<C>) -> Result<Plan<C>, Memory>
     let (graph, target, config, sources) = plan.into_parts();
     let marks = mark_reached(alloc, graph.vertices(), target)?;
     let (vertices, places) = graph.into_parts();
-    let Joined { graph: kept, names } = join_all(alloc, vertices, places, marks.as_slice())?;
+    let Joined { graph: kept, names } = join_all(alloc, vertices, places, marks.as_slice(), true)?;
     let _known = kept.vertices();
     let target = find_name(names.as_slice(), target);
     Ok(Plan::new(kept, target, config, sources))

@@ -1,11 +1,17 @@
-use Rattle.std.proofs.Common.{ap}
+use Rattle.std.proofs.Common.{ap, subst}
+use Rattle.llb.specs.Graph.{IsGraph}
+use Rattle.rewrite.proofs.FreshFacts.{once_distinct}
 use Rattle.rewrite.proofs.PrunedFacts.{made, made_joinable, made_named, made_pruned, made_keeps, pruned_needs, kept_sources}
 use Rattle.rewrite.proofs.pruning.prune.Goals as goal
 
-pub join_all-requires : goal.join_all-requires
-join_all-requires g c =
+pub join_all-requires-clause-joinable : goal.join_all-requires-clause-joinable
+join_all-requires-clause-joinable g c =
     made_joinable _ _ _ c.vertices.result.now _ c.in_ok-marks.marks c.as_slice.result.now c.into_parts-vertices.ensures.graph c.vertices.ensures.value
     c.in_ok-marks.ensures c.as_slice.ensures c.into_parts-vertices.ensures.value
+
+pub join_all-requires-clause-differ : goal.join_all-requires-clause-differ
+join_all-requires-clause-differ g c always =
+    once_distinct _ c.as_slice.result.now (subst IsGraph c.into_parts-vertices.ensures.value c.into_parts-vertices.ensures.graph)
 
 pub find_name-target-requires : goal.find_name-target-requires
 find_name-target-requires g c =
