@@ -13,7 +13,7 @@ use cachemounts::CacheStore;
 use dockerfile::Dockerfile;
 use evaluation::{Evaluated, evaluate};
 use expand::{Rejection, RejectionFault};
-use imageconfig::Config;
+use imageconfig::BoxedConfig;
 use lines::LineFault;
 use plain::Fault;
 use stages::StageTable;
@@ -57,7 +57,7 @@ pub(crate) fn rejection_fault(fault: LineFault) -> RejectionFault
 }
 
 /// What a bundle asks for.
-fn ask_file(alloc: Global, bundle: Bundle<Config>) -> Result<Asked, RejectionFault>
+fn ask_file(alloc: Global, bundle: Bundle<BoxedConfig>) -> Result<Asked, RejectionFault>
     requires { bundle.caches.holds ≡ [] }
     ensures asked { IsFileAsked bundle result }
     ensures lowerable { IfOk result (λ asked. IsLowerable asked.evaluated) }
@@ -73,7 +73,7 @@ fn ask_file(alloc: Global, bundle: Bundle<Config>) -> Result<Asked, RejectionFau
 /// What the stages of a bundle's Dockerfile ask for.
 fn ask_stages(
     alloc: Global,
-    bundle: Bundle<Config>,
+    bundle: Bundle<BoxedConfig>,
     file: Dockerfile,
 ) -> Result<Asked, RejectionFault>
     requires { bundle.caches.holds ≡ [] }
@@ -97,7 +97,7 @@ fn ask_stages(
 /// What the stages in a table ask for.
 pub(crate) fn ask_table(
     alloc: Global,
-    bundle: Bundle<Config>,
+    bundle: Bundle<BoxedConfig>,
     table: StageTable,
 ) -> Result<Asked, RejectionFault>
     requires idle { bundle.caches.holds ≡ [] }

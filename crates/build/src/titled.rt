@@ -18,7 +18,7 @@ use crate::asking::{Asked, ask_table, rejection_fault};
 use bundle::{Bundle, read_with_left_out};
 use dockerfile::Dockerfile;
 use expand::RejectionFault;
-use imageconfig::Config;
+use imageconfig::BoxedConfig;
 use lines::Line;
 use named::NamedRows;
 use paths::Path;
@@ -64,7 +64,7 @@ pub fn ask_titled(
 /// What a bundle asks for, with the titles of its Dockerfile, what its ignore file leaves out, and its digests.
 fn titled_bundle(
     alloc: Global,
-    bundle: Bundle<Config>,
+    bundle: Bundle<BoxedConfig>,
     left_out: Items<Path>,
 ) -> Result<Titled, RejectionFault>
     requires { bundle.caches.holds ≡ [] }
@@ -100,7 +100,7 @@ fn titled_bundle(
 /// What a bundle asks for, with the titles of its Dockerfile.
 fn titled_file(
     alloc: Global,
-    bundle: Bundle<Config>,
+    bundle: Bundle<BoxedConfig>,
 ) -> Result<(Asked, Items<Option<Text>>), RejectionFault>
     requires { bundle.caches.holds ≡ [] }
     ensures asked { IsFileAsked bundle (asked_of result) }
@@ -116,7 +116,7 @@ fn titled_file(
 /// What the stages of a bundle's Dockerfile ask for, with their titles.
 fn titled_stages(
     alloc: Global,
-    bundle: Bundle<Config>,
+    bundle: Bundle<BoxedConfig>,
     file: Dockerfile,
     lines: &[Line],
 ) -> Result<(Asked, Items<Option<Text>>), RejectionFault>
@@ -150,7 +150,7 @@ fn titled_stages(
 /// What the stages in a table ask for, with the titles of these lines, the stages having these names.
 fn titled_table(
     alloc: Global,
-    bundle: Bundle<Config>,
+    bundle: Bundle<BoxedConfig>,
     table: StageTable,
     lines: &[Line],
     names: &[Option<Text>],

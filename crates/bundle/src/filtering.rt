@@ -6,12 +6,13 @@ ghost use Rattle.bundle.specs.PrivateLeftOut.{CompletesFiltered};
 
 use crate::parts::Parts;
 use crate::whole::{Bundle, complete, no_bundle, parts_of};
+use borrowed::FromLent;
 use contexts::left_out;
 use paths::Path;
 use plain::{Exact, Fault, Items, Memory, Refusal};
 use std::alloc::Global;
 use std::thread::Threads;
-use strict::{FromJson, ReadFault};
+use strict::ReadFault;
 use trees::Entry;
 
 /// The paths of a list of entries.
@@ -64,7 +65,7 @@ fn complete_filtered<C: Drop>(
 
 /// Reads a bundle as [`read_bundle`](crate::read_bundle) does, and answers with it what its ignore file leaves out: of the paths that its context
 /// lists, those that the filtered context hasn't, and of these the shortest, all below which is left out with them.
-pub fn read_with_left_out<C: FromJson>(
+pub fn read_with_left_out<C: FromLent>(
     alloc: Global,
     rt: &(impl Threads + Sync),
     bytes: &[u8],

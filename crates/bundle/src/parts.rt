@@ -15,7 +15,7 @@ ghost use Rattle.bundle.specs.Digest.{digest_in};
 ghost use Rattle.bundle.specs.Parts.{or_none, dockerfile_in, files_in, is_image_name, images_of, images_with, with_digest, digests_of, read_with, images_in, no_images, args_in, cache_row, caches_in, named_in, parts_in};
 
 use crate::digest::read_digest;
-use borrowed::{FromLent, at, is_strict, one_at, optional_at, owned, read_rows};
+use borrowed::{FromLent, at, is_strict, one_at, optional_at, read_rows};
 use entries::{Listing, read_content};
 use json::Value;
 use named::NamedRows;
@@ -23,7 +23,7 @@ use plain::{Bytes, Exact, Fault, Items, Memory, Text};
 use plans::{Image, Images};
 use scopes::Args;
 use std::alloc::Global;
-use strict::{FromJson, NotRead, ReadFault};
+use strict::{NotRead, ReadFault};
 use trees::Tree;
 
 /// The files of a build and its target.
@@ -72,7 +72,7 @@ pub struct ReadImages<C> {
     pub digests: NamedRows<Text>,
 }
 
-impl<C: FromJson> FromLent for ListedImage<C> {
+impl<C: FromLent> FromLent for ListedImage<C> {
     ghost use Rattle.bundle.specs.Parts.{image_in};
 
     ghost reading = { image_in C.reading };
@@ -82,7 +82,7 @@ impl<C: FromJson> FromLent for ListedImage<C> {
         if !is_strict(value, &["config", "digest", "tree"]) {
             return Err(Fault::Because(NotRead));
         }
-        let config: C = config_of(alloc, at(value, "config"))?;
+        let config: C = one_at(alloc, value, "config")?;
         let digest = digest_of(alloc, at(value, "digest"))?;
         let tree: Listing = one_at(alloc, value, "tree")?;
         Ok(ListedImage {
@@ -90,22 +90,6 @@ impl<C: FromJson> FromLent for ListedImage<C> {
             digest,
             tree,
         })
-    }
-}
-
-/// An image's configuration, which has to be there. It is small, and is made owned for the caller's kind, which is read from such JSON.
-pub(crate) fn config_of<C: FromJson>(
-    alloc: Global,
-    value: Option<&Value<'_>>,
-) -> Result<C, ReadFault>
-    ensures { Gives result (option_and_then C.reading (lent_data value.entry)) }
-{
-    match value {
-        Some(value) => {
-            let config = owned(alloc, value)?;
-            C::from_json(alloc, &config)
-        }
-        None => Err(Fault::Because(NotRead)),
     }
 }
 
@@ -276,7 +260,7 @@ pub(crate) fn no_images<C: Drop>(alloc: Global) -> ReadImages<C>
 
 /// The images that a value is, each under its name.
 #[tactic(auto, unfolding(crate::specs::Parts::images_in))]
-fn read_images<C: FromJson>(alloc: Global, value: &Value<'_>) -> Result<ReadImages<C>, ReadFault>
+fn read_images<C: FromLent>(alloc: Global, value: &Value<'_>) -> Result<ReadImages<C>, ReadFault>
     ensures { Gives result (images_in C.reading (data_of value.now)) }
 {
     let rows: Items<(Text, ListedImage<C>)> = read_rows(alloc, value)?;
@@ -328,7 +312,7 @@ fn read_caches(alloc: Global, value: &Value<'_>) -> Result<Items<(Text, Tree)>, 
 }
 
 /// The images that stand in an object, none where there is no such key.
-fn images_at<C: FromJson>(alloc: Global, value: &Value<'_>) -> Result<ReadImages<C>, ReadFault>
+fn images_at<C: FromLent>(alloc: Global, value: &Value<'_>) -> Result<ReadImages<C>, ReadFault>
     ensures { Gives result (or_none no_images (images_in C.reading) (get (codes "images") (data_of value.now))) }
 {
     match at(value, "images") {
@@ -359,7 +343,7 @@ fn caches_at(alloc: Global, value: &Value<'_>) -> Result<Items<(Text, Tree)>, Re
 
 /// What a build may name.
 #[tactic(auto, unfolding(crate::specs::Parts::named_in))]
-fn read_named<C: FromJson>(alloc: Global, value: &Value<'_>) -> Result<Named<C>, ReadFault>
+fn read_named<C: FromLent>(alloc: Global, value: &Value<'_>) -> Result<Named<C>, ReadFault>
     ensures { Gives result (named_in C.reading (data_of value.now)) }
 {
     let ReadImages { images, digests } = images_at(alloc, value)?;
@@ -375,7 +359,7 @@ fn read_named<C: FromJson>(alloc: Global, value: &Value<'_>) -> Result<Named<C>,
 
 /// The bundle that a value is.
 #[tactic(auto, unfolding(crate::specs::Parts::parts_in))]
-pub(crate) fn read_parts<C: FromJson>(
+pub(crate) fn read_parts<C: FromLent>(
     alloc: Global,
     value: &Value<'_>,
 ) -> Result<Parts<C>, ReadFault>

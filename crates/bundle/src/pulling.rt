@@ -12,11 +12,12 @@ ghost use Rattle.bundle.specs.Parts.{or_none, files_at, image_in, images_in, no_
 ghost use Rattle.bundle.specs.PrivatePulled.{FindsImage, Finds};
 
 use crate::parts::{
-    Files, ListedImage, Named, Parts, ReadImages, args_or_none, caches_of, config_of, digest_of,
+    Files, ListedImage, Named, Parts, ReadImages, args_or_none, caches_of, digest_of,
     dockerfile_of, images_with, no_images,
 };
 use borrowed::{
-    MAX_DEPTH, inner_depth, next_key, open_object, optional_of, owned_rows, pull_value,
+    FromLent, MAX_DEPTH, inner_depth, next_key, one_of, open_object, optional_of, owned_rows,
+    pull_value,
 };
 use entries::Listing;
 use json::{Reader, Scratch, Value};
@@ -24,7 +25,7 @@ use plain::{Fault, Items, Memory, Text};
 use std::alloc::Global;
 use std::collections::BTreeMap;
 use std::thread::Threads;
-use strict::{FromJson, NotRead, ReadFault};
+use strict::{NotRead, ReadFault};
 use trees::Tree;
 
 /// What was found at each key that an image may have; of a key that stands twice the last value counts.
@@ -106,13 +107,13 @@ fn pull_image<'a>(
 }
 
 /// The image of what was found, from which its tree is taken.
-fn image_of<C: FromJson>(
+fn image_of<C: FromLent>(
     alloc: Global,
     found: &mut FoundImage<'_>,
 ) -> Result<ListedImage<C>, ReadFault>
     ensures { IfOk result (λ image. (members : Members) → FindsImage found.old members → image_in C.reading (object members) ≡ Some image) }
 {
-    let config: C = config_of(alloc, found.config.as_ref())?;
+    let config: C = one_of(alloc, found.config.as_ref())?;
     let digest = digest_of(alloc, found.digest.as_ref())?;
     match found.tree.take() {
         Some(tree) => Ok(ListedImage {
@@ -129,7 +130,7 @@ fn image_of<C: FromJson>(
 }
 
 /// The image that comes next.
-fn pull_listed_image<C: FromJson>(
+fn pull_listed_image<C: FromLent>(
     alloc: Global,
     rt: &(impl Threads + Sync),
     reader: &mut Reader<'_>,
@@ -144,7 +145,7 @@ fn pull_listed_image<C: FromJson>(
 }
 
 /// The images that come next, each by its name; of a name that stands twice the last image counts.
-fn pull_images<C: FromJson>(
+fn pull_images<C: FromLent>(
     alloc: Global,
     rt: &(impl Threads + Sync),
     reader: &mut Reader<'_>,
@@ -205,7 +206,7 @@ impl<'a, C: Drop> Drop for Found<'a, C> {
     }
 }
 
-impl<'a, C: FromJson> Found<'a, C> {
+impl<'a, C: FromLent> Found<'a, C> {
     /// Nothing was found yet.
     fn none() -> Found<'a, C>
         ensures { Finds C.reading result no_members }
@@ -263,7 +264,7 @@ impl<'a, C: FromJson> Found<'a, C> {
 }
 
 /// What stands at the keys of the bundle that comes next.
-fn pull_bundle<'a, C: FromJson>(
+fn pull_bundle<'a, C: FromLent>(
     alloc: Global,
     rt: &(impl Threads + Sync),
     reader: &mut Reader<'a>,
@@ -347,7 +348,7 @@ fn named_of<C: Drop>(
 }
 
 /// The bundle of what was found, from which its lists are taken.
-fn parts_of_found<C: FromJson>(
+fn parts_of_found<C: FromLent>(
     alloc: Global,
     found: &mut Found<'_, C>,
 ) -> Result<Parts<C>, ReadFault>
@@ -378,7 +379,7 @@ fn parts_of_found<C: FromJson>(
 }
 
 /// The parts of the bundle that comes next.
-fn pull_parts<C: FromJson>(
+fn pull_parts<C: FromLent>(
     alloc: Global,
     rt: &(impl Threads + Sync),
     reader: &mut Reader<'_>,
@@ -393,7 +394,7 @@ fn pull_parts<C: FromJson>(
 }
 
 /// The parts of a bundle's text, read token by token. After `NotRead` it may still be a bundle's.
-pub(crate) fn pull_text<C: FromJson>(
+pub(crate) fn pull_text<C: FromLent>(
     alloc: Global,
     rt: &(impl Threads + Sync),
     text: &str,

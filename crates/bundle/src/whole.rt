@@ -11,6 +11,7 @@ ghost use Rattle.bundle.specs.PrivateIgnore.{FindsIgnore};
 
 use crate::parts::{Files, Named, Parts, read_parts};
 use crate::pulling::pull_text;
+use borrowed::FromLent;
 use cachemounts::CacheStore;
 use contexts::Context;
 use entries::Listing;
@@ -24,7 +25,7 @@ use plans::Images;
 use scopes::Args;
 use std::alloc::Global;
 use std::thread::Threads;
-use strict::{FromJson, NotRead, ReadFault};
+use strict::{NotRead, ReadFault};
 use trees::{Entry, Tree};
 
 /// What a build is made from. `C` is what an image's configuration is read as.
@@ -203,7 +204,7 @@ fn ignore_in(alloc: Global, context: &Listing) -> Result<IgnoreFile, Fault<Refus
 }
 
 /// The parts of a bundle's text. Most bundles are read token by token; what can't be told so is read as a value.
-fn parts_in_text<C: FromJson>(
+fn parts_in_text<C: FromLent>(
     alloc: Global,
     rt: &(impl Threads + Sync),
     text: &str,
@@ -218,7 +219,7 @@ fn parts_in_text<C: FromJson>(
 }
 
 /// The parts of a bundle's text, which is read as a value. What is lent of it ends here.
-fn parts_in_value<C: FromJson>(alloc: Global, text: &str) -> Result<Parts<C>, ReadFault>
+fn parts_in_value<C: FromLent>(alloc: Global, text: &str) -> Result<Parts<C>, ReadFault>
     ensures { Gives result (option_and_then (parts_in C.reading) (read text.now)) }
 {
     let mut scratch = Scratch::new(alloc);
@@ -233,7 +234,7 @@ fn parts_in_value<C: FromJson>(alloc: Global, text: &str) -> Result<Parts<C>, Re
 }
 
 /// The parts of a bundle of at most so many bytes.
-fn parts_within<C: FromJson>(
+fn parts_within<C: FromLent>(
     alloc: Global,
     rt: &(impl Threads + Sync),
     most: usize,
@@ -252,7 +253,7 @@ fn parts_within<C: FromJson>(
 
 /// The parts of a bundle.
 #[tactic(auto, unfolding(plain::specs::Limits::most_bundle_bytes))]
-pub(crate) fn parts_of<C: FromJson>(
+pub(crate) fn parts_of<C: FromLent>(
     alloc: Global,
     rt: &(impl Threads + Sync),
     bytes: &[u8],
@@ -277,7 +278,7 @@ pub(crate) fn no_bundle() -> Refusal
 ///
 /// R20 without a line where the bytes are no bundle: they aren't JSON, a key is missing that has to be there, or is there that isn't known,
 /// or a value has a wrong type or is out of range; else R19 with the first bad line of the ignore file.
-pub fn read_bundle<C: FromJson>(
+pub fn read_bundle<C: FromLent>(
     alloc: Global,
     rt: &(impl Threads + Sync),
     bytes: &[u8],
@@ -292,7 +293,7 @@ pub fn read_bundle<C: FromJson>(
 }
 
 /// Reads the ignore file of a bundle. The bundle is read whole, and its context isn't filtered. The refusals are those of `read_bundle`.
-pub fn read_ignore_file<C: FromJson>(
+pub fn read_ignore_file<C: FromLent>(
     alloc: Global,
     rt: &(impl Threads + Sync),
     bytes: &[u8],
@@ -313,7 +314,7 @@ pub fn read_ignore_file<C: FromJson>(
 
 /// Reads the bytes of the ignore file of a bundle, none where it has none. Unlike for `read_ignore_file`, its lines may be bad: they are not
 /// looked at, so the line that a refusal with R19 is about can be shown. `NotRead` where the bytes are no bundle.
-pub fn read_ignore_bytes<C: FromJson>(
+pub fn read_ignore_bytes<C: FromLent>(
     alloc: Global,
     rt: &(impl Threads + Sync),
     bytes: &[u8],

@@ -17,7 +17,7 @@ use dockerfile::Dockerfile;
 use evaluation::list_faults;
 use expand::Rejection;
 use flaws::{Flaw, find};
-use imageconfig::Config;
+use imageconfig::{BoxedConfig, Config};
 use plain::{Bytes, Exact, Fault, Items, Memory, Refusal, Text};
 use stages::StageTable;
 use std::alloc::Global;
@@ -100,7 +100,7 @@ fn ignore_file_or_none(
 }
 
 /// The text of a bundle's Dockerfile, and its target.
-fn asked(alloc: Global, bundle: &Bundle<Config>) -> Result<(Bytes, Option<Text>), Memory>
+fn asked(alloc: Global, bundle: &Bundle<BoxedConfig>) -> Result<(Bytes, Option<Text>), Memory>
     ensures text { IfOk result (λ it. it.0 ≡ bundle.now.dockerfile) }
     ensures target { IfOk result (λ it. it.1 ≡ bundle.now.target) }
 {
@@ -110,7 +110,7 @@ fn asked(alloc: Global, bundle: &Bundle<Config>) -> Result<(Bytes, Option<Text>)
 }
 
 /// The faults of a bundle's Dockerfile, its text and the bundle's target.
-fn check_whole(alloc: Global, bundle: Bundle<Config>) -> Result<Findings, Memory>
+fn check_whole(alloc: Global, bundle: Bundle<BoxedConfig>) -> Result<Findings, Memory>
     ensures faults { IfOk result (λ found. AreFileFaults bundle.images (arg_value bundle.args) bundle.target bundle.dockerfile found.faults) }
     ensures text { IfOk result (λ found. found.text ≡ bundle.dockerfile) }
     ensures target { IfOk result (λ found. found.target ≡ bundle.target) }
@@ -154,7 +154,7 @@ fn rejections(alloc: Global, refusals: &[Refusal]) -> Result<Items<Rejection>, M
 }
 
 /// The faults of a bundle's Dockerfile.
-fn check_file(alloc: Global, bundle: Bundle<Config>) -> Result<Items<Rejection>, Memory>
+fn check_file(alloc: Global, bundle: Bundle<BoxedConfig>) -> Result<Items<Rejection>, Memory>
     ensures { IfOk result (λ faults. AreFileFaults bundle.images (arg_value bundle.args) bundle.target bundle.dockerfile faults) }
 {
     match Dockerfile::check(alloc, bundle.dockerfile.as_slice()) {
@@ -173,7 +173,7 @@ fn check_file(alloc: Global, bundle: Bundle<Config>) -> Result<Items<Rejection>,
 /// The faults of the stages of a bundle's Dockerfile.
 fn check_stages(
     alloc: Global,
-    bundle: Bundle<Config>,
+    bundle: Bundle<BoxedConfig>,
     file: Dockerfile,
 ) -> Result<Items<Rejection>, Memory>
     ensures { IfOk result (λ faults. AreStageFaults bundle.images (arg_value bundle.args) bundle.target file faults) }
@@ -197,7 +197,7 @@ fn check_stages(
 /// The faults of the stages of a file with these refusals of its names.
 fn check_names(
     alloc: Global,
-    bundle: Bundle<Config>,
+    bundle: Bundle<BoxedConfig>,
     file: Dockerfile,
     faults: Items<Rejection>,
 ) -> Result<Items<Rejection>, Memory>
@@ -217,7 +217,7 @@ fn check_names(
 /// The faults of stages whose names all lead somewhere.
 fn check_named(
     alloc: Global,
-    bundle: Bundle<Config>,
+    bundle: Bundle<BoxedConfig>,
     file: Dockerfile,
 ) -> Result<Items<Rejection>, Memory>
     requires { stage_refusals (names_in bundle.images) (arg_value bundle.args) bundle.target file ≡ [] }
@@ -243,7 +243,7 @@ fn check_named(
 /// The faults that the evaluation of the needed stages finds.
 fn check_table(
     alloc: Global,
-    bundle: Bundle<Config>,
+    bundle: Bundle<BoxedConfig>,
     table: StageTable,
 ) -> Result<Items<Rejection>, Memory>
     ensures { IfOk result (λ faults. AreTableFaults bundle.images (arg_value bundle.args) table faults) }

@@ -139,3 +139,16 @@ module _ (front rest : List ℕ) (whole : Option (List ℕ)) (all : option_map (
       by : (left : List ℕ) → rest ≡ left → whole ≡ Some front
       by [] is = sym all ∙ ap (λ (l : List ℕ). option_map (λ (more : List ℕ). front ++ more) (pairs_of l)) is ∙ ap Some (append-nil front)
       by (digit ∷ left) is = absurd (omega (arith, ap length is))
+
+-- what is added to nothing is itself
+pub after_nothing : (o : Option (List ℕ)) → option_map (λ (more : List ℕ). [] ++ more) o ≡ o
+after_nothing None = refl
+after_nothing (Some bytes) = refl
+
+-- where nothing can be added, no bytes are spelled
+pub no_bytes : (text front : List ℕ) → option_map (λ (more : List ℕ). front ++ more) (pairs_of text) ≡ None → bytes_of text ≡ None
+no_bytes text front none = sym (bytes-are text) ∙ by (pairs_of text) none
+  where
+    by : (o : Option (List ℕ)) → option_map (λ (more : List ℕ). front ++ more) o ≡ None → o ≡ None
+    by None is = refl
+    by (Some bytes) is = grind (arith)

@@ -10,4 +10,5 @@ mod HeldFacts
 mod PieceFacts
 mod KeyFacts
 mod MadeFacts
+mod SlabFacts
 mod Crosses

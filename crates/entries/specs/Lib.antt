@@ -2,6 +2,7 @@ pub mod Row
 pub mod Reading
 pub mod PrivateKeys
 pub mod PrivateDigits
+pub mod PrivateSlab
 pub mod Listing
 pub mod PrivateOrder
 pub mod PrivateFingerprint

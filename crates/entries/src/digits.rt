@@ -1,8 +1,9 @@
 // Bytes that are written in hexadecimal. What a digit is worth stands in a table: a processor guesses wrong whether the next digit is a
 // letter, and each wrong guess costs more than the look-up.
 
-ghost use Rattle.std.specs.Prelude.{◌≡◌};
-ghost use Rattle.strict.specs.Gives.{Gives};
+ghost use Rattle.std.specs.Prelude.{◌≡◌, ◌++◌, ℕ, List, Some, IfErr, OnOk};
+ghost use Rattle.std.specs.Option.{option_map};
+ghost use Rattle.strict.specs.Gives.{Gives, TellsFault};
 ghost use Rattle.entries.specs.Reading.{bytes_of};
 ghost use Rattle.entries.specs.PrivateDigits.{digit_number, byte_of};
 
@@ -49,11 +50,11 @@ fn byte_of(high: u8, low: u8) -> Option<u8>
     }
 }
 
-/// The bytes that a text spells. `NotRead` where it spells none.
-pub(crate) fn read_digits(alloc: Global, text: &str) -> Result<Bytes, ReadFault>
-    ensures { Gives result (bytes_of text.now) }
+/// Adds the bytes that a text spells. `NotRead` where it spells none; some may be added then.
+pub(crate) fn add_digits(text: &str, bytes: &mut Vec<u8>) -> Result<(), ReadFault>
+    ensures ok { OnOk result (option_map (λ (more : List ℕ). bytes.old.items ++ more) (bytes_of text.now) ≡ Some bytes.new.items) }
+    ensures err { IfErr result (λ fault. TellsFault fault (bytes_of text.now)) }
 {
-    let mut bytes = Vec::with_capacity(alloc, text.len() / 2)?;
     let mut rest = text.as_bytes();
     'pairs: while let [high, low, behind @ ..] = rest {
         let Some(byte) = byte_of(*high, *low) else {
@@ -63,8 +64,17 @@ pub(crate) fn read_digits(alloc: Global, text: &str) -> Result<Bytes, ReadFault>
         rest = behind;
     }
     if rest.is_empty() {
-        Ok(Bytes::from_vec(bytes))
+        Ok(())
     } else {
         Err(Fault::Because(NotRead))
     }
+}
+
+/// The bytes that a text spells. `NotRead` where it spells none.
+pub(crate) fn read_digits(alloc: Global, text: &str) -> Result<Bytes, ReadFault>
+    ensures { Gives result (bytes_of text.now) }
+{
+    let mut bytes = Vec::with_capacity(alloc, text.len() / 2)?;
+    add_digits(text, &mut bytes)?;
+    Ok(Bytes::from_vec(bytes))
 }

@@ -5,16 +5,20 @@ ghost use Rattle.std.specs.Prelude.{◌≡◌, ◌++◌, List, Vec, Ok, IfOk, On
 ghost use Rattle.std.specs.List.{AllZip};
 ghost use Rattle.rayon.specs.Lists.{chunks_of};
 ghost use Rattle.trees.specs.Row.{Row};
-ghost use Rattle.entries.specs.PrivateKeys.{AreRowsOf};
+ghost use Rattle.entries.specs.PrivateKeys.{AddsRows, AreRowsOf};
+ghost use Rattle.entries.specs.PrivateSlab.{AreIn};
 
 use crate::spelled::Spelled;
 use paths::Path;
-use plain::Memory;
+use plain::{Bytes, Memory};
 use rayon::prelude::*;
 use std::alloc::Global;
 use std::thread::Threads;
 use strict::ReadFault;
-use trees::Entry;
+use trees::{Entry, Slab};
+
+/// So many files have their bytes in one slab, at most: few enough that a slab doesn't outlive most of its files for the sake of one.
+const SLAB: usize = 64;
 
 /// How many entries are made by one thread at a time, at most. So few of them aren't worth a thread.
 const RUN: usize = 512;
@@ -41,13 +45,52 @@ fn add_in_turn(
     spelled: &[Spelled<'_>],
     rows: &mut Vec<(Path, Entry)>,
 ) -> Result<(), ReadFault>
-    ensures { OnOk result ((made : List Row) × (rows.new.items ≡ rows.old.items ++ made) × AreRowsOf spelled.now made) }
+    ensures { OnOk result (AddsRows spelled.now rows.old.items rows.new.items) }
 {
+    let mut at = 0;
+    'slabs: while at < spelled.len() {
+        let end = spelled.len().min(at.saturating_add(SLAB));
+        add_with_slab(alloc, &spelled[at..end], rows)?;
+        at = end;
+    }
+    Ok(())
+}
+
+/// Adds what each of these is as an entry. The bytes of their small files share a slab.
+fn add_with_slab(
+    alloc: Global,
+    spelled: &[Spelled<'_>],
+    rows: &mut Vec<(Path, Entry)>,
+) -> Result<(), ReadFault>
+    ensures { OnOk result (AddsRows spelled.now rows.old.items rows.new.items) }
+{
+    let mut slab = slab_of(alloc, spelled)?;
     for one in spelled {
-        let row = one.row(alloc)?;
+        let short = one.cut_short(alloc, &mut slab)?;
+        let row = one.row(alloc, short)?;
         rows.push(row)?;
     }
     Ok(())
+}
+
+/// How many bytes the slab of these entries' small files has. It is asked so that the memory is taken once.
+fn slab_len(spelled: &[Spelled<'_>]) -> usize {
+    let mut len: usize = 0;
+    for one in spelled {
+        len = len.saturating_add(one.short_len().unwrap_or(0));
+    }
+    len
+}
+
+/// The slab of these entries' small files.
+fn slab_of(alloc: Global, spelled: &[Spelled<'_>]) -> Result<Slab, ReadFault>
+    ensures { IfOk result (λ slab. AreIn spelled.now slab) }
+{
+    let mut bytes = Vec::with_capacity(alloc, slab_len(spelled))?;
+    for one in spelled {
+        one.add_short(&mut bytes)?;
+    }
+    Ok(Slab::new(alloc, Bytes::from_vec(bytes))?)
 }
 
 /// What each of these is as an entry.

@@ -1,7 +1,7 @@
 -- Each table has an evaluation or a refusal: there are marks of the stages that it needs, and trees of the images that these name.
 use Rattle.std.specs.Prelude.{◌≡◌, ◌<◌, ◌+◌, ◌⊎◌, ◌||◌, ◌&&◌, ℕ, zero, suc, Bool, true, false, List, [], ◌∷◌, Option, Some, None, Result, Ok, Err, Contains, length, slice_get, nat_eq, refl}
 use Rattle.std.specs.List.{All, list_any}
-use Rattle.std.specs.FinMap.{empty, get, insert, remove}
+use Rattle.std.specs.FinMap.{empty, get, insert}
 use Rattle.std.proofs.Common.{sym, ◌∙◌, ap, subst, arith, inl, inr}
 use Rattle.std.proofs.lemmas.Bool.{true≢false}
 use Rattle.std.proofs.lemmas.Bool.Decides.{nat_tests}
@@ -27,7 +27,7 @@ use Rattle.evaluation.specs.Evaluated.{evaluated, config_at, EvaluatesTable}
 use Rattle.evaluation.specs.Images.{ImageNames, AreSources}
 use Rattle.evaluation.specs.declared.evaluated.Evaluated.{Evaluated}
 use Rattle.evaluation.specs.declared.walk.Walk.{Walk}
-use Rattle.evaluation.proofs.ImageFacts.{TakenSoFar, taken_first, taken_some, taken_none, taken_all}
+use Rattle.evaluation.proofs.ImageFacts.{NamedSoFar, named_first, named_some, named_none, named_all}
 
 -- the marks: a stage has one where it is the target, or where a later stage that has one names it
 
@@ -214,37 +214,34 @@ marks_are table is = record {
 
 -- the trees of the images that are named
 
-record Taken {C : Type 0} (context : TreeMap) (all : ImagesValue C) (names rest : ImageNames) : Type 0 where
-  images : ImagesValue C
+record Named {C : Type 0} (context : TreeMap) (all : ImagesValue C) (names rest : ImageNames) : Type 0 where
   sources : SourcesValue
-  far : TakenSoFar context all names rest images sources
+  far : NamedSoFar context all names rest sources
 
-taken_next : {C : Type 0} (context : TreeMap) (all : ImagesValue C) (names rest : ImageNames) (taken : List ℕ) (images : ImagesValue C) (sources : SourcesValue) (found : Option (image.Image C))
-    → TakenSoFar context all names (taken ∷ rest) images sources → get images taken ≡ found → Taken context all names rest
-taken_next context all names rest taken images sources (Some found) far is =
-    let more : SourcesValue = record sources { images = insert sources.images taken found.tree } in
+named_next : {C : Type 0} (context : TreeMap) (all : ImagesValue C) (names rest : ImageNames) (next : List ℕ) (sources : SourcesValue) (found : Option (image.Image C))
+    → NamedSoFar context all names (next ∷ rest) sources → get all next ≡ found → Named context all names rest
+named_next context all names rest next sources (Some found) far is =
+    let more : SourcesValue = record sources { images = insert sources.images next found.tree } in
     record {
-      images = remove images taken;
       sources = more;
-      far = taken_some context all names (taken ∷ rest) rest taken images (remove images taken) sources more found far refl is refl refl;
+      far = named_some context all names (next ∷ rest) rest next sources more found far refl is refl;
     }
-taken_next context all names rest taken images sources None far is = record {
-  images = remove images taken;
+named_next context all names rest next sources None far is = record {
   sources = sources;
-  far = taken_none context all names (taken ∷ rest) rest taken images (remove images taken) sources far refl is refl;
+  far = named_none context all names (next ∷ rest) rest next sources far refl is;
 }
 
-sources_from : {C : Type 0} (context : TreeMap) (all : ImagesValue C) (names rest : ImageNames) (images : ImagesValue C) (sources : SourcesValue)
-    → TakenSoFar context all names rest images sources → (held : SourcesValue) × AreSources context all names held
-sources_from context all names [] images sources far = (sources, (taken_all context all names [] images sources far refl).0)
-sources_from context all names (taken ∷ rest) images sources far =
-    let next = taken_next context all names rest taken images sources (get images taken) far refl in
-    sources_from context all names rest next.images next.sources next.far
+sources_from : {C : Type 0} (context : TreeMap) (all : ImagesValue C) (names rest : ImageNames) (sources : SourcesValue)
+    → NamedSoFar context all names rest sources → (held : SourcesValue) × AreSources context all names held
+sources_from context all names [] sources far = (sources, (named_all context all names [] sources far refl).0)
+sources_from context all names (next ∷ rest) sources far =
+    let more = named_next context all names rest next sources (get all next) far refl in
+    sources_from context all names rest more.sources more.far
 
 sources_are : (context : TreeMap) (all : ImagesValue Config) (names : ImageNames) → (held : SourcesValue) × AreSources context all names held
 sources_are context all names =
     let none : SourcesValue = record { context = context; images = empty } in
-    sources_from context all names names all none (taken_first context all names none refl)
+    sources_from context all names names none (named_first context all names none refl)
 
 -- an evaluation or a refusal
 

@@ -2,7 +2,7 @@
 use Rattle.std.specs.Prelude.{◌≡◌, ◌≤◌, ◌+◌, ◌||◌, ℕ, Bool, true, false, cond, List, [], ◌∷◌, ◌++◌, Option, Some, None, option_map, length, map, nat_lt, bytes_eq, refl, if◌then◌else◌}
 use Rattle.std.specs.List.{All}
 use Rattle.std.specs.Cmp.Lexicographic.{nat_list_cmp_total, texts_ties}
-use Rattle.std.specs.FinMap.{FinMap, empty, get, insert, remove, contains_key, len, get-empty, get-insert, get-remove, len-empty, len-insert}
+use Rattle.std.specs.FinMap.{FinMap, empty, get, insert, contains_key, len, get-empty, get-insert, len-empty, len-insert}
 use Rattle.std.proofs.Common.{sym, ◌∙◌, ap, subst, arith, append_assoc, length-append}
 use Rattle.std.proofs.lemmas.Bool.{true≢false}
 use Rattle.std.proofs.lemmas.Bool.Decides.{nat_tests}
@@ -128,50 +128,23 @@ among_push names more name = list_any-append (bytes_eq name) names (more ∷ [])
     or_false true = refl
     or_false false = refl
 
--- what is left of the images, and the sources that were made of those that were taken
-pub record TakenSoFar {C : Type 0} (context : TreeMap) (all : ImagesValue C) (names rest : ImageNames) (images : ImagesValue C) (sources : SourcesValue) : Type 0 where
+-- the sources that were made of the images whose names came so far
+pub record NamedSoFar {C : Type 0} (context : TreeMap) (all : ImagesValue C) (names rest : ImageNames) (sources : SourcesValue) : Type 0 where
   pub before : ImageNames
   pub split : names ≡ before ++ rest
   pub same : sources.context ≡ context
-  pub left : (name : List ℕ) → get images name ≡ (if is_among before name then None else get all name)
   pub trees : (name : List ℕ) → get sources.images name ≡ named_tree all before name
   pub few : len sources.images ≤ length before
 
-pub taken_first : {C : Type 0} (context : TreeMap) (all : ImagesValue C) (names : ImageNames) (sources : SourcesValue) → sources ≡ (record { context = context; images = empty })
-    → TakenSoFar context all names names all sources
-taken_first context all names sources is = record {
+pub named_first : {C : Type 0} (context : TreeMap) (all : ImagesValue C) (names : ImageNames) (sources : SourcesValue) → sources ≡ (record { context = context; images = empty })
+    → NamedSoFar context all names names sources
+named_first context all names sources is = record {
   before = [];
   split = refl;
   same = ap (λ (s : SourcesValue). s.context) is;
-  left = λ name. refl;
   trees = λ name. ap (λ (s : SourcesValue). get s.images name) is ∙ get-empty name_cmp name;
   few = subst (λ (n : ℕ). n ≤ 0) (sym (ap (λ (s : SourcesValue). len s.images) is ∙ len-empty name_cmp TreeMap)) (omega arith);
 }
-
-left_by : {C : Type 0} (found whole : Option (image.Image C)) (among same : Bool) → found ≡ (if among then None else whole) → cond same None found ≡ (if (among || same) then None else whole)
-left_by found whole true true h = refl
-left_by found whole true false h = h
-left_by found whole false true h = refl
-left_by found whole false false h = h
-
-left_more : {C : Type 0} (all images : ImagesValue C) (before : ImageNames) (taken : List ℕ) → ((name : List ℕ) → get images name ≡ (if is_among before name then None else get all name))
-    → (name : List ℕ) → get (remove images taken) name ≡ (if is_among (before ++ taken ∷ []) name then None else get all name)
-left_more all images before taken left name =
-    get-remove nat_list_cmp_total images taken name
-    ∙ (ap (λ b. cond b None (get images name)) (sym (texts_ties name taken))
-    ∙ (left_by (get images name) (get all name) (is_among before name) (bytes_eq name taken) (left name)
-    ∙ ap (λ b. if b then None else get all name) (sym (among_push before taken name))))
-
-none_or_some : {X : Type 0} (x : X) → None ≡ Some x → ⊥
-none_or_some x e = cc
-
-some_whole : {X : Type 0} (whole : Option X) (x : X) (among : Bool) → Some x ≡ (if among then None else whole) → whole ≡ Some x
-some_whole whole x true h = absurd (none_or_some x (sym h))
-some_whole whole x false h = sym h
-
-none_whole : {X : Type 0} (whole : Option X) (among : Bool) → None ≡ (if among then None else whole) → among ≡ false → whole ≡ None
-none_whole whole true h e = absurd (true≢false e)
-none_whole whole false h e = sym h
 
 tree_some : {C : Type 0} (found : image.Image C) (whole : Option (image.Image C)) (now : Option TreeMap) (among same : Bool) → (same ≡ true → whole ≡ Some found)
     → now ≡ (if among then option_map (λ (i : image.Image C). i.tree) whole else None)
@@ -181,80 +154,71 @@ tree_some found whole now false true is h = sym (ap (option_map (λ i. i.tree)) 
 tree_some found whole now true false is h = h
 tree_some found whole now false false is h = h
 
-tree_none : {C : Type 0} (whole : Option (image.Image C)) (now : Option TreeMap) (among same : Bool) → (same ≡ true → among ≡ false → whole ≡ None)
+tree_none : {C : Type 0} (whole : Option (image.Image C)) (now : Option TreeMap) (among same : Bool) → (same ≡ true → whole ≡ None)
     → now ≡ (if among then option_map (λ (i : image.Image C). i.tree) whole else None)
     → now ≡ (if (among || same) then option_map (λ (i : image.Image C). i.tree) whole else None)
 tree_none whole now true same is h = h
-tree_none whole now false true is h = h ∙ sym (ap (option_map (λ i. i.tree)) (is refl refl))
+tree_none whole now false true is h = h ∙ sym (ap (option_map (λ i. i.tree)) (is refl))
 tree_none whole now false false is h = h
 
-trees_more : {C : Type 0} (all images : ImagesValue C) (before : ImageNames) (taken : List ℕ) (found : image.Image C) (trees : FinMap name_cmp TreeMap)
-    → ((name : List ℕ) → get images name ≡ (if is_among before name then None else get all name)) → get images taken ≡ Some found
-    → ((name : List ℕ) → get trees name ≡ named_tree all before name)
-    → (name : List ℕ) → get (insert trees taken found.tree) name ≡ named_tree all (before ++ taken ∷ []) name
-trees_more all images before taken found trees left is now name =
-    let whole : get all taken ≡ Some found = some_whole (get all taken) found (is_among before taken) (sym is ∙ left taken) in
-    get-insert nat_list_cmp_total trees taken found.tree name
-    ∙ (ap (λ b. cond b (Some found.tree) (get trees name)) (sym (texts_ties name taken))
-    ∙ (tree_some found (get all name) (get trees name) (is_among before name) (bytes_eq name taken)
-    (λ same. ap (get all) ((bytes_eq-Decides name taken).0 same) ∙ whole) (now name)
-    ∙ ap (λ b. if b then option_map (λ i. i.tree) (get all name) else None) (sym (among_push before taken name))))
+trees_more : {C : Type 0} (all : ImagesValue C) (before : ImageNames) (next : List ℕ) (found : image.Image C) (trees : FinMap name_cmp TreeMap)
+    → get all next ≡ Some found → ((name : List ℕ) → get trees name ≡ named_tree all before name)
+    → (name : List ℕ) → get (insert trees next found.tree) name ≡ named_tree all (before ++ next ∷ []) name
+trees_more all before next found trees is now name =
+    get-insert nat_list_cmp_total trees next found.tree name
+    ∙ (ap (λ b. cond b (Some found.tree) (get trees name)) (sym (texts_ties name next))
+    ∙ (tree_some found (get all name) (get trees name) (is_among before name) (bytes_eq name next)
+    (λ same. ap (get all) ((bytes_eq-Decides name next).0 same) ∙ is) (now name)
+    ∙ ap (λ b. if b then option_map (λ i. i.tree) (get all name) else None) (sym (among_push before next name))))
 
-trees_same : {C : Type 0} (all images : ImagesValue C) (before : ImageNames) (taken : List ℕ) (trees : FinMap name_cmp TreeMap)
-    → ((name : List ℕ) → get images name ≡ (if is_among before name then None else get all name)) → get images taken ≡ None
-    → ((name : List ℕ) → get trees name ≡ named_tree all before name)
-    → (name : List ℕ) → get trees name ≡ named_tree all (before ++ taken ∷ []) name
-trees_same all images before taken trees left is now name =
-    tree_none (get all name) (get trees name) (is_among before name) (bytes_eq name taken)
-    (λ same none.
-    let here : name ≡ taken = (bytes_eq-Decides name taken).0 same in
-    ap (get all) here ∙ none_whole (get all taken) (is_among before taken) (sym is ∙ left taken) (sym (ap (is_among before) here) ∙ none))
-    (now name)
-    ∙ ap (λ b. if b then option_map (λ i. i.tree) (get all name) else None) (sym (among_push before taken name))
+trees_same : {C : Type 0} (all : ImagesValue C) (before : ImageNames) (next : List ℕ) (trees : FinMap name_cmp TreeMap)
+    → get all next ≡ None → ((name : List ℕ) → get trees name ≡ named_tree all before name)
+    → (name : List ℕ) → get trees name ≡ named_tree all (before ++ next ∷ []) name
+trees_same all before next trees is now name =
+    tree_none (get all name) (get trees name) (is_among before name) (bytes_eq name next)
+    (λ same. ap (get all) ((bytes_eq-Decides name next).0 same) ∙ is) (now name)
+    ∙ ap (λ b. if b then option_map (λ i. i.tree) (get all name) else None) (sym (among_push before next name))
 
-long_push : (before : ImageNames) (taken : List ℕ) → length (before ++ taken ∷ []) ≡ length before + 1
-long_push before taken = length-append before (taken ∷ [])
+long_push : (before : ImageNames) (next : List ℕ) → length (before ++ next ∷ []) ≡ length before + 1
+long_push before next = length-append before (next ∷ [])
 
 len_by : (n m : ℕ) (b : Bool) → n ≤ m → cond b n (n + 1) ≤ m + 1
 len_by n m true h = omega arith
 len_by n m false h = omega arith
 
-split_more : (names before rest left : ImageNames) (taken : List ℕ) → names ≡ before ++ rest → rest ≡ taken ∷ left → names ≡ (before ++ taken ∷ []) ++ left
-split_more names before rest left taken h is = h ∙ (ap (λ ns. before ++ ns) is ∙ sym (append_assoc before (taken ∷ []) left))
+split_more : (names before rest left : ImageNames) (next : List ℕ) → names ≡ before ++ rest → rest ≡ next ∷ left → names ≡ (before ++ next ∷ []) ++ left
+split_more names before rest left next h is = h ∙ (ap (λ ns. before ++ ns) is ∙ sym (append_assoc before (next ∷ []) left))
 
-pub taken_some : {C : Type 0} (context : TreeMap) (all : ImagesValue C) (names rest after : ImageNames) (taken : List ℕ) (images fewer : ImagesValue C) (sources more : SourcesValue) (found : image.Image C)
-    → TakenSoFar context all names rest images sources → rest ≡ taken ∷ after → get images taken ≡ Some found → fewer ≡ remove images taken
-    → more ≡ (record sources { images = insert sources.images taken found.tree }) → TakenSoFar context all names after fewer more
-taken_some {C = C} context all names rest after taken images fewer sources more found far is there gone added = record {
-  before = far.before ++ taken ∷ [];
-  split = split_more names far.before rest after taken far.split is;
+pub named_some : {C : Type 0} (context : TreeMap) (all : ImagesValue C) (names rest after : ImageNames) (next : List ℕ) (sources more : SourcesValue) (found : image.Image C)
+    → NamedSoFar context all names rest sources → rest ≡ next ∷ after → get all next ≡ Some found → more ≡ (record sources { images = insert sources.images next found.tree })
+    → NamedSoFar context all names after more
+named_some {C = C} context all names rest after next sources more found far is there added = record {
+  before = far.before ++ next ∷ [];
+  split = split_more names far.before rest after next far.split is;
   same = ap (λ (s : SourcesValue). s.context) added ∙ far.same;
-  left = λ name. ap (λ (i : ImagesValue C). get i name) gone ∙ left_more all images far.before taken far.left name;
-  trees = λ name. ap (λ (s : SourcesValue). get s.images name) added ∙ trees_more all images far.before taken found sources.images far.left there far.trees name;
+  trees = λ name. ap (λ (s : SourcesValue). get s.images name) added ∙ trees_more all far.before next found sources.images there far.trees name;
   few =
-      subst (λ (s : SourcesValue). len s.images ≤ length (far.before ++ taken ∷ [])) (sym added)
-      (subst (λ (n : ℕ). len (insert sources.images taken found.tree) ≤ n) (sym (long_push far.before taken))
-      (subst (λ (n : ℕ). n ≤ length far.before + 1) (sym (len-insert nat_list_cmp_total sources.images taken found.tree))
-      (len_by (len sources.images) (length far.before) (contains_key sources.images taken) far.few)));
+      subst (λ (s : SourcesValue). len s.images ≤ length (far.before ++ next ∷ [])) (sym added)
+      (subst (λ (n : ℕ). len (insert sources.images next found.tree) ≤ n) (sym (long_push far.before next))
+      (subst (λ (n : ℕ). n ≤ length far.before + 1) (sym (len-insert nat_list_cmp_total sources.images next found.tree))
+      (len_by (len sources.images) (length far.before) (contains_key sources.images next) far.few)));
 }
 
-pub taken_none : {C : Type 0} (context : TreeMap) (all : ImagesValue C) (names rest after : ImageNames) (taken : List ℕ) (images fewer : ImagesValue C) (sources : SourcesValue)
-    → TakenSoFar context all names rest images sources → rest ≡ taken ∷ after → get images taken ≡ None → fewer ≡ remove images taken
-    → TakenSoFar context all names after fewer sources
-taken_none {C = C} context all names rest after taken images fewer sources far is none gone = record {
-  before = far.before ++ taken ∷ [];
-  split = split_more names far.before rest after taken far.split is;
+pub named_none : {C : Type 0} (context : TreeMap) (all : ImagesValue C) (names rest after : ImageNames) (next : List ℕ) (sources : SourcesValue)
+    → NamedSoFar context all names rest sources → rest ≡ next ∷ after → get all next ≡ None → NamedSoFar context all names after sources
+named_none {C = C} context all names rest after next sources far is none = record {
+  before = far.before ++ next ∷ [];
+  split = split_more names far.before rest after next far.split is;
   same = far.same;
-  left = λ name. ap (λ (i : ImagesValue C). get i name) gone ∙ left_more all images far.before taken far.left name;
-  trees = trees_same all images far.before taken sources.images far.left none far.trees;
-  few = subst (λ (n : ℕ). len sources.images ≤ n) (sym (long_push far.before taken)) (omega (arith, far.few));
+  trees = trees_same all far.before next sources.images none far.trees;
+  few = subst (λ (n : ℕ). len sources.images ≤ n) (sym (long_push far.before next)) (omega (arith, far.few));
 }
 
-pub taken_all : {C : Type 0} (context : TreeMap) (all : ImagesValue C) (names rest : ImageNames) (images : ImagesValue C) (sources : SourcesValue)
-    → TakenSoFar context all names rest images sources → length rest ≡ 0 → AreSources context all names sources × (len sources.images ≤ length names)
-taken_all context all names [] images sources far over =
+pub named_all : {C : Type 0} (context : TreeMap) (all : ImagesValue C) (names rest : ImageNames) (sources : SourcesValue)
+    → NamedSoFar context all names rest sources → length rest ≡ 0 → AreSources context all names sources × (len sources.images ≤ length names)
+named_all context all names [] sources far over =
     let whole : names ≡ far.before = far.split ∙ append-nil far.before in (
       record { same = far.same; trees = λ name. far.trees name ∙ ap (λ (ns : ImageNames). named_tree all ns name) (sym whole) },
       subst (λ (ns : ImageNames). len sources.images ≤ length ns) (sym whole) far.few,
     )
-taken_all context all names (name ∷ rest) images sources far over = absurd (omega (arith, over))
+named_all context all names (name ∷ rest) sources far over = absurd (omega (arith, over))

@@ -19,7 +19,7 @@ use crate::state::{State, keep_names};
 use crate::walk::{Walk, evaluate_stages};
 use actions::laws::{copies_are_well_formed, runs_are_well_formed};
 use expand::RejectionFault;
-use imageconfig::Config;
+use imageconfig::{BoxedConfig, Config};
 use plain::{Fault, Items, Memory};
 use plans::{Images, Sources};
 use rows::Stage;
@@ -69,7 +69,7 @@ fn config_of(alloc: Global, state: Option<State>) -> Result<Config, Memory>
         Some(state) => {
             let State { scope, config } = state;
             drop(scope);
-            Ok(config)
+            Ok(config.into_config())
         }
         None => Config::plain(alloc),
     }
@@ -86,7 +86,7 @@ fn config_at(alloc: Global, states: Vec<Option<State>>, number: u32) -> Result<C
 fn named_sources(
     alloc: Global,
     context: Tree,
-    images: Images<Config>,
+    images: Images<BoxedConfig>,
     names: NamedImages,
 ) -> Result<Sources, Memory>
     ensures sources { IfOk result (λ sources. AreSources context images names sources) }
@@ -108,7 +108,7 @@ fn make_with(
     rows: Items<Option<Stage>>,
     names: NamedImages,
     config: Config,
-    images: Images<Config>,
+    images: Images<BoxedConfig>,
     context: Tree,
     target: u32,
 ) -> Result<Evaluated, RejectionFault>
@@ -133,7 +133,7 @@ fn make_with(
 fn make(
     alloc: Global,
     walk: Walk,
-    images: Images<Config>,
+    images: Images<BoxedConfig>,
     context: Tree,
     target: u32,
 ) -> Result<Evaluated, RejectionFault>
@@ -160,7 +160,7 @@ fn make(
 fn evaluate_needed(
     alloc: Global,
     table: StageTable,
-    images: Images<Config>,
+    images: Images<BoxedConfig>,
     context: Tree,
     args: &Args,
     needed: &[bool],
@@ -205,7 +205,7 @@ fn evaluate_needed(
 pub fn evaluate(
     alloc: Global,
     table: StageTable,
-    images: Images<Config>,
+    images: Images<BoxedConfig>,
     context: Tree,
     args: &Args,
 ) -> Result<Evaluated, RejectionFault>

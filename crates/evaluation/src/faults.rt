@@ -17,7 +17,7 @@ use crate::state::State;
 use crate::users::Users;
 use crate::walk::{Walk, end_stage, evaluate_stage, is_marked, skip_stage};
 use expand::Rejection;
-use imageconfig::Config;
+use imageconfig::BoxedConfig;
 use plain::{Fault, Items, Memory};
 use plans::Images;
 use rows::{Origin, Stage};
@@ -280,7 +280,7 @@ fn judge_stages(
 fn list_needed(
     alloc: Global,
     table: StageTable,
-    images: &Images<Config>,
+    images: &Images<BoxedConfig>,
     args: &Args,
     needed: &[bool],
 ) -> Result<Items<Rejection>, Memory>
@@ -306,7 +306,7 @@ fn list_needed(
 pub fn list_faults(
     alloc: Global,
     table: StageTable,
-    images: &Images<Config>,
+    images: &Images<BoxedConfig>,
     args: &Args,
 ) -> Result<Items<Rejection>, Memory>
     ensures { IfOk result (λ faults. AreTableFaults images.now (arg_value args.now) table faults) }

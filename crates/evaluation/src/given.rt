@@ -1,4 +1,4 @@
-use imageconfig::Config;
+use imageconfig::BoxedConfig;
 use plans::Images;
 use scopes::{Args, Scope};
 
@@ -10,5 +10,5 @@ pub(crate) struct Given<'a> {
     /// The scope of the ARGs before the first FROM.
     pub(crate) outer: &'a Scope,
     /// The images that there are.
-    pub(crate) images: &'a Images<Config>,
+    pub(crate) images: &'a Images<BoxedConfig>,
 }

@@ -93,7 +93,7 @@ fn set_both(alloc: Global, state: &mut State, variables: &[Variable]) -> Result<
     requires { list_all is_environment_name (names_of variables.now) ≡ true }
     ensures { OnOk result (state.new ≡ both_set state.old variables.now) }
 {
-    state.config.env.set_variables(alloc, variables)?;
+    state.config.set_variables(alloc, variables)?;
     state.scope.set_variables(alloc, variables)
 }
 
@@ -162,12 +162,12 @@ fn run_coded(
 ) -> Result<Action, TextFault>
     ensures { Meets (Some (of_run.run_action state.now.scope (dir_in state.now) state.now.config.user state.now.config.shell mounts command origins)) (of_run.run_due (dir_in state.now) mounts) result }
 {
-    let dir = state.config.dir(alloc)?;
+    let dir = state.config.get().dir(alloc)?;
     let at = Surroundings {
         scope: &state.scope,
         dir: &dir,
-        user: &state.config.user,
-        shell: state.config.shell.as_slice(),
+        user: &state.config.get().user,
+        shell: state.config.get().shell.as_slice(),
     };
     run_action(alloc, mounts, command, origins, &at)
 }
@@ -199,12 +199,12 @@ fn copy(
 ) -> Result<Action, ReasonFault>
     ensures { Evaluates (Some (of_copy.copy_action state.now.scope (dir_in state.now) sources destination flags origin)) (of_copy.copy_due state.now.scope (dir_in state.now) sources destination) (of_copy.copy_fault state.now.scope sources destination) result }
 {
-    let dir = state.config.dir(alloc)?;
+    let dir = state.config.get().dir(alloc)?;
     let at = Surroundings {
         scope: &state.scope,
         dir: &dir,
-        user: &state.config.user,
-        shell: state.config.shell.as_slice(),
+        user: &state.config.get().user,
+        shell: state.config.get().shell.as_slice(),
     };
     copy_action(alloc, sources, destination, flags, origin, &at)
 }
@@ -237,7 +237,7 @@ fn act(
         InstructionKind::Workdir { .. } => {
             drop(kind);
             drop(origins);
-            let path = state.config.dir(alloc)?;
+            let path = state.config.get().dir(alloc)?;
             Ok(Some(Action::MakeDirs { path }))
         }
         InstructionKind::From { .. }

@@ -5,7 +5,7 @@ ghost use Rattle.evaluation.specs.State.{ended_state, source_state};
 use crate::state::{State, begin_source};
 use crate::users::Users;
 use crate::walk::Walk;
-use imageconfig::Config;
+use imageconfig::BoxedConfig;
 use llb::Source;
 use plain::{Items, Memory};
 use plans::Images;
@@ -22,7 +22,7 @@ pub struct Opened {
 /// A stage from a source.
 fn open_source(
     alloc: Global,
-    images: &Images<Config>,
+    images: &Images<BoxedConfig>,
     walk: Walk,
     source: &Source,
 ) -> Result<Opened, Memory>
@@ -113,7 +113,7 @@ fn open_taken(alloc: Global, walk: Walk, number: usize) -> Result<Opened, Memory
 /// The next stage of a file, which begins with this.
 pub(crate) fn open(
     alloc: Global,
-    images: &Images<Config>,
+    images: &Images<BoxedConfig>,
     users: &Users,
     walk: Walk,
     base: &Origin,

@@ -6,7 +6,7 @@ ghost use Rattle.stages.specs.declared.stage.ResolvedStage.{ResolvedStage as Res
 ghost use Rattle.evaluation.specs.State.{bare_state, image_state, stage_state, source_state};
 ghost use Rattle.evaluation.specs.PrivateNames.{IsProperSource, IsProperBase};
 
-use imageconfig::Config;
+use imageconfig::{BoxedConfig, Config};
 use llb::Source;
 use plain::{Memory, Variable};
 use plans::Images;
@@ -21,7 +21,7 @@ pub struct State {
     /// What names have values.
     pub scope: Scope,
     /// The configuration; the working directory, the user and the shell are its.
-    pub config: Config,
+    pub config: BoxedConfig,
 }
 
 impl State {
@@ -29,16 +29,16 @@ impl State {
     pub(crate) fn bare(alloc: Global) -> Result<State, Memory>
         ensures { IfOk result (λ state. state ≡ bare_state) }
     {
-        let config = Config::plain(alloc)?;
+        let config = BoxedConfig::new(alloc, Config::plain(alloc)?)?;
         let scope = Scope::new(alloc);
         Ok(State { scope, config })
     }
 
     /// What a stage from an image with this configuration begins with.
-    fn from_image(alloc: Global, config: &Config) -> Result<State, Memory>
+    fn from_image(alloc: Global, config: &BoxedConfig) -> Result<State, Memory>
         ensures { IfOk result (λ state. state ≡ image_state config.now) }
     {
-        let variables = config.env.variables(alloc)?;
+        let variables = config.get().env.variables(alloc)?;
         let scope = inherited(alloc, variables.as_slice())?;
         match config.child(alloc) {
             Ok(config) => Ok(State { scope, config }),
@@ -68,9 +68,10 @@ impl State {
         ensures { result ≡ stage_state self }
     {
         let State { scope, config } = self;
-        let mut config = config;
-        config.cmd_is_own = false;
-        State { scope, config }
+        State {
+            scope,
+            config: config.into_child(),
+        }
     }
 }
 
@@ -92,7 +93,7 @@ fn inherited(alloc: Global, variables: &[Variable]) -> Result<Scope, Memory>
 /// nothing here, so that the call is total.
 pub(crate) fn begin_source(
     alloc: Global,
-    images: &Images<Config>,
+    images: &Images<BoxedConfig>,
     source: &Source,
 ) -> Result<State, Memory>
     ensures { IfOk result (λ state. state ≡ source_state images.now source.now) }
@@ -108,21 +109,21 @@ pub(crate) fn begin_source(
 }
 
 /// Says for the proof what the type of an image's environment keeps, if a source is an image. It changes nothing, and leaves nothing out.
-fn keep_source_names(images: &Images<Config>, source: &Source)
+fn keep_source_names(images: &Images<BoxedConfig>, source: &Source)
     ensures { IsProperSource images.now source.now }
 {
     match source {
         Source::Scratch => {}
         Source::Context => {}
         Source::Image(name) => match images.find(name) {
-            Some(image) => image.config.env.keeps_names(),
+            Some(image) => image.config.get().env.keeps_names(),
             None => {}
         },
     }
 }
 
 /// The same of what a stage begins with.
-fn keep_base_names(images: &Images<Config>, base: &Origin)
+fn keep_base_names(images: &Images<BoxedConfig>, base: &Origin)
     ensures { IsProperBase images.now base.now }
 {
     match base {
@@ -132,7 +133,7 @@ fn keep_base_names(images: &Images<Config>, base: &Origin)
 }
 
 /// The same of what all stages begin with: names in the environments of their images are such as an environment may have.
-pub(crate) fn keep_names(images: &Images<Config>, stages: &[ResolvedStage])
+pub(crate) fn keep_names(images: &Images<BoxedConfig>, stages: &[ResolvedStage])
     ensures { All (λ (stage : Resolved). IsProperBase images.now stage.base) stages.now }
 {
     for stage in stages {

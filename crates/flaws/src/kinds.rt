@@ -8,13 +8,12 @@ use crate::entry::{EntryList, content};
 use crate::flaw::Step;
 use crate::keys::{image_names, no_other};
 use crate::looking::{Look, optional, read_as, required, rows};
-use borrowed::owned;
+use borrowed::FromLent;
 use bundle::read_digest;
 use json::Value;
 use plain::{Fault, Items, Memory, Text};
 use std::alloc::Global;
 use std::marker::PhantomData;
-use strict::FromJson;
 
 /// A text.
 struct AnyText;
@@ -46,26 +45,18 @@ impl Look for DockerfileObject {
     }
 }
 
-/// An image's configuration, which is small, and is made owned for the caller's kind.
+/// An image's configuration, which is of the caller's kind.
 struct Configuration<C> {
     kind: PhantomData<C>,
 }
 
-impl<C: FromJson> Look for Configuration<C> {
+impl<C: FromLent> Look for Configuration<C> {
     ghost use Rattle.flaws.specs.Looks.{read_as};
 
     ghost looks = { read_as C.reading };
 
     fn look(alloc: Global, value: &Value<'_>) -> Result<Option<Items<Step>>, Memory> {
-        let copy = owned(alloc, value)?;
-        match C::from_json(alloc, &copy) {
-            Ok(config) => {
-                drop(config);
-                Ok(None)
-            }
-            Err(Fault::Because(_)) => Ok(Some(Items::new(alloc))),
-            Err(Fault::Memory) => Err(Memory),
-        }
+        read_as::<C>(alloc, value)
     }
 }
 
@@ -95,7 +86,7 @@ struct ImageObject<C> {
     kind: PhantomData<C>,
 }
 
-impl<C: FromJson> Look for ImageObject<C> {
+impl<C: FromLent> Look for ImageObject<C> {
     ghost use Rattle.flaws.specs.Flaws.{image_flaw};
 
     ghost looks = { image_flaw C.reading };
@@ -119,7 +110,7 @@ struct ImageRows<C> {
     kind: PhantomData<C>,
 }
 
-impl<C: FromJson> Look for ImageRows<C> {
+impl<C: FromLent> Look for ImageRows<C> {
     ghost use Rattle.flaws.specs.Flaws.{images_flaw};
 
     ghost looks = { images_flaw C.reading };
@@ -174,7 +165,7 @@ fn files(alloc: Global, value: &Value<'_>) -> Result<Option<Items<Step>>, Memory
 }
 
 /// Where what a build may name is wrong.
-fn named<C: FromJson>(alloc: Global, value: &Value<'_>) -> Result<Option<Items<Step>>, Memory>
+fn named<C: FromLent>(alloc: Global, value: &Value<'_>) -> Result<Option<Items<Step>>, Memory>
     ensures { IfOk result (λ found. found ≡ named_flaw C.reading (data_of value.now)) }
 {
     if let Some(way) = optional::<ImageRows<C>>(alloc, value, "images")? {
@@ -187,7 +178,7 @@ fn named<C: FromJson>(alloc: Global, value: &Value<'_>) -> Result<Option<Items<S
 }
 
 /// Where the JSON of a bundle is wrong.
-pub(crate) fn bundle<C: FromJson>(
+pub(crate) fn bundle<C: FromLent>(
     alloc: Global,
     value: &Value<'_>,
 ) -> Result<Option<Items<Step>>, Memory>

@@ -4,14 +4,14 @@ ghost use Rattle.flaws.specs.Flaws.{json_flaw, flaw_within, flaw_in};
 
 use crate::flaw::Flaw;
 use crate::kinds::bundle;
+use borrowed::FromLent;
 use json::Scratch;
 use plain::limits::MOST_BUNDLE_BYTES;
 use plain::{Fault, Memory};
 use std::alloc::Global;
-use strict::FromJson;
 
 /// Where a text is wrong as a bundle. What is lent of it ends here.
-fn find_in_text<C: FromJson>(alloc: Global, text: &str) -> Result<Option<Flaw>, Memory>
+fn find_in_text<C: FromLent>(alloc: Global, text: &str) -> Result<Option<Flaw>, Memory>
     ensures { IfOk result (λ found. found ≡ json_flaw C.reading (read text.now)) }
 {
     let mut scratch = Scratch::new(alloc);
@@ -28,7 +28,7 @@ fn find_in_text<C: FromJson>(alloc: Global, text: &str) -> Result<Option<Flaw>, 
 
 /// Where bytes of which there may be so many are wrong as a bundle.
 #[tactic(auto, unfolding(crate::specs::Flaws::flaw_within))]
-fn find_within<C: FromJson>(
+fn find_within<C: FromLent>(
     alloc: Global,
     most: usize,
     bytes: &[u8],
@@ -49,7 +49,7 @@ fn find_within<C: FromJson>(
 /// Of several faults it is the first: of all JSON the keys that aren't known, and then the values in the order of the table in docs/FORMATS.md. It
 /// takes no more than twice the time of a reading.
 #[tactic(auto, unfolding(plain::specs::Limits::most_bundle_bytes))]
-pub fn find<C: FromJson>(alloc: Global, bytes: &[u8]) -> Result<Option<Flaw>, Memory>
+pub fn find<C: FromLent>(alloc: Global, bytes: &[u8]) -> Result<Option<Flaw>, Memory>
     ensures { IfOk result (λ found. found ≡ flaw_in C.reading bytes.now) }
 {
     find_within::<C>(alloc, MOST_BUNDLE_BYTES, bytes)

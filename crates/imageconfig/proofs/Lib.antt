@@ -1,5 +1,6 @@
 mod EnvLaws
 mod FloatFacts
+mod KeyFacts
 mod LawFacts
 mod LineFacts
 mod NameFacts

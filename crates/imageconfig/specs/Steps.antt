@@ -1,8 +1,9 @@
 -- One step of a stage's configuration (OCI image specification; Dockerfile reference).
-use Rattle.std.specs.Prelude.{◌≡◌, ℕ, Bool, false, true, List, [], Option, Some, None, Result, Ok, Err, if◌then◌else◌}
+use Rattle.std.specs.Prelude.{◌≡◌, ℕ, Bool, false, true, List, [], Option, Some, None, Result, Ok, Err, map, if◌then◌else◌}
 use Rattle.plain.specs.declared.fault.Fault.{Fault}
 use Rattle.plain.specs.declared.fault.Fault.TheVariants.{Because, Memory}
 use Rattle.plain.specs.declared.refusal.Code.{Code}
+use Rattle.plain.specs.declared.variable.Variable.{Variable}
 use Rattle.paths.specs.Reading.{read_from}
 use Rattle.expand.specs.Value.{value}
 use Rattle.expand.specs.Expanding.{unexpanded}
@@ -14,6 +15,7 @@ use Rattle.instructions.specs.declared.instruction.InstructionKind.{InstructionK
 use Rattle.instructions.specs.declared.instruction.InstructionKind.TheVariants.{Env, Label, Expose, User, Workdir, StopSignal, Volume, Shell, Cmd, Entrypoint}
 use Rattle.scopes.specs.Evaluate.{Values, env_fault}
 use Rattle.imageconfig.specs.declared.config.Config.{Config}
+use Rattle.imageconfig.specs.Environment.{row_of}
 use Rattle.imageconfig.specs.Rows.{put_rows, add_names}
 use Rattle.instructions.specs.Command.{words_of}
 use Rattle.imageconfig.specs.Lines.{env_rows, env_due, label_rows, label_fault, label_due, texts_of, words_fault, port_keys, port_due, volume_due, text_due, dir_due}
@@ -70,6 +72,10 @@ abbrev pub IsApplied : Config → Values → Instruction → Config → Result (
 IsApplied old before i new (Ok u) = (new ≡ changed before old i.kind) × (reason (due before old i.kind) (fault before i.kind) ≡ None)
 IsApplied old before i new (Err (Because rejection)) = (new ≡ old) × ((rejection.line ≡ i.line) × (reason (due before old i.kind) (fault before i.kind) ≡ Some rejection.reason))
 IsApplied old before i new (Err Memory) = new ≡ old
+
+-- a configuration in whose environment variables were given their values, each in the place that its name has, or at the end
+abbrev pub with_variables : Config → List Variable → Config
+with_variables c variables = record c { env = put_rows c.env (map row_of variables) }
 
 -- what a stage begins with whose base has this configuration: the base's Cmd isn't the stage's own (Dockerfile reference, how CMD and
 -- ENTRYPOINT interact)

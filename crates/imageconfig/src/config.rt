@@ -1,11 +1,12 @@
-ghost use Rattle.std.specs.Prelude.{◌≡◌, IfOk, false};
+ghost use Rattle.std.specs.Prelude.{◌≡◌, IfOk, OnOk, OnErr, true, false};
+ghost use Rattle.std.specs.List.{list_all};
 ghost use Rattle.serde_json.specs.View.{view};
 ghost use Rattle.serde_json.specs.Written.{has_float};
 ghost use Rattle.instructions.specs.Instruction.{IsInstruction};
-ghost use Rattle.scopes.specs.Scope.{value_in};
+ghost use Rattle.scopes.specs.Scope.{value_in, is_environment_name, names_of as variable_names};
 ghost use Rattle.imageconfig.specs.Reading.{plain};
 ghost use Rattle.imageconfig.specs.Writing.{config_data};
-ghost use Rattle.imageconfig.specs.Steps.{dir_of, child_of, IsApplied};
+ghost use Rattle.imageconfig.specs.Steps.{dir_of, child_of, with_variables, IsApplied};
 
 use crate::changing::change;
 use crate::copying::copied_config;
@@ -15,14 +16,16 @@ use crate::names::Names;
 use crate::reading::read_config;
 use crate::rows::Rows;
 use crate::writing::config_value;
+use borrowed::FromLent;
 use expand::{Rejection, RejectionFault};
 use instructions::Instruction;
+use json::Value as Lent;
 use paths::Path;
-use plain::{Exact, Fault, Items, Memory, Text};
+use plain::{Exact, Fault, Items, Memory, Text, Variable};
 use scopes::Scope;
 use serde_json::Value;
 use std::alloc::Global;
-use strict::{FromJson, ReadFault};
+use strict::ReadFault;
 
 /// The configuration of an image, or of a stage at a line. A list, an object or a text that is empty isn't set: no rule tells the two apart.
 #[derive(Drop)]
@@ -91,6 +94,19 @@ impl Config {
         }
     }
 
+    /// Gives variables of the environment their values, as `Environment::set_variables`.
+    pub(crate) fn set_variables(
+        &mut self,
+        alloc: Global,
+        variables: &[Variable],
+    ) -> Result<(), Memory>
+        requires { list_all is_environment_name (variable_names variables.now) ≡ true }
+        ensures ok { OnOk result (self.new ≡ with_variables self.old variables.now) }
+        ensures err { OnErr result (self.new ≡ self.old) }
+    {
+        self.env.set_variables(alloc, variables)
+    }
+
     /// Applies an instruction, whose words have their values under the scope before its line. FROM, ARG, RUN and COPY change nothing.
     ///
     /// ENTRYPOINT unsets a Cmd that came from the base, and keeps one that the stage set itself. An empty list unsets: `CMD []` leaves no Cmd,
@@ -122,7 +138,7 @@ impl Config {
     }
 }
 
-impl FromJson for Config {
+impl FromLent for Config {
     ghost use Rattle.imageconfig.specs.Reading.{config_in};
 
     ghost reading = { config_in };
@@ -131,7 +147,7 @@ impl FromJson for Config {
     /// value has a wrong type, as a `config` that is `null` has, while a field of it that is `null` counts as absent; `rootfs` has another `type`
     /// than `layers`, or a key beside `type` and `diff_ids`; a variable has no `=`, no name, or one that is there before; a working directory
     /// that isn't the empty text isn't absolute, or breaks a limit.
-    fn from_json(alloc: Global, value: &Value) -> Result<Config, ReadFault> {
+    fn from_lent(alloc: Global, value: &Lent<'_>) -> Result<Config, ReadFault> {
         read_config(alloc, value)
     }
 }

@@ -93,7 +93,7 @@ pub(crate) fn put_together(
 pub(crate) fn default_shell(alloc: Global) -> Result<Items<Text>, Memory>
     ensures { IfOk result (λ words. words ≡ default_shell) }
 {
-    let mut words = Items::new(alloc);
+    let mut words = Items::from_vec(Vec::with_capacity(alloc, 2)?);
     words.push(Text::from_str(alloc, "/bin/sh")?)?;
     words.push(Text::from_str(alloc, "-c")?)?;
     Ok(words)

@@ -13,6 +13,7 @@
 // ```
 #![tactic(auto)]
 
+mod boxed;
 mod changing;
 mod config;
 mod copying;
@@ -27,6 +28,7 @@ mod rows;
 mod values;
 mod writing;
 
+pub use boxed::BoxedConfig;
 pub use config::Config;
 pub use environment::Environment;
 pub use names::Names;

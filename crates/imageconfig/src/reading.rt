@@ -1,51 +1,43 @@
 ghost use Rattle.std.specs.Prelude.{◌≡◌, [], Some, None, map, option_map, codes, IfOk};
 ghost use Rattle.std.specs.Option.{option_and_then};
-ghost use Rattle.serde_json.specs.View.{view, members_view};
 ghost use Rattle.serde_json.specs.Find.{get, as_str};
 ghost use Rattle.options.specs.Lists.{all_some};
 ghost use Rattle.paths.specs.Reading.{is_absolute};
 ghost use Rattle.strict.specs.Gives.{Gives};
-ghost use Rattle.strict.specs.Strict.{list_in};
-ghost use Rattle.imageconfig.specs.Reading.{set_at, field, cut_row, env_in, member_keys, names_in, labels_in, dir_of_text, dir_in, lists_in, objects_in, texts_in, groups_in, joined, fields_in, settings_in, rootfs_in, config_in};
+ghost use Rattle.strict.specs.Strict.{all_in, list_in};
+ghost use Rattle.borrowed.specs.Lent.{items_data};
+ghost use Rattle.borrowed.specs.Seen.{data_of};
+ghost use Rattle.imageconfig.specs.Reading.{set_at, field, cut_row, env_in, names_in, labels_in, dir_of_text, dir_in, lists_in, objects_in, texts_in, groups_in, joined, fields_in, settings_in, rootfs_in, config_in};
+ghost use Rattle.imageconfig.specs.Rows.{add_names};
 
 use crate::config::Config;
 use crate::environment::Environment;
 use crate::fields::{Basics, Lists, Objects, Texts, bare, default_shell, put_together};
 use crate::names::Names;
 use crate::rows::Rows;
+use borrowed::{FromLent, at, is_null, is_strict, list_of, one_at, read_rows, text_of};
+use json::Value;
 use paths::Path;
 use plain::{Fault, Items, Memory, Text};
-use serde_json::{Map, Value};
 use std::alloc::Global;
-use strict::{FromJson, NotRead, ReadFault, is_strict, list_at, one_at, read_list, read_rows};
+use strict::{NotRead, ReadFault};
 
 /// What stands at a key; `null` is as absent.
-fn set_at<'a>(value: &'a Value, key: &str) -> Option<&'a Value>
-    ensures { option_map (λ v. view v.now) result ≡ set_at key.now (view value.now) }
+fn set_at<'v, 'a>(value: &'v Value<'a>, key: &str) -> Option<&'v Value<'a>>
+    ensures { option_map (λ v. data_of v.now) result ≡ set_at key.now (data_of value.now) }
 {
-    match value.get(key) {
-        Some(value) => { if value.is_null() { None } else { Some(value) } }
+    match at(value, key) {
+        Some(value) => { if is_null(value) { None } else { Some(value) } }
         None => None,
     }
 }
 
 /// A text, whose copies share its bytes.
-fn shared_text(alloc: Global, value: &Value) -> Result<Text, ReadFault>
-    ensures { Gives result (as_str (view value.now)) }
+fn shared_text(alloc: Global, value: &Value<'_>) -> Result<Text, ReadFault>
+    ensures { Gives result (as_str (data_of value.now)) }
 {
-    let text = Text::from_json(alloc, value)?;
+    let text = Text::from_lent(alloc, value)?;
     Ok(text.shared(alloc)?)
-}
-
-/// The same texts, whose copies share their bytes.
-fn shared_texts(alloc: Global, texts: Items<Text>) -> Result<Items<Text>, Memory>
-    ensures { IfOk result (λ shared. shared ≡ texts) }
-{
-    let mut shared = Items::new(alloc);
-    for text in texts.into_vec() {
-        shared.push(text.shared(alloc)?)?;
-    }
-    Ok(shared)
 }
 
 /// The same rows, with values whose copies share their bytes.
@@ -60,16 +52,30 @@ fn shared_rows(alloc: Global, rows: Items<(Text, Text)>) -> Result<Items<(Text, 
 }
 
 /// A list of texts, whose copies share their bytes.
-fn shared_list(alloc: Global, value: &Value) -> Result<Items<Text>, ReadFault>
-    ensures { Gives result (list_in as_str (view value.now)) }
+#[tactic(auto, unfolding(strict::specs::Strict::list_in))]
+fn shared_list(alloc: Global, value: &Value<'_>) -> Result<Items<Text>, ReadFault>
+    ensures { Gives result (list_in as_str (data_of value.now)) }
 {
-    let texts = read_list(alloc, value)?;
-    Ok(shared_texts(alloc, texts)?)
+    match list_of(value) {
+        Some(values) => shared_texts(alloc, values),
+        None => Err(Fault::Because(NotRead)),
+    }
+}
+
+/// The texts that some values are, whose copies share their bytes.
+fn shared_texts(alloc: Global, values: &[Value<'_>]) -> Result<Items<Text>, ReadFault>
+    ensures { Gives result (all_in as_str (items_data values.now)) }
+{
+    let mut texts = Items::new(alloc);
+    for value in values {
+        texts.push(shared_text(alloc, value)?)?;
+    }
+    Ok(texts)
 }
 
 /// A list of texts that stands at a key, empty where none does.
-fn texts_at(alloc: Global, value: &Value, key: &str) -> Result<Items<Text>, ReadFault>
-    ensures { Gives result (field [] (list_in as_str) key.now (view value.now)) }
+fn texts_at(alloc: Global, value: &Value<'_>, key: &str) -> Result<Items<Text>, ReadFault>
+    ensures { Gives result (field [] (list_in as_str) key.now (data_of value.now)) }
 {
     match set_at(value, key) {
         Some(value) => shared_list(alloc, value),
@@ -78,8 +84,8 @@ fn texts_at(alloc: Global, value: &Value, key: &str) -> Result<Items<Text>, Read
 }
 
 /// A text that stands at a key, empty where none does.
-fn text_at(alloc: Global, value: &Value, key: &str) -> Result<Text, ReadFault>
-    ensures { Gives result (field [] as_str key.now (view value.now)) }
+fn text_at(alloc: Global, value: &Value<'_>, key: &str) -> Result<Text, ReadFault>
+    ensures { Gives result (field [] as_str key.now (data_of value.now)) }
 {
     match set_at(value, key) {
         Some(value) => shared_text(alloc, value),
@@ -117,17 +123,17 @@ fn cut_rows(alloc: Global, texts: &[Text]) -> Result<Items<(Text, Text)>, ReadFa
 
 /// An environment: a list of texts `NAME=VALUE`, no name twice.
 #[tactic(auto, unfolding(crate::specs::Reading::env_in))]
-fn read_env(alloc: Global, value: &Value) -> Result<Environment, ReadFault>
-    ensures { Gives result (env_in (view value.now)) }
+fn read_env(alloc: Global, value: &Value<'_>) -> Result<Environment, ReadFault>
+    ensures { Gives result (env_in (data_of value.now)) }
 {
-    let texts = read_list::<Text>(alloc, value)?;
+    let texts = shared_list(alloc, value)?;
     let rows = cut_rows(alloc, texts.as_slice())?;
     Environment::once(alloc, rows)
 }
 
 /// An environment that stands at a key, empty where none does.
-fn env_at(alloc: Global, value: &Value, key: &str) -> Result<Environment, ReadFault>
-    ensures { Gives result (field [] env_in key.now (view value.now)) }
+fn env_at(alloc: Global, value: &Value<'_>, key: &str) -> Result<Environment, ReadFault>
+    ensures { Gives result (field [] env_in key.now (data_of value.now)) }
 {
     match set_at(value, key) {
         Some(value) => read_env(alloc, value),
@@ -135,34 +141,54 @@ fn env_at(alloc: Global, value: &Value, key: &str) -> Result<Environment, ReadFa
     }
 }
 
-/// An object's keys.
-fn member_keys(alloc: Global, members: &Map<String, Value>) -> Result<Items<Text>, Memory>
-    ensures { IfOk result (λ keys. keys ≡ member_keys (members_view members.now.entries)) }
+/// A value that is forgotten.
+#[derive(Drop)]
+struct Forgotten;
+
+impl FromLent for Forgotten {
+    ghost use Rattle.std.specs.Prelude.{Some};
+
+    ghost reading = { λ d. Some (record {}) };
+
+    fn from_lent(_alloc: Global, _value: &Value<'_>) -> Result<Forgotten, ReadFault> {
+        Ok(Forgotten)
+    }
+}
+
+/// The keys of rows, in their order.
+fn keys_of(alloc: Global, rows: Items<(Text, Forgotten)>) -> Result<Items<Text>, Memory>
+    ensures { IfOk result (λ keys. keys ≡ map (λ row. row.0) rows) }
 {
     let mut keys = Items::new(alloc);
-    for (key, _) in members.iter() {
-        keys.push(Text::from_str(alloc, key.as_str())?)?;
+    for (key, _) in rows.into_vec() {
+        keys.push(key)?;
     }
     Ok(keys)
 }
 
-/// The keys of an object, whose values are forgotten.
-#[tactic(auto, unfolding(crate::specs::Reading::names_in))]
-fn read_names(alloc: Global, value: &Value) -> Result<Names, ReadFault>
-    ensures { Gives result (names_in (view value.now)) }
+/// The names that are the keys of rows.
+fn names_of(alloc: Global, rows: Items<(Text, Forgotten)>) -> Result<Names, Memory>
+    ensures { IfOk result (λ names. names ≡ add_names [] (map (λ row. row.0) rows)) }
 {
-    let Some(members) = value.as_object() else {
-        return Err(Fault::Because(NotRead));
-    };
-    let keys = member_keys(alloc, members)?;
+    let keys = keys_of(alloc, rows)?;
     let mut names = Names::new(alloc);
     names.add_all(alloc, keys)?;
     Ok(names)
 }
 
+/// The keys of an object, whose values are forgotten.
+fn read_names(alloc: Global, value: &Value<'_>) -> Result<Names, ReadFault>
+    ensures { Gives result (names_in (data_of value.now)) }
+{
+    match read_rows::<Forgotten>(alloc, value) {
+        Ok(rows) => Ok(names_of(alloc, rows)?),
+        Err(fault) => Err(fault),
+    }
+}
+
 /// The keys of an object that stands at a key, none where none does.
-fn names_at(alloc: Global, value: &Value, key: &str) -> Result<Names, ReadFault>
-    ensures { Gives result (field [] names_in key.now (view value.now)) }
+fn names_at(alloc: Global, value: &Value<'_>, key: &str) -> Result<Names, ReadFault>
+    ensures { Gives result (field [] names_in key.now (data_of value.now)) }
 {
     match set_at(value, key) {
         Some(value) => read_names(alloc, value),
@@ -172,8 +198,8 @@ fn names_at(alloc: Global, value: &Value, key: &str) -> Result<Names, ReadFault>
 
 /// Labels: an object of texts.
 #[tactic(auto, unfolding(crate::specs::Reading::labels_in))]
-fn read_labels(alloc: Global, value: &Value) -> Result<Rows, ReadFault>
-    ensures { Gives result (labels_in (view value.now)) }
+fn read_labels(alloc: Global, value: &Value<'_>) -> Result<Rows, ReadFault>
+    ensures { Gives result (labels_in (data_of value.now)) }
 {
     let texts = read_rows::<Text>(alloc, value)?;
     let texts = shared_rows(alloc, texts)?;
@@ -183,8 +209,8 @@ fn read_labels(alloc: Global, value: &Value) -> Result<Rows, ReadFault>
 }
 
 /// Labels that stand at a key, none where none do.
-fn labels_at(alloc: Global, value: &Value, key: &str) -> Result<Rows, ReadFault>
-    ensures { Gives result (field [] labels_in key.now (view value.now)) }
+fn labels_at(alloc: Global, value: &Value<'_>, key: &str) -> Result<Rows, ReadFault>
+    ensures { Gives result (field [] labels_in key.now (data_of value.now)) }
 {
     match set_at(value, key) {
         Some(value) => read_labels(alloc, value),
@@ -221,18 +247,18 @@ fn is_absolute(bytes: &[u8]) -> bool
 
 /// A working directory.
 #[tactic(auto, unfolding(crate::specs::Reading::dir_in))]
-fn read_dir(alloc: Global, value: &Value) -> Result<Option<Path>, ReadFault>
-    ensures { Gives result (dir_in (view value.now)) }
+fn read_dir(alloc: Global, value: &Value<'_>) -> Result<Option<Path>, ReadFault>
+    ensures { Gives result (dir_in (data_of value.now)) }
 {
-    let Some(text) = value.as_str() else {
+    let Some(text) = text_of(value) else {
         return Err(Fault::Because(NotRead));
     };
     dir_of_text(alloc, text)
 }
 
 /// A working directory that stands at a key, if one does.
-fn dir_at(alloc: Global, value: &Value, key: &str) -> Result<Option<Path>, ReadFault>
-    ensures { Gives result (field None dir_in key.now (view value.now)) }
+fn dir_at(alloc: Global, value: &Value<'_>, key: &str) -> Result<Option<Path>, ReadFault>
+    ensures { Gives result (field None dir_in key.now (data_of value.now)) }
 {
     match set_at(value, key) {
         Some(value) => read_dir(alloc, value),
@@ -242,8 +268,8 @@ fn dir_at(alloc: Global, value: &Value, key: &str) -> Result<Option<Path>, ReadF
 
 /// The fields of `config` that are lists.
 #[tactic(auto, unfolding(crate::specs::Reading::lists_in))]
-fn read_lists(alloc: Global, value: &Value) -> Result<Lists, ReadFault>
-    ensures { Gives result (lists_in (view value.now)) }
+fn read_lists(alloc: Global, value: &Value<'_>) -> Result<Lists, ReadFault>
+    ensures { Gives result (lists_in (data_of value.now)) }
 {
     let cmd = texts_at(alloc, value, "Cmd")?;
     let entrypoint = texts_at(alloc, value, "Entrypoint")?;
@@ -257,8 +283,8 @@ fn read_lists(alloc: Global, value: &Value) -> Result<Lists, ReadFault>
 
 /// The fields of `config` that are objects.
 #[tactic(auto, unfolding(crate::specs::Reading::objects_in))]
-fn read_objects(alloc: Global, value: &Value) -> Result<Objects, ReadFault>
-    ensures { Gives result (objects_in (view value.now)) }
+fn read_objects(alloc: Global, value: &Value<'_>) -> Result<Objects, ReadFault>
+    ensures { Gives result (objects_in (data_of value.now)) }
 {
     let exposed_ports = names_at(alloc, value, "ExposedPorts")?;
     match labels_at(alloc, value, "Labels") {
@@ -283,8 +309,8 @@ fn read_objects(alloc: Global, value: &Value) -> Result<Objects, ReadFault>
 
 /// The fields of `config` that are texts.
 #[tactic(auto, unfolding(crate::specs::Reading::texts_in))]
-fn read_texts(alloc: Global, value: &Value) -> Result<Texts, ReadFault>
-    ensures { Gives result (texts_in (view value.now)) }
+fn read_texts(alloc: Global, value: &Value<'_>) -> Result<Texts, ReadFault>
+    ensures { Gives result (texts_in (data_of value.now)) }
 {
     let stop_signal = text_at(alloc, value, "StopSignal")?;
     let user = text_at(alloc, value, "User")?;
@@ -332,20 +358,20 @@ fn read_settings(
     alloc: Global,
     architecture: Text,
     os: Text,
-    value: &Value,
+    value: &Value<'_>,
 ) -> Result<Config, ReadFault>
-    ensures { Gives result (settings_in architecture os (view value.now)) }
+    ensures { Gives result (settings_in architecture os (data_of value.now)) }
 {
-    match value.as_object() {
-        Some(_) => read_fields(alloc, architecture, os, value),
-        None => Err(Fault::Because(NotRead)),
+    match value {
+        Value::Object(_) => read_fields(alloc, architecture, os, value),
+        _ => Err(Fault::Because(NotRead)),
     }
 }
 
 /// The fields of `config`, in their groups.
 #[tactic(auto, unfolding(crate::specs::Reading::groups_in))]
-fn read_groups(alloc: Global, value: &Value) -> Result<(Lists, Objects, Texts), ReadFault>
-    ensures { Gives result (groups_in (view value.now)) }
+fn read_groups(alloc: Global, value: &Value<'_>) -> Result<(Lists, Objects, Texts), ReadFault>
+    ensures { Gives result (groups_in (data_of value.now)) }
 {
     let lists = read_lists(alloc, value)?;
     match read_objects(alloc, value) {
@@ -370,9 +396,9 @@ fn read_fields(
     alloc: Global,
     architecture: Text,
     os: Text,
-    value: &Value,
+    value: &Value<'_>,
 ) -> Result<Config, ReadFault>
-    ensures { Gives result (fields_in architecture os (view value.now)) }
+    ensures { Gives result (fields_in architecture os (data_of value.now)) }
 {
     match read_groups(alloc, value) {
         Ok((lists, objects, texts)) => joined(alloc, architecture, os, lists, objects, texts),
@@ -386,25 +412,28 @@ fn read_fields(
 
 /// The layers of `rootfs`, which are then forgotten.
 #[tactic(auto, unfolding(crate::specs::Reading::rootfs_in))]
-fn read_rootfs(alloc: Global, value: &Value) -> Result<Items<Text>, ReadFault>
-    ensures { Gives result (rootfs_in (view value.now)) }
+fn read_rootfs(alloc: Global, value: &Value<'_>) -> Result<Items<Text>, ReadFault>
+    ensures { Gives result (rootfs_in (data_of value.now)) }
 {
     if !is_strict(value, &["diff_ids", "type"]) {
         return Err(Fault::Because(NotRead));
     }
     let kind = one_at::<Text>(alloc, value, "type")?;
     if kind.as_str() == "layers" {
-        list_at::<Text>(alloc, value, "diff_ids")
+        match at(value, "diff_ids") {
+            Some(value) => shared_list(alloc, value),
+            None => Err(Fault::Because(NotRead)),
+        }
     } else {
         Err(Fault::Because(NotRead))
     }
 }
 
 /// The layers of the `rootfs` of a configuration.
-fn rootfs_at(alloc: Global, value: &Value) -> Result<Items<Text>, ReadFault>
-    ensures { Gives result (option_and_then rootfs_in (get (codes "rootfs") (view value.now))) }
+fn rootfs_at(alloc: Global, value: &Value<'_>) -> Result<Items<Text>, ReadFault>
+    ensures { Gives result (option_and_then rootfs_in (get (codes "rootfs") (data_of value.now))) }
 {
-    match value.get("rootfs") {
+    match at(value, "rootfs") {
         Some(value) => read_rootfs(alloc, value),
         None => Err(Fault::Because(NotRead)),
     }
@@ -412,13 +441,13 @@ fn rootfs_at(alloc: Global, value: &Value) -> Result<Items<Text>, ReadFault>
 
 /// The configuration that a value is.
 #[tactic(auto, unfolding(crate::specs::Reading::config_in))]
-pub(crate) fn read_config(alloc: Global, value: &Value) -> Result<Config, ReadFault>
-    ensures { Gives result (config_in (view value.now)) }
+pub(crate) fn read_config(alloc: Global, value: &Value<'_>) -> Result<Config, ReadFault>
+    ensures { Gives result (config_in (data_of value.now)) }
 {
     let architecture = one_at::<Text>(alloc, value, "architecture")?;
     let os = one_at::<Text>(alloc, value, "os")?;
     let _layers = rootfs_at(alloc, value)?;
-    match value.get("config") {
+    match at(value, "config") {
         Some(settings) => read_settings(alloc, architecture, os, settings),
         None => Ok(bare(alloc, architecture, os)?),
     }

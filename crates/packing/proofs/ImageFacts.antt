@@ -95,12 +95,10 @@ module _ (config : Data) (digest : Option Data) (tree : Data) where
       unread (image_data config digest tree) (ap is_some (all_parts config digest tree) ∙ unread_tree (config_in config) (at_most_one digest_in digest) (listing_in tree) none)
   tells_tree Memory none = tt
 
-  some_read : {A : Type 0} (o : Option A) (x : A) → o ≡ Some x → is_some o ≡ true
-  some_read o x e = ap is_some e
-
-  pub gives_read : (result : Result Value (Fault NotRead)) (c : Config) → config_in config ≡ Some c → is_some (at_most_one digest_in digest) ≡ true
-      → is_some (listing_in tree) ≡ true → GivesJson result (if_even (image_data config digest tree)) → GivesJson result (if_image (image_data config digest tree))
-  gives_read result c e f g gives = subst (GivesJson result) (sym (read_image config digest tree (some_read (config_in config) c e) f g)) gives
+  pub gives_read : (result : Result Value (Fault NotRead)) (copy : Data) → config ≡ copy → is_some (config_in config) ≡ true → is_some (at_most_one digest_in digest) ≡ true
+      → is_some (listing_in tree) ≡ true → GivesJson result (if_even (image_data copy digest tree)) → GivesJson result (if_image (image_data config digest tree))
+  gives_read result copy same e f g gives =
+      subst (GivesJson result) (sym (read_image config digest tree e f g ∙ ap (λ d. if_even (image_data d digest tree)) same)) gives
 
 -- the empty list is that of the empty tree
 pub empty_is_read : is_some (listing_in (array no_items)) ≡ true

@@ -10,6 +10,7 @@ use Rattle.serde_json.specs.declared.value.Value.{Value}
 use Rattle.strict.specs.Gives.{TellsFault}
 use Rattle.strict.specs.Strict.{at_most_one}
 use Rattle.strict.specs.declared.fault.NotRead.{NotRead}
+use Rattle.imageconfig.specs.Reading.{config_in}
 use Rattle.bundle.specs.Digest.{digest_in}
 use Rattle.packing.specs.Images.{ImageRow, is_even, most_depth}
 
@@ -26,6 +27,11 @@ GivesJson (Err e) reading = TellsFault e reading
 abbrev pub GivesDigest : Result (Option Value) (Fault NotRead) → Option Data → Type 0
 GivesDigest (Ok digest) given = (given ≡ option_map view digest) × IsDigestRead digest
 GivesDigest (Err e) given = TellsFault e (at_most_one digest_in given)
+
+-- the JSON of a configuration that is read
+abbrev pub GivesConfig : Result Value (Fault NotRead) → Data → Type 0
+GivesConfig (Ok config) given = (given ≡ view config) × (is_some (config_in given) ≡ true)
+GivesConfig (Err e) given = TellsFault e (config_in given)
 
 -- JSON has no float, and nests at most so deep, part by part
 abbrev mutual

@@ -11,7 +11,7 @@ ghost use Rattle.borrowed.specs.Seen.{data_of};
 ghost use Rattle.entries.specs.Listing.{listing_in};
 ghost use Rattle.bundle.specs.Parts.{is_image_name};
 ghost use Rattle.packing.specs.Images.{given_in, if_image, image_data, image_of};
-ghost use Rattle.packing.specs.PrivateImages.{GivesDigest, GivesJson, IsDigestRead, if_even, is_among};
+ghost use Rattle.packing.specs.PrivateImages.{GivesConfig, GivesDigest, GivesJson, IsDigestRead, if_even, is_among};
 
 use crate::even::is_even;
 use borrowed::{FromLent, at, is_strict, owned};
@@ -22,7 +22,7 @@ use json::{Scratch, Value as Lent};
 use plain::{Fault, Memory, Text};
 use serde_json::{Map, Value};
 use std::alloc::Global;
-use strict::{FromJson, NotRead, ReadFault, put};
+use strict::{NotRead, ReadFault, put};
 
 /// How deep the JSON of an image may nest. It stands two deep in a bundle, of which 127 are read.
 const MOST_DEPTH: usize = 125;
@@ -139,17 +139,9 @@ fn image_of_lent(
     requires tree { is_some (listing_in (data_of tree.now)) ≡ true }
     ensures { GivesJson result (if_image (image_data (data_of config.now) (option_map view digest) (data_of tree.now))) }
 {
-    let config = match owned(alloc, config) {
-        Ok(config) => config,
-        Err(Memory) => {
-            drop(digest);
-            return Err(Fault::Memory);
-        }
-    };
     match owned(alloc, tree) {
         Ok(tree) => image_of_parts(alloc, config, digest, tree),
         Err(Memory) => {
-            drop(config);
             drop(digest);
             Err(Fault::Memory)
         }
@@ -160,34 +152,37 @@ fn image_of_lent(
 fn image_without_tree(alloc: Global, config: &Lent<'_>) -> Result<Value, ReadFault>
     ensures { GivesJson result (if_image (image_data (data_of config.now) None (array no_items))) }
 {
-    let config = owned(alloc, config)?;
     image_of_parts(alloc, config, None, Value::Array(Vec::new(alloc)))
 }
 
 /// The image of a configuration, and of a digest and a tree that are read.
 fn image_of_parts(
     alloc: Global,
-    config: Value,
+    config: &Lent<'_>,
     digest: Option<Value>,
     tree: Value,
 ) -> Result<Value, ReadFault>
     requires digest { IsDigestRead digest }
     requires tree { is_some (listing_in (view tree)) ≡ true }
-    ensures { GivesJson result (if_image (image_data (view config) (option_map view digest) (view tree))) }
+    ensures { GivesJson result (if_image (image_data (data_of config.now) (option_map view digest) (view tree))) }
 {
-    let read: Result<Config, ReadFault> = Config::from_json(alloc, &config);
-    match read {
-        Ok(read) => {
-            drop(read);
-            even_image(alloc, config, digest, tree)
-        }
+    match read_owned(alloc, config) {
+        Ok(config) => even_image(alloc, config, digest, tree),
         Err(fault) => {
-            drop(config);
             drop(digest);
             drop(tree);
             Err(fault)
         }
     }
+}
+
+/// A copy of a configuration that is read. `NotRead` where it is none.
+fn read_owned(alloc: Global, config: &Lent<'_>) -> Result<Value, ReadFault>
+    ensures { GivesConfig result (data_of config.now) }
+{
+    let read: Config = Config::from_lent(alloc, config)?;
+    drop(read);
+    Ok(owned(alloc, config)?)
 }
 
 /// An image that is read, if it can be written in a bundle and read again.

@@ -1,10 +1,10 @@
+use borrowed::FromLent;
 use imageconfig::Config;
+use json::Scratch;
 use plain::Memory;
-use serde_json::Value;
 use std::alloc::Global;
 use std::process::Abort;
 use std::test::Fail;
-use strict::FromJson;
 
 /// A configuration with all its fields.
 const WHOLE: &str =
@@ -16,10 +16,11 @@ const PLAIN: &str =
 
 /// The configuration of a text.
 fn config_of(alloc: Global, text: &str) -> Result<Config, Fail> {
-    let Ok(value) = Value::from_str(alloc, text) else {
+    let mut scratch = Scratch::new(alloc);
+    let Ok(value) = borrowed::read(alloc, text, &mut scratch) else {
         return Err(Fail::from("no JSON"));
     };
-    match Config::from_json(alloc, &value) {
+    match Config::from_lent(alloc, &value) {
         Ok(config) => Ok(config),
         Err(_) => Err(Fail::from("no configuration")),
     }

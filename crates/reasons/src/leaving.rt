@@ -6,13 +6,13 @@ ghost use Rattle.reasons.specs.PrivateReasons.{IsCut, IsLineAt};
 
 use crate::cutting::cut_lines;
 use crate::telling::known_line;
+use borrowed::FromLent;
 use bundle::{IgnoreFile, read_ignore_file};
 use ignorefile::line_numbers;
 use paths::Path;
 use plain::{Bytes, Fault, Memory, Refusal};
 use std::alloc::Global;
 use std::thread::Threads;
-use strict::FromJson;
 
 /// A line of an ignore file that leaves a path out.
 #[derive(Drop)]
@@ -116,7 +116,7 @@ fn leaving_word(alloc: Global, file: &IgnoreFile, word: &str) -> Result<Option<L
 /// the context doesn't matter.
 ///
 /// The refusals are those of `reasons`.
-pub fn leaving_line<C: FromJson>(
+pub fn leaving_line<C: FromLent>(
     alloc: Global,
     rt: &(impl Threads + Sync),
     bundle: &[u8],

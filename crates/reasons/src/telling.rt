@@ -5,13 +5,13 @@ ghost use Rattle.reasons.specs.Reasons.{verdict, undecided, no_path, numbered, d
 ghost use Rattle.reasons.specs.PrivateReasons.{IsCut, IsKnownLine, IsLineAt, TellsNames};
 
 use crate::cutting::cut_lines;
+use borrowed::FromLent;
 use bundle::{IgnoreFile, read_ignore_file};
 use ignorefile::line_numbers;
 use paths::Path;
 use plain::{Bytes, Fault, Memory, Refusal, Text};
 use std::alloc::Global;
 use std::thread::Threads;
-use strict::FromJson;
 
 /// What is told first of a path that a line decides, which is an exception or not.
 fn verdict(exception: bool) -> &'static str
@@ -175,7 +175,7 @@ fn reasons_by(alloc: Global, file: &IgnoreFile, words: &[Text]) -> Result<Bytes,
 /// there doesn't matter. Nothing is filtered: it takes the reading of the bundle, and for each word what `Ignore::deciding` takes.
 ///
 /// The refusals are those of `bundle::read_bundle`: R20 where the bytes are no bundle, else R19 with the first bad line of its ignore file.
-pub fn reasons<C: FromJson>(
+pub fn reasons<C: FromLent>(
     alloc: Global,
     rt: &(impl Threads + Sync),
     bundle: &[u8],

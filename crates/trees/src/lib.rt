@@ -33,6 +33,7 @@ mod names;
 mod node;
 mod part;
 mod put;
+mod slab;
 mod tree;
 mod walk;
 
@@ -42,5 +43,6 @@ pub use content::Content;
 pub use copy::{CopyOptions, CopySource};
 pub use entry::Entry;
 pub use meta::Meta;
+pub use slab::Slab;
 pub use tree::Tree;
 pub use walk::Walk;

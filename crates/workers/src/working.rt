@@ -15,7 +15,7 @@ use sites::{Case, Desk, Held, Known, Seat};
 use solver::{Gate, Numbering, Recall, run_recalled};
 use std::alloc::Global;
 use std::ops::ControlFlow;
-use std::sync::{Condvar, Wait};
+use std::sync::{Condvar, MutexGuard, Wait};
 use std::thread;
 use std::thread::Threads;
 use trees::Tree;
@@ -60,7 +60,8 @@ pub(crate) fn work_all<
 }
 
 /// The work of one seat: claim, run, settle, until nothing is left to claim or memory is wanting. What a run gave stands in the vertex's cell before the lock is
-/// taken, and what wasn't settled is let go after the lock, so that no tree is copied or let go under it.
+/// taken, and what wasn't settled is let go after the lock, so that no tree is copied or let go under it. The lock is taken once for a vertex: whoever ends a claim
+/// looks for the next under the same one.
 ///
 /// A vertex is ready from the start, or gets so by the end of a claim: its last input gets its tree, a cache that it waits for comes back, or its own claim is
 /// given up. Each worker looks at the board first of all, and whoever ends a claim looks again, or leaves. A look claims a vertex, and wakes one sleeper if
@@ -89,8 +90,9 @@ fn work<E: Executor, M: Executor, G: Gate, J: Case + Room + Numbering, R: Wait>(
     requires named { AreOf J.problem J.out J.values }
     requires stays { MayStay J.knows J.leaves }
 {
+    let mut held = desk.lock(rt);
     for _ in rt.forever() {
-        let Some(Drawn { claim, is_more }) = draw(rt, desk, tools, seat) else {
+        let Some(Drawn { claim, is_more }) = draw(rt, tools, held, seat) else {
             break;
         };
         if is_more {
@@ -98,11 +100,10 @@ fn work<E: Executor, M: Executor, G: Gate, J: Case + Room + Numbering, R: Wait>(
         }
         let ran = run_recalled(tools.alloc, tools.job, tools.recall, tools.gate, &claim);
         let kept = keep(tools, desk, &claim, ran);
-        let ended = {
-            let mut held = desk.lock(rt);
-            end(tools.alloc, &mut *held, seat, claim, kept)
-        };
+        held = desk.lock(rt);
+        let ended = end(tools.alloc, &mut *held, seat, claim, kept);
         if ended.is_err() {
+            drop(held);
             break;
         }
     }
@@ -116,18 +117,18 @@ struct Drawn<'a, J: Case> {
 }
 
 /// A claim for a seat, as soon as there is one: none where no claim is out and none is to be had, or where memory is wanting. It sleeps while others
-/// have claims out, until it is woken.
+/// have claims out, until it is woken. It comes with the lock, and lets it go.
 fn draw<'a, E: Executor, M: Executor, G, J: Case + Room + Numbering, R: Wait>(
     rt: &R,
-    desk: &Desk<'a, E, J>,
     tools: &Tools<E, M, G, J>,
+    held: MutexGuard<'_, Held<'a, E, J>>,
     seat: &mut Seat<J>,
 ) -> Option<Drawn<'a, J>>
     ensures mine { IfSome result (λ drawn. IsMine seat.new drawn.claim) }
     ensures of { IfSome result (λ drawn. IsClaim J.problem drawn.claim) }
     ensures lent { IfSome result (λ drawn. IsLentTo seat.new drawn.claim) }
 {
-    let mut held = desk.lock(rt);
+    let mut held = held;
     for _ in rt.forever() {
         if let ControlFlow::Break(drawn) = draw_now(tools.alloc, &mut *held, seat) {
             return drawn;

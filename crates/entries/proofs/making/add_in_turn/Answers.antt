@@ -1,17 +1,10 @@
-use Rattle.std.proofs.Common.{◌++◌, ◌∷◌, [], None, append_assoc, ap, ◌∙◌}
-use Rattle.entries.specs.declared.spelled.Spelled.{Spelled}
-use Rattle.entries.proofs.MadeFacts.{one_more}
+use Rattle.std.proofs.Common.{◌≤◌, length, arith}
+use Rattle.entries.proofs.SlabFacts.{rows_more}
 use Rattle.entries.proofs.making.add_in_turn.Goals as goal
 
--- what the prover takes for an entry outside of the list
-abbrev nothing : Spelled
-nothing = record { dir = None; gid = None; hex = None; mode = None; path = None; text = None; uid = None }
-
-pub loop-one-preserved : goal.loop-one-preserved
-loop-one-preserved c =
-    let made = c.loop-one.invariant in
-    let row = c.in_ok-row.row in (
-      made.0 ++ row ∷ [],
-      c.in_ok-push.ensures.items ∙ ap (λ l. l ++ row ∷ []) made.1 ∙ append_assoc c.args.rows.now.items made.0 (row ∷ []),
-      one_more c.args.spelled.now c.loop-one.one-index nothing row made.0 c.loop-one-test.true made.2 c.in_ok-row.ensures,
-    )
+pub slabs-preserved : goal.slabs-preserved
+slabs-preserved c =
+    let kept = c.slabs.invariant in
+    let order : c.slabs.at ≤ c.min-end.result = first_of (omega (arith, c.slabs-test.true, c.min-end.ensures, c.saturating_add.ensures), grind (arith)) in
+    let inside : c.min-end.result ≤ length c.args.spelled.now = first_of (omega (arith, c.min-end.ensures), grind (arith)) in
+    (inside, rows_more c.args.spelled.now c.slabs.at c.min-end.result c.args.rows.now.items c.slabs.rows.items c.add_with_slab.new.rows.items order kept.1 c.in_ok-add_with_slab.ensures)

@@ -1,8 +1,10 @@
-use Rattle.std.proofs.Common.{◌≡◌, ◌++◌, List, take}
-use Rattle.trees.specs.Row.{Row}
-use Rattle.entries.specs.PrivateKeys.{AreRowsOf}
+use Rattle.std.proofs.Common.{◌≤◌, ◌-◌, length, take}
+use Rattle.entries.specs.PrivateKeys.{AddsRows}
 use Rattle.entries.proofs.making.add_in_turn.Given as goal
 
--- the rows that were added are those of the entries so far
-abbrev pub invariant-loop-one : goal.invariant-loop-one
-invariant-loop-one l = (made : List Row) × (l.rows.items ≡ l.initial.rows.items ++ made) × AreRowsOf (take l.one-index l.spelled) made
+-- the rows of those so far were added
+abbrev pub invariant-slabs : goal.invariant-slabs
+invariant-slabs l = (l.at ≤ length l.spelled) × AddsRows (take l.at l.spelled) l.initial.rows.items l.rows.items
+
+abbrev pub decreases-slabs : goal.decreases-slabs
+decreases-slabs l = length l.spelled - l.at

@@ -1,5 +1,5 @@
-use Rattle.evaluation.proofs.ImageFacts.{TakenSoFar}
+use Rattle.evaluation.proofs.ImageFacts.{NamedSoFar}
 use Rattle.evaluation.proofs.sources.sources_of.Given as goal
 
 abbrev pub invariant-loop-name : goal.invariant-loop-name
-invariant-loop-name l = TakenSoFar l.fn.context l.fn.images l.initial.name-iterator.rest.items l.name-iterator.rest.items l.images l.sources
+invariant-loop-name l = NamedSoFar l.fn.context l.fn.images l.initial.name-iterator.rest.items l.name-iterator.rest.items l.sources
