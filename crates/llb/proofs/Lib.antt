@@ -1,6 +1,7 @@
 pub mod GraphKept
 pub mod GraphLaws
 pub mod IndexKept
+pub mod LastKept
 pub mod LineFacts
 pub mod PlacesLaws
 pub mod WellFormedSteps

@@ -1,18 +1,10 @@
--- The index beside a graph's vertices (own): under each hash the numbers of vertices that were entered under it. It may have
--- numbers of other vertices there too, since a vertex is compared before it is found.
-use Rattle.std.specs.Prelude.{◌≡◌, ℕ, Some, List, [], slice_get}
-use Rattle.std.specs.List.{Contains}
-use Rattle.std.specs.Option.{unwrap_or}
-use Rattle.std.specs.Ordering.{nat_cmp}
-use Rattle.std.specs.BTreeMap.{get}
+-- The index beside a graph's vertices (own): the hashes of the first of them, under their numbers. The others are entered before a vertex is
+-- looked for.
+use Rattle.std.specs.Prelude.{◌≡◌, ◌<◌, ℕ, Some, List, length, get_or, slice_get}
 use Rattle.llb.specs.declared.index.Index.{Index}
 use Rattle.llb.specs.declared.vertex.Vertex.{Vertex}
 use Rattle.llb.specs.Hash.{hash_of}
 
--- the numbers under a hash, in the order of entering
-abbrev pub under : Index → ℕ → List ℕ
-under index hash = unwrap_or (get nat_cmp index.numbers hash) []
-
--- each vertex has its number under its hash
+-- what was entered are the hashes of vertices, in their order
 pub record IsIndexed (vertices : List Vertex) (index : Index) : Type 0 where
-  pub entered : (k : ℕ) (vertex : Vertex) → slice_get vertices k ≡ Some vertex → Contains (under index (hash_of vertex)) k
+  pub entered : (k : ℕ) → k < length index.hashes.items → (vertex : Vertex) × (slice_get vertices k ≡ Some vertex) × (get_or index.hashes.items k 0 ≡ hash_of vertex)

@@ -1,8 +1,9 @@
-ghost use Rattle.std.specs.Prelude.{◌≡◌, ◌↔◌, ◌<◌, ◌≤◌, ◌++◌, ◌∷◌, ℕ, [], Some, length, slice_get, slice_index_or, IsTrue, IfOk, IfSome, IfNone, MatchOption, OnOk, OnErr, option_copied, vec_len};
+ghost use Rattle.std.specs.Prelude.{◌≡◌, ◌↔◌, ◌<◌, ◌≤◌, ℕ, [], length, slice_get, slice_index_or, IsTrue, IfOk, MatchOption, OnErr, option_copied};
 ghost use Rattle.std.specs.Option.{ForSome};
 ghost use Rattle.std.specs.List.{All};
 ghost use Rattle.llb.specs.Graph.{IsAfterInputs, IsNew, IsGraph, Adds};
-ghost use Rattle.llb.specs.Hash.{hash_of};
+ghost use Rattle.plain.specs.Limits.{most_vertices};
+ghost use Rattle.llb.specs.PrivateLast.{PutsLast};
 ghost use Rattle.llb.specs.WellFormed.{is_well_formed};
 ghost use Rattle.llb.specs.Places.{IsLine, AreLines, lines_of, least_line};
 
@@ -10,7 +11,7 @@ use crate::hash::hash_of;
 use crate::index::Index;
 use crate::{Full, GraphFault, Vertex, VertexId, places};
 use plain::limits::MOST_VERTICES;
-use plain::{Exact, Fault, Items, Memory};
+use plain::{Fault, Items, Memory};
 use std::alloc::Global;
 use std::marker::Model;
 
@@ -20,20 +21,21 @@ use std::marker::Model;
 pub struct Graph {
     vertices: Vec<Vertex>,
     places: Vec<Items<u32>>,
-    // finds an equal vertex without comparing with all; contracts don't see it
+    // finds an equal vertex without comparing with all; contracts don't see it. Vertices that were appended aren't in it until one is sought
     index: Index,
 }
 
 impl Model for Graph {
     ghost use Rattle.llb.specs.Graph.{GraphValue, IsGraph};
     ghost use Rattle.llb.specs.Index.{IsIndexed};
+    ghost use Rattle.llb.specs.PrivateIndex.{IsIndex};
 
     ghost Value = { GraphValue };
 
     ghost view = { λ g. record { vertices = g.vertices.items; places = g.places.items } };
 
     ghost invariant = { λ g. IsGraph (record { vertices = g.vertices.items; places = g.places.items })
-        × IsIndexed g.vertices.items g.index };
+        × (IsIndex g.index × IsIndexed g.vertices.items g.index) };
 }
 
 impl Graph {
@@ -84,51 +86,39 @@ impl Graph {
         ensures adds { Adds self.old self.new vertex lines.now result }
         ensures err { OnErr result (self.new ≡ self.old) }
     {
-        let hash = hash_of(&vertex);
         // A vertex that isn't added is let go by name: let go at the end of the function, the proof would walk all its parts at each end.
-        if let Some(at) = self.find(hash, &vertex) {
+        let Ok(()) = self.index.enter_rest(alloc, self.vertices.as_slice()) else {
+            drop(vertex);
+            return Err(Fault::Memory);
+        };
+        let hash = hash_of(&vertex);
+        if let Some(at) = self.index.find(self.vertices.as_slice(), hash, &vertex) {
             drop(vertex);
             places::add_lines(alloc, &mut self.places, at, lines)?;
             return Ok(VertexId::new(at as u32));
-        }
-        let at = self.vertices.len();
-        if at == MOST_VERTICES {
-            drop(vertex);
-            return Err(Fault::Because(Full));
         }
         let Ok(lines) = Vec::from_slice(alloc, lines) else {
             drop(vertex);
             return Err(Fault::Memory);
         };
         let lines = Items::from_vec(lines);
-        let (Ok(()), Ok(())) = (self.vertices.reserve(1), self.places.reserve(1)) else {
-            drop(vertex);
-            return Err(Fault::Memory);
-        };
-        let Ok(()) = self.index.enter(alloc, hash, at as u32) else {
-            drop(vertex);
-            return Err(Fault::Memory);
-        };
-        self.places.push(lines).unwrap();
-        self.vertices.push(vertex).unwrap();
-        Ok(VertexId::new(at as u32))
+        let id = put_last(&mut self.vertices, &mut self.places, vertex, lines)?;
+        // Without memory for it, it is entered when a vertex is sought next.
+        let _entered = self.index.enter(alloc, hash);
+        Ok(id)
     }
 
-    /// The number of the vertex that is equal to this one, which has this hash; `None` where there is none.
-    fn find(&self, hash: u64, vertex: &Vertex) -> Option<usize>
-        requires { hash ≡ hash_of vertex.now }
-        ensures found { IfSome result (λ at. slice_get self.now.vertices at ≡ Some vertex.now) }
-        ensures fresh { IfNone result (IsNew self.now.vertices vertex.now) }
+    /// Adds a vertex to which none of the graph is equal, and the lines of the instructions that it stands for, in ascending order: as
+    /// [`Graph::add_all`], which finds out whether one is equal, but without looking for one.
+    pub fn append(&mut self, vertex: Vertex, lines: Items<u32>) -> Result<VertexId, GraphFault>
+        requires inputs { IsAfterInputs (length self.old.vertices) vertex }
+        requires well_formed { IsTrue (is_well_formed vertex) }
+        requires lines { AreLines lines }
+        requires fresh { IsNew self.old.vertices vertex }
+        ensures adds { Adds self.old self.new vertex lines result }
+        ensures err { OnErr result (self.new ≡ self.old) }
     {
-        for number in self.index.under(hash) {
-            let at = *number as usize;
-            if let Some(other) = self.vertices.get(at) {
-                if other.same(vertex) {
-                    return Some(at);
-                }
-            }
-        }
-        None
+        put_last(&mut self.vertices, &mut self.places, vertex, lines)
     }
 
     /// Whether a vertex may be added: it is well formed, and its inputs are in the graph.
@@ -204,6 +194,30 @@ impl Graph {
             None => 0,
         }
     }
+}
+
+/// Puts a vertex and its lines behind those that are there. After an error nothing has changed.
+fn put_last(
+    vertices: &mut Vec<Vertex>,
+    places: &mut Vec<Items<u32>>,
+    vertex: Vertex,
+    lines: Items<u32>,
+) -> Result<VertexId, GraphFault>
+    requires few { length vertices.old.items ≤ most_vertices }
+    ensures { PutsLast vertices.old.items vertices.new.items places.old.items places.new.items vertex lines result }
+{
+    let at = vertices.len();
+    if at == MOST_VERTICES {
+        drop(vertex);
+        return Err(Fault::Because(Full));
+    }
+    let (Ok(()), Ok(())) = (vertices.reserve(1), places.reserve(1)) else {
+        drop(vertex);
+        return Err(Fault::Memory);
+    };
+    places.push(lines).unwrap();
+    vertices.push(vertex).unwrap();
+    Ok(VertexId::new(at as u32))
 }
 
 /// Whether all these ids are smaller than the number.

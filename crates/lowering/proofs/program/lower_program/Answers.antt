@@ -8,6 +8,14 @@ pub lower_rows-requires-clause-room : goal.lower_rows-requires-clause-room
 lower_rows-requires-clause-room g c =
     record { sources = c.args.sources; has = c.requires.named; room = no_room c.args.rows c.args.sources c.requires.images c.requires.steps }
 
+pub find_tip-tip-requires : goal.find_tip-tip-requires
+find_tip-tip-requires g c =
+    subst (λ (ts : List (Option ℕ)). (id : ℕ) × (slice_get ts c.args.target ≡ Some (Some id))) (sym c.as_slice.ensures) (c.in_ok-graph.ensures.there c.args.target c.requires.target.0 c.requires.target.1)
+
+pub new-requires-clause-target : goal.new-requires-clause-target
+new-requires-clause-target g c =
+    c.in_ok-graph.ensures.inside c.args.target c.find_tip-tip.result (subst (λ (ts : List (Option ℕ)). slice_get ts c.args.target ≡ Some (Some c.find_tip-tip.result)) c.as_slice.ensures c.find_tip-tip.ensures)
+
 pub new-requires-clause-sources : goal.new-requires-clause-sources
 new-requires-clause-sources g c = rows_known c.args.rows _ _ c.args.sources c.in_ok-graph.ensures c.requires.named c.requires.images c.requires.steps
 
