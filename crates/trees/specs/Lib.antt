@@ -19,3 +19,4 @@ pub mod PrivateLent
 pub mod PrivateCopy
 pub mod PrivateGrowing
 pub mod PrivateHeld
+pub mod PrivateLists

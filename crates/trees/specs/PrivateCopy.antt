@@ -70,6 +70,13 @@ placed_rows options rows = map (λ row. (row.0, placed_entry options row.1)) row
 pub record IsPlacedNode (options : CopyOptions) (old new : NodeValue) : Type 0 where
   pub rows : entries (map_of new) ≡ placed_rows options (entries (map_of old))
 
+-- nodes, each of whose entries are as those of the other at its place are placed
+abbrev pub ArePlacedNodes : CopyOptions → List NodeValue → List NodeValue → Type 0
+ArePlacedNodes options [] [] = Unit {0}
+ArePlacedNodes options [] (new ∷ news) = ⊥
+ArePlacedNodes options (old ∷ olds) [] = ⊥
+ArePlacedNodes options (old ∷ olds) (new ∷ news) = IsPlacedNode options old new × ArePlacedNodes options olds news
+
 -- children of the same names whose entries are as those of the others are placed
 pub record ArePlacedKids (options : CopyOptions) (old new : List (List ℕ × NodeValue)) : Type 0 where
   pub names : keys_of new ≡ keys_of old

@@ -1,7 +1,7 @@
 -- What a node of a stored tree stands for: its own entry, the map of what is below it, and how high it is.
 --
 -- A node knows the names of its children and not its own path, so its map's paths begin at the node itself.
-use Rattle.std.specs.Prelude.{◌≡◌, ◌↔◌, ℕ, ◌+◌, ◌<◌, ◌≤◌, Bool, true, false, ◌&&◌, cond, max, IsTrue, Option, Some, None, IsSome, List, [], ◌∷◌, ◌++◌, map, length, take, drop, is_some, not, refl}
+use Rattle.std.specs.Prelude.{◌≡◌, ◌↔◌, ℕ, ◌+◌, ◌<◌, ◌≤◌, Bool, true, false, ◌&&◌, cond, max, IsTrue, Option, Some, None, IsSome, List, [], ◌∷◌, ◌++◌, map, length, take, drop, is_some, not, refl, get_or, set}
 use Rattle.std.specs.Coded.{Coded, code_by, coded×, coded_ℕ, coded_list}
 use Rattle.std.specs.Ordering.{eq_by_cmp, is_lt}
 use Rattle.std.specs.List.Sorted.{IsStrictlySortedBy}
@@ -100,6 +100,10 @@ pub record GoesAt (name : List ℕ) (rows : List (List ℕ × NodeValue)) (at : 
   pub within : at ≤ length rows
   pub before : are_below name (take at rows) ≡ true
   pub behind : below_all name_cmp name (drop at rows) ≡ true
+
+-- the same names, of which the one at a place has this node
+pub record IsSetAt (at : ℕ) (kid : NodeValue) (old new : List (List ℕ × NodeValue)) : Type 0 where
+  pub row : (row : List ℕ × NodeValue) → row ≡ get_or old at row → new ≡ set old at (row.0, kid)
 
 -- the same names, of which the node of one, if it is there, is another
 pub record IsGiven (name : List ℕ) (kid : NodeValue) (old new : List (List ℕ × NodeValue)) : Type 0 where

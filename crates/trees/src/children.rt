@@ -117,7 +117,7 @@ impl Children {
         let parts = self.parts.as_slice();
         let at = place(parts, front);
         match parts.get(at) {
-            Some(part) => Kids::of_begun(part.rows_from(front), &parts[at + 1..]),
+            Some(part) => Kids::of_begun(part.begin_at(front), &parts[at + 1..]),
             None => Kids::of(&[]),
         }
     }

@@ -142,11 +142,14 @@ fn part_of(alloc: Global, rows: &mut Vec<(Text, Node)>) -> Result<Part, Memory>
     ensures part { IfOk result (λ part. arc_value part ≡ reverse rows.old.items) }
     ensures none_left { OnOk result (rows.new.items ≡ []) }
 {
-    let mut rising = Vec::with_capacity(alloc, rows.len())?;
-    while let Some(row) = rows.pop() {
-        rising.push(row)?;
+    let mut names = Vec::with_capacity(alloc, rows.len())?;
+    let mut nodes = Vec::with_capacity(alloc, rows.len())?;
+    while let Some((name, kid)) = rows.pop() {
+        names.push(name)?;
+        nodes.push(kid)?;
     }
-    let part = Arc::new(alloc, Names::of_rows(rising))?;
+    let rising = Names::of_lists(alloc, names, nodes)?;
+    let part = Arc::new(alloc, rising)?;
     Ok(part)
 }
 

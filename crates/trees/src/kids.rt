@@ -1,6 +1,7 @@
 ghost use Rattle.std.specs.Prelude.{◌≡◌, true, [], ◌∷◌, ◌++◌, MatchOption};
 ghost use Rattle.trees.specs.PrivateNode.{lists_of, flat, are_full};
 
+use crate::begun::Begun;
 use crate::node::Node;
 use crate::part::Part;
 use plain::Text;
@@ -10,7 +11,7 @@ use std::marker::Model;
 #[derive(Drop)]
 pub(crate) struct Kids<'a> {
     /// What is left of the part that was begun.
-    begun: &'a [(Text, Node)],
+    begun: Begun<'a>,
     parts: &'a [Part],
 }
 
@@ -22,7 +23,7 @@ impl<'a> Model for Kids<'a> {
 
     ghost coded = { kids_code };
 
-    ghost view = { λ k. k.begun.now ++ flat (lists_of k.parts.now) };
+    ghost view = { λ k. k.begun ++ flat (lists_of k.parts.now) };
 
     ghost invariant = { λ k. are_full (lists_of k.parts.now) ≡ true };
 }
@@ -33,13 +34,16 @@ impl<'a> Kids<'a> {
         requires { are_full (lists_of parts.now) ≡ true }
         ensures { result ≡ flat (lists_of parts.now) }
     {
-        Kids { begun: &[], parts }
+        Kids {
+            begun: Begun::one(&[]),
+            parts,
+        }
     }
 
     /// The children that are left of a part, and then those of these parts.
-    pub(crate) fn of_begun(begun: &'a [(Text, Node)], parts: &'a [Part]) -> Kids<'a>
+    pub(crate) fn of_begun(begun: Begun<'a>, parts: &'a [Part]) -> Kids<'a>
         requires { are_full (lists_of parts.now) ≡ true }
-        ensures { result ≡ begun.now ++ flat (lists_of parts.now) }
+        ensures { result ≡ begun ++ flat (lists_of parts.now) }
     {
         Kids { begun, parts }
     }
@@ -48,21 +52,15 @@ impl<'a> Kids<'a> {
     pub(crate) fn next(&mut self) -> Option<(&'a Text, &'a Node)>
         ensures { MatchOption result ((self.old ≡ []) × (self.new ≡ [])) (λ kid. self.old ≡ (kid.0.now, kid.1.now) ∷ self.new) }
     {
-        if let [(name, kid), rest @ ..] = self.begun {
-            self.begun = rest;
-            return Some((name, kid));
+        if let Some(kid) = self.begun.next() {
+            return Some(kid);
         }
         match self.parts {
             [] => None,
             [part, rest @ ..] => {
                 self.parts = rest;
-                match part.rows() {
-                    [] => None,
-                    [(name, kid), left @ ..] => {
-                        self.begun = left;
-                        Some((name, kid))
-                    }
-                }
+                self.begun = part.begin();
+                self.begun.next()
             }
         }
     }

@@ -15,6 +15,7 @@
 #![tactic(auto)]
 
 mod apply;
+mod begun;
 mod branch;
 mod cause;
 mod changes;

@@ -47,9 +47,9 @@ pub(crate) fn place(parts: &[Part], name: &Text) -> usize
 fn begins_past(part: &Part, name: &Text) -> bool
     ensures { result ≡ begins_past name.now (arc_value part.now) }
 {
-    match part.rows() {
-        [] => false,
-        [first, ..] => name < &first.0,
+    match part.begin().next() {
+        Some((first, _)) => name < first,
+        None => false,
     }
 }
 
@@ -125,7 +125,7 @@ pub(crate) fn take_away(alloc: Global, part: &mut Part, name: &Text) -> Result<b
     let Some(names) = Arc::get_mut(part) else {
         return Err(Memory);
     };
-    Ok(names.remove(name))
+    names.remove(alloc, name)
 }
 
 /// Whether a part, one of so many, may take one name more.
@@ -172,7 +172,7 @@ fn halve(alloc: Global, part: &mut Part, upper: &mut Part, new: &Text) -> Result
     let Some(empty) = Arc::get_mut(upper) else {
         return Err(Memory);
     };
-    *empty = names.split_off(half)?;
+    *empty = names.split_off(alloc, half)?;
     Ok(true)
 }
 
@@ -181,8 +181,8 @@ fn halve(alloc: Global, part: &mut Part, upper: &mut Part, new: &Text) -> Result
 fn lower_half(part: &Names, new: &Text) -> usize
     ensures { 0 < result }
 {
-    match part.rows() {
-        [first, ..] if new < &first.0 => 1,
+    match part.begin().next() {
+        Some((first, _)) if new < first => 1,
         _ => part.len() / 2 + 1,
     }
 }

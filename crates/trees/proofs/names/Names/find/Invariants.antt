@@ -1,6 +1,6 @@
 use Rattle.std.proofs.Common.{◌-◌}
 use Rattle.trees.proofs.NameSteps.{IsSought}
-use Rattle.trees.proofs.names.find.Given as goal
+use Rattle.trees.proofs.names.Names.find.Given as goal
 
 abbrev pub decreases-seeking : goal.decreases-seeking
 decreases-seeking l = l.high - l.low

@@ -1,6 +1,6 @@
 use Rattle.trees.proofs.NameSteps.{stands-of, goes-of}
 use Rattle.trees.proofs.FromSteps.{stands-from, goes-from, from-lent}
-use Rattle.trees.proofs.names.Names.rows_from.Goals as goal
+use Rattle.trees.proofs.names.Names.begin_at.Goals as goal
 
 pub returns-in-Ok : goal.returns-in-Ok
 returns-in-Ok c =

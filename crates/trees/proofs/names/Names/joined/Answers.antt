@@ -1,5 +1,5 @@
 use Rattle.trees.proofs.NameSteps.{copy-row}
-use Rattle.trees.proofs.names.Names.copy.Goals as goal
+use Rattle.trees.proofs.names.Names.joined.Goals as goal
 
 pub loop-row-preserved : goal.loop-row-preserved
 loop-row-preserved c =

@@ -1,5 +1,5 @@
 use Rattle.std.proofs.Common.{◌≡◌, ◌++◌, drop}
-use Rattle.trees.proofs.names.Names.copy.Given as goal
+use Rattle.trees.proofs.names.Names.joined.Given as goal
 
 -- the rows copied so far, and those that are left
 abbrev pub invariant-loop-row : goal.invariant-loop-row
