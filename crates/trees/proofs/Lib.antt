@@ -31,3 +31,4 @@ mod FolderSteps
 mod FolderDone
 mod GatheredSteps
 mod GrowingSteps
+mod ListSteps

@@ -1,13 +1,17 @@
 -- Each child is less high than its folder.
-use Rattle.std.specs.Prelude.{ℕ, ◌+◌, ◌≤◌, max, List, [], ◌∷◌}
+use Rattle.std.specs.Prelude.{◌≡◌, ℕ, ◌+◌, ◌≤◌, max, List, [], ◌∷◌, length}
+use Rattle.std.specs.List.{zip}
 use Rattle.std.proofs.Common.{arith}
 use denote.Param.Weighed.{most}
 use Rattle.trees.specs.PrivateNode.{NodeValue, kids_of, height_of, parts_fall}
 use Rattle.trees.specs.PrivateHeld.{held_value}
+use Rattle.trees.specs.PrivateLists.{rows_in, AreEven, AreNames}
 use Rattle.trees.specs.declared.children.Children.TheInside.{Inside}
 use Rattle.trees.specs.declared.children.Children.TheDeep.{deep-Children, deep-Names, deep-Node}
-use Rattle.trees.specs.declared.children.Children.TheShapes.{weighed-Names-rows-at-2}
+use Rattle.trees.specs.declared.children.Children.TheShapes.{weighed-Lists-One-0-at-2}
 use Rattle.trees.specs.declared.names.Names.TheInside.{Inside as NamesInside}
+use Rattle.trees.specs.declared.names.Lists.{Lists}
+use Rattle.trees.specs.declared.names.Lists.TheVariants.{One, Two}
 use Rattle.trees.specs.declared.node.Node.TheInside.{Inside as NodeInside}
 use Rattle.trees.specs.declared.node.Held.{Held}
 use Rattle.trees.specs.declared.node.Held.TheVariants.{Leaf, Folder}
@@ -18,19 +22,34 @@ pub children_fall : (a : Inside) → deep-Children a ≤ height_of (kids_of a.pa
 children_fall a = omega (arith, parts_fall a.parts.items)
 
 abbrev weighed : List (List ℕ × NodeValue) → ℕ
-weighed kids = most ((weighed-Names-rows-at-2).weight NodeValue (λ (y : NodeValue). y.height + y.height + 1 + 1)) kids
+weighed kids = most ((weighed-Lists-One-0-at-2).weight NodeValue (λ (y : NodeValue). y.height + y.height + 1 + 1)) kids
 
 kids_fall : (kids : List (List ℕ × NodeValue)) → weighed kids ≤ height_of kids + height_of kids
 kids_fall [] = omega arith
 kids_fall (kid ∷ kids) =
     let rest = kids_fall kids in
     let one : max 0 (max (kid.1.height + kid.1.height + 1 + 1) 0) ≤ kid.1.height + kid.1.height + 1 + 1 = omega arith in
-    let here : (weighed-Names-rows-at-2).weight NodeValue (λ (y : NodeValue). y.height + y.height + 1 + 1) kid ≤ kid.1.height + kid.1.height + 1 + 1 = one in
+    let here : (weighed-Lists-One-0-at-2).weight NodeValue (λ (y : NodeValue). y.height + y.height + 1 + 1) kid ≤ kid.1.height + kid.1.height + 1 + 1 = one in
     omega (arith, rest, here)
 
+-- as many nodes as names are no less high beside them
+nodes_fall : (names : List (List ℕ)) (nodes : List NodeValue) → length names ≡ length nodes → most (λ (y : NodeValue). y.height + y.height + 1 + 1) nodes ≤ height_of (zip names nodes) + height_of (zip names nodes)
+nodes_fall [] [] even = omega arith
+nodes_fall [] (kid ∷ nodes) even = absurd (omega arith)
+nodes_fall (name ∷ names) [] even = absurd (omega arith)
+nodes_fall (name ∷ names) (kid ∷ nodes) even =
+    let rest = nodes_fall names nodes (omega arith) in
+    omega (arith, rest)
+
 -- each node is less high than its folder
-pub names_fall : (a : NamesInside) → deep-Names a ≤ height_of a.rows.items + height_of a.rows.items
-names_fall a = let h : max (weighed a.rows.items) 0 ≤ height_of a.rows.items + height_of a.rows.items = omega (arith, kids_fall a.rows.items) in h
+pub names_fall : (a : NamesInside) → AreNames a.lists → deep-Names a ≤ height_of (rows_in a.lists) + height_of (rows_in a.lists)
+names_fall a h = by a.lists h.even
+  where
+    by : (lists : Lists) → AreEven lists → deep-Names (record { lists = lists }) ≤ height_of (rows_in lists) + height_of (rows_in lists)
+    by (One rows) even = let h : max (max (weighed rows.items) 0) 0 ≤ height_of rows.items + height_of rows.items = omega (arith, kids_fall rows.items) in h
+    by (Two names nodes) even =
+        let all = zip (arc_value names).items nodes.items in
+        let h : max (max (most (λ (y : NodeValue). y.height + y.height + 1 + 1) nodes.items) 0) 0 ≤ height_of all + height_of all = omega (arith, nodes_fall (arc_value names).items nodes.items even) in h
 
 -- what a node shares is less high than it
 pub node_falls : (a : NodeInside) → deep-Node a ≤ (held_value a.held).height + (held_value a.held).height + 1

@@ -1,4 +1,4 @@
--- Where the names of a part lie, and those that are lent of it (own).
+-- Where the names of a part and their nodes lie (own).
 use Rattle.std.specs.Prelude.{◌≡◌, ℕ, true, List, length}
 use Rattle.std.specs.List.{zip}
 use Rattle.std.specs.Arc.{arc_value}
@@ -6,8 +6,6 @@ use Rattle.std.specs.FinMap.Entries.{is_sorted}
 use Rattle.paths.specs.Order.{name_cmp}
 use Rattle.trees.specs.declared.names.Lists.{Lists}
 use Rattle.trees.specs.declared.names.Lists.TheVariants.{One, Two}
-use Rattle.trees.specs.declared.begun.Slices.{Slices}
-use Rattle.trees.specs.declared.begun.Slices.TheVariants.{One as OneLent, Two as TwoLent}
 use Rattle.trees.specs.PrivateNode.{NodeValue}
 
 -- each name with its node
@@ -24,8 +22,3 @@ AreEven (Two names nodes) = length (arc_value names).items ≡ length nodes.item
 pub record AreNames (lists : Lists) : Type 0 where
   pub rise : is_sorted name_cmp (rows_in lists) ≡ true
   pub even : AreEven lists
-
--- each name with its node, as they are lent
-abbrev pub rows_lent : Slices → List (List ℕ × NodeValue)
-rows_lent (OneLent rows) = rows.now
-rows_lent (TwoLent names nodes) = zip names.now nodes.now

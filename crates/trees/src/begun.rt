@@ -1,5 +1,5 @@
 // What is left of a part that was begun.
-ghost use Rattle.std.specs.Prelude.{◌≡◌, ◌≤◌, [], ◌∷◌, drop, length, MatchOption};
+ghost use Rattle.std.specs.Prelude.{◌≡◌, [], ◌∷◌, ◌++◌, MatchOption};
 ghost use Rattle.std.specs.List.{zip};
 
 use crate::node::Node;
@@ -7,28 +7,28 @@ use plain::Text;
 use std::marker::Model;
 
 /// Names with their nodes, lent, in the order of the names.
+///
+/// They lie as a part has them, in one list or in two, and the others are empty. A tag that says which would be one more thing to look at for
+/// each name of a walk.
 #[derive(Drop)]
 pub(crate) struct Begun<'a> {
-    slices: Slices<'a>,
-}
-
-/// Where they lie, as a part has them.
-#[derive(Clone, Copy, Drop)]
-enum Slices<'a> {
-    One(&'a [(Text, Node)]),
-    Two(&'a [Text], &'a [Node]),
+    /// Names that lie beside their nodes.
+    rows: &'a [(Text, Node)],
+    /// Names that come after those, and a node for each.
+    names: &'a [Text],
+    nodes: &'a [Node],
 }
 
 impl<'a> Model for Begun<'a> {
-    ghost use Rattle.std.specs.Prelude.{ℕ, List};
+    ghost use Rattle.std.specs.Prelude.{ℕ, List, ◌++◌};
+    ghost use Rattle.std.specs.List.{zip};
     ghost use Rattle.trees.specs.PrivateNode.{NodeValue, kids_code};
-    ghost use Rattle.trees.specs.PrivateLists.{rows_lent};
 
     ghost Value = { List (List ℕ × NodeValue) };
 
     ghost coded = { kids_code };
 
-    ghost view = { λ b. rows_lent b.slices };
+    ghost view = { λ b. b.rows.now ++ zip b.names.now b.nodes.now };
 }
 
 impl<'a> Begun<'a> {
@@ -37,7 +37,9 @@ impl<'a> Begun<'a> {
         ensures { result ≡ rows.now }
     {
         Begun {
-            slices: Slices::One(rows),
+            rows,
+            names: &[],
+            nodes: &[],
         }
     }
 
@@ -46,35 +48,29 @@ impl<'a> Begun<'a> {
         ensures { result ≡ zip names.now nodes.now }
     {
         Begun {
-            slices: Slices::Two(names, nodes),
-        }
-    }
-
-    /// Those from a place on.
-    pub(crate) fn past(self, at: usize) -> Begun<'a>
-        requires { at ≤ length self }
-        ensures { result ≡ drop at self }
-    {
-        match self.slices {
-            Slices::One(rows) => Begun::one(&rows[at..]),
-            Slices::Two(names, nodes) => Begun::two(&names[at..], &nodes[at..]),
+            rows: &[],
+            names,
+            nodes,
         }
     }
 
     /// The next name, with its node.
+    #[inline(always)]
     pub(crate) fn next(&mut self) -> Option<(&'a Text, &'a Node)>
         ensures { MatchOption result ((self.old ≡ []) × (self.new ≡ [])) (λ kid. self.old ≡ (kid.0.now, kid.1.now) ∷ self.new) }
     {
-        match self.slices {
-            Slices::One([(name, kid), rest @ ..]) => {
-                self.slices = Slices::One(rest);
-                Some((name, kid))
-            }
-            Slices::Two([name, names @ ..], [kid, nodes @ ..]) => {
-                self.slices = Slices::Two(names, nodes);
-                Some((name, kid))
-            }
-            _ => None,
+        if let [(name, kid), rest @ ..] = self.rows {
+            self.rows = rest;
+            return Some((name, kid));
         }
+        let [name, names @ ..] = self.names else {
+            return None;
+        };
+        let [kid, nodes @ ..] = self.nodes else {
+            return None;
+        };
+        self.names = names;
+        self.nodes = nodes;
+        Some((name, kid))
     }
 }

@@ -224,7 +224,8 @@ impl Children {
             let kid = Node::chain(alloc, rest, parent, entry)?;
             return self.insert(alloc, name, kid);
         };
-        own(alloc, part, 0)?;
+        // The last name of a path is mostly a new one.
+        own(alloc, part, if rest.is_empty() { 1 } else { 0 })?;
         let Some(names) = Arc::get_mut(part) else {
             return Err(Memory);
         };

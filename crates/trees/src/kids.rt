@@ -49,19 +49,33 @@ impl<'a> Kids<'a> {
     }
 
     /// The next child.
+    #[inline(always)]
     pub(crate) fn next(&mut self) -> Option<(&'a Text, &'a Node)>
         ensures { MatchOption result ((self.old ≡ []) × (self.new ≡ [])) (λ kid. self.old ≡ (kid.0.now, kid.1.now) ∷ self.new) }
     {
         if let Some(kid) = self.begun.next() {
             return Some(kid);
         }
-        match self.parts {
-            [] => None,
-            [part, rest @ ..] => {
-                self.parts = rest;
-                self.begun = part.begin();
-                self.begun.next()
-            }
+        next_part(&mut self.begun, &mut self.parts)
+    }
+}
+
+/// Begins the next part, and gives its first child. It is a call, so that what goes through children has only what is done for each of them.
+#[inline(never)]
+fn next_part<'a>(begun: &mut Begun<'a>, parts: &mut &'a [Part]) -> Option<(&'a Text, &'a Node)>
+    requires ended { begun.old ≡ [] }
+    requires full { are_full (lists_of parts.old.now) ≡ true }
+    ensures full { are_full (lists_of parts.new.now) ≡ true }
+    ensures next { MatchOption result
+        ((flat (lists_of parts.old.now) ≡ []) × (begun.new ++ flat (lists_of parts.new.now) ≡ []))
+        (λ kid. flat (lists_of parts.old.now) ≡ (kid.0.now, kid.1.now) ∷ (begun.new ++ flat (lists_of parts.new.now))) }
+{
+    match *parts {
+        [] => None,
+        [part, rest @ ..] => {
+            *parts = rest;
+            *begun = part.begin();
+            begun.next()
         }
     }
 }

@@ -1,5 +1,5 @@
 // Names with their nodes, in the order of the names: what a part of a folder holds.
-ghost use Rattle.std.specs.Prelude.{◌≡◌, ◌≤◌, ◌<◌, true, IfOk, IfErr, OnOk, OnErr, [], ◌∷◌, length, get_or, option_copied};
+ghost use Rattle.std.specs.Prelude.{◌≡◌, ◌≤◌, ◌<◌, true, IfOk, IfErr, OnOk, OnErr, [], ◌∷◌, length, drop, get_or, option_copied};
 ghost use Rattle.std.specs.Option.{option_copied_mut};
 ghost use Rattle.std.specs.Borrow.{sem};
 ghost use Rattle.std.specs.List.{zip};
@@ -136,9 +136,26 @@ impl Names {
     pub(crate) fn begin_at(&self, front: &Text) -> Begun<'_>
         ensures { result ≡ from_name front.now self.now }
     {
+        let at = self.first_from(front);
+        match &self.lists {
+            Lists::One(rows) => Begun::one(&rows[at..]),
+            Lists::Two(names, nodes) => {
+                let (_, names) = names.as_slice().split_at(at);
+                let (_, nodes) = nodes.as_slice().split_at(at);
+                Begun::two(names, nodes)
+            }
+        }
+    }
+
+    /// Where those begin that don't come before a text.
+    fn first_from(&self, front: &Text) -> usize
+        ensures within { result ≤ length self.now }
+        ensures from { drop result self.now ≡ from_name front.now self.now }
+    {
+        let _ordered = &self.lists;
         match self.find(front) {
-            Ok(at) => self.begin().past(at),
-            Err(at) => self.begin().past(at),
+            Ok(at) => at,
+            Err(at) => at,
         }
     }
 
@@ -305,6 +322,7 @@ impl Names {
         ensures stands { IfOk result (λ at. StandsAt name.now self.now at) }
         ensures absent { IfErr result (λ at. GoesAt name.now self.now at) }
     {
+        let _ordered = &self.lists;
         let len = self.len();
         if len == 0 {
             return Err(0);

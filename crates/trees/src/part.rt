@@ -121,7 +121,7 @@ pub(crate) fn take_away(alloc: Global, part: &mut Part, name: &Text) -> Result<b
     ensures ok { IfOk result (λ none_left. IsTaken name.now (arc_value part.old) (arc_value part.new) none_left) }
     ensures err { OnErr result ((arc_value part.new) ≡ (arc_value part.old)) }
 {
-    own(alloc, part, 0)?;
+    own(alloc, part, 1)?;
     let Some(names) = Arc::get_mut(part) else {
         return Err(Memory);
     };
@@ -165,7 +165,7 @@ fn halve(alloc: Global, part: &mut Part, upper: &mut Part, new: &Text) -> Result
     if half >= part.len() {
         return Ok(false);
     }
-    own(alloc, part, 0)?;
+    own(alloc, part, 1)?;
     let Some(names) = Arc::get_mut(part) else {
         return Err(Memory);
     };

@@ -7,4 +7,4 @@ decreases-seeking l = l.high - l.low
 
 -- the names before are below the name, and those behind above
 abbrev pub invariant-seeking : goal.invariant-seeking
-invariant-seeking l = IsSought l.name l.rows l.low l.high
+invariant-seeking l = IsSought l.name l.self l.low l.high
