@@ -23,7 +23,7 @@ zip-at (m ∷ names) [] at name kid less is kid_is = absurd (omega arith)
 zip-at (m ∷ names) (w ∷ nodes) zero name kid less is kid_is = λ i. (is i, kid_is i)
 zip-at (m ∷ names) (w ∷ nodes) (suc at) name kid less is kid_is = zip-at names nodes at name kid (omega arith) is kid_is
 
-zip-none : (names : List (List ℕ)) → zip names ([] {X = NodeValue}) ≡ []
+zip-none : (names : List (List ℕ)) → zip {X = NodeValue} names [] ≡ []
 zip-none [] = refl
 zip-none (name ∷ names) = refl
 

@@ -306,6 +306,13 @@ copy-row done done' all at x key v so less is same_key same_kid more =
     ∙ append_assoc done (x ∷ []) (drop (at + 1) all)
     ∙ ap (λ (l : Rows). done ++ l) (sym (drop_more all at x less ∙ ap (λ (q : Row). q ∷ drop (at + 1) all) (sym is))) ∙ so
 
+-- one name more was copied
+pub copy-next : (done done' its rest all : Rows) (name key : List ℕ) (kid v : NodeValue) → done ++ its ≡ all → its ≡ (name, kid) ∷ rest → key ≡ name → v ≡ kid → done' ≡ done ++ (key, v) ∷ [] → done' ++ rest ≡ all
+copy-next done done' its rest all name key kid v so next same_key same_kid more =
+    ap (λ (l : Rows). l ++ rest) (more ∙ (λ i. done ++ (same_key i, same_kid i) ∷ []))
+    ∙ append_assoc done ((name, kid) ∷ []) rest
+    ∙ ap (λ (l : Rows). done ++ l) (sym next) ∙ so
+
 -- names that are lent rise as those that were
 pub same-rise : (old new : Rows) → new ≡ old → is_sorted name_cmp old ≡ true → is_sorted name_cmp new ≡ true
 same-rise old new same rise = ap (is_sorted name_cmp) same ∙ rise

@@ -43,7 +43,7 @@ impl<'a> Kids<'a> {
     /// The children that are left of a part, and then those of these parts.
     pub(crate) fn of_begun(begun: Begun<'a>, parts: &'a [Part]) -> Kids<'a>
         requires { are_full (lists_of parts.now) ≡ true }
-        ensures { result ≡ begun ++ flat (lists_of parts.now) }
+        ensures { result ≡ begun.entry ++ flat (lists_of parts.now) }
     {
         Kids { begun, parts }
     }

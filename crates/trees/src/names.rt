@@ -19,6 +19,7 @@ use plain::{Exact, Memory, Text};
 use std::alloc::Global;
 use std::cmp::Ordering;
 use std::marker::Model;
+use std::mem;
 use std::sync::Arc;
 
 /// Names that rise, each with its node.
@@ -124,7 +125,8 @@ impl Names {
 
     /// All of them, lent.
     pub(crate) fn begin(&self) -> Begun<'_>
-        ensures { result ≡ self.now }
+        ensures all { result ≡ self.now }
+        ensures rise { is_sorted name_cmp self.now ≡ true }
     {
         match &self.lists {
             Lists::One(rows) => Begun::one(rows.as_slice()),
@@ -152,7 +154,6 @@ impl Names {
         ensures within { result ≤ length self.now }
         ensures from { drop result self.now ≡ from_name front.now self.now }
     {
-        let _ordered = &self.lists;
         match self.find(front) {
             Ok(at) => at,
             Err(at) => at,
@@ -311,8 +312,8 @@ impl Names {
         ensures { IsSetAt at kid self.old self.new }
     {
         match &mut self.lists {
-            Lists::One(rows) => rows[at].1 = kid,
-            Lists::Two(_, nodes) => nodes[at] = kid,
+            Lists::One(rows) => drop(mem::replace(&mut rows[at].1, kid)),
+            Lists::Two(_, nodes) => drop(mem::replace(&mut nodes[at], kid)),
         }
     }
 
@@ -321,6 +322,7 @@ impl Names {
     fn find(&self, name: &Text) -> Result<usize, usize>
         ensures stands { IfOk result (λ at. StandsAt name.now self.now at) }
         ensures absent { IfErr result (λ at. GoesAt name.now self.now at) }
+        ensures rise { is_sorted name_cmp self.now ≡ true }
     {
         let _ordered = &self.lists;
         let len = self.len();
