@@ -178,7 +178,7 @@ impl Names {
         match self.find(name) {
             Ok(at) => match &mut self.lists {
                 Lists::One(rows) => Some(&mut rows[at].1),
-                Lists::Two(_, nodes) => Some(&mut nodes[at]),
+                Lists::Two(_names, nodes) => Some(&mut nodes[at]),
             },
             Err(_) => None,
         }
