@@ -137,7 +137,10 @@ impl Inner {
     }
 
     /// A node with the same paths, each entry of which has the mode and owner with which it is placed.
+    ///
+    /// It is a call: within `Node::placed` it would have each file clear the room on the stack that only a folder needs.
     #[cycle(placing)]
+    #[inline(never)]
     pub(crate) fn placed(&self, alloc: Global, options: &CopyOptions) -> Result<Inner, Memory>
         ensures { IfOk result (λ node. IsPlacedNode options.now self.now node) }
     {
