@@ -16,14 +16,22 @@ use Rattle.trees.proofs.children.Children.TheLaws.TheKnot as knot
 use Rattle.std.specs.contracts.alloc.Global as Heap
 use Rattle.trees.specs.contracts.walk.Walk as Walk
 use Rattle.trees.specs.contracts.walk.Walk.TheInside as WalkInside
+use Rattle.trees.specs.contracts.begun.Begun as Begun
+use Rattle.trees.specs.contracts.begun.Begun.TheInside as BegunInside
 use Rattle.trees.specs.contracts.kids.Kids as Kids
 use Rattle.trees.specs.contracts.kids.Kids.TheInside as KidsInside
 use Rattle.entries.specs.contracts.together.Share as Share
 
+begun_send : (κ : NamedLft) → IsSend (Begun.the_row κ)
+begun_send κ =
+    let all : AllSend (fields (BegunInside.the_type κ)) =
+    (search (knot.both_sync-Node, text.the_sync, sendable, any.crosses) depth 20, (search (text.the_sync, sendable, any.crosses) depth 20, (search (knot.both_sync-Node, sendable, any.crosses) depth 20, tt))) in
+    search (all, sendable) depth 20
+
 kids_send : (κ : NamedLft) → IsSend (Kids.the_row κ)
 kids_send κ =
     let all : AllSend (fields (KidsInside.the_type κ)) =
-    (search (knot.both_send-Node, knot.both_sync-Node, knot.both_send-Names, knot.both_sync-Names, entry.the_field_send, entry.the_field_sync, text.the_send, text.the_sync, sendable, any.crosses, maps.crosses) depth 20, (search (knot.both_send-Node, knot.both_sync-Node, knot.both_send-Names, knot.both_sync-Names, entry.the_field_send, entry.the_field_sync, text.the_send, text.the_sync, sendable, any.crosses, maps.crosses) depth 20, tt)) in
+    (search (begun_send, sendable) depth 20, (search (knot.both_send-Node, knot.both_sync-Node, knot.both_send-Names, knot.both_sync-Names, entry.the_field_send, entry.the_field_sync, text.the_send, text.the_sync, sendable, any.crosses, maps.crosses) depth 20, tt)) in
     search (all, sendable) depth 20
 
 walk_send : (κ : NamedLft) → IsSend (Walk.the_row κ)
