@@ -16,7 +16,7 @@ ghost use Rattle.bundle.specs.Parts.{or_none, dockerfile_in, files_in, is_image_
 
 use crate::digest::read_digest;
 use borrowed::{FromLent, at, is_strict, one_at, optional_at, read_rows};
-use entries::{Listing, read_content};
+use entries::{ListedTree, Listing, read_content};
 use json::Value;
 use named::NamedRows;
 use plain::{Bytes, Exact, Fault, Items, Memory, Text};
@@ -61,7 +61,7 @@ pub struct ListedImage<C> {
     pub config: C,
     /// The digest that pins its name, if one is given.
     pub digest: Option<Text>,
-    pub tree: Listing,
+    pub tree: ListedTree,
 }
 
 /// The images of a bundle.
@@ -84,7 +84,7 @@ impl<C: FromLent> FromLent for ListedImage<C> {
         }
         let config: C = one_at(alloc, value, "config")?;
         let digest = digest_of(alloc, at(value, "digest"))?;
-        let tree: Listing = one_at(alloc, value, "tree")?;
+        let tree: ListedTree = one_at(alloc, value, "tree")?;
         Ok(ListedImage {
             config,
             digest,
@@ -183,7 +183,7 @@ fn images_of<C: Drop>(
             digest: _,
             tree,
         } = image;
-        let tree = tree.into_tree(alloc)?;
+        let tree = tree.into_tree();
         let _none = images.insert(name, Image { config, tree })?;
     }
     Ok(images)
@@ -291,13 +291,13 @@ fn read_args(alloc: Global, value: &Value<'_>) -> Result<Args, ReadFault>
 /// The trees of lists of entries, under the ids that these have.
 pub(crate) fn caches_of(
     alloc: Global,
-    rows: Items<(Text, Listing)>,
+    rows: Items<(Text, ListedTree)>,
 ) -> Result<Items<(Text, Tree)>, Memory>
     ensures { IfOk result (λ caches. caches ≡ map cache_row rows) }
 {
     let mut caches = Items::new(alloc);
-    for (id, listing) in rows.into_vec() {
-        caches.push((id, listing.into_tree(alloc)?))?;
+    for (id, listed) in rows.into_vec() {
+        caches.push((id, listed.into_tree()))?;
     }
     Ok(caches)
 }
@@ -307,7 +307,7 @@ pub(crate) fn caches_of(
 fn read_caches(alloc: Global, value: &Value<'_>) -> Result<Items<(Text, Tree)>, ReadFault>
     ensures { Gives result (caches_in (data_of value.now)) }
 {
-    let rows: Items<(Text, Listing)> = read_rows(alloc, value)?;
+    let rows: Items<(Text, ListedTree)> = read_rows(alloc, value)?;
     Ok(caches_of(alloc, rows)?)
 }
 

@@ -19,7 +19,7 @@ use borrowed::{
     FromLent, MAX_DEPTH, inner_depth, next_key, one_of, open_object, optional_of, owned_rows,
     pull_value,
 };
-use entries::Listing;
+use entries::{ListedTree, Listing};
 use json::{Reader, Scratch, Value};
 use plain::{Fault, Items, Memory, Text};
 use std::alloc::Global;
@@ -32,7 +32,7 @@ use trees::Tree;
 struct FoundImage<'a> {
     config: Option<Value<'a>>,
     digest: Option<Value<'a>>,
-    tree: Option<Listing>,
+    tree: Option<ListedTree>,
 }
 
 /// It ends by a call, so that no proof goes by what each value is at each place where they are let go.
@@ -65,6 +65,7 @@ impl<'a> FoundImage<'a> {
         rt: &(impl Threads + Sync),
         reader: &mut Reader<'a>,
         depth: usize,
+        in_order: bool,
         key: &str,
     ) -> Result<(), ReadFault>
         ensures { OnOk result ((d : Data) × IsNext depth reader.old reader.new d × ((members : Members) → FindsImage self.old members → FindsImage self.new (put key.now d members))) }
@@ -79,7 +80,7 @@ impl<'a> FoundImage<'a> {
                 drop(self.digest.replace(digest));
             }
             "tree" => {
-                let tree = Listing::pull(alloc, rt, reader, depth)?;
+                let tree = ListedTree::pull(alloc, rt, reader, depth, in_order)?;
                 drop(self.tree.replace(tree));
             }
             _ => return Err(Fault::Because(NotRead)),
@@ -94,6 +95,7 @@ fn pull_image<'a>(
     rt: &(impl Threads + Sync),
     reader: &mut Reader<'a>,
     depth: usize,
+    in_order: bool,
 ) -> Result<FoundImage<'a>, ReadFault>
     ensures { IfOk result (λ found. (members : Members) × IsNext depth reader.old reader.new (object members) × FindsImage found members) }
 {
@@ -101,7 +103,7 @@ fn pull_image<'a>(
     open_object(reader)?;
     let mut found = FoundImage::none();
     while let Some(key) = next_key(reader)? {
-        found.pull(alloc, rt, reader, inner, key)?;
+        found.pull(alloc, rt, reader, inner, in_order, key)?;
     }
     Ok(found)
 }
@@ -135,10 +137,11 @@ fn pull_listed_image<C: FromLent>(
     rt: &(impl Threads + Sync),
     reader: &mut Reader<'_>,
     depth: usize,
+    in_order: bool,
 ) -> Result<ListedImage<C>, ReadFault>
     ensures { IfOk result (λ image. Pulls depth (image_in C.reading) reader.old reader.new image) }
 {
-    let mut found = pull_image(alloc, rt, reader, depth)?;
+    let mut found = pull_image(alloc, rt, reader, depth, in_order)?;
     let image = image_of(alloc, &mut found);
     drop(found);
     image
@@ -150,6 +153,7 @@ fn pull_images<C: FromLent>(
     rt: &(impl Threads + Sync),
     reader: &mut Reader<'_>,
     depth: usize,
+    in_order: bool,
 ) -> Result<Items<(Text, ListedImage<C>)>, ReadFault>
     ensures { IfOk result (λ images. Pulls depth (rows_in (image_in C.reading)) reader.old reader.new images) }
 {
@@ -157,7 +161,7 @@ fn pull_images<C: FromLent>(
     open_object(reader)?;
     let mut images: BTreeMap<&str, ListedImage<C>> = BTreeMap::new(alloc);
     while let Some(name) = next_key(reader)? {
-        let image = pull_listed_image(alloc, rt, reader, inner)?;
+        let image = pull_listed_image(alloc, rt, reader, inner, in_order)?;
         drop(images.insert(name, image)?);
     }
     Ok(owned_rows(alloc, images)?)
@@ -169,14 +173,15 @@ fn pull_caches(
     rt: &(impl Threads + Sync),
     reader: &mut Reader<'_>,
     depth: usize,
-) -> Result<Items<(Text, Listing)>, ReadFault>
+    in_order: bool,
+) -> Result<Items<(Text, ListedTree)>, ReadFault>
     ensures { IfOk result (λ caches. Pulls depth (rows_in listing_in) reader.old reader.new caches) }
 {
     let inner = inner_depth(depth)?;
     open_object(reader)?;
-    let mut caches: BTreeMap<&str, Listing> = BTreeMap::new(alloc);
+    let mut caches: BTreeMap<&str, ListedTree> = BTreeMap::new(alloc);
     while let Some(id) = next_key(reader)? {
-        let content = Listing::pull(alloc, rt, reader, inner)?;
+        let content = ListedTree::pull(alloc, rt, reader, inner, in_order)?;
         drop(caches.insert(id, content)?);
     }
     Ok(owned_rows(alloc, caches)?)
@@ -185,7 +190,7 @@ fn pull_caches(
 /// What was found at each key that a bundle may have; of a key that stands twice the last value counts.
 struct Found<'a, C: Drop> {
     args: Option<Value<'a>>,
-    caches: Option<Items<(Text, Listing)>>,
+    caches: Option<Items<(Text, ListedTree)>>,
     context: Option<Listing>,
     dockerfile: Option<Value<'a>>,
     images: Option<Items<(Text, ListedImage<C>)>>,
@@ -228,6 +233,7 @@ impl<'a, C: FromLent> Found<'a, C> {
         rt: &(impl Threads + Sync),
         reader: &mut Reader<'a>,
         depth: usize,
+        in_order: bool,
         key: &str,
     ) -> Result<(), ReadFault>
         ensures { OnOk result ((d : Data) × IsNext depth reader.old reader.new d × ((members : Members) → Finds C.reading self.old members → Finds C.reading self.new (put key.now d members))) }
@@ -238,7 +244,7 @@ impl<'a, C: FromLent> Found<'a, C> {
                 drop(self.args.replace(args));
             }
             "caches" => {
-                let caches = pull_caches(alloc, rt, reader, depth)?;
+                let caches = pull_caches(alloc, rt, reader, depth, in_order)?;
                 drop(self.caches.replace(caches));
             }
             "context" => {
@@ -250,7 +256,7 @@ impl<'a, C: FromLent> Found<'a, C> {
                 drop(self.dockerfile.replace(dockerfile));
             }
             "images" => {
-                let images = pull_images(alloc, rt, reader, depth)?;
+                let images = pull_images(alloc, rt, reader, depth, in_order)?;
                 drop(self.images.replace(images));
             }
             "target" => {
@@ -269,6 +275,7 @@ fn pull_bundle<'a, C: FromLent>(
     rt: &(impl Threads + Sync),
     reader: &mut Reader<'a>,
     depth: usize,
+    in_order: bool,
 ) -> Result<Found<'a, C>, ReadFault>
     ensures { IfOk result (λ found. (members : Members) × IsNext depth reader.old reader.new (object members) × Finds C.reading found members) }
 {
@@ -276,7 +283,7 @@ fn pull_bundle<'a, C: FromLent>(
     open_object(reader)?;
     let mut found = Found::none();
     while let Some(key) = next_key(reader)? {
-        found.pull(alloc, rt, reader, inner, key)?;
+        found.pull(alloc, rt, reader, inner, in_order, key)?;
     }
     Ok(found)
 }
@@ -316,7 +323,7 @@ fn images_or_none<C: Drop>(
 /// The first contents of caches, of what stands at their key.
 fn caches_or_none(
     alloc: Global,
-    rows: Option<Items<(Text, Listing)>>,
+    rows: Option<Items<(Text, ListedTree)>>,
 ) -> Result<Items<(Text, Tree)>, Memory>
     ensures { IfOk result (λ trees. (caches : Option Data) → at_most_one (rows_in listing_in) caches ≡ Some rows → or_none [] caches_in caches ≡ Some trees) }
 {
@@ -331,7 +338,7 @@ fn named_of<C: Drop>(
     alloc: Global,
     images: Option<Items<(Text, ListedImage<C>)>>,
     args: Option<&Value<'_>>,
-    caches: Option<Items<(Text, Listing)>>,
+    caches: Option<Items<(Text, ListedTree)>>,
 ) -> Result<Named<C>, ReadFault>
     ensures { IfOk result (λ named. (config : Data → Option C) (i c : Option Data) → at_most_one (rows_in (image_in config)) i ≡ Some images → at_most_one (rows_in listing_in) c ≡ Some caches
         → named_at config i (lent_data args.entry) c ≡ Some named) }
@@ -384,20 +391,23 @@ fn pull_parts<C: FromLent>(
     rt: &(impl Threads + Sync),
     reader: &mut Reader<'_>,
     depth: usize,
+    in_order: bool,
 ) -> Result<Parts<C>, ReadFault>
     ensures { IfOk result (λ parts. Pulls depth (parts_in C.reading) reader.old reader.new parts) }
 {
-    let mut found: Found<'_, C> = pull_bundle(alloc, rt, reader, depth)?;
+    let mut found: Found<'_, C> = pull_bundle(alloc, rt, reader, depth, in_order)?;
     let parts = parts_of_found(alloc, &mut found);
     drop(found);
     parts
 }
 
-/// The parts of a bundle's text, read token by token. After `NotRead` it may still be a bundle's.
+/// The parts of a bundle's text, read token by token. After `NotRead` it may still be a bundle's. If `in_order`, it is `NotRead` also where
+/// the rows of an image or a cache don't come in the order of a walk.
 pub(crate) fn pull_text<C: FromLent>(
     alloc: Global,
     rt: &(impl Threads + Sync),
     text: &str,
+    in_order: bool,
 ) -> Result<Parts<C>, ReadFault>
     ensures { IfOk result (λ parts. option_and_then (parts_in C.reading) (read text.now) ≡ Some parts) }
 {
@@ -405,7 +415,7 @@ pub(crate) fn pull_text<C: FromLent>(
     let Ok(mut reader) = Reader::new(text, &mut scratch) else {
         return Err(Fault::Memory);
     };
-    let parts = pull_parts(alloc, rt, &mut reader, MAX_DEPTH)?;
+    let parts = pull_parts(alloc, rt, &mut reader, MAX_DEPTH, in_order)?;
     if reader.next().is_none() {
         return Ok(parts);
     }

@@ -203,7 +203,8 @@ fn ignore_in(alloc: Global, context: &Listing) -> Result<IgnoreFile, Fault<Refus
     }
 }
 
-/// The parts of a bundle's text. Most bundles are read token by token; what can't be told so is read as a value.
+/// The parts of a bundle's text. In most bundles the rows of each image and cache come in the order of a walk, so it is first read as if they
+/// did.
 fn parts_in_text<C: FromLent>(
     alloc: Global,
     rt: &(impl Threads + Sync),
@@ -211,7 +212,23 @@ fn parts_in_text<C: FromLent>(
 ) -> Result<Parts<C>, ReadFault>
     ensures { Gives result (option_and_then (parts_in C.reading) (read text.now)) }
 {
-    match pull_text(alloc, rt, text) {
+    match pull_text(alloc, rt, text, true) {
+        Ok(parts) => Ok(parts),
+        Err(Fault::Memory) => Err(Fault::Memory),
+        Err(Fault::Because(_)) => parts_in_any_order(alloc, rt, text),
+    }
+}
+
+/// The parts of a bundle's text, in which rows may come in any order. Most bundles are read token by token; what can't be told so is read as
+/// a value.
+fn parts_in_any_order<C: FromLent>(
+    alloc: Global,
+    rt: &(impl Threads + Sync),
+    text: &str,
+) -> Result<Parts<C>, ReadFault>
+    ensures { Gives result (option_and_then (parts_in C.reading) (read text.now)) }
+{
+    match pull_text(alloc, rt, text, false) {
         Ok(parts) => Ok(parts),
         Err(Fault::Memory) => Err(Fault::Memory),
         Err(Fault::Because(_)) => parts_in_value(alloc, text),

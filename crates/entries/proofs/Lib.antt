@@ -10,5 +10,6 @@ mod HeldFacts
 mod PieceFacts
 mod KeyFacts
 mod MadeFacts
+mod GrowingFacts
 mod SlabFacts
 mod Crosses

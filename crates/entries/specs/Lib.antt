@@ -7,6 +7,7 @@ pub mod Listing
 pub mod PrivateOrder
 pub mod PrivateFingerprint
 pub mod PrivateFront
+pub mod PrivateRuns
 pub mod PrivateSought
 pub mod Whole
 pub mod Written

@@ -67,9 +67,12 @@ impl Listing {
     ) -> Result<Listing, ReadFault>
         ensures { IfOk result (λ listing. Pulls depth listing_in reader.old reader.new listing) }
     {
-        let rows = pull_rows(alloc, rt, reader, depth)?;
+        let mut rows: Vec<(Path, Entry)> = Vec::new(alloc);
+        pull_rows(alloc, rt, reader, depth, &mut rows)?;
         if is_listing(alloc, rows.as_slice())? {
-            Ok(Listing { rows })
+            Ok(Listing {
+                rows: Items::from_vec(rows),
+            })
         } else {
             Err(Fault::Because(NotRead))
         }

@@ -9,6 +9,7 @@ ghost use Rattle.entries.specs.PrivateKeys.{AddsRows, AreRowsOf};
 ghost use Rattle.entries.specs.PrivateSlab.{AreIn};
 
 use crate::spelled::Spelled;
+use crate::taking::TakesRows;
 use paths::Path;
 use plain::{Bytes, Memory};
 use rayon::prelude::*;
@@ -23,20 +24,21 @@ const SLAB: usize = 64;
 /// How many entries are made by one thread at a time, at most. So few of them aren't worth a thread.
 const RUN: usize = 512;
 
-/// Adds what each of these is as an entry, in order. Several threads make them, where they are many.
-pub(crate) fn add_rows(
+/// Makes a row of each of these, and hands the rows on, in order. Several threads make them if they are many.
+pub(crate) fn add_rows<S: TakesRows>(
     alloc: Global,
     rt: &(impl Threads + Sync),
     spelled: &[Spelled<'_>],
-    rows: &mut Vec<(Path, Entry)>,
+    rows: &mut S,
 ) -> Result<(), ReadFault>
-    ensures { OnOk result ((made : List Row) × (rows.new.items ≡ rows.old.items ++ made) × AreRowsOf spelled.now made) }
+    ensures { OnOk result (AddsRows spelled.now (S.rows rows.old) (S.rows rows.new)) }
 {
     if spelled.len() <= RUN {
-        return add_in_turn(alloc, spelled, rows);
+        let made = rows_of(alloc, spelled)?;
+        return rows.take(alloc, made);
     }
     let runs = runs_of(alloc, rt, spelled)?;
-    add_runs(runs, rows)
+    add_runs(alloc, runs, rows)
 }
 
 /// Adds what each of these is as an entry, one after another.
@@ -121,19 +123,17 @@ fn runs_of(
     Ok(runs)
 }
 
-/// Adds the entries of all runs, in order.
-fn add_runs(
+/// Hands on the rows of all runs, in order.
+fn add_runs<S: TakesRows>(
+    alloc: Global,
     runs: Vec<Result<Vec<(Path, Entry)>, ReadFault>>,
-    rows: &mut Vec<(Path, Entry)>,
+    rows: &mut S,
 ) -> Result<(), ReadFault>
-    ensures { OnOk result ((made : List (Vec Row Global)) × AllZip (λ run rows. run ≡ Ok rows) runs.items made × (rows.new.items ≡ rows.old.items ++ flat_map (λ rows. rows.items) made)) }
+    ensures { OnOk result ((made : List (Vec Row Global)) × AllZip (λ run rows. run ≡ Ok rows) runs.items made × (S.rows rows.new ≡ S.rows rows.old ++ flat_map (λ rows. rows.items) made)) }
 {
     for run in runs {
         match run {
-            Ok(made) => {
-                let mut made = made;
-                rows.append(&mut made)?;
-            }
+            Ok(made) => rows.take(alloc, made)?,
             Err(fault) => return Err(fault),
         }
     }

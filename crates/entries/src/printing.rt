@@ -7,7 +7,7 @@ ghost use Rattle.paths.specs.Path.{text_of, rooted};
 ghost use Rattle.counted.specs.Gathering.{sink, Says, HasRoom};
 ghost use Rattle.serde_json.specs.Written.{comma_if, compact_text};
 ghost use Rattle.trees.specs.declared.entry.Entry.TheVariants.{Directory, File};
-ghost use Rattle.trees.specs.Rows.{lent_names};
+ghost use Rattle.trees.specs.Rows.{entry_of, lent_names};
 ghost use Rattle.entries.specs.Written.{mode_text, entry_data};
 ghost use Rattle.entries.specs.PrivatePrinting.{is_plain, end_text, entry_text, text_behind, rows_text, rest_text};
 ghost use Rattle.entries.specs.PrivateFront.{HoldsNames};
@@ -16,7 +16,7 @@ use crate::front::PathFront;
 use crate::pieces::{Digits, DirectoryStart, FileStart, UserEnd};
 use counted::{CountedWrite, Gathered, gather, gather_piece};
 use plain::Text;
-use trees::{Entry, Meta, Walk};
+use trees::{LentEntry, Meta, Walk};
 
 /// How many bytes are turned into hexadecimal at once: their digits are the most that a piece has.
 const PIECE: usize = 4096;
@@ -74,7 +74,7 @@ pub(crate) fn put_rows<W: CountedWrite>(
             return false;
         };
         front.go_to(walk.names());
-        put_row(output, gathered, later, &front, walk.names(), entry);
+        put_row(output, gathered, later, &front, walk.names(), &entry);
         later = true;
     }
     true
@@ -88,19 +88,19 @@ fn put_row<W: CountedWrite>(
     later: bool,
     front: &PathFront,
     names: &[&Text],
-    entry: &Entry,
+    entry: &LentEntry<'_>,
 )
     requires held { HoldsNames (lent_names names.now) front.now.names front.now }
     requires room { HasRoom (W.failures output.old) gathered.old }
     ensures says { Says
         (sink (W.contents output.old) (W.failures output.old) gathered.old)
         (sink (W.contents output.new) (W.failures output.new) gathered.new)
-        (comma_if later ++ entry_text (lent_names names.now) entry.now) }
+        (comma_if later ++ entry_text (lent_names names.now) (entry_of entry.now)) }
     ensures room { HasRoom (W.failures output.new) gathered.new }
 {
     match entry {
-        Entry::Directory(meta) => put_directory(output, gathered, later, front, names, *meta),
-        Entry::File(meta, content) => {
+        LentEntry::Directory(meta) => put_directory(output, gathered, later, front, names, *meta),
+        LentEntry::File(meta, content) => {
             put_file(
                 output,
                 gathered,

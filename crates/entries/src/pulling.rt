@@ -1,10 +1,10 @@
 // Entries that are read token by token: of a list of a million entries no value of JSON stands in memory.
 //
 // One thread reads the tokens, and keeps of each entry what its text says, lent. The rows of a batch of such entries are made by several other
-// threads while it reads the next.
+// threads, and taken by whoever wants them, while it reads the next.
 
-ghost use Rattle.std.specs.Prelude.{◌≡◌, ℕ, IfOk, OnOk};
-ghost use denote.Param.Send.{IsSync};
+ghost use Rattle.std.specs.Prelude.{◌≡◌, ℕ, [], IfOk, OnOk};
+ghost use denote.Param.Send.{IsSend, IsSync};
 ghost use Rattle.serde_json.specs.Data.{Data, Members, object, put};
 ghost use Rattle.borrowed.specs.Pulled.{IsNext, Pulls};
 ghost use Rattle.entries.specs.Reading.{row_in, rows_of};
@@ -12,15 +12,14 @@ ghost use Rattle.entries.specs.PrivateKeys.{AddsRows, ReadsBatch, Spells};
 
 use crate::making::add_rows;
 use crate::spelled::Spelled;
+use crate::taking::TakesRows;
 use borrowed::{inner_depth, next_flag, next_key, next_number, next_text, open_list, open_object};
 use json::Reader;
-use paths::Path;
-use plain::{Fault, Items};
+use plain::Fault;
 use std::alloc::Global;
 use std::thread::Threads;
 use std::{mem, thread};
 use strict::{NotRead, ReadFault};
-use trees::Entry;
 
 /// Reads what comes next as what stands at a key of an entry. Keys are compared one after another, so those come first that most entries have.
 fn pull_key<'a>(
@@ -78,26 +77,26 @@ fn read_batch<'a>(
     Ok(false)
 }
 
-/// Makes the rows of the entries that wait, while the next batch is read. It tells whether the list goes on behind that.
+/// Makes the rows of the entries that wait, and hands them on, while the next batch is read. It answers whether the list goes on after that.
 ///
 /// The reader stays in this thread. It is the rows that another makes.
-fn make_and_read<'a, R: Threads + Sync>(
+fn make_and_read<'a, R: Threads + Sync, S: TakesRows + Send>(
     alloc: Global,
     rt: &R,
     waiting: &[Spelled<'_>],
-    rows: &mut Vec<(Path, Entry)>,
+    rows: &mut S,
     reader: &mut Reader<'a>,
     inner: usize,
     read: &mut Vec<Spelled<'a>>,
 ) -> Result<bool, ReadFault>
-    ensures made { OnOk result (AddsRows waiting.now rows.old.items rows.new.items) }
+    ensures made { OnOk result (AddsRows waiting.now (S.rows rows.old) (S.rows rows.new)) }
     ensures read { IfOk result (λ more. ReadsBatch inner reader.old reader.new read.new.items more) }
 {
     let (made, more) = thread::join_mut(
         rt,
         &mut || -> Result<(), ReadFault>
-            requires { IsSync R.row }
-            ensures { OnOk result (AddsRows waiting.entry.now rows.entry.now.items rows.exit.now.items) }
+            requires { IsSync R.row × IsSend S.row }
+            ensures { OnOk result (AddsRows waiting.entry.now (S.rows rows.entry.now) (S.rows rows.exit.now)) }
         { add_rows(alloc, rt, waiting, rows) },
         &mut || read_batch(reader, inner, read),
     );
@@ -107,26 +106,26 @@ fn make_and_read<'a, R: Threads + Sync>(
     }
 }
 
-/// The list of entries that comes next.
-pub(crate) fn pull_rows<'a>(
+/// Reads the list that comes next and hands its rows on, in order. None may have been handed on before.
+pub(crate) fn pull_rows<'a, S: TakesRows + Send>(
     alloc: Global,
     rt: &(impl Threads + Sync),
     reader: &mut Reader<'a>,
     depth: usize,
-) -> Result<Items<(Path, Entry)>, ReadFault>
-    ensures { IfOk result (λ rows. Pulls depth rows_of reader.old reader.new rows) }
+    rows: &mut S,
+) -> Result<(), ReadFault>
+    requires { S.rows rows.old ≡ [] }
+    ensures { OnOk result (Pulls depth rows_of reader.old reader.new (S.rows rows.new)) }
 {
     let inner = inner_depth(depth)?;
     open_list(reader)?;
-    let mut rows: Vec<(Path, Entry)> = Vec::new(alloc);
     let mut waiting: Vec<Spelled<'a>> = Vec::new(alloc);
     let mut read: Vec<Spelled<'a>> = Vec::new(alloc);
     let mut more = read_batch(reader, inner, &mut waiting)?;
     'making: while more {
         let now = waiting.as_slice();
-        more = make_and_read(alloc, rt, now, &mut rows, reader, inner, &mut read)?;
+        more = make_and_read(alloc, rt, now, rows, reader, inner, &mut read)?;
         mem::swap(&mut waiting, &mut read);
     }
-    add_rows(alloc, rt, waiting.as_slice(), &mut rows)?;
-    Ok(Items::from_vec(rows))
+    add_rows(alloc, rt, waiting.as_slice(), rows)
 }

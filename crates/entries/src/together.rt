@@ -363,9 +363,9 @@ fn skip_rows(walk: &mut Walk<'_>, most: usize) -> bool
     ensures ended { result ≡ false → walk.new.left ≡ [] }
 {
     for done in 0..most {
-        let Some(_) = walk.next() else {
+        if !walk.pass() {
             return false;
-        };
+        }
     }
     true
 }

@@ -1,19 +1,20 @@
-ghost use Rattle.std.specs.Prelude.{◌≡◌, ◌<◌, ◌+◌, ◌++◌, IfOk, OnOk, map, false};
+ghost use Rattle.std.specs.Prelude.{◌≡◌, ◌<◌, ◌+◌, ◌++◌, IfOk, OnOk, false};
 ghost use Rattle.std.specs.String.{string_bytes};
 ghost use Rattle.serde_json.specs.View.{view};
 ghost use Rattle.serde_json.specs.Written.{has_float};
 ghost use Rattle.trees.specs.declared.entry.Entry.TheVariants.{Directory, File};
+ghost use Rattle.trees.specs.Rows.{entry_of, lent_rows};
 ghost use Rattle.entries.specs.Written.{mode_text, directory_data, file_data, entry_data, tree_data};
 
 use paths::Path;
 use plain::{Memory, Mode};
 use serde_json::{Value, json};
 use std::alloc::{AllocError, Global};
-use trees::{Entry, Meta};
+use trees::{LentEntry, Meta};
 
 /// The entries of a tree as JSON, in the order that they are given in. No number in it is a float.
-pub fn tree_to_json(alloc: Global, entries: &[(Path, &Entry)]) -> Result<Value, Memory>
-    ensures data { IfOk result (λ v. view v ≡ tree_data (map (λ row. (row.0, row.1.now)) entries.now)) }
+pub fn tree_to_json(alloc: Global, entries: &[(Path, LentEntry<'_>)]) -> Result<Value, Memory>
+    ensures data { IfOk result (λ v. view v ≡ tree_data (lent_rows entries.now)) }
     ensures plain { IfOk result (λ v. has_float (view v) ≡ false) }
 {
     let tree = entries_value(alloc, entries)?;
@@ -21,24 +22,24 @@ pub fn tree_to_json(alloc: Global, entries: &[(Path, &Entry)]) -> Result<Value, 
 }
 
 /// The list of some entries.
-fn entries_value(alloc: Global, entries: &[(Path, &Entry)]) -> Result<Value, Memory>
-    ensures { IfOk result (λ v. view v ≡ tree_data (map (λ row. (row.0, row.1.now)) entries.now)) }
+fn entries_value(alloc: Global, entries: &[(Path, LentEntry<'_>)]) -> Result<Value, Memory>
+    ensures { IfOk result (λ v. view v ≡ tree_data (lent_rows entries.now)) }
 {
     let mut values = Vec::with_capacity(alloc, entries.len())?;
     for row in entries {
-        values.push(entry_value(alloc, &row.0, row.1)?)?;
+        values.push(entry_value(alloc, &row.0, &row.1)?)?;
     }
     Ok(Value::Array(values))
 }
 
 /// An entry with its path.
 #[tactic(auto, unfolding(crate::specs::Written::entry_data))]
-fn entry_value(alloc: Global, path: &Path, entry: &Entry) -> Result<Value, Memory>
-    ensures { IfOk result (λ v. view v ≡ entry_data path.now entry.now) }
+fn entry_value(alloc: Global, path: &Path, entry: &LentEntry<'_>) -> Result<Value, Memory>
+    ensures { IfOk result (λ v. view v ≡ entry_data path.now (entry_of entry.now)) }
 {
     match entry {
-        Entry::Directory(meta) => directory_value(alloc, path, *meta),
-        Entry::File(meta, content) => file_value(alloc, path, *meta, content.as_slice()),
+        LentEntry::Directory(meta) => directory_value(alloc, path, *meta),
+        LentEntry::File(meta, content) => file_value(alloc, path, *meta, content.as_slice()),
     }
 }
 

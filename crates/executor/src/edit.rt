@@ -7,7 +7,7 @@ ghost use Rattle.executor.specs.Edits.{kept_meta, bytes_of, bytes_or_none, writt
 use paths::Path;
 use plain::{Bytes, Memory};
 use std::alloc::Global;
-use trees::{Content, Entry, Meta, Tree, TreeFault};
+use trees::{Content, Entry, LentEntry, Meta, Tree, TreeFault};
 
 /// What a command makes of the path that it names.
 #[derive(Drop)]
@@ -56,7 +56,7 @@ fn bumped(alloc: Global, tree: &Tree, path: &Path) -> Result<Bytes, Memory>
     ensures { IfOk result (λ bytes. bytes ≡ bytes_or_none (bytes_of (get tree.now path.now)) ++ 43 ∷ []) }
 {
     let mut bytes = Vec::new(alloc);
-    if let Some(Entry::File(_, content)) = tree.get(path) {
+    if let Some(LentEntry::File(_, content)) = tree.get(path) {
         bytes.extend_from_slice(content.as_slice())?;
     }
     bytes.push(b'+')?;
@@ -77,7 +77,7 @@ fn kept_meta(tree: &Tree, path: &Path) -> Meta
     ensures { result ≡ kept_meta (get tree.now path.now) }
 {
     match tree.get(path) {
-        Some(Entry::File(meta, _)) => *meta,
+        Some(LentEntry::File(meta, _)) => meta,
         _ => Meta::file(),
     }
 }

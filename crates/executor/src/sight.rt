@@ -15,7 +15,7 @@ use plain::{Bytes, Exact, Fault, Memory};
 use runs::RunBind;
 use std::alloc::Global;
 use std::marker::Model;
-use trees::{Entry, Tree};
+use trees::{LentEntry, Tree};
 
 /// What the commands of a run see, but for what caches hold.
 #[derive(Drop)]
@@ -218,7 +218,7 @@ fn read_file(alloc: Global, tree: &Tree, path: &Path) -> Result<Bytes, Stop>
     ensures { Gives (bytes_or_refused (bytes_of (get tree.now path.now))) result }
 {
     match tree.get(path) {
-        Some(Entry::File(_, content)) => Ok(Bytes::from_slice(alloc, content.as_slice())?),
+        Some(LentEntry::File(_, content)) => Ok(Bytes::from_slice(alloc, content.as_slice())?),
         _ => Err(Fault::Because(REFUSED)),
     }
 }

@@ -1,9 +1,10 @@
 ghost use Rattle.std.specs.Prelude.{◌≡◌, ◌≤◌, ◌+◌, ◌-◌, ◌^◌, IfOk};
+ghost use Rattle.trees.specs.Rows.{entry_of};
 ghost use Rattle.memo.specs.Content.{capped, entry_bytes, tree_bytes, trees_bytes};
 
 use plain::Memory;
 use std::alloc::Global;
-use trees::{Entry, Tree};
+use trees::{LentEntry, Tree};
 
 /// So many bytes and those of all files of each of some trees; `usize::MAX` if they are more.
 pub(crate) fn count_trees(alloc: Global, trees: &[Tree], bytes: usize) -> Result<usize, Memory>
@@ -31,12 +32,12 @@ fn count_tree(alloc: Global, tree: &Tree, bytes: usize) -> Result<usize, Memory>
 }
 
 /// The bytes of an entry of a tree.
-fn entry_bytes(entry: &Entry) -> usize
-    ensures { result ≡ entry_bytes entry.now }
+fn entry_bytes(entry: LentEntry<'_>) -> usize
+    ensures { result ≡ entry_bytes (entry_of entry.entry) }
 {
     match entry {
-        Entry::Directory(_) => 0,
-        Entry::File(_, content) => content.as_slice().len(),
+        LentEntry::Directory(_) => 0,
+        LentEntry::File(_, content) => content.as_slice().len(),
     }
 }
 

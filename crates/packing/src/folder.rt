@@ -20,7 +20,7 @@ use plain::{Bytes, Items, Memory, Text};
 use serde_json::{Map, Value};
 use std::alloc::Global;
 use std::marker::Model;
-use trees::{Content, Entry, Meta, Tree, TreeFault};
+use trees::{Content, Entry, LentEntry, Meta, Tree, TreeFault};
 
 /// The name of the file that a bundle's Dockerfile is.
 pub(crate) const DOCKERFILE: &str = "Dockerfile";
@@ -128,11 +128,11 @@ impl Folder {
     {
         let path = dockerfile_path(alloc)?;
         match self.tree.get(&path) {
-            Some(Entry::File(_, content)) => {
+            Some(LentEntry::File(_, content)) => {
                 let members = tree_members(alloc, &self.tree, content.as_slice(), options)?;
                 Ok(Some(members))
             }
-            Some(Entry::Directory(_)) => Ok(None),
+            Some(LentEntry::Directory(_)) => Ok(None),
             None => Ok(None),
         }
     }

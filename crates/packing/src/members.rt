@@ -1,8 +1,9 @@
 // The members of a bundle as JSON.
-ghost use Rattle.std.specs.Prelude.{◌≡◌, [], ◌∷◌, codes, map, IfOk, OnOk, option_map};
+ghost use Rattle.std.specs.Prelude.{◌≡◌, [], ◌∷◌, codes, IfOk, OnOk, option_map};
 ghost use Rattle.hex.specs.Hex.{encode_lower};
 ghost use Rattle.serde_json.specs.Data.{string, object, no_members, member};
 ghost use Rattle.serde_json.specs.View.{view, members_view};
+ghost use Rattle.trees.specs.Rows.{lent_rows};
 ghost use Rattle.packing.specs.Packed.{files_members, members_beside, put_args, put_images, put_target, put_texts, put_values};
 ghost use Rattle.packing.specs.Asked.{asked_of};
 ghost use Rattle.packing.specs.PrivateImages.{image_rows};
@@ -14,16 +15,16 @@ use plain::{Items, Memory, Text};
 use serde_json::{Map, Value, json};
 use std::alloc::Global;
 use strict::put;
-use trees::Entry;
+use trees::LentEntry;
 
 /// The members of the bundle of these entries, with this Dockerfile, the target and the build arguments.
 pub(crate) fn members_beside(
     alloc: Global,
-    rows: &[(Path, &Entry)],
+    rows: &[(Path, LentEntry<'_>)],
     dockerfile: &[u8],
     options: PackOptions<'_>,
 ) -> Result<Map<String, Value>, Memory>
-    ensures { IfOk result (λ members. members_view members.entries ≡ members_beside (map (λ row. (row.0, row.1.now)) rows.now) dockerfile.now (asked_of options.entry).target (asked_of options.entry).args) }
+    ensures { IfOk result (λ members. members_view members.entries ≡ members_beside (lent_rows rows.now) dockerfile.now (asked_of options.entry).target (asked_of options.entry).args) }
 {
     let mut members = files_members(alloc, rows, dockerfile)?;
     put_args(alloc, &mut members, options.args)?;
@@ -60,10 +61,10 @@ fn values_of(alloc: Global, images: Items<(Text, Value)>) -> Result<Map<String, 
 /// The members that each bundle has: its context and its Dockerfile.
 fn files_members(
     alloc: Global,
-    rows: &[(Path, &Entry)],
+    rows: &[(Path, LentEntry<'_>)],
     dockerfile: &[u8],
 ) -> Result<Map<String, Value>, Memory>
-    ensures { IfOk result (λ members. members_view members.entries ≡ files_members (map (λ row. (row.0, row.1.now)) rows.now) dockerfile.now) }
+    ensures { IfOk result (λ members. members_view members.entries ≡ files_members (lent_rows rows.now) dockerfile.now) }
 {
     let mut members = Map::new(alloc);
     put(alloc, &mut members, "context", tree_to_json(alloc, rows)?)?;

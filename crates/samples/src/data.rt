@@ -1,7 +1,7 @@
 use paths::Path;
 use plain::{Bytes, Items, Memory, Text};
 use std::alloc::Global;
-use trees::{Content, Entry, Meta, Tree};
+use trees::{Content, Entry, LentEntry, Meta, Tree};
 
 /// The path that a text leads to from the root; the root itself where it leads past a limit.
 pub fn path(alloc: Global, text: &str) -> Result<Path, Memory> {
@@ -36,12 +36,17 @@ pub fn tree(alloc: Global, files: &[(&str, &str)]) -> Result<Tree, Memory> {
 pub fn listing(alloc: Global, tree: &Tree) -> Result<String, Memory> {
     let mut list = String::new(alloc);
     for (path, entry) in tree.entries(alloc)? {
-        push_entry(alloc, &mut list, &path, entry)?;
+        push_entry(alloc, &mut list, &path, &entry)?;
     }
     Ok(list)
 }
 
-fn push_entry(alloc: Global, list: &mut String, path: &Path, entry: &Entry) -> Result<(), Memory> {
+fn push_entry(
+    alloc: Global,
+    list: &mut String,
+    path: &Path,
+    entry: &LentEntry<'_>,
+) -> Result<(), Memory> {
     if path.is_root() {
         return Ok(());
     }
@@ -49,8 +54,8 @@ fn push_entry(alloc: Global, list: &mut String, path: &Path, entry: &Entry) -> R
     list.push_str(" ")?;
     list.push_str(path.as_str())?;
     match entry {
-        Entry::Directory(_) => Ok(list.push_str("/")?),
-        Entry::File(_, content) => {
+        LentEntry::Directory(_) => Ok(list.push_str("/")?),
+        LentEntry::File(_, content) => {
             list.push_str("=")?;
             Ok(list.push_str(std::str::from_utf8(content.as_slice()).unwrap_or("?"))?)
         }

@@ -193,7 +193,7 @@ fn tell_lent_outcome(alloc: Global, told: &mut String, outcome: &Outcome) -> Res
 /// Tells the text of a file; `-` where none stands there.
 fn push_text_at(alloc: Global, told: &mut String, tree: &Tree, name: &str) -> Result<(), Memory> {
     let text = match tree.get(&path_of(alloc, name)?) {
-        Some(entry) => text_of(entry),
+        Some(entry) => text_of(&entry),
         None => "-",
     };
     Ok(told.push_str(text)?)

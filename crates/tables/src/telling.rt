@@ -1,7 +1,7 @@
 use paths::Path;
 use plain::Memory;
 use std::alloc::Global;
-use trees::{Entry, Meta, Tree};
+use trees::{LentEntry, Meta, Tree};
 
 /// Ends what was told last, if anything was.
 pub fn begin(told: &mut String) -> Result<(), Memory> {
@@ -19,7 +19,12 @@ pub fn push_listing(alloc: Global, told: &mut String, tree: &Tree) -> Result<(),
     Ok(())
 }
 
-fn push_entry(alloc: Global, told: &mut String, path: &Path, entry: &Entry) -> Result<(), Memory> {
+fn push_entry(
+    alloc: Global,
+    told: &mut String,
+    path: &Path,
+    entry: &LentEntry<'_>,
+) -> Result<(), Memory> {
     begin(told)?;
     told.push_str(path.text(alloc)?.as_str())?;
     told.push_str(" ")?;
@@ -42,10 +47,10 @@ fn push_meta(told: &mut String, meta: Meta) -> Result<(), Memory> {
 }
 
 /// The text of a file.
-pub fn text_of(entry: &Entry) -> &str {
+pub fn text_of<'a>(entry: &LentEntry<'a>) -> &'a str {
     match entry {
-        Entry::Directory(_) => "",
-        Entry::File(_, content) => std::str::from_utf8(content.as_slice()).unwrap_or("?"),
+        LentEntry::Directory(_) => "",
+        LentEntry::File(_, content) => std::str::from_utf8(content.as_slice()).unwrap_or("?"),
     }
 }
 

@@ -1,6 +1,6 @@
 -- What a branch lends of its node.
-use Rattle.std.specs.Prelude.{◌≡◌, ℕ, true, Option, Some, None, List, [], ◌∷◌, ◌++◌, is_some, option_copied, option_and_then}
-use Rattle.std.proofs.Common.{sym, ap, refl, ◌∙◌, Bor}
+use Rattle.std.specs.Prelude.{◌≡◌, ℕ, true, Option, List, [], ◌∷◌, ◌++◌, is_some, option_and_then}
+use Rattle.std.proofs.Common.{sym, ap, refl, ◌∙◌}
 use Rattle.std.specs.List.{AllByRecursion}
 use Rattle.std.specs.Map.{lookup}
 use Rattle.std.specs.BTreeMap.{is_at}
@@ -16,15 +16,11 @@ use Rattle.trees.proofs.KidLists.{is_sorted-kid_maps}
 use Rattle.trees.proofs.FromSteps.{kid_maps-from}
 
 -- what stands below a name is what stands in the child of that name
-pub under-name : (value : NodeValue) (top : Entry) (kids : List (List ℕ × NodeValue)) (name : List ℕ) (child : Option (Bor NodeValue)) → node_of top kids ≡ value → option_copied child ≡ lookup (is_at (name_cmp name)) kids
-    → (rest : List (List ℕ)) → get (map_of value) (name ∷ rest) ≡ option_and_then (λ child. get (map_of child.now) rest) child
+pub under-name : (value : NodeValue) (top : Entry) (kids : List (List ℕ × NodeValue)) (name : List ℕ) (child : Option NodeValue) → node_of top kids ≡ value → child ≡ lookup (is_at (name_cmp name)) kids
+    → (rest : List (List ℕ)) → get (map_of value) (name ∷ rest) ≡ option_and_then (λ child. get (map_of child) rest) child
 under-name value top kids name child is found rest =
     (λ i. get (map_of (sym is i)) (name ∷ rest)) ∙ get-map_of_cons (node_of top kids) name rest ∙ get-joined kids name rest
-    ∙ ap (option_and_then (λ v. get (map_of v) rest)) (sym (found ∙ lookup-find name kids)) ∙ lent child
-  where
-    lent : (child : Option (Bor NodeValue)) → option_and_then (λ v. get (map_of v) rest) (option_copied child) ≡ option_and_then (λ child. get (map_of child.now) rest) child
-    lent None = refl
-    lent (Some kid) = refl
+    ∙ ap (option_and_then (λ v. get (map_of v) rest)) (sym (found ∙ lookup-find name kids))
 
 rows-kids : (kids : List (List ℕ × NodeValue)) → rows_of kids ≡ rows_of_children (kid_maps kids)
 rows-kids [] = refl

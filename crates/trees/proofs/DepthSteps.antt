@@ -22,6 +22,7 @@ use Rattle.trees.specs.PrivateCopy.{IsPlacedNode}
 use Rattle.trees.proofs.NodeLaws.{get-map_of_root, get-map_of_cons, get-joined, lookup-find}
 use Rattle.trees.proofs.NodeSteps.{path-parts, blocked_in, at_kid, chain-step}
 use Rattle.trees.proofs.KidLists.{found-among}
+use Rattle.trees.proofs.PartLists.{find-append}
 use Rattle.trees.proofs.OverSteps.{laid-get}
 use Rattle.trees.proofs.PlacedSteps.{placed-some}
 
@@ -185,6 +186,20 @@ depth-step m k its rest name kid next more below h = subst (λ (l : Kids). IsDep
     by : m ≤ most_components → (q : Path) → is_some (get (joined ((name, kid) ∷ rest)) q) ≡ true → length q ≤ m
     by few [] some = omega arith
     by few (c ∷ cs) some = by_name few c cs (eq_by_cmp name_cmp c name) (sym (ap is_some (get-joined ((name, kid) ∷ rest) c cs)) ∙ some)
+
+-- the same of one after all others
+pub depth-last : (m k : ℕ) (kids : Kids) (name : List ℕ) (kid : NodeValue) → (m ≤ most_components → k + 1 ≤ m) → IsDepth k kid.below → IsDepth m (joined kids) → IsDepth m (joined (kids ++ (name, kid) ∷ []))
+depth-last m k kids name kid more below h = record { few = by }
+  where
+    by_found : m ≤ most_components → (c : List ℕ) (cs : Path) (o : Option NodeValue) → find name_cmp c kids ≡ o → (tie : Bool) → is_some (option_and_then (λ v. get (map_of v) cs) (option_or o (cond tie (Some kid) None))) ≡ true → length (c ∷ cs) ≤ m
+    by_found few c cs (Some v) is tie some = h.few few (c ∷ cs) (ap is_some (get-joined kids c cs ∙ ap (option_and_then (λ v. get (map_of v) cs)) is) ∙ some)
+    by_found few c cs None is true some = let l : length cs + 1 ≤ m = kid-few k m kid cs (more few) few below some in omega arith
+    by_found few c cs None is false some = absurd (true≢false (sym some))
+
+    by : m ≤ most_components → (q : Path) → is_some (get (joined (kids ++ (name, kid) ∷ [])) q) ≡ true → length q ≤ m
+    by few [] some = omega arith
+    by few (c ∷ cs) some =
+        by_found few c cs (find name_cmp c kids) refl (eq_by_cmp name_cmp c name) (sym (ap is_some (get-joined (kids ++ (name, kid) ∷ []) c cs ∙ ap (option_and_then (λ v. get (map_of v) cs)) (find-append c kids ((name, kid) ∷ [])))) ∙ some)
 
 -- ---- a folder is put below a destination
 

@@ -43,7 +43,9 @@ use Rattle.trees.proofs.TreeLaws.{same_tree, get-over, over-IsTree, empty-IsTree
 use Rattle.trees.proofs.TreeSteps.{own-entry, leaf-empty}
 use Rattle.trees.proofs.WayLaws.{open-from_fronts}
 use Rattle.trees.proofs.FillSteps.{filled-under, filled-apart}
-use Rattle.trees.proofs.PlacedSteps.{placed-tree, placed-some, placed-kind, placements-placed, placed-plain}
+use Rattle.trees.proofs.PlacedSteps.{placed-tree, placed-some, placed-kind, placements-placed, seen-placed}
+use Rattle.trees.proofs.SeenSteps.{some-seen}
+use Rattle.trees.specs.PrivateSeen.{seen}
 use Rattle.trees.proofs.FolderSteps.{Path, cancel, below-way, never, last_placed-append, first_cause-append, IsShallow, IsRow, IsHanging, IsFresh, AreFresh, found-deep, hang-make, hang-all, make-free, no-causes, deep-causes, none-found, last-found}
 
 abbrev Rows : Type 0
@@ -306,19 +308,22 @@ module _ (o : CopyOptions) (from : TreeMap) (dest path : Path) (folder : NodeVal
       (joined-more dest before (map_of joined) (map_of laid.upper) laid.upper.top j (placed-tree o folder laid.upper laid.placed folder_is) (get-map_of_root laid.upper) (record { at = meet laid.upper laid.placed })
       (subst (λ (cs : List Change). AllByRecursion IsNamed cs) (changes-are laid.upper laid.placed into) (named into)) (λ r some. few r (placed-some o folder laid.upper laid.placed r some))))
 
-  pub match-sinks : ((e : Entry) → placed_entry o e ≡ e) → length dest ≤ 64 → IsDeeper (64 - length dest) folder.below → (into : Bool) → Sinks dest (path_changes o into from dest path) (map_of joined)
-  match-sinks plain short deeper into before j =
-      subst (λ (cs : List Change). IsSunk dest (before ++ cs)) (sym (changes-are folder as-it-is into)) (by deeper.path deeper.stands deeper.long)
+  pub match-sinks : length dest ≤ 64 → IsDeeper (64 - length dest) folder.below → (into : Bool) → Sinks dest (path_changes o into from dest path) (map_of joined)
+  match-sinks short deeper into before j =
+      subst (λ (cs : List Change). IsSunk dest (before ++ cs)) (sym (changes-are upper as-placed into)) (by deeper.path deeper.stands deeper.long)
     where
-      as-it-is : IsPlacedNode o folder folder
-      as-it-is = placed-plain o folder plain
+      upper : NodeValue
+      upper = seen o folder
 
-      by : (r : Path) → is_some (get folder.below r) ≡ true → 64 - length dest < length r → IsSunk dest (before ++ Make dest ∷ placements keeping dest (drop 1 (entries (map_of folder))))
+      as-placed : IsPlacedNode o folder upper
+      as-placed = seen-placed o folder
+
+      by : (r : Path) → is_some (get folder.below r) ≡ true → 64 - length dest < length r → IsSunk dest (before ++ Make dest ∷ placements keeping dest (drop 1 (entries (map_of upper))))
       by [] stands long = absurd (omega arith)
       by (c ∷ cs) stands long =
           let l = length-append dest (c ∷ cs) in
-          sunk-more dest before (map_of joined) (map_of folder) folder.top j folder_is (get-map_of_root folder) (record { at = meet folder as-it-is })
-          (subst (λ (cs : List Change). AllByRecursion IsNamed cs) (changes-are folder as-it-is into) (named into)) c cs (ap is_some (get-map_of_cons folder c cs) ∙ stands) (omega arith)
+          sunk-more dest before (map_of joined) (map_of upper) upper.top j (placed-tree o folder upper as-placed folder_is) (get-map_of_root upper) (record { at = meet upper as-placed })
+          (subst (λ (cs : List Change). AllByRecursion IsNamed cs) (changes-are upper as-placed into) (named into)) c cs (ap is_some (get-map_of_cons upper c cs) ∙ some-seen o folder.below (c ∷ cs) ∙ stands) (omega arith)
 
 -- ---- one after the other
 

@@ -26,7 +26,7 @@ use Rattle.paths.proofs.FrontLaws.{name_same, name_itself, path_same, path_itsel
 use Rattle.trees.proofs.WayLaws.{open-front, open-from_fronts}
 use Rattle.trees.proofs.TreeLaws.{file-from_directory}
 use Rattle.trees.proofs.CopyLaws.{get-changed_tree, last_placed-more, needs_directory-more, way-either}
-use Rattle.trees.proofs.PlacedSteps.{kept}
+use Rattle.trees.proofs.SeenSteps.{kept}
 
 abbrev pub Path : Type 0
 Path = List (List ℕ)

@@ -24,10 +24,10 @@ use Rattle.trees.proofs.NodeLaws.{get-map_of_root, get-map_of_cons, get-joined}
 use Rattle.trees.proofs.PartLists.{not-above}
 use Rattle.trees.proofs.TreeLaws.{same_tree, get-placed, get-empty_tree, free-from_cause, placed-IsTree, empty-IsTree}
 
-abbrev Path : Type 0
+abbrev pub Path : Type 0
 Path = List (List ℕ)
 
-abbrev At : Type 0
+abbrev pub At : Type 0
 At = Path → Option Entry
 
 abbrev Kids : Type 0
@@ -38,12 +38,12 @@ or-none None = refl
 or-none (Some e) = refl
 
 -- one row placed on what stood
-abbrev on : Path → Entry → Path → Option Entry → Option Entry
+abbrev pub on : Path → Entry → Path → Option Entry → Option Entry
 on path entry q o = cond (eq_by_cmp path_cmp q path) (Some entry) (option_or o (cond (is_front q path) (Some (Directory directory_meta)) None))
 
 -- ---- rows one after the other
 
-grown-append : (xs ys : List Row) (old : At) (q : Path) → grown (xs ++ ys) old q ≡ grown xs (grown ys old) q
+pub grown-append : (xs ys : List Row) (old : At) (q : Path) → grown (xs ++ ys) old q ≡ grown xs (grown ys old) q
 grown-append [] ys old q = refl
 grown-append (x ∷ xs) ys old q = ap (on x.0 x.1 q) (grown-append xs ys old q)
 
@@ -185,12 +185,12 @@ leaf-grown old new front rest entry node same none top under = record { taken = 
 
 -- ---- the whole tree
 
-tree-grown : (rows : List Row) (q : Path) → get (tree_of rows) q ≡ grown rows (get empty_tree) q
+pub tree-grown : (rows : List Row) (q : Path) → get (tree_of rows) q ≡ grown rows (get empty_tree) q
 tree-grown [] q = refl
 tree-grown (row ∷ rows) q = get-placed directory_meta (tree_of rows) row.0 row.1 q ∙ ap (on row.0 row.1 q) (tree-grown rows q)
 
 -- a row makes the root, so that nothing has to stand there before
-one-grown : (path : Path) (entry : Entry) (q : Path) → on path entry q None ≡ on path entry q (get empty_tree q)
+pub one-grown : (path : Path) (entry : Entry) (q : Path) → on path entry q None ≡ on path entry q (get empty_tree q)
 one-grown [] entry [] = refl
 one-grown (c ∷ cs) entry [] = ap (on (c ∷ cs) entry []) (sym (get-empty_tree []))
 one-grown path entry (d ∷ ds) = ap (on path entry (d ∷ ds)) (sym (get-empty_tree (d ∷ ds)))

@@ -7,6 +7,7 @@ pub mod OverLaws
 pub mod RemoveLaws
 pub mod CopyLaws
 pub mod CopyTrees
+pub mod BuiltLaws
 mod NodeLaws
 mod NodeSteps
 mod KidLists
@@ -26,8 +27,13 @@ mod FromSteps
 mod BelowSteps
 mod MeetSteps
 mod DepthSteps
+mod SeenSteps
 mod PlacedSteps
 mod FolderSteps
 mod FolderDone
 mod GatheredSteps
 mod GrowingSteps
+mod PartedSteps
+mod SpineSteps
+mod ForkSteps
+mod BuilderSteps

@@ -1,6 +1,6 @@
 -- One step down a path, as the code of a node takes it: the path's first name, the child of that name, and the rest of the path.
 use Rattle.std.specs.Prelude.{◌≡◌, ℕ, max, ◌+◌, ◌-◌, ◌<◌, ◌≤◌, Bool, true, false, not, cond, ◌||◌, ◌&&◌, Option, Some, None, List, [], ◌∷◌, length, get_or, take, drop, ◌++◌, MatchOption, option_and_then, Result, Ok, Err, IfOk, OnErr, is_ok}
-use Rattle.std.proofs.Common.{sym, ap, refl, ◌∙◌, subst, true≢false, arith, Bor}
+use Rattle.std.proofs.Common.{sym, ap, refl, ◌∙◌, subst, true≢false, arith}
 use Rattle.std.proofs.lemmas.Grind.{common_steps}
 use Rattle.std.proofs.lemmas.Option.{same_Some, none-some}
 use Rattle.std.proofs.lemmas.Result.{IfOk-weaker}
@@ -26,7 +26,7 @@ use Rattle.trees.proofs.WayLaws.{is_blocked-cons, open-from_fronts}
 use Rattle.trees.proofs.TreeLaws.{same_tree}
 use Rattle.trees.proofs.NodeLaws.{get-map_of_root, get-map_of_cons, get-joined, get-joined_root, lookup-find}
 
-whole_rest : {A : Type 0} (x : A) (xs : List A) → take (length (x ∷ xs) - 1) (drop 1 (x ∷ xs)) ≡ xs
+pub whole_rest : {A : Type 0} (x : A) (xs : List A) → take (length (x ∷ xs) - 1) (drop 1 (x ∷ xs)) ≡ xs
 whole_rest x xs = grind (arith, common_steps)
 
 -- a path that isn't the root is its first name and the rest
@@ -247,11 +247,11 @@ found-lower kids name kid found = kid-lower kids name kid (lookup-find name kids
 -- ---- the node at a path
 
 -- what a search for the node at a path finds: none where nothing stands there, else the node of what is below it
-abbrev pub IsFound : NodeValue → List (List ℕ) → Option (Bor NodeValue) → Type 0
-IsFound value path found = MatchOption found (get (map_of value) path ≡ None) (λ node. IsBelow (map_of value) path (map_of node.now))
+abbrev pub IsFound : NodeValue → List (List ℕ) → Option NodeValue → Type 0
+IsFound value path found = MatchOption found (get (map_of value) path ≡ None) (λ node. IsBelow (map_of value) path (map_of node))
 
 -- what is found in the child of the first name is found
-pub at-kid : (value : NodeValue) (path : List (List ℕ)) (name : List ℕ) (kid : NodeValue) (found : Option (Bor NodeValue)) → 1 ≤ length path → name ≡ get_or path 0 name → IsBelowName value name (Some kid)
+pub at-kid : (value : NodeValue) (path : List (List ℕ)) (name : List ℕ) (kid : NodeValue) (found : Option NodeValue) → 1 ≤ length path → name ≡ get_or path 0 name → IsBelowName value name (Some kid)
     → IsFound kid (take (length path - 1) (drop 1 path)) found → IsFound value path found
 at-kid value path name kid None more first below none = get-kid value path name (Some kid) more first below ∙ none
 at-kid value path name kid (Some node) more first below lies =

@@ -1,6 +1,6 @@
 -- The rows of a node are its own and then those of its children, in the order of their names.
 use Rattle.std.specs.Prelude.{◌≡◌, ℕ, Bool, true, false, ◌&&◌, not, cond, T, Option, Some, None, List, [], ◌∷◌, ◌++◌, is_some, option_and_then}
-use Rattle.std.proofs.Common.{sym, ap, refl, ◌∙◌, subst, true≢false, append_assoc, append-nil, Bor}
+use Rattle.std.proofs.Common.{sym, ap, refl, ◌∙◌, subst, true≢false, append_assoc, append-nil}
 use Rattle.std.specs.Option.{option_or}
 use Rattle.std.specs.Ordering.{eq_by_cmp, is_lt, is_eq, ordering_then}
 use Rattle.std.specs.declared.cmp.Ordering.{Ordering}
@@ -18,7 +18,8 @@ use Rattle.paths.specs.Path.{IsClean}
 use Rattle.trees.specs.declared.entry.Entry.{Entry}
 use Rattle.paths.specs.Order.{name_cmp}
 use Rattle.trees.specs.PrivateNode.{NodeValue, map_of, joined, below_name, node_of}
-use Rattle.trees.specs.Rows.{lent_rows}
+use Rattle.trees.specs.declared.lent_entry.LentEntry.{LentEntry}
+use Rattle.trees.specs.Rows.{lent_rows, entry_of}
 use Rattle.trees.specs.PrivateNode.{rows_under}
 use Rattle.trees.specs.PrivateWalk.{rows_of}
 use Rattle.paths.proofs.FrontLaws.{both_hold, both_first, both_second, name_same}
@@ -176,9 +177,9 @@ rows-step at below name kid its rest before after all so_far next same more =
     ∙ ap (λ r. before ++ r) (sym (rows_under-append at (below_name name (entries (map_of kid))) (rows_of rest)) ∙ ap (λ ks. rows_under at (rows_of ks)) (sym next))
     ∙ so_far
 
-lent_rows-append : (xs ys : List (List (List ℕ) × Bor Entry)) → lent_rows (xs ++ ys) ≡ lent_rows xs ++ lent_rows ys
+lent_rows-append : (xs ys : List (List (List ℕ) × LentEntry)) → lent_rows (xs ++ ys) ≡ lent_rows xs ++ lent_rows ys
 lent_rows-append [] ys = refl
-lent_rows-append (x ∷ xs) ys = ap (λ r. (x.0, x.1.now) ∷ r) (lent_rows-append xs ys)
+lent_rows-append (x ∷ xs) ys = ap (λ r. (x.0, entry_of x.1) ∷ r) (lent_rows-append xs ys)
 
 -- all rows below a node
 pub rows-all : (kids its : List (List ℕ × NodeValue)) (at : List (List ℕ)) (old rows : List (List (List ℕ) × Entry)) → IsStrictlySortedBy name_cmp (keys_of kids) → its ≡ kids → rows ++ rows_under at (rows_of []) ≡ old ++ rows_under at (rows_of its)
@@ -187,13 +188,13 @@ rows-all kids its at old rows ordered lent done =
     sym (append-nil rows) ∙ done ∙ (λ i. old ++ rows_under at (rows_of (lent i))) ∙ ap (λ r. old ++ rows_under at r) (sym (entries-kids kids ordered))
 
 -- and with the node's own before them
-pub rows-node : (value : NodeValue) (top : Entry) (kids : List (List ℕ × NodeValue)) (at own : List (List ℕ)) (entry : Bor Entry) (old first : List (List (List ℕ) × Bor Entry)) (rows : List (List (List ℕ) × Entry)) → node_of top kids ≡ value
-    → entry.now ≡ top → own ≡ at → first ≡ old ++ (own, entry) ∷ [] → rows ≡ lent_rows first ++ rows_under at (entries (joined kids)) → rows ≡ lent_rows old ++ rows_under at (entries (map_of value))
+pub rows-node : (value : NodeValue) (top : Entry) (kids : List (List ℕ × NodeValue)) (at own : List (List ℕ)) (entry : LentEntry) (old first : List (List (List ℕ) × LentEntry)) (rows : List (List (List ℕ) × Entry)) → node_of top kids ≡ value
+    → entry_of entry ≡ top → own ≡ at → first ≡ old ++ (own, entry) ∷ [] → rows ≡ lent_rows first ++ rows_under at (entries (joined kids)) → rows ≡ lent_rows old ++ rows_under at (entries (map_of value))
 rows-node value top kids at own entry old first rows is e o f done =
     done
     ∙ (λ i. lent_rows (f i) ++ rows_under at (entries (joined kids)))
     ∙ ap (λ r. r ++ rows_under at (entries (joined kids))) (lent_rows-append old ((own, entry) ∷ []))
-    ∙ append_assoc (lent_rows old) ((own, entry.now) ∷ []) (rows_under at (entries (joined kids)))
+    ∙ append_assoc (lent_rows old) ((own, entry_of entry) ∷ []) (rows_under at (entries (joined kids)))
     ∙ (λ i. lent_rows old ++ ((o ∙ sym (append-nil at)) i, e i) ∷ rows_under at (entries (joined kids)))
     ∙ ap (λ r. lent_rows old ++ rows_under at r) (sym (entries-node value top kids is))
 

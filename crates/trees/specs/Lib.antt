@@ -13,9 +13,12 @@ pub mod Over
 pub mod Copy
 pub mod PrivateContent
 pub mod PrivateNode
+pub mod PrivateSeen
 pub mod PrivateWalk
 pub mod PrivateFall
 pub mod PrivateLent
 pub mod PrivateCopy
 pub mod PrivateGrowing
+pub mod Builder
+pub mod PrivateSpine
 pub mod PrivateHeld

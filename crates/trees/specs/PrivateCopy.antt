@@ -1,9 +1,8 @@
 -- By what the functions inside this crate that carry out a COPY are stated: one change after another.
-use Rattle.std.specs.Prelude.{◌≡◌, ℕ, Bool, true, false, ◌||◌, ◌⊎◌, ◌∷◌, ◌++◌, map, is_some, Option, Some, None, Result, Ok, Err, List, []}
+use Rattle.std.specs.Prelude.{◌≡◌, ℕ, Bool, true, false, ◌||◌, ◌⊎◌, ◌∷◌, ◌++◌, is_some, Option, Some, None, Result, Ok, Err, List, []}
 use Rattle.std.specs.List.{AllByRecursion}
 use Rattle.std.specs.Option.{option_or}
 use Rattle.std.specs.Ordering.{eq_by_cmp}
-use Rattle.std.specs.Map.{keys_of}
 use Rattle.std.specs.FinMap.{get, entries}
 use Rattle.paths.specs.Path.{IsClean}
 use Rattle.paths.specs.Long.{AreNames}
@@ -22,13 +21,13 @@ use Rattle.trees.specs.declared.folder.Whole.{Whole}
 use Rattle.trees.specs.declared.folder.Whole.TheVariants.{Folder, Deep, Neither}
 use Rattle.trees.specs.declared.entry.Entry.{Entry}
 use Rattle.trees.specs.declared.copy.CopyOptions.{CopyOptions}
-use Rattle.trees.specs.PrivateNode.{NodeValue, map_of, flat, are_parts}
-use Rattle.trees.specs.PrivateWalk.{rows_of}
+use Rattle.trees.specs.PrivateNode.{NodeValue, map_of}
+use Rattle.trees.specs.PrivateSeen.{placed_rows}
 use Rattle.trees.specs.TreeMap.{TreeMap, IsTree, is_directory}
 use Rattle.trees.specs.Put.{placed}
 use Rattle.trees.specs.Make.{make_cause, with_directory}
 use Rattle.trees.specs.Over.{over}
-use Rattle.trees.specs.Copy.{placed_entry, placed_by, last_placed, needs_directory, kind_of, change_cause, first_cause, changed_tree}
+use Rattle.trees.specs.Copy.{placed_by, last_placed, needs_directory, kind_of, change_cause, first_cause, changed_tree}
 
 -- the tree after one change more
 abbrev pub with_change : Meta → TreeMap → Change → TreeMap
@@ -62,23 +61,9 @@ abbrev pub AppliesChanges : Meta → List Change → TreeMap → TreeMap → Res
 AppliesChanges meta changes old new (Ok done) = (first_cause meta old [] changes ≡ None) × ((new ≡ changed_tree meta old changes) × IsTree new)
 AppliesChanges meta changes old new (Err fault) = TellsCause fault (first_cause meta old [] changes)
 
--- entries as they are placed, at the same paths
-abbrev pub placed_rows : CopyOptions → List (List (List ℕ) × Entry) → List (List (List ℕ) × Entry)
-placed_rows options rows = map (λ row. (row.0, placed_entry options row.1)) rows
-
 -- a node whose entries are as those of another one are placed
 pub record IsPlacedNode (options : CopyOptions) (old new : NodeValue) : Type 0 where
   pub rows : entries (map_of new) ≡ placed_rows options (entries (map_of old))
-
--- children of the same names whose entries are as those of the others are placed
-pub record ArePlacedKids (options : CopyOptions) (old new : List (List ℕ × NodeValue)) : Type 0 where
-  pub names : keys_of new ≡ keys_of old
-  pub rows : rows_of new ≡ placed_rows options (rows_of old)
-
--- parts whose children are as those of the others are placed
-pub record ArePlacedParts (options : CopyOptions) (old new : List (List (List ℕ × NodeValue))) : Type 0 where
-  pub parts : are_parts new ≡ true
-  pub kids : ArePlacedKids options (flat old) (flat new)
 
 -- what a COPY asks that puts on no other owner and mode
 abbrev pub keeping : CopyOptions

@@ -38,4 +38,4 @@ node_falls a = by a.held
   where
     by : (held : Held) → deep-Node (record { held = held }) ≤ (held_value held).height + (held_value held).height + 1
     by (Leaf entry) = let h : max 0 0 ≤ 5 = omega arith in h
-    by (Folder inner) = let h : max (max ((arc_value inner).height + (arc_value inner).height + 1) 0) 0 ≤ (arc_value inner).height + (arc_value inner).height + 1 = omega arith in h
+    by (Folder inner options) = let h : max (max ((arc_value inner).height + (arc_value inner).height + 1) 0) 0 ≤ (arc_value inner).height + (arc_value inner).height + 1 = omega arith in h

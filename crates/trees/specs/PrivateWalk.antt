@@ -9,7 +9,8 @@ use Rattle.plain.specs.Limits.{most_components}
 use Rattle.paths.specs.Path.{IsClean}
 use Rattle.paths.specs.Order.{name_cmp}
 use Rattle.trees.specs.declared.entry.Entry.{Entry}
-use Rattle.trees.specs.Rows.{lent_names}
+use Rattle.trees.specs.declared.lent_entry.LentEntry.{LentEntry}
+use Rattle.trees.specs.Rows.{lent_names, entry_of}
 use Rattle.trees.specs.Branch.{from_name}
 use Rattle.trees.specs.PrivateNode.{NodeValue, map_of, below_name}
 
@@ -33,9 +34,9 @@ rows_left (name ∷ names) [] kids = rows_of kids
 rows_left (name ∷ names) (first ∷ above) kids = below_name name (rows_left names above kids) ++ rows_of first
 
 -- the row of the root, whose path has no name, until it is given
-abbrev pub root_row : List (List ℕ) → Option (Bor Entry) → List (List (List ℕ) × Entry)
+abbrev pub root_row : List (List ℕ) → Option LentEntry → List (List (List ℕ) × Entry)
 root_row names None = []
-root_row names (Some entry) = (names, entry.now) ∷ []
+root_row names (Some entry) = (names, entry_of entry) ∷ []
 
 -- the rows that are left below the root, where names and folders are held in buffers
 abbrev pub left_below_root : {Z : Type 0} → Vec (Bor (List ℕ)) Z → Vec (List (List ℕ × NodeValue)) Z → List (List ℕ × NodeValue) → List (List (List ℕ) × Entry)

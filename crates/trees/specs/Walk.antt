@@ -4,7 +4,7 @@ use Rattle.std.specs.Coded.{Coded, code_by, coded×, coded_list, coded_ℕ}
 use Rattle.trees.specs.declared.entry.Entry.{Entry}
 use Rattle.trees.specs.contracts.entry.Entry as entries_of
 
--- the path of the entry that was given last, and the entries that are still to come with their paths, in path order
+-- the path of the entry that was given or passed last, and the entries that are still to come with their paths, in path order
 pub record WalkValue : Type 0 where
   pub at : List (List ℕ)
   pub left : List (List (List ℕ) × Entry)

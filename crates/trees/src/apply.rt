@@ -123,7 +123,7 @@ pub(crate) fn make(
     if let Some(cause) = make_cause(root, parts) {
         return Err(Fault::Because(cause));
     }
-    match root.kind(parts) {
+    match root.lent().kind(parts) {
         None => {
             root.plant(alloc, parts, *meta, Entry::Directory(*meta))?;
             Ok(())
@@ -136,10 +136,10 @@ pub(crate) fn make(
 pub(crate) fn make_cause(root: &Node, path: &[Text]) -> Option<Cause>
     ensures { result ≡ make_cause (get (map_of root.now)) path.now }
 {
-    if root.is_blocked(path) {
+    if root.lent().is_blocked(path) {
         return Some(Cause::F2);
     }
-    match root.kind(path) {
+    match root.lent().kind(path) {
         Some(false) => Some(Cause::F2),
         _ => None,
     }

@@ -1,11 +1,12 @@
 ghost use Rattle.std.specs.Prelude.{◌≡◌, ℕ, Some, List, [], ◌∷◌, MatchOption, option_and_then};
 ghost use Rattle.std.specs.FinMap.{get};
+ghost use Rattle.trees.specs.Rows.{entry_of};
 ghost use Rattle.trees.specs.Branch.{AreChildren, AreChildrenFrom};
 ghost use Rattle.trees.specs.PrivateNode.{map_of};
 
-use crate::Entry;
+use crate::LentEntry;
 use crate::kids::Kids;
-use crate::node::Node;
+use crate::lent_node::LentNode;
 use plain::Text;
 use std::marker::Model;
 
@@ -16,7 +17,7 @@ use std::marker::Model;
 /// only some of a folder's names goes through these alone and not through what lies below the others.
 #[derive(Drop)]
 pub struct Branch<'a> {
-    node: &'a Node,
+    node: LentNode<'a>,
 }
 
 impl<'a> Model for Branch<'a> {
@@ -27,31 +28,29 @@ impl<'a> Model for Branch<'a> {
 
     ghost coded = { tree_code };
 
-    ghost view = { λ b. map_of b.node.now };
+    ghost view = { λ b. map_of b.node };
 }
 
 impl<'a> Branch<'a> {
     /// A node, as a branch.
-    pub(crate) fn of(node: &'a Node) -> Branch<'a>
-        ensures { result ≡ map_of node.now }
+    pub(crate) fn of(node: LentNode<'a>) -> Branch<'a>
+        ensures { result ≡ map_of node.entry }
     {
         Branch { node }
     }
 
     /// The entry itself.
-    pub fn entry(&self) -> &'a Entry
-        ensures { get self.now [] ≡ Some result.now }
+    pub fn entry(&self) -> LentEntry<'a>
+        ensures { get self.now [] ≡ Some (entry_of result) }
     {
-        let node = self.node;
-        node.entry()
+        self.node.entry()
     }
 
     /// What stands right below under a name, if anything does. It takes no memory.
     pub fn child(&self, name: &Text) -> Option<Branch<'a>>
         ensures { (rest : List (List ℕ)) → get self.now (name.now ∷ rest) ≡ option_and_then (λ child. get child rest) result }
     {
-        let node = self.node;
-        match node.child(name) {
+        match self.node.child(name) {
             Some(child) => Some(Branch::of(child)),
             None => None,
         }
@@ -61,8 +60,9 @@ impl<'a> Branch<'a> {
     pub fn children(&self) -> Branches<'a>
         ensures { AreChildren self.now result }
     {
-        let node = self.node;
-        Branches { kids: node.kids() }
+        Branches {
+            kids: self.node.kids(),
+        }
     }
 
     /// What stands right below under names that don't come before a text, in the order of the names. It takes no memory, and costs a
@@ -71,9 +71,8 @@ impl<'a> Branch<'a> {
     pub fn children_from(&self, front: &Text) -> Branches<'a>
         ensures { AreChildrenFrom self.now front.now result }
     {
-        let node = self.node;
         Branches {
-            kids: node.kids_from(front),
+            kids: self.node.kids_from(front),
         }
     }
 }

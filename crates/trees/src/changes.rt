@@ -64,7 +64,7 @@ pub(crate) fn goes_into(root: &Node, dest: &Path, options: &CopyOptions) -> bool
     if options.into {
         return true;
     }
-    match root.kind(dest.components()) {
+    match root.lent().kind(dest.components()) {
         Some(true) => true,
         _ => false,
     }
@@ -151,7 +151,7 @@ fn push_path(
         return node.push_changes(alloc, options, &LongPath::of(alloc, dest)?, changes);
     }
     let place = match_path(alloc, into, dest, path)?;
-    changes.push(Change::Place(place, options.placed_entry(alloc, node.entry())?))?;
+    changes.push(Change::Place(place, node.placed(options).entry().to_entry(alloc)?))?;
     Ok(())
 }
 

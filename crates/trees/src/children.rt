@@ -5,25 +5,22 @@ ghost use Rattle.std.specs.Map.{lookup, keys_of};
 ghost use Rattle.std.specs.BTreeMap.{is_at};
 ghost use Rattle.std.specs.FinMap.{get, empty, entries, find};
 ghost use Rattle.plain.specs.declared.fault.Fault.TheVariants.{Because};
-ghost use Rattle.paths.specs.Path.{IsClean};
 ghost use Rattle.paths.specs.Order.{name_cmp};
 ghost use Rattle.trees.specs.declared.children.Absent.{Absent};
 ghost use Rattle.trees.specs.Branch.{from_name};
-ghost use Rattle.trees.specs.Rows.{lent_rows};
-ghost use Rattle.trees.specs.Copy.{placements};
-ghost use Rattle.trees.specs.PrivateNode.{joined, IsDepth, IsDeeper, rows_under, AreKids, ArePlanted, AreCut, AreFilled, AreLaid, are_parts, lists_of, kids_of};
+ghost use Rattle.trees.specs.PrivateNode.{joined, IsDepth, AreKids, ArePlanted, AreCut, AreFilled, AreLaid, are_parts, lists_of, kids_of};
 ghost use Rattle.trees.specs.PrivateLent.{LendsKid};
-ghost use Rattle.trees.specs.PrivateCopy.{ArePlacedKids, MeetInDirectories};
+ghost use Rattle.trees.specs.PrivateSeen.{seen_kids};
 
-use crate::copy::Change;
 use crate::inner::lifted;
 use crate::kids::Kids;
+use crate::lent_kids::LentKids;
+use crate::lent_node::LentNode;
 use crate::node::Node;
 use crate::part::{
     Part, has_room, make_room, own, part_of_one, place, placed_parts, put, share, take_away,
 };
 use crate::{CopyOptions, Entry, Meta};
-use paths::{LongPath, Path};
 use plain::{Exact, Fault, Memory, Text};
 use std::alloc::Global;
 use std::marker::Model;
@@ -101,24 +98,25 @@ impl Children {
         Ok(Children { parts })
     }
 
-    /// All children, in the order of their names.
-    pub(crate) fn iter(&self) -> Kids<'_>
-        ensures all { result ≡ self.now }
+    /// All children as these options place them, in the order of their names.
+    pub(crate) fn iter(&self, options: CopyOptions) -> Kids<'_>
+        ensures all { result ≡ seen_kids options self.now }
         ensures ordered { IsStrictlySortedBy name_cmp (keys_of self.now) }
     {
-        Kids::of(self.parts.as_slice())
+        Kids::of_begun(&[], self.parts.as_slice(), options)
     }
 
-    /// The children whose names don't come before a text, in the order of their names. It costs no walk through those that do.
-    pub(crate) fn iter_from(&self, front: &Text) -> Kids<'_>
-        ensures from { result ≡ from_name front.now self.now }
+    /// The children whose names don't come before a text, as these options place them, in the order of their names. It costs no walk through
+    /// those that do.
+    pub(crate) fn iter_from(&self, front: &Text, options: CopyOptions) -> Kids<'_>
+        ensures from { result ≡ seen_kids options (from_name front.now self.now) }
         ensures ordered { IsStrictlySortedBy name_cmp (keys_of self.now) }
     {
         let parts = self.parts.as_slice();
         let at = place(parts, front);
         match parts.get(at) {
-            Some(part) => Kids::of_begun(part.rows_from(front), &parts[at + 1..]),
-            None => Kids::of(&[]),
+            Some(part) => Kids::of_begun(part.rows_from(front), &parts[at + 1..], options),
+            None => Kids::none(),
         }
     }
 
@@ -129,7 +127,7 @@ impl Children {
         ensures { IsDepth result (joined self.now) }
     {
         let mut depth: usize = 0;
-        let mut kids = self.iter();
+        let mut kids = self.iter(CopyOptions::keeping());
         while let Some((_, kid)) = kids.next() {
             depth = depth.max(lifted(kid.depth(), 1));
             if depth >= most {
@@ -261,7 +259,7 @@ impl Children {
         alloc: Global,
         name: &Text,
         rest: &[Text],
-        folder: &Node,
+        folder: &LentNode<'_>,
     ) -> Result<(), Memory>
         ensures { OnOk result (AreFilled (joined self.old) (joined self.new) name.now rest.now folder.now.below) }
     {
@@ -273,10 +271,8 @@ impl Children {
     }
 
     /// The same names, each with its node as a COPY places it.
-    #[cycle(placing)]
     pub(crate) fn placed(&self, alloc: Global, options: &CopyOptions) -> Result<Children, Memory>
-        ensures placed { IfOk result (λ kids. ArePlacedKids options.now self.now kids) }
-        ensures ordered { IsStrictlySortedBy name_cmp (keys_of self.now) }
+        ensures { IfOk result (λ kids. kids ≡ seen_kids options.now self.now) }
     {
         let parts = placed_parts(alloc, options, self.parts.as_slice())?;
         Ok(Children { parts })
@@ -285,7 +281,7 @@ impl Children {
     /// Lays other children over these, and answers whether one of these is less deep than before. Where there is no memory, they are
     /// left half done.
     #[cycle(laying)]
-    pub(crate) fn lay_over(&mut self, alloc: Global, upper: &Children) -> Result<bool, Memory>
+    pub(crate) fn lay_over(&mut self, alloc: Global, upper: &LentKids<'_>) -> Result<bool, Memory>
         ensures { OnOk result (AreLaid self.old upper.now self.new) }
     {
         let mut is_less = false;
@@ -293,7 +289,7 @@ impl Children {
         while let Some((name, kid)) = uppers.next() {
             match self.own_mut(alloc, name) {
                 Ok(below) => {
-                    if below.lay_over(alloc, kid)? {
+                    if below.lay_over(alloc, &kid)? {
                         is_less = true;
                     }
                 }
@@ -302,132 +298,5 @@ impl Children {
             }
         }
         Ok(is_less)
-    }
-
-    /// Whether nothing of these is left once others are laid over them, as far as is seen at once: the others begin with the same names,
-    /// and each of their nodes hides the one of its name.
-    pub(crate) fn is_hidden_by(&self, upper: &Children) -> bool
-        ensures { IsTrue result → AreLaid self.now upper.now upper.now }
-    {
-        let mut kids = self.iter();
-        let mut uppers = upper.iter();
-        while let Some((name, kid)) = kids.next() {
-            match uppers.next() {
-                Some((upper_name, upper_kid)) => {
-                    if !name.same(upper_name) {
-                        return false;
-                    }
-                    if !upper_kid.hides(kid) {
-                        return false;
-                    }
-                }
-                None => return false,
-            }
-        }
-        true
-    }
-}
-
-impl Children {
-    /// Whether the two stand for the same map.
-    #[cycle(comparing)]
-    pub(crate) fn same(&self, other: &Children) -> bool
-        ensures { IsTrue result ↔ (joined self.now ≡ joined other.now) }
-    {
-        let mut kids = self.iter();
-        let mut others = other.iter();
-        while let Some((name, kid)) = kids.next() {
-            match others.next() {
-                Some((other_name, other_kid)) => {
-                    if !name.same(other_name) {
-                        return false;
-                    }
-                    if !kid.same(other_kid) {
-                        return false;
-                    }
-                }
-                None => return false,
-            }
-        }
-        others.next().is_none()
-    }
-
-    /// Whether a path of these children or below them has more names than so many.
-    #[cycle(sounding)]
-    pub(crate) fn is_deeper(&self, most: usize) -> bool
-        ensures { IsTrue result → IsDeeper most (joined self.now) }
-    {
-        let mut kids = self.iter();
-        while let Some((name, kid)) = kids.next() {
-            if most == 0 {
-                return true;
-            }
-            if kid.is_deeper(most - 1) {
-                return true;
-            }
-        }
-        false
-    }
-
-    /// Whether something stands at one path in or below both, unless it is a directory in both.
-    #[cycle(meeting)]
-    pub(crate) fn meets(&self, other: &Children) -> bool
-        ensures { result ≡ false → MeetInDirectories (joined self.now) (joined other.now) }
-    {
-        // The first folder of a COPY meets nothing, and may have many names.
-        if self.is_none() {
-            return false;
-        }
-        let mut others = other.iter();
-        while let Some((name, kid)) = others.next() {
-            if let Some(own) = self.get(name) {
-                if !own.is_directory() || !kid.is_directory() || own.meets(kid) {
-                    return true;
-                }
-            }
-        }
-        false
-    }
-
-    /// Adds a row for each entry of these children and below them, in path order, their folder's path being `at`.
-    #[cycle(listing)]
-    pub(crate) fn push_rows<'a>(
-        &'a self,
-        alloc: Global,
-        at: &Path,
-        rows: &mut Vec<(Path, &'a Entry)>,
-    ) -> Result<(), Memory>
-        requires { (q : List (List ℕ)) → is_some (get (joined self.now) q) ≡ true → IsClean (at.now ++ q) }
-        ensures { OnOk result (lent_rows rows.new.items ≡ lent_rows rows.old.items ++ rows_under at.now (entries (joined self.now))) }
-    {
-        let mut kids = self.iter();
-        while let Some((name, kid)) = kids.next() {
-            let below = at.child(alloc, name)?;
-            kid.push_rows(alloc, &below, rows)?;
-        }
-        Ok(())
-    }
-
-    /// Adds a change for each entry of these children and below them, in path order: it is placed below `at`, at its path from
-    /// their folder.
-    #[cycle(changing)]
-    pub(crate) fn push_changes(
-        &self,
-        alloc: Global,
-        options: &CopyOptions,
-        at: &LongPath,
-        changes: &mut Vec<Change>,
-    ) -> Result<(), Memory>
-        requires { (q : List (List ℕ)) → is_some (get (joined self.now) q) ≡ true → IsClean q }
-        ensures { OnOk result (changes.new.items ≡ changes.old.items ++ placements options.now at.now (entries (joined self.now))) }
-    {
-        let mut kids = self.iter();
-        while let Some((name, kid)) = kids.next() {
-            let below = at.child(alloc, name)?;
-            let entry = options.placed_entry(alloc, kid.entry())?;
-            changes.push(Change::Place(below.copy(alloc)?, entry))?;
-            kid.push_changes(alloc, options, &below, changes)?;
-        }
-        Ok(())
     }
 }

@@ -1,9 +1,12 @@
 // What a COPY is asked, and what it does to a tree path by path.
 
-ghost use Rattle.std.specs.Prelude.{◌≡◌, IfOk};
+ghost use Rattle.std.specs.Prelude.{◌≡◌, ◌↔◌, IsTrue, IfOk};
+ghost use Rattle.trees.specs.declared.entry.Entry.{Entry as EntryValue};
+ghost use Rattle.trees.specs.Rows.{entry_of};
 ghost use Rattle.trees.specs.Copy.{parent_meta, placed_meta, placed_entry};
+ghost use Rattle.trees.specs.PrivateCopy.{keeping};
 
-use crate::{Content, Entry, Meta};
+use crate::{Content, Entry, LentEntry, Meta};
 use paths::{LongPath, Name, Path};
 use plain::{Exact, Items, Memory, Mode, Owner};
 use std::alloc::Global;
@@ -86,16 +89,67 @@ impl CopyOptions {
         }
     }
 
+    /// An entry, lent with the mode and owner with which it is placed.
+    pub(crate) fn lent_entry<'a>(&self, entry: &'a Entry) -> LentEntry<'a>
+        ensures { entry_of result ≡ placed_entry self.now entry.now }
+    {
+        match entry {
+            Entry::Directory(meta) => LentEntry::Directory(self.placed_meta(*meta)),
+            Entry::File(meta, content) => LentEntry::File(self.placed_meta(*meta), content),
+        }
+    }
+
     /// A copy of an entry, with the mode and owner with which it is placed.
     pub(crate) fn placed_entry(&self, alloc: Global, entry: &Entry) -> Result<Entry, Memory>
         ensures { IfOk result (λ placed. placed ≡ placed_entry self.now entry.now) }
     {
-        match entry {
-            Entry::Directory(meta) => Ok(Entry::Directory(self.placed_meta(*meta))),
-            Entry::File(meta, content) => {
-                let content = content.copy(alloc)?;
-                Ok(Entry::File(self.placed_meta(*meta), content))
+        self.lent_entry(entry).to_entry(alloc)
+    }
+
+    /// Whether two entries are equal once each is placed as its options say.
+    pub(crate) fn places_same(&self, entry: &Entry, others: &CopyOptions, other: &Entry) -> bool
+        ensures { IsTrue result ↔ (placed_entry self.now entry.now ≡ placed_entry others.now other.now) }
+    {
+        match (entry, other) {
+            (Entry::Directory(meta), Entry::Directory(other_meta)) => {
+                self.placed_meta(*meta)
+                    .same(&others.placed_meta(*other_meta))
             }
+            (Entry::File(meta, content), Entry::File(other_meta, other_content)) => {
+                self.placed_meta(*meta)
+                    .same(&others.placed_meta(*other_meta))
+                    && content.same(other_content)
+            }
+            _ => false,
+        }
+    }
+
+    /// Options by which each entry keeps its mode and owner.
+    pub(crate) fn keeping() -> CopyOptions
+        ensures { result ≡ keeping }
+    {
+        CopyOptions {
+            into: false,
+            owner: None,
+            mode: None,
+        }
+    }
+
+    /// Whether entries are placed with their own modes and owners.
+    pub(crate) fn is_keeping(&self) -> bool
+        ensures { IsTrue result → (entry : EntryValue) → placed_entry self.now entry ≡ entry }
+    {
+        self.owner.is_none() && self.mode.is_none()
+    }
+
+    /// These options and then later ones, as one.
+    pub(crate) fn then(&self, later: &CopyOptions) -> CopyOptions
+        ensures { (entry : EntryValue) → placed_entry result entry ≡ placed_entry later.now (placed_entry self.now entry) }
+    {
+        CopyOptions {
+            into: false,
+            owner: later.owner.or(self.owner),
+            mode: later.mode.or(self.mode),
         }
     }
 }

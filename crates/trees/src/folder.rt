@@ -1,19 +1,19 @@
 // A COPY of folders to where nothing lies: what is below them is laid over each other and hung in as a whole, and not placed entry by entry.
-// Where entries keep modes and owners, it is shared.
+// It is shared; what `--chown` and `--chmod` put on it stands beside the pointer to it.
 
 ghost use Rattle.std.specs.Prelude.{◌≡◌, ◌≤◌, ℕ, Bool, true, Some, List, [], ◌∷◌, ◌++◌, length, is_some, IsTrue, IfOk, OnOk};
 ghost use Rattle.std.specs.FinMap.{get};
 ghost use Rattle.paths.specs.Path.{IsClean};
-ghost use Rattle.trees.specs.declared.entry.Entry.{Entry};
 ghost use Rattle.trees.specs.declared.meta.Meta.{Meta as MetaValue};
 ghost use Rattle.trees.specs.declared.copy.Change.{Change};
 ghost use Rattle.trees.specs.TreeMap.{IsTree};
-ghost use Rattle.trees.specs.Copy.{placed_entry, parent_meta, changes_of, source_changes, paths_changes, path_changes, goes_into, first_cause};
+ghost use Rattle.trees.specs.Copy.{parent_meta, changes_of, source_changes, paths_changes, path_changes, goes_into, first_cause};
 ghost use Rattle.trees.specs.PrivateCopy.{AppliesChanges, IsFreeBelow, IsLaidPlaced, IsSunk, Comes, IsFoundOf, HangsIn};
 ghost use Rattle.trees.specs.PrivateNode.{map_of};
 
 use crate::apply::{apply_all, make, make_cause};
 use crate::changes::{changes_of, goes_into};
+use crate::lent_node::LentNode;
 use crate::node::Node;
 use crate::{Cause, CopyOptions, CopySource, Entry, Meta, Tree, TreeFault};
 use paths::Path;
@@ -100,7 +100,7 @@ fn whole_folder(
         Joined::Other => return Ok(Whole::Neither),
     }
     // Where no source has a match, a COPY doesn't even make its destination.
-    if joined.is_bare() {
+    if joined.lent().is_bare() {
         return Ok(Whole::Neither);
     }
     Ok(Whole::Folder(joined))
@@ -186,14 +186,14 @@ fn join_match(
     let Some(folder) = from.node_at(path) else {
         return Ok(Joined::Other);
     };
-    if !folder.is_directory() || joined.meets(folder) {
+    if !folder.is_directory() || joined.lent().meets(&folder) {
         return Ok(Joined::Other);
     }
-    if fits(folder, dest) {
-        lay_placed(alloc, joined, options, folder)?;
+    if fits(&folder, dest) {
+        lay_placed(alloc, joined, options, &folder)?;
         return Ok(Joined::All);
     }
-    if is_keeping(options) && folder.is_deeper(MOST_COMPONENTS - dest.depth()) {
+    if folder.is_deeper(MOST_COMPONENTS - dest.depth()) {
         return Ok(Joined::TooDeep);
     }
     Ok(Joined::Other)
@@ -204,24 +204,12 @@ fn lay_placed(
     alloc: Global,
     joined: &mut Node,
     options: &CopyOptions,
-    folder: &Node,
+    folder: &LentNode<'_>,
 ) -> Result<(), Memory>
     ensures { OnOk result (IsLaidPlaced options.now (map_of joined.old) folder.now (map_of joined.new)) }
 {
-    if is_keeping(options) {
-        joined.lay_over(alloc, folder)?;
-        return Ok(());
-    }
-    let placed = folder.placed(alloc, options)?;
-    joined.lay_over(alloc, &placed)?;
+    joined.lay_over(alloc, &folder.placed(options))?;
     Ok(())
-}
-
-/// Whether entries are placed with their own modes and owners.
-fn is_keeping(options: &CopyOptions) -> bool
-    ensures { IsTrue result → (entry : Entry) → placed_entry options.now entry ≡ entry }
-{
-    options.owner.is_none() && options.mode.is_none()
 }
 
 /// Whether nothing lies below a path.
@@ -230,14 +218,14 @@ fn is_free_below(root: &Node, path: &Path) -> bool
     ensures free { IsTrue result → IsFreeBelow (map_of root.now) path.now }
     ensures clean { IsClean path.now }
 {
-    match root.node_at(path.components()) {
+    match root.lent().node_at(path.components()) {
         None => true,
         Some(node) => node.is_bare(),
     }
 }
 
 /// Whether no path of a folder gets too deep below a destination.
-fn fits(folder: &Node, dest: &Path) -> bool
+fn fits(folder: &LentNode<'_>, dest: &Path) -> bool
     requires { IsClean dest.now }
     ensures { IsTrue result → (rest : List (List ℕ)) → is_some (get (map_of folder.now) rest) ≡ true → length (dest.now ++ rest) ≤ 64 }
 {
@@ -256,6 +244,6 @@ fn hang_in(
     ensures { HangsIn parent.now dest.now (map_of folder.now) (map_of root.old) (map_of root.new) result }
 {
     make(alloc, root, parent, dest)?;
-    root.fill(alloc, dest.components(), folder)?;
+    root.fill(alloc, dest.components(), &folder.lent())?;
     Ok(())
 }

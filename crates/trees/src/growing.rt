@@ -11,16 +11,13 @@ ghost use Rattle.trees.specs.PrivateGrowing.{AreMoved, IsGrown, ComesNext, IsLas
 use crate::inner::lifted;
 use crate::names::Names;
 use crate::node::Node;
-use crate::part::Part;
+use crate::part::{PART_NAMES, Part};
 use crate::{Entry, Meta};
 use paths::Path;
 use plain::{Exact, Memory, Text};
 use std::alloc::Global;
 use std::marker::Model;
 use std::sync::Arc;
-
-/// So many names a part has. A change copies the names of one part, so they aren't many.
-const PART_NAMES: usize = 24;
 
 /// The children of a folder that are gathered so far, those with the greatest names first.
 #[derive(Drop)]

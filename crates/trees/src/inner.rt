@@ -6,9 +6,12 @@ ghost use Rattle.plain.specs.Limits.{most_components};
 ghost use Rattle.trees.specs.Over.{over};
 ghost use Rattle.trees.specs.TreeMap.{is_directory};
 ghost use Rattle.trees.specs.PrivateNode.{map_of, joined, node_of, IsDepth, IsPlanted, IsCut, IsFilled, are_parts, lists_of, kids_of};
-ghost use Rattle.trees.specs.PrivateCopy.{IsPlacedNode};
+ghost use Rattle.trees.specs.PrivateSeen.{seen};
+ghost use Rattle.trees.specs.PrivateCopy.{keeping};
 
 use crate::children::Children;
+use crate::lent_kids::LentKids;
+use crate::lent_node::LentNode;
 use crate::node::Node;
 use crate::part::Part;
 use crate::{CopyOptions, Entry, Meta};
@@ -81,12 +84,18 @@ impl Inner {
         }
     }
 
-    /// The same node, whose children's parts are shared.
-    fn copy(&self, alloc: Global) -> Result<Inner, Memory>
-        ensures { IfOk result (λ n. n ≡ self.now) }
+    /// The same children below another entry, as a COPY places them. Their parts are shared if it keeps modes and owners, and else what is
+    /// below them.
+    pub(crate) fn with_entry(
+        &self,
+        alloc: Global,
+        entry: Entry,
+        options: &CopyOptions,
+    ) -> Result<Inner, Memory>
+        ensures top { IfOk result (λ n. n.top ≡ entry) }
+        ensures below { IfOk result (λ n. n.below ≡ (seen options.now self.now).below) }
     {
-        let entry = self.entry.copy(alloc)?;
-        let kids = self.kids.copy(alloc)?;
+        let kids = self.kids_placed(alloc, options)?;
         Ok(Inner {
             entry,
             kids,
@@ -94,17 +103,15 @@ impl Inner {
         })
     }
 
-    /// The same children below another entry. Their parts are shared.
-    pub(crate) fn with_entry(&self, alloc: Global, entry: Entry) -> Result<Inner, Memory>
-        ensures top { IfOk result (λ n. n.top ≡ entry) }
-        ensures below { IfOk result (λ n. n.below ≡ self.now.below) }
+    /// The children as a COPY places them.
+    fn kids_placed(&self, alloc: Global, options: &CopyOptions) -> Result<Children, Memory>
+        ensures { IfOk result (λ kids. node_of (seen options.now self.now).top kids ≡ seen options.now self.now) }
     {
-        let shared = self.kids.copy(alloc)?;
-        Ok(Inner {
-            entry,
-            kids: shared,
-            depth: self.depth,
-        })
+        if options.is_keeping() {
+            self.kids.copy(alloc)
+        } else {
+            self.kids.placed(alloc, options)
+        }
     }
 
     /// This node's entry, lent.
@@ -136,13 +143,12 @@ impl Inner {
         self.entry = entry;
     }
 
-    /// A node with the same paths, each entry of which has the mode and owner with which it is placed.
-    #[cycle(placing)]
-    pub(crate) fn placed(&self, alloc: Global, options: &CopyOptions) -> Result<Inner, Memory>
-        ensures { IfOk result (λ node. IsPlacedNode options.now self.now node) }
+    /// The same node as a COPY places it.
+    fn placed(&self, alloc: Global, options: &CopyOptions) -> Result<Inner, Memory>
+        ensures { IfOk result (λ n. n ≡ seen options.now self.now) }
     {
         let entry = options.placed_entry(alloc, &self.entry)?;
-        let kids = self.kids.placed(alloc, options)?;
+        let kids = self.kids_placed(alloc, options)?;
         Ok(Inner {
             entry,
             kids,
@@ -176,23 +182,34 @@ impl Inner {
 
     /// Lays a directory with children over this node, as [`Node::lay_over`] does.
     #[cycle(laying)]
-    pub(crate) fn lay_over(&mut self, alloc: Global, upper: &Inner) -> Result<bool, Memory>
-        requires { is_directory (Some upper.now.top) ≡ true }
+    pub(crate) fn lay_over(
+        &mut self,
+        alloc: Global,
+        upper: &LentNode<'_>,
+        uppers: &LentKids<'_>,
+    ) -> Result<bool, Memory>
+        requires directory { is_directory (Some upper.now.top) ≡ true }
+        requires kids { node_of upper.now.top uppers.now ≡ upper.now }
         ensures { OnOk result (map_of self.new ≡ over (map_of self.old) (map_of upper.now)) }
     {
         let before = self.depth;
-        self.entry = upper.entry.copy(alloc)?;
-        let deepest = before.max(upper.depth);
+        self.entry = upper.entry().to_entry(alloc)?;
+        let deepest = before.max(upper.depth());
         // Where there is no memory, what is half done may be anything.
         self.depth = UNKNOWN;
-        let is_less = self.kids.lay_over(alloc, &upper.kids)?;
+        let is_less = self.kids.lay_over(alloc, uppers)?;
         self.depth = depth_of(&self.kids, deepest, is_less);
         Ok(self.depth < before)
     }
 
     /// Puts what is below a folder below the node at a path that isn't this node's own, as [`Node::fill`] does.
     #[cycle(filling)]
-    pub(crate) fn fill(&mut self, alloc: Global, path: &[Text], folder: &Node) -> Result<(), Memory>
+    pub(crate) fn fill(
+        &mut self,
+        alloc: Global,
+        path: &[Text],
+        folder: &LentNode<'_>,
+    ) -> Result<(), Memory>
         requires { 0 < length path.now }
         ensures { OnOk result (IsFilled (get (map_of self.old)) (get (map_of self.new)) path.now folder.now.below) }
     {
@@ -234,15 +251,27 @@ impl Inner {
     }
 }
 
-/// Makes a node the holder's own: where others share it, the same node takes its place, whose children's parts are shared.
-pub(crate) fn own(alloc: Global, shared: &mut Arc<Inner, Global>) -> Result<(), Memory>
-    ensures { arc_value shared.new ≡ arc_value shared.old }
+/// Makes a node the holder's own, with nothing put on it. If others share it, or a COPY put a mode or an owner on it, a copy takes its
+/// place whose entry and children's entries are as they are seen; what is below the children stays shared. If there is no memory, nothing
+/// that is seen has changed.
+pub(crate) fn own(
+    alloc: Global,
+    shared: &mut Arc<Inner, Global>,
+    options: &mut CopyOptions,
+) -> Result<(), Memory>
+    ensures same { seen options.new (arc_value shared.new) ≡ seen options.old (arc_value shared.old) }
+    ensures keeping { OnOk result (options.new ≡ keeping) }
 {
-    if let Some(_alone) = Arc::get_mut(shared) {
-        return Ok(());
+    if options.is_keeping() {
+        if let Some(_alone) = Arc::get_mut(shared) {
+            // `into` may be anything.
+            *options = CopyOptions::keeping();
+            return Ok(());
+        }
     }
-    let inner = shared.copy(alloc)?;
+    let inner = shared.placed(alloc, options)?;
     *shared = Arc::new(alloc, inner)?;
+    *options = CopyOptions::keeping();
     Ok(())
 }
 

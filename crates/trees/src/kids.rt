@@ -1,6 +1,9 @@
 ghost use Rattle.std.specs.Prelude.{◌≡◌, true, [], ◌∷◌, ◌++◌, MatchOption};
 ghost use Rattle.trees.specs.PrivateNode.{lists_of, flat, are_full};
+ghost use Rattle.trees.specs.PrivateSeen.{seen_kids};
 
+use crate::CopyOptions;
+use crate::lent_node::LentNode;
 use crate::node::Node;
 use crate::part::Part;
 use plain::Text;
@@ -12,45 +15,55 @@ pub(crate) struct Kids<'a> {
     /// What is left of the part that was begun.
     begun: &'a [(Text, Node)],
     parts: &'a [Part],
+    /// What COPYs put on each of them.
+    options: CopyOptions,
 }
 
 impl<'a> Model for Kids<'a> {
     ghost use Rattle.std.specs.Prelude.{◌≡◌, true, ℕ, List, ◌++◌};
     ghost use Rattle.trees.specs.PrivateNode.{NodeValue, kids_code, lists_of, flat, are_full};
+    ghost use Rattle.trees.specs.PrivateSeen.{seen_kids};
 
     ghost Value = { List (List ℕ × NodeValue) };
 
     ghost coded = { kids_code };
 
-    ghost view = { λ k. k.begun.now ++ flat (lists_of k.parts.now) };
+    ghost view = { λ k. seen_kids k.options (k.begun.now ++ flat (lists_of k.parts.now)) };
 
     ghost invariant = { λ k. are_full (lists_of k.parts.now) ≡ true };
 }
 
 impl<'a> Kids<'a> {
-    /// The children of these parts.
-    pub(crate) fn of(parts: &'a [Part]) -> Kids<'a>
-        requires { are_full (lists_of parts.now) ≡ true }
-        ensures { result ≡ flat (lists_of parts.now) }
+    /// None.
+    pub(crate) fn none() -> Kids<'a>
+        ensures { result ≡ [] }
     {
-        Kids { begun: &[], parts }
+        Kids::of_begun(&[], &[], CopyOptions::keeping())
     }
 
-    /// The children that are left of a part, and then those of these parts.
-    pub(crate) fn of_begun(begun: &'a [(Text, Node)], parts: &'a [Part]) -> Kids<'a>
+    /// The children that are left of a part, and then those of these parts, with the mode and the owner that these options put on them.
+    pub(crate) fn of_begun(
+        begun: &'a [(Text, Node)],
+        parts: &'a [Part],
+        options: CopyOptions,
+    ) -> Kids<'a>
         requires { are_full (lists_of parts.now) ≡ true }
-        ensures { result ≡ begun.now ++ flat (lists_of parts.now) }
+        ensures { result ≡ seen_kids options (begun.now ++ flat (lists_of parts.now)) }
     {
-        Kids { begun, parts }
+        Kids {
+            begun,
+            parts,
+            options,
+        }
     }
 
     /// The next child.
-    pub(crate) fn next(&mut self) -> Option<(&'a Text, &'a Node)>
-        ensures { MatchOption result ((self.old ≡ []) × (self.new ≡ [])) (λ kid. self.old ≡ (kid.0.now, kid.1.now) ∷ self.new) }
+    pub(crate) fn next(&mut self) -> Option<(&'a Text, LentNode<'a>)>
+        ensures { MatchOption result ((self.old ≡ []) × (self.new ≡ [])) (λ kid. self.old ≡ (kid.0.now, kid.1) ∷ self.new) }
     {
         if let [(name, kid), rest @ ..] = self.begun {
             self.begun = rest;
-            return Some((name, kid));
+            return Some((name, LentNode::of(kid, self.options)));
         }
         match self.parts {
             [] => None,
@@ -60,7 +73,7 @@ impl<'a> Kids<'a> {
                     [] => None,
                     [(name, kid), left @ ..] => {
                         self.begun = left;
-                        Some((name, kid))
+                        Some((name, LentNode::of(kid, self.options)))
                     }
                 }
             }

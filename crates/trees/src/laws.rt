@@ -19,6 +19,8 @@ ghost use Rattle.paths.specs.Fronts.{is_front};
 ghost use Rattle.trees.specs.TreeMap.{TreeMap, IsTree, is_blocked, empty_tree, directory_meta};
 ghost use Rattle.trees.specs.Cause.{tree_or};
 ghost use Rattle.trees.specs.Put.{planted, put_into, cause_at, placed};
+ghost use Rattle.trees.specs.Row.{Row};
+ghost use Rattle.trees.specs.Builder.{Built, none_built, comes_next, with_row, IsBuiltOf};
 ghost use Rattle.trees.specs.Make.{made};
 ghost use Rattle.trees.specs.Remove.{removed};
 ghost use Rattle.trees.specs.Subtree.{subtree};
@@ -111,4 +113,12 @@ pub fn a_removal_keeps_the_rest()
 pub fn a_repeat_is_of_any_placement()
     ensures { (meta : Meta) (tree : TreeMap) (changes : List Change) (path : List (List ℕ)) (entry : Entry)
         → first_cause meta tree [] changes ≡ None → is_repeated (kind_placed changes path) entry ≡ list_any (is_repeated_by path entry) changes }
+{}
+
+/// What a `TreeBuilder` has is built of the rows that it added, each of which followed those before it: first of none, and then of each row
+/// more. So their tree is that of their list, although of a list the last row is placed first.
+pub fn rows_that_follow_build_their_tree()
+    ensures none { IsBuiltOf [] none_built }
+    ensures more { (rows : List Row) (row : Row) (built : Built)
+        → IsBuiltOf rows built → comes_next built.last row ≡ true → IsBuiltOf (rows ++ row ∷ []) (with_row built row) }
 {}

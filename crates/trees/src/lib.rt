@@ -4,7 +4,7 @@
 // specs/TreeMap.antt); how it is stored can't be seen. One entry is put at a path (`put_into`), a directory is made with its parents
 // (`made`), a path is taken away (`removed`), a COPY places its sources (`copied`), and trees are laid over each other (`over`,
 // `merged`). Each gives a tree or a cause (`TreeOrCause`). A `Walk` lends all entries with the names on the way to them, one after another, and
-// a `Branch` what stands at one path, its children by their names.
+// a `Branch` what stands at one path, its children by their names. A `TreeBuilder` takes rows in the order of a walk, one after another.
 // The crate knows no patterns: the sources of a COPY are paths.
 //
 // ```
@@ -16,6 +16,7 @@
 
 mod apply;
 mod branch;
+mod builder;
 mod cause;
 mod changes;
 mod children;
@@ -28,20 +29,26 @@ mod growing;
 mod inner;
 mod kids;
 pub mod laws;
+mod lent_entry;
+mod lent_kids;
+mod lent_node;
 mod meta;
 mod names;
 mod node;
 mod part;
 mod put;
 mod slab;
+mod spine;
 mod tree;
 mod walk;
 
 pub use branch::{Branch, Branches};
+pub use builder::TreeBuilder;
 pub use cause::{Cause, TreeFault, TreeOrCause};
 pub use content::Content;
 pub use copy::{CopyOptions, CopySource};
 pub use entry::Entry;
+pub use lent_entry::LentEntry;
 pub use meta::Meta;
 pub use slab::Slab;
 pub use tree::Tree;

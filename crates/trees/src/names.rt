@@ -9,7 +9,7 @@ ghost use Rattle.paths.specs.Order.{name_cmp};
 ghost use Rattle.trees.specs.Branch.{from_name};
 ghost use Rattle.trees.specs.PrivateNode.{StandsAt, GoesAt, IsPut, IsTaken, IsCutAt};
 ghost use Rattle.trees.specs.PrivateLent.{LendsNode};
-ghost use Rattle.trees.specs.PrivateCopy.{ArePlacedKids};
+ghost use Rattle.trees.specs.PrivateSeen.{seen_kids};
 
 use crate::CopyOptions;
 use crate::node::Node;
@@ -172,10 +172,9 @@ impl Names {
         Ok(Names { rows })
     }
 
-    /// The same names, each with its node as a COPY places it, with all below it.
-    #[cycle(placing)]
+    /// The same names, each with its node as a COPY places it. What is below it is shared.
     pub(crate) fn placed(&self, alloc: Global, options: &CopyOptions) -> Result<Names, Memory>
-        ensures { IfOk result (λ names. ArePlacedKids options.now self.now names) }
+        ensures { IfOk result (λ names. names ≡ seen_kids options.now self.now) }
     {
         let mut rows = Vec::with_capacity(alloc, self.rows.len())?;
         let all = self.rows.as_slice();

@@ -2,7 +2,7 @@
 ghost use Rattle.std.specs.Prelude.{◌≡◌, ◌+◌, ◌<◌, ◌≤◌, ◌↔◌, true, false, length, IsTrue, IfOk, OnOk, OnErr, [], ◌∷◌, ◌++◌, vec_len};
 ghost use Rattle.std.specs.Arc.{arc_value};
 ghost use Rattle.trees.specs.PrivateNode.{lists_of, flat, are_parts, begins_past, IsPlace, IsPut, IsTaken, IsHalved};
-ghost use Rattle.trees.specs.PrivateCopy.{ArePlacedKids, ArePlacedParts};
+ghost use Rattle.trees.specs.PrivateSeen.{seen_parts};
 
 use crate::CopyOptions;
 use crate::names::Names;
@@ -13,6 +13,9 @@ use std::sync::Arc;
 
 /// Some children of a folder whose names follow each other, behind a pointer that folders share.
 pub(crate) type Part = Arc<Names, Global>;
+
+/// So many names a part has that is made whole at once. A change copies the names of one part, so they aren't many.
+pub(crate) const PART_NAMES: usize = 24;
 
 /// So many names every part may have before it is cut in two.
 const FEW_NAMES: usize = 15;
@@ -86,15 +89,13 @@ pub(crate) fn own(alloc: Global, part: &mut Part, more: usize) -> Result<(), Mem
     Ok(())
 }
 
-/// Parts of the same names, each of whose nodes is as a COPY places it, with all below it.
-#[cycle(placing)]
+/// Parts of the same names, each of whose nodes is as a COPY places it. What is below it is shared.
 pub(crate) fn placed_parts(
     alloc: Global,
     options: &CopyOptions,
     parts: &[Part],
 ) -> Result<Vec<Part>, Memory>
-    requires { are_parts (lists_of parts.now) ≡ true }
-    ensures { IfOk result (λ placed. ArePlacedParts options.now (lists_of parts.now) (lists_of placed.items)) }
+    ensures { IfOk result (λ placed. lists_of placed.items ≡ seen_parts options.now (lists_of parts.now)) }
 {
     let mut placed = Vec::with_capacity(alloc, parts.len())?;
     for part in parts {

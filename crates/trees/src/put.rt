@@ -1,19 +1,20 @@
-ghost use Rattle.std.specs.Prelude.{◌≡◌, ◌≤◌, length, option_copied};
+ghost use Rattle.std.specs.Prelude.{◌≡◌, ◌≤◌, length, option_copied, option_map};
 ghost use Rattle.std.specs.FinMap.{get};
+ghost use Rattle.trees.specs.Rows.{entry_of};
 ghost use Rattle.trees.specs.PrivateNode.{map_of};
 ghost use Rattle.trees.specs.Put.{cause_at, clash_of};
 
 use crate::node::Node;
-use crate::{Cause, Entry};
+use crate::{Cause, Entry, LentEntry};
 use plain::Text;
 
 /// Why an entry can't stand where another one stands.
-fn clash_of(there: Option<&Entry>, entry: &Entry) -> Option<Cause>
-    ensures { result ≡ clash_of (option_copied there.entry) entry.now }
+fn clash_of(there: Option<&LentEntry<'_>>, entry: &Entry) -> Option<Cause>
+    ensures { result ≡ clash_of (option_map entry_of (option_copied there.entry)) entry.now }
 {
     match (there, entry) {
-        (Some(Entry::Directory(_)), Entry::File(_, _)) => Some(Cause::F4),
-        (Some(Entry::File(_, _)), Entry::Directory(_)) => Some(Cause::F2),
+        (Some(LentEntry::Directory(_)), Entry::File(_, _)) => Some(Cause::F4),
+        (Some(LentEntry::File(_, _)), Entry::Directory(_)) => Some(Cause::F2),
         _ => None,
     }
 }
@@ -23,8 +24,9 @@ pub(crate) fn cause_at(root: &Node, path: &[Text], entry: &Entry) -> Option<Caus
     requires { length path.now ≤ 64 }
     ensures { result ≡ cause_at (get (map_of root.now)) path.now entry.now }
 {
+    let root = root.lent();
     if root.is_blocked(path) {
         return Some(Cause::F2);
     }
-    clash_of(root.find(path), entry)
+    clash_of(root.find(path).as_ref(), entry)
 }

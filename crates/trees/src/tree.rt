@@ -1,9 +1,9 @@
-ghost use Rattle.std.specs.Prelude.{◌≡◌, Some, None, [], IfOk, OnOk, OnErr, MatchOption, option_copied};
+ghost use Rattle.std.specs.Prelude.{◌≡◌, Some, None, [], IfOk, OnOk, OnErr, MatchOption, option_map};
 ghost use Rattle.std.specs.FinMap.{get, entries};
 ghost use Rattle.trees.specs.declared.entry.Entry.TheVariants.{Directory};
 ghost use Rattle.trees.specs.TreeMap.{IsTree, directory_meta, empty_tree};
 ghost use Rattle.trees.specs.Cause.{GivesTree, ChangesTree};
-ghost use Rattle.trees.specs.Rows.{lent_rows};
+ghost use Rattle.trees.specs.Rows.{lent_rows, entry_of};
 ghost use Rattle.trees.specs.Put.{cause_at, placed, put_into};
 ghost use Rattle.trees.specs.Whole.{tree_of, ArePlaceable};
 ghost use Rattle.trees.specs.Make.{made};
@@ -17,9 +17,10 @@ use crate::apply::make;
 use crate::changes::is_any_missing;
 use crate::folder::place_sources;
 use crate::growing::grow;
+use crate::lent_node::LentNode;
 use crate::node::Node;
 use crate::put::cause_at;
-use crate::{Branch, Cause, CopyOptions, CopySource, Entry, Meta, TreeFault, Walk};
+use crate::{Branch, Cause, CopyOptions, CopySource, Entry, LentEntry, Meta, TreeFault, Walk};
 use paths::Path;
 use plain::{Exact, Fault, Memory};
 use std::alloc::Global;
@@ -76,35 +77,45 @@ impl Tree {
         Ok(tree)
     }
 
+    /// The tree of a node.
+    pub(crate) fn of_root(root: Node) -> Tree
+        requires { IsTree (map_of root) }
+        ensures { result ≡ map_of root }
+    {
+        Tree { root }
+    }
+
     /// The mode and owner of the root, which is a directory in every tree, as the parents of all that it has are.
     pub fn root(&self) -> Meta
         ensures value { get self.now [] ≡ Some (Directory result) }
         ensures tree { IsTree self.now }
     {
-        self.root.meta()
+        self.root.lent().meta()
     }
 
     /// The entry at a path, if there is one. It takes no memory.
-    pub fn get(&self, path: &Path) -> Option<&Entry>
-        ensures { option_copied result ≡ get self.now path.now }
+    pub fn get(&self, path: &Path) -> Option<LentEntry<'_>>
+        ensures { option_map entry_of result ≡ get self.now path.now }
     {
-        self.root.find(path.components())
+        self.root.lent().find(path.components())
     }
 
     /// The node at a path, if something stands there.
-    pub(crate) fn node_at(&self, path: &Path) -> Option<&Node>
-        ensures at { MatchOption result (get self.now path.now ≡ None) (λ node. IsBelow self.now path.now (map_of node.now)) }
+    pub(crate) fn node_at(&self, path: &Path) -> Option<LentNode<'_>>
+        ensures at { MatchOption result (get self.now path.now ≡ None) (λ node. IsBelow self.now path.now (map_of node)) }
         ensures tree { IsTree self.now }
     {
-        self.root.node_at(path.components())
+        self.root.lent().node_at(path.components())
     }
 
     /// All entries with their paths, in path order, the root first. Paths are made, and the entries are lent.
-    pub fn entries(&self, alloc: Global) -> Result<Vec<(Path, &Entry)>, Memory>
+    pub fn entries(&self, alloc: Global) -> Result<Vec<(Path, LentEntry<'_>)>, Memory>
         ensures { IfOk result (λ rows. lent_rows rows.items ≡ entries self.now) }
     {
         let mut rows = Vec::new(alloc);
-        self.root.push_rows(alloc, &Path::root(alloc), &mut rows)?;
+        self.root
+            .lent()
+            .push_rows(alloc, &Path::root(alloc), &mut rows)?;
         Ok(rows)
     }
 
@@ -120,7 +131,7 @@ impl Tree {
     pub fn branch(&self) -> Branch<'_>
         ensures { result ≡ self.now }
     {
-        Branch::of(&self.root)
+        Branch::of(self.root.lent())
     }
 
     /// What lies under a path, as a tree of its own: the directory at the path is its root. Of the root it is a copy of the tree.
@@ -130,7 +141,7 @@ impl Tree {
     pub fn subtree(&self, alloc: Global, path: &Path) -> Result<Tree, TreeFault>
         ensures { GivesTree (subtree self.now path.now) result }
     {
-        match self.root.node_at(path.components()) {
+        match self.root.lent().node_at(path.components()) {
             None => Err(Fault::Because(Cause::F1)),
             Some(node) => {
                 if !node.is_directory() {
@@ -194,7 +205,7 @@ impl Tree {
         if parts.is_empty() {
             return Err(Fault::Because(Cause::F1));
         }
-        match self.root.kind(parts) {
+        match self.root.lent().kind(parts) {
             None => Err(Fault::Because(Cause::F1)),
             Some(_) => {
                 self.root.cut(alloc, parts)?;
@@ -260,7 +271,7 @@ impl Tree {
         ensures { IfOk result (λ tree. tree ≡ over self upper.now) }
     {
         let Tree { mut root } = self;
-        root.lay_over(alloc, &upper.root)?;
+        root.lay_over(alloc, &upper.root.lent())?;
         Ok(Tree { root })
     }
 
@@ -281,7 +292,7 @@ impl Tree {
 
 impl Exact for Tree {
     fn same(&self, other: &Tree) -> bool {
-        self.root.same(&other.root)
+        self.root.lent().same(&other.root.lent())
     }
 
     fn copy(&self, alloc: Global) -> Result<Tree, Memory> {

@@ -1,12 +1,14 @@
-ghost use Rattle.std.specs.Prelude.{◌≡◌, ◌-◌, ℕ, List, [], ◌∷◌, IfOk, IsTrue, MatchOption, length, take};
+ghost use Rattle.std.specs.Prelude.{◌≡◌, ◌-◌, ℕ, false, List, [], ◌∷◌, IfOk, IsTrue, MatchOption, length, take};
+ghost use Rattle.trees.specs.declared.entry.Entry.{Entry as EntryValue};
 ghost use Rattle.std.specs.FinMap.{entries};
-ghost use Rattle.trees.specs.Rows.{lent_names};
+ghost use Rattle.trees.specs.Rows.{lent_names, entry_of};
 ghost use Rattle.trees.specs.TreeMap.{IsTree};
 ghost use Rattle.trees.specs.PrivateNode.{NodeValue, map_of};
 ghost use Rattle.trees.specs.PrivateWalk.{IsOnWay, IsBare, AreBare, rows_of, left_below_root};
 
-use crate::Entry;
+use crate::LentEntry;
 use crate::kids::Kids;
+use crate::lent_node::LentNode;
 use crate::node::Node;
 use plain::limits::MOST_COMPONENTS;
 use plain::{Memory, Text};
@@ -22,12 +24,12 @@ use std::mem;
 #[derive(Drop)]
 pub struct Walk<'a> {
     /// The root's entry, until it is given.
-    root: Option<&'a Entry>,
+    root: Option<LentEntry<'a>>,
     /// The children that are left of the folder that was entered last, or of the root. An entry with nothing below it isn't entered.
     kids: Kids<'a>,
     /// Those of each folder on the way to it, the root's first.
     above: Vec<Kids<'a>>,
-    /// The names on the way to the entry that was given last.
+    /// The names on the way to the entry that was given or passed last.
     names: Vec<&'a Text>,
     /// Whether it is known that nothing is below any of `kids`.
     are_bare: bool,
@@ -56,16 +58,17 @@ impl<'a> Walk<'a> {
     {
         let above = Vec::with_capacity(alloc, MOST_COMPONENTS)?;
         let names = Vec::with_capacity(alloc, MOST_COMPONENTS)?;
+        let root = root.lent();
         Ok(Walk {
             root: Some(root.entry()),
             kids: root.kids(),
             above,
             names,
-            are_bare: has_bare_kids(root),
+            are_bare: has_bare_kids(&root),
         })
     }
 
-    /// The names of the path of the entry that was given last, from the root down. The root's path has none.
+    /// The names of the path of the entry that was given or passed last, from the root down. The root's path has none.
     pub fn names(&self) -> &[&'a Text]
         ensures { lent_names result.now ≡ self.now.at }
     {
@@ -73,34 +76,57 @@ impl<'a> Walk<'a> {
     }
 
     /// The next entry, if one is left. All names on the way to it but its last are on the way to the one before, at the same places.
-    pub fn next(&mut self) -> Option<&'a Entry>
-        ensures next { MatchOption result ((self.old.left ≡ []) × (self.new.left ≡ [])) (λ entry. self.old.left ≡ (self.new.at, entry.now) ∷ self.new.left) }
+    pub fn next(&mut self) -> Option<LentEntry<'a>>
+        ensures next { MatchOption result ((self.old.left ≡ []) × (self.new.left ≡ [])) (λ entry. self.old.left ≡ (self.new.at, entry_of entry) ∷ self.new.left) }
         ensures keeps { take (length self.new.at - 1) self.new.at ≡ take (length self.new.at - 1) self.old.at }
     {
         match self.root.take() {
             Some(entry) => Some(entry),
-            None => step(
+            None => match step(
                 &mut self.names,
                 &mut self.above,
                 &mut self.kids,
                 &mut self.are_bare,
-            ),
+            ) {
+                Some(node) => Some(node.entry()),
+                None => None,
+            },
+        }
+    }
+
+    /// Goes past the next entry, if one is left, and answers whether one was. It doesn't look at the entry, which `next` has to fetch from memory.
+    pub fn pass(&mut self) -> bool
+        ensures next { IsTrue result → (entry : EntryValue) × (self.old.left ≡ (self.new.at, entry) ∷ self.new.left) }
+        ensures end { result ≡ false → (self.old.left ≡ []) × (self.new.left ≡ []) }
+        ensures keeps { take (length self.new.at - 1) self.new.at ≡ take (length self.new.at - 1) self.old.at }
+    {
+        match self.root.take() {
+            Some(_) => true,
+            None => match step(
+                &mut self.names,
+                &mut self.above,
+                &mut self.kids,
+                &mut self.are_bare,
+            ) {
+                Some(_) => true,
+                None => false,
+            },
         }
     }
 }
 
-/// The next entry below the root. The names are those of its path then.
+/// The next node below the root. The names are those of its path then.
 fn step<'a>(
     names: &mut Vec<&'a Text>,
     above: &mut Vec<Kids<'a>>,
     kids: &mut Kids<'a>,
     are_bare: &mut bool,
-) -> Option<&'a Entry>
+) -> Option<LentNode<'a>>
     requires { IsOnWay names.old above.old kids.old are_bare.old }
     ensures way { IsOnWay names.new above.new kids.new are_bare.new }
     ensures next { MatchOption result
         ((left_below_root names.old above.old kids.old ≡ []) × (left_below_root names.new above.new kids.new ≡ []))
-        (λ entry. left_below_root names.old above.old kids.old ≡ (lent_names names.new.items, entry.now) ∷ left_below_root names.new above.new kids.new) }
+        (λ node. left_below_root names.old above.old kids.old ≡ (lent_names names.new.items, node.top) ∷ left_below_root names.new above.new kids.new) }
     ensures keeps { take (length names.new.items - 1) (lent_names names.new.items) ≡ take (length names.new.items - 1) (lent_names names.old.items) }
 {
     // Nothing was below the entry that was given last, so no folder was entered for its name.
@@ -110,12 +136,12 @@ fn step<'a>(
     loop {
         if let Some((name, kid)) = kids.next() {
             names.push(name).unwrap();
-            if !is_bare(kid, *are_bare) {
+            if !is_bare(&kid, *are_bare) {
                 let left = mem::replace(kids, kid.kids());
                 above.push(left).unwrap();
-                *are_bare = has_bare_kids(kid);
+                *are_bare = has_bare_kids(&kid);
             }
-            return Some(kid.entry());
+            return Some(kid);
         }
         let Some(left) = above.pop() else {
             return None;
@@ -128,7 +154,7 @@ fn step<'a>(
 
 /// Whether nothing is below a node. Where that is known, the node isn't looked at: to fetch it from memory costs more than all else that a
 /// walk does to go past it.
-fn is_bare(node: &Node, is_known: bool) -> bool
+fn is_bare(node: &LentNode<'_>, is_known: bool) -> bool
     requires { IsTrue is_known → IsBare node.now }
     ensures { IsTrue result → IsBare node.now }
 {
@@ -136,7 +162,7 @@ fn is_bare(node: &Node, is_known: bool) -> bool
 }
 
 /// Whether it is known that nothing is below any child of a node.
-fn has_bare_kids(node: &Node) -> bool
+fn has_bare_kids(node: &LentNode<'_>) -> bool
     ensures { IsTrue result → (kids : List (List ℕ × NodeValue)) → entries (map_of node.now) ≡ ([], node.now.top) ∷ rows_of kids → AreBare kids }
 {
     node.depth() <= 1

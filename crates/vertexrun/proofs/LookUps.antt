@@ -1,5 +1,5 @@
 -- What a pattern that relates to one path finds among the rows of a tree.
-use Rattle.std.proofs.Common.{◌≡◌, ◌↔◌, ◌∙◌, ℕ, Bool, true, false, true≢false, cond, T, List, [], ◌∷◌, Option, Some, None, is_some, option_copied, sym, ap, refl, subst}
+use Rattle.std.proofs.Common.{◌≡◌, ◌↔◌, ◌∙◌, ℕ, Bool, true, false, true≢false, cond, T, List, [], ◌∷◌, Option, Some, None, is_some, option_map, sym, ap, refl, subst}
 use Rattle.std.specs.declared.cmp.Ordering.{Ordering}
 use Rattle.std.specs.declared.cmp.Ordering.TheVariants.{Less, Equal, Greater}
 use Rattle.std.specs.Ordering.{eq_by_cmp, is_eq, is_lt}
@@ -9,13 +9,14 @@ use Rattle.std.specs.Str.{chars, IsUtf8}
 use Rattle.std.proofs.lemmas.Bool.{and_parts}
 use Rattle.std.proofs.lemmas.Cmp.{tied_itself}
 use Rattle.std.proofs.lemmas.Option.{none-some}
-use denote.Ref.{Bor}
 use Rattle.paths.specs.Order.{path_cmp}
 use Rattle.paths.specs.OrderLaws.{path_cmp_total, path_cmp-IsAntisymmetric}
 use Rattle.paths.specs.declared.fault.PathLimit.{PathLimit}
 use Rattle.paths.specs.Reading.{is_absolute, pieces, read_from, walked, limit_of}
 use Rattle.paths.proofs.ReadingLaws.{limit_of-clean}
 use Rattle.trees.specs.declared.entry.Entry.{Entry}
+use Rattle.trees.specs.declared.lent_entry.LentEntry.{LentEntry}
+use Rattle.trees.specs.Rows.{entry_of}
 use Rattle.trees.specs.TreeMap.{TreeMap, IsTree}
 use Rattle.globs.specs.Grammar.{is_spelled_out}
 use Rattle.globs.specs.Glob.{components_of, relates}
@@ -127,10 +128,10 @@ found-beyond tree text limit whole utf8 plain beyond = found-none tree text (rea
 
 -- ---- what a look-up answers
 
-pub nothing-there : (found : Option (Bor Entry)) (there : Option Entry) → option_copied found ≡ there → is_some found ≡ false → there ≡ None
+pub nothing-there : (found : Option LentEntry) (there : Option Entry) → option_map entry_of found ≡ there → is_some found ≡ false → there ≡ None
 nothing-there None there is none = sym is
 nothing-there (Some entry) there is none = absurd (true≢false none)
 
-pub something-there : (found : Option (Bor Entry)) (there : Option Entry) → option_copied found ≡ there → is_some found ≡ true → is_some there ≡ true
+pub something-there : (found : Option LentEntry) (there : Option Entry) → option_map entry_of found ≡ there → is_some found ≡ true → is_some there ≡ true
 something-there None there is some = absurd (true≢false (sym some))
 something-there (Some entry) there is some = ap is_some (sym is)

@@ -5,16 +5,18 @@ use Rattle.std.proofs.Common.{◌≡◌, ◌+◌, ◌<◌, ◌≤◌, Some, None
 use Rattle.std.specs.Map.{lookup, keys_of}
 use Rattle.std.specs.Arc.{arc_with_value}
 use Rattle.std.specs.BTreeMap.{is_at}
-use Rattle.std.specs.FinMap.{find}
+use Rattle.std.specs.FinMap.{find, get}
 use Rattle.paths.specs.Order.{name_cmp}
 use Rattle.trees.specs.TreeMap.{TreeMap}
-use Rattle.trees.specs.PrivateNode.{NodeValue, height_of, flat, joined, IsDepth}
+use Rattle.trees.specs.PrivateNode.{NodeValue, map_of, height_of, flat, joined, IsDepth, IsPlanted}
 use Rattle.trees.specs.PrivateHeld.{held_value}
 use Rattle.trees.proofs.NodeLaws.{lookup-find}
 use Rattle.trees.proofs.NodeSteps.{is-kid, kids-from, there, found-lower}
 use Rattle.trees.proofs.PartSteps.{none-found, place-of, item-same, item-same_parts, item-keys, item-found, item-changed, found-changed, put-parts, put-kids, put-from, either-way, anyway}
 use Rattle.trees.proofs.DepthSteps.{depth-planted, depth-more, max-left, max-right}
 use Rattle.trees.proofs.BelowSteps.{leaf-bare}
+use Rattle.std.specs.Arc.{arc_value}
+use Rattle.trees.proofs.SeenSteps.{owned, carried}
 use Rattle.trees.proofs.+planting.Goals as goal
 
 pub inner::Inner::plant-returns-in-empty-clause-ok : goal.inner::Inner::plant-returns-in-empty-clause-ok
@@ -156,3 +158,26 @@ children::Children::plant-returns-clause-err t c =
 
 pub node::Node::plant-plant_leaf-requires : goal.node::Node::plant-plant_leaf-requires
 node::Node::plant-plant_leaf-requires t c = leaf-bare c.self.inside.held (held_value c.self.inside.held) c.in_default.field-0 refl c.in_default.is
+
+pub node::Node::plant-returns-in_default-get_mut-clause-err : goal.node::Node::plant-returns-in_default-get_mut-clause-err
+node::Node::plant-returns-in_default-get_mut-clause-err t c = ap map_of (c.own.ensures.same ∙ sym (ap held_value c.in-Folder.is) ∙ c.self.view_is)
+
+pub node::Node::plant-returns-in_err-own-clause-err : goal.node::Node::plant-returns-in_err-own-clause-err
+node::Node::plant-returns-in_err-own-clause-err t c = anyway c.from_residual.result (ap map_of (c.own.ensures.same ∙ sym (ap held_value c.in-Folder.is) ∙ c.self.view_is))
+
+pub node::Node::plant-plant-requires : goal.node::Node::plant-plant-requires
+node::Node::plant-plant-requires t c =
+    let same : c.in-Some.inner.now.height ≡ c.args.self.now.height = ap (λ (n : NodeValue). n.height) (c.in-Some.ensures.value ∙ owned c.in-Folder.options c.own.new.options (arc_value c.in-Folder.shared) (arc_value c.own.new.shared) c.args.self.now c.own.ensures.same c.in_ok-own.ensures.keeping (sym (ap held_value c.in-Folder.is) ∙ c.self.view_is)) in
+    let d : c.args.self.now.height + c.args.self.now.height + 1 ≡ t = c.decreases in
+    let g : c.in-Some.inner.now.height + c.in-Some.inner.now.height < t = omega arith in
+    (g, tt)
+
+pub node::Node::plant-returns-clause-ok : goal.node::Node::plant-returns-clause-ok
+node::Node::plant-returns-clause-ok t c =
+    on_ok_weaker c.plant.result (carried (λ v n. IsPlanted (get (map_of v)) (map_of n) c.args.path.now c.args.parent c.args.entry) c.own.new.options c.in-Some.inner.now c.args.self.now c.plant.new.self c.in_ok-own.ensures.keeping
+    (c.in-Some.ensures.value ∙ owned c.in-Folder.options c.own.new.options (arc_value c.in-Folder.shared) (arc_value c.own.new.shared) c.args.self.now c.own.ensures.same c.in_ok-own.ensures.keeping (sym (ap held_value c.in-Folder.is) ∙ c.self.view_is))) c.plant.ensures.ok
+
+pub node::Node::plant-returns-clause-err : goal.node::Node::plant-returns-clause-err
+node::Node::plant-returns-clause-err t c =
+    on_err_weaker c.plant.result (carried (λ v n. map_of n ≡ map_of v) c.own.new.options c.in-Some.inner.now c.args.self.now c.plant.new.self c.in_ok-own.ensures.keeping
+    (c.in-Some.ensures.value ∙ owned c.in-Folder.options c.own.new.options (arc_value c.in-Folder.shared) (arc_value c.own.new.shared) c.args.self.now c.own.ensures.same c.in_ok-own.ensures.keeping (sym (ap held_value c.in-Folder.is) ∙ c.self.view_is))) c.plant.ensures.err

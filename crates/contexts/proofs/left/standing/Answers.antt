@@ -1,4 +1,5 @@
 use Rattle.std.proofs.Common.{arith}
+use Rattle.trees.specs.Rows.{entry_of}
 use Rattle.contexts.proofs.LeftFacts.{nothing_next, child_below, child_there, there_more}
 use Rattle.contexts.proofs.left.standing.Goals as goal
 
@@ -18,4 +19,4 @@ loop-name-preserved c =
     let names = c.args.names.now in
     let inv = c.loop-name.invariant in
     let below = child_below tree c.loop-name.branch names i c.name-item.result c.loop-name-test.true c.name-item.is inv.below c.in-Some.child c.child.result c.child.ensures c.in-Some.is in
-    record { depth = omega (arith, inv.depth); below = below; there = there_more tree names i inv.there (child_there tree c.in-Some.child names i c.entry-entry.result.now below c.entry-entry.ensures) }
+    record { depth = omega (arith, inv.depth); below = below; there = there_more tree names i inv.there (child_there tree c.in-Some.child names i (entry_of c.entry-entry.result) below c.entry-entry.ensures) }

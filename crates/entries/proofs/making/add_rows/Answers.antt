@@ -6,6 +6,9 @@ use Rattle.entries.specs.declared.spelled.Spelled.{Spelled}
 use Rattle.entries.proofs.MadeFacts.{ok_then, runs_made}
 use Rattle.entries.proofs.making.add_rows.Goals as goal
 
+pub returns-then-spelled-le-RUN : goal.returns-then-spelled-le-RUN
+returns-then-spelled-le-RUN g c = ok_then c.take.result _ _ (λ all. (c.in_ok-made.made.items, all, c.in_ok-made.ensures)) c.take.ensures
+
 pub returns : goal.returns
 returns g c =
     let spelled = c.args.spelled.now in

@@ -9,4 +9,4 @@ use Rattle.entries.proofs.making.add_runs.Given as goal
 
 -- the runs so far have rows, which were added in order
 abbrev pub invariant-loop-run : goal.invariant-loop-run
-invariant-loop-run l = (so_far : List (Result (Vec Row Global) (Fault NotRead))) × (made : List (Vec Row Global)) × (l.fn.runs.items ≡ so_far ++ into_iter_items l.run-iterator) × AllZip HasMade so_far made × (l.rows.items ≡ l.initial.rows.items ++ flat_map (λ rows. rows.items) made)
+invariant-loop-run g l = (so_far : List (Result (Vec Row Global) (Fault NotRead))) × (made : List (Vec Row Global)) × (l.fn.runs.items ≡ so_far ++ into_iter_items l.run-iterator) × AllZip HasMade so_far made × (g.S.TakesRows.rows l.rows ≡ g.S.TakesRows.rows l.initial.rows ++ flat_map (λ rows. rows.items) made)

@@ -1,5 +1,6 @@
 use Rattle.std.proofs.Common.{◌≡◌, ◌+◌, ◌-◌, ℕ, List, suc, take, sym, ap, ◌∙◌, subst, arith}
 use Rattle.counted.proofs.GatheringFacts.{says_none, says_both, says_as}
+use Rattle.trees.specs.Rows.{entry_of}
 use Rattle.entries.specs.PrivatePrinting.{rows_text}
 use Rattle.entries.specs.PrivateFront.{HoldsNames}
 use Rattle.entries.proofs.PrintingFacts.{rows-next, rows-end, drop-step, drop-end}
@@ -17,7 +18,7 @@ loop-done-preserved g c =
     record {
       said = λ last rest.
           c.loop-done.invariant.said last (says_as (says_both c.put_row.ensures.says rest)
-          (rows-next c.loop-done.later k c.loop-done.walk.left c.next.new.self.left c.next.new.self.at _ c.in-Some.entry.now c.in-Some.ensures.next c.names-in-loop-done-2.ensures
+          (rows-next c.loop-done.later k c.loop-done.walk.left c.next.new.self.left c.next.new.self.at _ (entry_of c.in-Some.entry) c.in-Some.ensures.next c.names-in-loop-done-2.ensures
           ∙ ap (λ n. rows_text c.loop-done.later (take n c.loop-done.walk.left)) more));
       left = step.0;
       inside = omega (arith, step.1);

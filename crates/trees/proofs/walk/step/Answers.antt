@@ -22,11 +22,11 @@ loop-name-init c =
 
 pub unwrap-requires : goal.unwrap-requires
 unwrap-requires c =
-    c.push.ensures.succeeds (has_room c.loop-name.names c.loop-name.above c.loop-name.kids c.next.new.self c.loop-name.are_bare c.in-Some.name c.in-Some.kid.now c.loop-name.invariant.way c.loop-name.invariant.level c.in-Some.ensures).0
+    c.push.ensures.succeeds (has_room c.loop-name.names c.loop-name.above c.loop-name.kids c.next.new.self c.loop-name.are_bare c.in-Some.name c.in-Some.kid c.loop-name.invariant.way c.loop-name.invariant.level c.in-Some.ensures).0
 
 pub unwrap-requires-then-not-is_bare : goal.unwrap-requires-then-not-is_bare
 unwrap-requires-then-not-is_bare c =
-    c.push-then-not-is_bare.ensures.succeeds (has_room c.loop-name.names c.loop-name.above c.loop-name.kids c.next.new.self c.loop-name.are_bare c.in-Some.name c.in-Some.kid.now c.loop-name.invariant.way c.loop-name.invariant.level c.in-Some.ensures).1
+    c.push-then-not-is_bare.ensures.succeeds (has_room c.loop-name.names c.loop-name.above c.loop-name.kids c.next.new.self c.loop-name.are_bare c.in-Some.name c.in-Some.kid c.loop-name.invariant.way c.loop-name.invariant.level c.in-Some.ensures).1
 
 pub loop-name-preserved : goal.loop-name-preserved
 loop-name-preserved c =
@@ -43,15 +43,15 @@ loop-name-preserved c =
       first = stay_first c.args.names.now.items old.items new.items (option_to_list c.pop-in-loop-name-2.result) c.loop-name.invariant.first c.pop-in-loop-name-2.ensures.items;
     }
 
-gives : (c : goal.After-entry) → Gives c.loop-name.names c.push.new.self c.loop-name.above c.if-not-is_bare.above c.loop-name.kids c.if-not-is_bare.kids c.if-not-is_bare.are_bare c.entry.result.now
+gives : (c : goal.Joined-not-is_bare) → Gives c.loop-name.names c.push.new.self c.loop-name.above c.if-not-is_bare.above c.loop-name.kids c.if-not-is_bare.kids c.if-not-is_bare.are_bare c.in-Some.kid.top
 gives c =
     let old = c.loop-name.names in
     let names = c.push.new.self in
     let above = c.loop-name.above in
     let kids = c.loop-name.kids in
     let rest = c.next.new.self in
-    let entry = c.entry.result.now in
-    let kid = c.in-Some.kid.now in
+    let entry = c.in-Some.kid.top in
+    let kid = c.in-Some.kid in
     let top = kid.top in
     let way = c.loop-name.invariant.way in
     let level = c.loop-name.invariant.level in
@@ -62,12 +62,12 @@ gives c =
           let own : entries (map_of kid) ≡ ([], top) ∷ rows_of below = w.kids.ensures ∙ ap (λ kids. ([], top) ∷ rows_of kids) (sym w.replace-left.ensures.after) in
           let pushed = rw w.unwrap-then-not-is_bare.ensures at w.push-then-not-is_bare.ensures.items in
           let given = gives_on old names above w.push-then-not-is_bare.new.self kids rest below w.replace-left.result c.loop-name.are_bare w.has_bare_kids.result c.in-Some.name kid entry
-          way level c.in-Some.ensures own w.replace-left.ensures.value pushed named w.push-then-not-is_bare.ensures.capacity c.push.ensures.capacity (λ known. w.has_bare_kids.ensures known below own) c.entry.ensures in
+          way level c.in-Some.ensures own w.replace-left.ensures.value pushed named w.push-then-not-is_bare.ensures.capacity c.push.ensures.capacity (λ known. w.has_bare_kids.ensures known below own) refl in
           subst (λ above'. Gives old names above above' kids c.if-not-is_bare.kids c.if-not-is_bare.are_bare entry) (sym w.above-is)
           (subst (λ kids'. Gives old names above w.push-then-not-is_bare.new.self kids kids' c.if-not-is_bare.are_bare entry) (sym w.kids-is)
           (subst (λ are_bare'. Gives old names above w.push-then-not-is_bare.new.self kids below are_bare' entry) (sym w.are_bare-is) given))
       | else-not-is_bare w ↦
-          let given = gives_past old names above kids rest c.loop-name.are_bare c.in-Some.name kid entry way level c.in-Some.ensures (w.if-not-is_bare.ensures refl) named c.push.ensures.capacity c.entry.ensures in
+          let given = gives_past old names above kids rest c.loop-name.are_bare c.in-Some.name kid entry way level c.in-Some.ensures (w.if-not-is_bare.ensures refl) named c.push.ensures.capacity refl in
           subst (λ above'. Gives old names above above' kids c.if-not-is_bare.kids c.if-not-is_bare.are_bare entry) (sym w.above-is)
           (subst (λ kids'. Gives old names above above kids kids' c.if-not-is_bare.are_bare entry) (sym w.kids-is)
           (subst (λ are_bare'. Gives old names above above kids rest are_bare' entry) (sym w.are_bare-is) given))

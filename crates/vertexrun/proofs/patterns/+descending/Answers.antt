@@ -1,12 +1,13 @@
 use Rattle.std.proofs.Common.{◌≡◌, ◌∙◌, ℕ, List, ◌++◌, sym, ap, true≢false, ◌<◌, ◌+◌, ◌-◌, ◌*◌, length, take, drop, arith}
 use Rattle.std.proofs.lemmas.Result.{on_ok_weaker}
+use Rattle.trees.specs.Rows.{entry_of}
 use Rattle.vertexrun.proofs.MatchSteps.{fewer-left, here-found, clean-here, clean-child, clean-first, child-found, no-child-found, all-found, found-first, passed-first}
 use Rattle.vertexrun.proofs.FrontSteps.{branch-found, branch-clean, branch-from, rest-from, end-found, none-left}
 use Rattle.vertexrun.proofs.patterns.+descending.Goals as goal
 
 pub descend-returns-in-empty : goal.descend-returns-in-empty
 descend-returns-in-empty t c =
-    here-found c.args.at c.args.components.now c.args.branch.now c.entry-entry.result.now c.args.found.now.items c.push.new.self.items c.in-empty.len_below c.entry-entry.ensures c.in_ok-push-in-empty.ensures.items
+    here-found c.args.at c.args.components.now c.args.branch.now (entry_of c.entry-entry.result) c.args.found.now.items c.push.new.self.items c.in-empty.len_below c.entry-entry.ensures c.in_ok-push-in-empty.ensures.items
 
 pub descend-enter-requires : goal.descend-enter-requires
 descend-enter-requires t c =
@@ -32,7 +33,7 @@ descend-returns t c =
     c.go_through.ensures
 
 pub enter-child-requires : goal.enter-child-requires
-enter-child-requires t c = clean-here _ c.args.child.now c.entry-entry.result.now c.entry-entry.ensures c.requires
+enter-child-requires t c = clean-here _ c.args.child.now (entry_of c.entry-entry.result) c.entry-entry.ensures c.requires
 
 pub go_through-enter-requires : goal.go_through-enter-requires
 go_through-enter-requires t c =

@@ -5,4 +5,4 @@ use Rattle.trees.proofs.NodeLaws.{get-map_of_root}
 use Rattle.trees.proofs.branch.Branch.entry.Goals as goal
 
 pub returns : goal.returns
-returns c = ap (λ (m : TreeMap). get m []) (sym c.self.view_is) ∙ get-map_of_root c.self.inside.node.now ∙ ap Some (sym c.entry.ensures)
+returns c = ap (λ (m : TreeMap). get m []) (sym c.self.view_is) ∙ get-map_of_root c.self.inside.node ∙ ap Some (sym c.entry.ensures)

@@ -1,4 +1,5 @@
-use Rattle.std.proofs.Common.{ap, ◌∙◌, ◌+◌, sym}
+use Rattle.std.proofs.Common.{ap, refl, ◌∙◌, ◌+◌, sym, []}
+use Rattle.trees.specs.PrivateSeen.{seen_kids}
 use Rattle.std.specs.FinMap.Entries.{is_sorted}
 use Rattle.paths.specs.Order.{name_cmp}
 use Rattle.paths.proofs.FrontLaws.{both_first, both_second}
@@ -12,16 +13,19 @@ of_begun-requires c = full-behind c.as_slice-parts.result.now c.self.inside.part
 
 pub returns-in-Some-clause-from : goal.returns-in-Some-clause-from
 returns-in-Some-clause-from c =
-    folder-from c.args.front.now c.as_slice-parts.result.now c.self.inside.parts.items c.args.self.now c.of_begun.result c.place-at.result c.as_slice-parts.ensures.value c.self.view_is
-    c.in-Some.part.now c.deref.result.now c.rows_from.result.now c.place-at.ensures c.in-Some.ensures.lookup.3.0 c.in-Some.ensures.lookup.1 c.deref.ensures c.rows_from.ensures c.of_begun.ensures
+    c.of_begun.ensures
+    ∙ ap (seen_kids c.args.options) (folder-from c.args.front.now c.as_slice-parts.result.now c.self.inside.parts.items c.args.self.now _ c.place-at.result c.as_slice-parts.ensures.value c.self.view_is
+    c.in-Some.part.now c.deref.result.now c.rows_from.result.now c.place-at.ensures c.in-Some.ensures.lookup.3.0 c.in-Some.ensures.lookup.1 c.deref.ensures c.rows_from.ensures refl)
 
 pub returns-in-Some-clause-ordered : goal.returns-in-Some-clause-ordered
 returns-in-Some-clause-ordered c = keys-from_sorted c.args.self.now (ap (is_sorted name_cmp) (sym c.self.view_is) ∙ both_second (are_full (lists_of c.self.inside.parts.items)) _ c.self.invariant)
 
 pub returns-in-None-clause-from : goal.returns-in-None-clause-from
 returns-in-None-clause-from c =
-    folder-none c.args.front.now c.as_slice-parts.result.now c.self.inside.parts.items c.args.self.now c.of.result c.place-at.result c.as_slice-parts.ensures.value c.self.view_is
-    c.place-at.ensures c.in-None.ensures.lookup.3 c.of.ensures
+    c.none.ensures
+    ∙ ap (seen_kids c.args.options)
+    (folder-none c.args.front.now c.as_slice-parts.result.now c.self.inside.parts.items c.args.self.now [] c.place-at.result c.as_slice-parts.ensures.value c.self.view_is
+    c.place-at.ensures c.in-None.ensures.lookup.3 refl)
 
 pub returns-in-None-clause-ordered : goal.returns-in-None-clause-ordered
 returns-in-None-clause-ordered c = keys-from_sorted c.args.self.now (ap (is_sorted name_cmp) (sym c.self.view_is) ∙ both_second (are_full (lists_of c.self.inside.parts.items)) _ c.self.invariant)

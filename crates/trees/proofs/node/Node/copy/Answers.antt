@@ -1,7 +1,10 @@
-use Rattle.std.proofs.Common.{◌∙◌, sym, ap, []}
-use Rattle.trees.specs.PrivateNode.{node_of}
-use Rattle.trees.specs.PrivateHeld.{held_value}
+use Rattle.std.proofs.Common.{ap, ◌∙◌, ◌≡◌, subst}
+use Rattle.std.specs.Prelude.{IfOk}
+use Rattle.trees.specs.declared.copy.CopyOptions.{CopyOptions}
+use Rattle.trees.specs.PrivateNode.{NodeValue}
+use Rattle.trees.specs.PrivateSeen.{seen}
+use Rattle.trees.proofs.SeenSteps.{seen-keeping}
 use Rattle.trees.proofs.node.Node.copy.Goals as goal
 
-pub returns-in_ok-copy-in-Leaf : goal.returns-in_ok-copy-in-Leaf
-returns-in_ok-copy-in-Leaf c = c.leaf.ensures ∙ ap (λ e. node_of e []) c.in_ok-copy-in-Leaf.ensures ∙ sym (ap held_value c.in-Leaf.is) ∙ c.self.view_is
+pub returns : goal.returns
+returns c = subst (λ (v : NodeValue). IfOk c.placed.result (λ n. n ≡ v)) (ap (λ (o : CopyOptions). seen o c.args.self.now) c.keeping.ensures ∙ seen-keeping c.args.self.now) c.placed.ensures

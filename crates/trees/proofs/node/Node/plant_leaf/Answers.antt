@@ -15,4 +15,4 @@ pub returns-in_ok-self-in-len1-up-clause-ok : goal.returns-in_ok-self-in-len1-up
 returns-in_ok-self-in-len1-up-clause-ok c =
     let kid = c.in_ok-first-in-len1-up.first in
     leaf-plant c.args.self.now c.in_ok-self-in-len1-up.field-0 c.args.path.now c.name-item.result c.args.parent c.args.entry kid c.requires
-    (c.in_ok-self-in-len1-up.ensures ∙ c.in_ok-one-in-len1-up.ensures ∙ ap (λ e. node_of e ((c.name-item.result, kid) ∷ [])) (c.in_ok-top-in-len1-up.ensures ∙ c.entry.ensures)) c.in-len1-up.len_at_least c.name-item.is c.in_ok-first-in-len1-up.ensures
+    (c.in_ok-self-in-len1-up.ensures ∙ c.in_ok-one-in-len1-up.ensures ∙ ap (λ e. node_of e ((c.name-item.result, kid) ∷ [])) (c.in_ok-top-in-len1-up.ensures ∙ c.entry.ensures ∙ ap (λ (n : NodeValue). n.top) c.lent.ensures)) c.in-len1-up.len_at_least c.name-item.is c.in_ok-first-in-len1-up.ensures
