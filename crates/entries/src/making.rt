@@ -22,7 +22,7 @@ use trees::{Entry, Slab};
 const SLAB: usize = 64;
 
 /// How many entries are made by one thread at a time, at most. So few of them aren't worth a thread.
-const RUN: usize = 512;
+const RUN: usize = 2048;
 
 /// Makes a row of each of these, and hands the rows on, in order. Several threads make them if they are many.
 pub(crate) fn add_rows<S: TakesRows>(
@@ -110,7 +110,7 @@ fn runs_of(
     rt: &(impl Threads + Sync),
     spelled: &[Spelled<'_>],
 ) -> Result<Vec<Result<Vec<(Path, Entry)>, ReadFault>>, Memory>
-    ensures { IfOk result (λ runs. AllZip (λ run made. IfOk made (λ rows. AreRowsOf run rows.items)) (chunks_of 512 spelled.now) runs.items) }
+    ensures { IfOk result (λ runs. AllZip (λ run made. IfOk made (λ rows. AreRowsOf run rows.items)) (chunks_of 2048 spelled.now) runs.items) }
 {
     let runs = spelled
         .par_chunks(RUN)

@@ -7,7 +7,9 @@ ghost use Rattle.sites.specs.Seats.{IsMine, IsLentTo};
 ghost use Rattle.solver.specs.Recall.{AreOf, MayStay};
 
 use board::{Claim, Job, Refused};
+use cells::Place;
 use executor::Executor;
+use llb::Op;
 use plain::Memory;
 use plain::limits::MOST_WORKERS;
 use rolls::Room;
@@ -18,7 +20,7 @@ use std::ops::ControlFlow;
 use std::sync::{Condvar, MutexGuard, Wait};
 use std::thread;
 use std::thread::Threads;
-use trees::Tree;
+use trees::{Tree, TreeOrCause};
 use vertexrun::Ran;
 
 /// What the workers of a site share beside its desk.
@@ -60,13 +62,13 @@ pub(crate) fn work_all<
 }
 
 /// The work of one seat: claim, run, settle, until nothing is left to claim or memory is wanting. What a run gave stands in the vertex's cell before the lock is
-/// taken, and what wasn't settled is let go after the lock, so that no tree is copied or let go under it. The lock is taken once for a vertex: whoever ends a claim
-/// looks for the next under the same one.
+/// taken, and what wasn't settled is let go after the lock, so that no tree is changed or let go under it. The lock is taken once for a vertex: whoever ends a claim
+/// looks for the next under the same one. A source is run under it too: to share a tree that is there takes less than to let go of a lock for which others wait.
 ///
 /// A vertex is ready from the start, or gets so by the end of a claim: its last input gets its tree, a cache that it waits for comes back, or its own claim is
 /// given up. Each worker looks at the board first of all, and whoever ends a claim looks again, or leaves. A look claims a vertex, and wakes one sleeper if
-/// more may be left (`Held::has_more`). Or it finds none ready: then it sleeps while a claim is out, and else leaves. Where memory is wanting, it leaves too.
-/// Whoever leaves wakes all.
+/// more may be left (`Held::has_more`), unless it claimed a source: then it looks again at once. Or it finds none ready: then it sleeps while a claim is out,
+/// and else leaves. Where memory is wanting, it leaves too. Whoever leaves wakes all.
 ///
 /// Each look is under the lock, and who falls asleep lets go of the lock only as a sleeper, so that no ring gets lost. From this follows, though no clause says
 /// it:
@@ -75,8 +77,8 @@ pub(crate) fn work_all<
 ///   others asleep, since it would have woken them. So it sleeps, and found nothing ready; and no claim has ended since.
 /// - Nobody sleeps for good when all is over. A sleeper's look found a claim out. Its worker looks again, or leaves; the last one to look finds no claim out,
 ///   leaves, and wakes all, and none of these finds one.
-/// - No ready vertex waits for a sleeper. If one end makes several ready, as that of a cache's holder does, each look that claims one and leaves others wakes
-///   one sleeper more. Where that one finds nothing, whoever took the vertex has looked since, and has woken another if more was left.
+/// - No ready vertex waits for a sleeper. If one end makes several ready, as that of a cache's holder does, each look that claims one, lets go of the lock and
+///   leaves others wakes one sleeper more. Where that one finds nothing, whoever took the vertex has looked since, and has woken another if more was left.
 ///
 /// A chain of vertices wakes nobody. A vertex whose cache is held, or which a failure stops, may wake a sleeper for nothing.
 fn work<E: Executor, M: Executor, G: Gate, J: Case + Room + Numbering, R: Wait>(
@@ -92,15 +94,17 @@ fn work<E: Executor, M: Executor, G: Gate, J: Case + Room + Numbering, R: Wait>(
 {
     let mut held = desk.lock(rt);
     for _ in rt.forever() {
-        let Some(Drawn { claim, is_more }) = draw(rt, tools, held, seat) else {
+        let Some((drawn, lock)) = draw(rt, tools, held, seat) else {
             break;
         };
-        if is_more {
-            tools.bell.notify_one();
-        }
+        let Drawn { claim, is_more } = drawn;
+        let lock = let_go(tools, &claim, is_more, lock);
         let ran = run_recalled(tools.alloc, tools.job, tools.recall, tools.gate, &claim);
         let kept = keep(tools, desk, &claim, ran);
-        held = desk.lock(rt);
+        held = match lock {
+            Some(lock) => lock,
+            None => desk.lock(rt),
+        };
         let ended = end(tools.alloc, &mut *held, seat, claim, kept);
         if ended.is_err() {
             drop(held);
@@ -110,6 +114,32 @@ fn work<E: Executor, M: Executor, G: Gate, J: Case + Room + Numbering, R: Wait>(
     tools.bell.notify_all();
 }
 
+/// Lets go of the lock before a claim is run, and wakes a sleeper if there may be more to claim. For a source the lock is kept, and nobody is woken: its worker
+/// looks again at once.
+fn let_go<'a, 'h, E: Executor, M: Executor, G, J: Case + Room + Numbering>(
+    tools: &Tools<E, M, G, J>,
+    claim: &Claim<Known<'a, J>>,
+    is_more: bool,
+    held: MutexGuard<'h, Held<'a, E, J>>,
+) -> Option<MutexGuard<'h, Held<'a, E, J>>> {
+    if is_source(tools.job, claim) {
+        return Some(held);
+    }
+    drop(held);
+    if is_more {
+        tools.bell.notify_one();
+    }
+    None
+}
+
+/// Whether the vertex of a claim is a source, whose run only shares a tree that is there.
+fn is_source<E: Executor, P: Place<TreeOrCause>>(job: &Job<E>, claim: &Claim<P>) -> bool {
+    match job.graph().vertex(claim.vertex()) {
+        Some(vertex) => matches!(vertex.op, Op::Source(_)),
+        None => false,
+    }
+}
+
 /// A claim, and whether there may be more: if not, the claim left no vertex ready.
 struct Drawn<'a, J: Case> {
     claim: Claim<Known<'a, J>>,
@@ -117,21 +147,24 @@ struct Drawn<'a, J: Case> {
 }
 
 /// A claim for a seat, as soon as there is one: none where no claim is out and none is to be had, or where memory is wanting. It sleeps while others
-/// have claims out, until it is woken. It comes with the lock, and lets it go.
-fn draw<'a, E: Executor, M: Executor, G, J: Case + Room + Numbering, R: Wait>(
+/// have claims out, until it is woken. The lock that it is given comes back with the claim.
+fn draw<'a, 'h, E: Executor, M: Executor, G, J: Case + Room + Numbering, R: Wait>(
     rt: &R,
     tools: &Tools<E, M, G, J>,
-    held: MutexGuard<'_, Held<'a, E, J>>,
+    held: MutexGuard<'h, Held<'a, E, J>>,
     seat: &mut Seat<J>,
-) -> Option<Drawn<'a, J>>
-    ensures mine { IfSome result (λ drawn. IsMine seat.new drawn.claim) }
-    ensures of { IfSome result (λ drawn. IsClaim J.problem drawn.claim) }
-    ensures lent { IfSome result (λ drawn. IsLentTo seat.new drawn.claim) }
+) -> Option<(Drawn<'a, J>, MutexGuard<'h, Held<'a, E, J>>)>
+    ensures mine { IfSome result (λ drawn. IsMine seat.new drawn.0.claim) }
+    ensures of { IfSome result (λ drawn. IsClaim J.problem drawn.0.claim) }
+    ensures lent { IfSome result (λ drawn. IsLentTo seat.new drawn.0.claim) }
 {
     let mut held = held;
     for _ in rt.forever() {
         if let ControlFlow::Break(drawn) = draw_now(tools.alloc, &mut *held, seat) {
-            return drawn;
+            return match drawn {
+                Some(drawn) => Some((drawn, held)),
+                None => None,
+            };
         }
         held = tools.bell.wait(rt, held);
     }

@@ -16,6 +16,6 @@ returns g c =
     (λ all. (
       flat_map (λ rows. rows.items) all.0,
       all.2,
-      subst (λ (l : List Spelled). AreRowsOf l (flat_map (λ rows. rows.items) all.0)) (chunks_of-concat 512 spelled (lit< tt)) (runs_made (chunks_of 512 spelled) c.in_ok-runs.runs.items all.0 c.in_ok-runs.ensures all.1),
+      subst (λ (l : List Spelled). AreRowsOf l (flat_map (λ rows. rows.items) all.0)) (chunks_of-concat 2048 spelled (lit< tt)) (runs_made (chunks_of 2048 spelled) c.in_ok-runs.runs.items all.0 c.in_ok-runs.ensures all.1),
     ))
     c.add_runs.ensures

@@ -10,4 +10,4 @@ returns g c =
     let chain = h.1 in
     let size = ap (λ it. chunks_size it) c.map.ensures.base ∙ c.par_chunks.ensures.size in
     let slice = ap (λ it. chunks_slice it) c.map.ensures.base ∙ c.par_chunks.ensures.slice in
-    rw h.2 (slice-AllZip chain.0 (chunks_of 512 c.args.spelled.now) (chain.1 ∙ (λ i. chunks_of (max (size i) 1) (slice i))) RunHas h.0 chain.2)
+    rw h.2 (slice-AllZip chain.0 (chunks_of 2048 c.args.spelled.now) (chain.1 ∙ (λ i. chunks_of (max (size i) 1) (slice i))) RunHas h.0 chain.2)
