@@ -155,8 +155,11 @@ fn a_context_has_the_ways_to_what_is_kept(rt: HostRuntime) -> Result<(), Fail> {
         ("/a/b", Some(owned)),
         ("/a/c", None),
     ] {
-        let entry = context.tree().get(&at(alloc, path)?);
-        assert!(rt; entry.map(|entry| entry.meta()) == stands);
+        let meta = match context.tree().get(&at(alloc, path)?) {
+            Some(entry) => Some(entry.meta()),
+            None => None,
+        };
+        assert!(rt; meta == stands);
     }
     Ok(())
 }
