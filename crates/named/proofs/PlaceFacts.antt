@@ -1,16 +1,20 @@
 -- What an index beside rows keeps.
 use Rattle.std.proofs.Common.{◌≡◌, ℕ, zero, suc, ◌+◌, ◌<◌, ◌≤◌, Bool, true, false, true≢false, ◌||◌, cond, ◌⊎◌, inl, inr, List, [], ◌∷◌, ◌++◌, length, take, Option, Some, None, Result, Ok, Err, OnOk, OnErr, IfSome, IfNone, refl, sym, ap, ap₂, ◌∙◌, subst, arith}
 use Rattle.std.specs.Prelude.{slice_get, slice_set, slice_index_or, bytes_eq, is_some}
-use Rattle.std.specs.List.{list_any, list_all}
+use Rattle.std.specs.List.{AllZip}
+use Rattle.std.specs.BTreeMap.{BTreeMap, Updates}
+use Rattle.std.specs.Ordering.{is_eq, nat_cmp}
+use Rattle.std.specs.String.{string_bytes, string_cmp}
 use Rattle.std.specs.Option.{unwrap_or, option_or}
 use Rattle.std.specs.Map.{lookup}
-use Rattle.std.specs.Cmp.Lexicographic.{bytes_decides}
+use Rattle.std.specs.Cmp.Lexicographic.{bytes_decides, slice_cmp}
 use Rattle.std.specs.declared.string.String.{String}
 use Rattle.std.proofs.lemmas.Bool.{cases_lt, and_parts, or_parts}
+use Rattle.std.proofs.lemmas.Map.Text.{btree_map_updates_text}
 use Rattle.std.proofs.lemmas.Option.{get_or_from_slice_get}
 use Rattle.plain.specs.declared.memory.Memory.{Memory}
-use Rattle.named.specs.Rows.{put_row, put_rows, add_row, has_row, give_row, give_rows}
-use Rattle.named.specs.PrivatePlaces.{place_in, is_known, are_known, Grows, IsPut, IsIndexed, IsPlace}
+use Rattle.named.specs.Rows.{put_row, put_rows, has_row, give_row, give_rows}
+use Rattle.named.specs.PrivatePlaces.{place_in, is_known, are_known, Grows, IsPut, IsIndexed, IsNext, IsPlace}
 
 some_same : {A : Type 0} (x y : A) → Some x ≡ Some y → x ≡ y
 some_same x y e = ap (λ o. unwrap_or o x) e
@@ -77,6 +81,28 @@ module _ {V : Type 0} where
   only : {Z : Type 0} (rows : List (List ℕ × V)) (entries : List (String Z × ℕ)) (name : List ℕ) (place : ℕ) → IsIndexed rows entries → IsPlace rows name place → (k : ℕ) (row : List ℕ × V) → slice_get rows k ≡ Some row → bytes_eq name row.0 ≡ true → k ≡ place
   only rows entries name place indexed there k row e h =
       some_same k place (sym (indexed.at k row e) ∙ ap (place_in entries) (sym (same name row.0 h) ∙ same name there.0.0 there.2) ∙ indexed.at place there.0 there.1)
+
+  -- a name that gets the place at which its row stands
+  pub found-indexed : {Z : Type 0} (rows : List (List ℕ × V)) (old new : List (String Z × ℕ)) (name : List ℕ) (place : ℕ) → IsPlace rows name place → IsPut old new name place → IsIndexed rows old → IsIndexed rows new
+  found-indexed rows old new name place there put indexed = record { at = λ k row e. by k row e (bytes_eq name row.0) refl }
+    where
+      by : (k : ℕ) (row : List ℕ × V) → slice_get rows k ≡ Some row → (b : Bool) → bytes_eq name row.0 ≡ b → place_in new row.0 ≡ Some k
+      by k row e true h = put row.0 ∙ ap (λ b. cond b (Some place) (place_in old row.0)) h ∙ ap Some (sym (only rows old name place indexed there k row e h))
+      by k row e false h = put row.0 ∙ ap (λ b. cond b (Some place) (place_in old row.0)) h ∙ indexed.at k row e
+
+  -- a name without a row that gets a place
+  pub fresh-indexed : {Z : Type 0} (rows : List (List ℕ × V)) (old new : List (String Z × ℕ)) (name : List ℕ) (place : ℕ) → has_row name rows ≡ false → IsPut old new name place → IsIndexed rows old → IsIndexed rows new
+  fresh-indexed rows old new name place fresh put indexed =
+      record { at = λ k row e. put row.0 ∙ ap (λ b. cond b (Some place) (place_in old row.0)) (each_not name rows fresh k row e) ∙ indexed.at k row e }
+
+  -- a row whose name has the place after all rows
+  pub next-indexed : {Z : Type 0} (rows now : List (List ℕ × V)) (entries : List (String Z × ℕ)) (name : List ℕ) (value : V) → now ≡ rows ++ (name, value) ∷ [] → IsNext rows entries name → IsIndexed rows entries → IsIndexed now entries
+  next-indexed {Z} rows now entries name value is next indexed =
+      subst (λ (rs : List (List ℕ × V)). IsIndexed rs entries) (sym is) (record { at = λ k row e. at k row (get-push rows (name, value) row k e) })
+    where
+      at : (k : ℕ) (row : List ℕ × V) → (slice_get rows k ≡ Some row) ⊎ ((k ≡ length rows) × ((name, value) ≡ row)) → place_in entries row.0 ≡ Some k
+      at k row (inl e) = indexed.at k row e
+      at k row (inr (e, g)) = ap (λ (s : List ℕ × V). place_in entries s.0) (sym g) ∙ next ∙ ap Some (sym e)
 
   -- where the index knows no place, or one at which another row stands, there is no row
   pub none-there : {Z : Type 0} (rows : List (List ℕ × V)) (entries : List (String Z × ℕ)) (name : List ℕ) → IsIndexed rows entries → ((k : ℕ) → place_in entries name ≡ Some k → IsPlace rows name k → ⊥) → has_row name rows ≡ false
@@ -185,6 +211,14 @@ stands-no {V} rows name key place row result there is e found =
 pub nowhere : {V : Type 0} (rows : List (List ℕ × V)) (name : List ℕ) (place : ℕ) → None ≡ slice_get rows place → IsPlace rows name place → false ≡ true
 nowhere rows name place none found = absurd (none_some found.0 (none ∙ found.1))
 
+pub when_some : {A : Type 0} (P : A → Type 0) (o : Option A) (x : A) → o ≡ Some x → IfSome o P → P x
+when_some P None x is h = absurd (none_some x is)
+when_some P (Some y) x is h = subst P (some_same y x is) h
+
+pub when_none : {A : Type 0} {P : Type 0} (o : Option A) → o ≡ None → IfNone o P → P
+when_none None is p = p
+when_none (Some x) is p = absurd (none_some x (sym is))
+
 pub if_none : {A : Type 0} {P : Type 0} (o : Option A) → P → IfNone o P
 if_none None p = p
 if_none (Some x) p = tt
@@ -196,6 +230,42 @@ pub none-stands : {V Z : Type 0} (rows : List (List ℕ × V)) (entries : List (
 none-stands rows entries name place b indexed known stands off =
     none-there rows entries name indexed (λ k e there.
     true≢false (sym (stands (subst (λ (n : ℕ). IsPlace rows name n) (sym (some_same place k (known ∙ e))) there)) ∙ off))
+
+-- what is known of a name whose place was searched once, and entered if it wasn't known
+
+pub entered-put : {Z : Type 0} (old new : BTreeMap (String Z) ℕ) (key : String Z) (name : List ℕ) (place : ℕ) → string_bytes key ≡ name → Updates string_cmp old new key (Some place) → IsPut old.entries new.entries name place
+entered-put {Z} old new key name place is updates =
+    subst (λ (n : List ℕ). IsPut old.entries new.entries n place) is (λ other. btree_map_updates_text (string_bytes key) old new (Some place) updates other)
+
+pub put-next : {V Z : Type 0} (rows : List (List ℕ × V)) (old new : List (String Z × ℕ)) (name : List ℕ) (place : ℕ) → place ≡ length rows → IsPut old new name place → IsNext rows new name
+put-next rows old new name place end put = put name ∙ ap (λ b. cond b (Some place) (place_in old name)) ((bytes_decides name name).1 refl) ∙ ap Some end
+
+pub entered-none : {V Z : Type 0} (rows : List (List ℕ × V)) (old : List (String Z × ℕ)) (name : List ℕ) (place : ℕ) (b : Bool) → place ≡ unwrap_or (place_in old name) (length rows) → IsIndexed rows old → (IsPlace rows name place → b ≡ true) → b ≡ false → has_row name rows ≡ false
+entered-none rows old name place b is indexed stands off =
+    none-there rows old name indexed (λ k e there.
+    true≢false (sym (stands (subst (λ (n : ℕ). IsPlace rows name n) (sym (is ∙ ap (λ o. unwrap_or o (length rows)) e)) there)) ∙ off))
+
+-- what is known of a name's place, of an index that is seen as it ends
+
+pub indexed-as : {V Z : Type 0} (rows : List (List ℕ × V)) (now entries : List (String Z × ℕ)) → now ≡ entries → IsIndexed rows entries → IsIndexed rows now
+indexed-as {V} {Z} rows now entries is indexed = subst (λ (es : List (String Z × ℕ)). IsIndexed rows es) (sym is) indexed
+
+pub next-as : {V Z : Type 0} (rows : List (List ℕ × V)) (now entries : List (String Z × ℕ)) (name : List ℕ) → now ≡ entries → IsNext rows entries name → IsNext rows now name
+next-as {V} {Z} rows now entries name is next = subst (λ (es : List (String Z × ℕ)). IsNext rows es name) (sym is) next
+
+-- a clone of an index
+
+pub clone-indexed : {V Z : Type 0} (rows now : List (List ℕ × V)) (old new : List (String Z × ℕ)) → now ≡ rows → AllZip (λ p q. (string_bytes q.0 ≡ string_bytes p.0) × (q.1 ≡ p.1)) old new → IsIndexed rows old → IsIndexed now new
+clone-indexed {V} {Z} rows now old new is clones indexed =
+    subst (λ (rs : List (List ℕ × V)). IsIndexed rs new) (sym is) (record { at = λ k row e. same_place old new row.0 clones ∙ indexed.at k row e })
+  where
+    same_place : (old new : List (String Z × ℕ)) (name : List ℕ) → AllZip (λ p q. (string_bytes q.0 ≡ string_bytes p.0) × (q.1 ≡ p.1)) old new → place_in new name ≡ place_in old name
+    same_place [] [] name clones = refl
+    same_place [] (q ∷ qs) name clones = absurd clones
+    same_place (p ∷ ps) [] name clones = absurd clones
+    same_place (p ∷ ps) (q ∷ qs) name clones =
+        ap₂ (λ (key : List ℕ) (place : ℕ). cond (is_eq (slice_cmp nat_cmp name key)) (Some place) (place_in qs name)) clones.0.0 clones.0.1
+        ∙ ap (λ (rest : Option ℕ). cond (is_eq (slice_cmp nat_cmp name (string_bytes p.0))) (Some p.1) rest) (same_place ps qs name clones.1)
 
 -- what a name that is put, or was to be, leaves
 
@@ -309,10 +379,9 @@ module _ {V : Type 0} where
   pub has-none : (seen rows now : List (List ℕ × V)) (key name : List ℕ) → seen ≡ rows → rows ≡ now → key ≡ name → has_row key seen ≡ false → has_row name now ≡ false
   has-none seen rows now key name s view n none = ap (has_row name) (sym (s ∙ view)) ∙ ap (λ (k : List ℕ). has_row k seen) (sym n) ∙ none
 
-  pub pushed-put : (result : Result (Unit {0}) Memory) (rows now new : List (List ℕ × V)) (name : List ℕ) (value : V) → rows ≡ now → has_row name now ≡ false → OnOk result (new ≡ rows ++ (name, value) ∷ []) → OnOk result (new ≡ put_row now name value)
-  pushed-put (Ok done) rows now new name value view none ok =
-      ok ∙ ap (λ (rs : List (List ℕ × V)). rs ++ (name, value) ∷ []) view ∙ sym (put_row-new now name value none)
-  pushed-put (Err memory) rows now new name value view none ok = tt
+  pub pushed-put : (rows now new : List (List ℕ × V)) (name : List ℕ) (value : V) → rows ≡ now → has_row name now ≡ false → new ≡ rows ++ (name, value) ∷ [] → new ≡ put_row now name value
+  pushed-put rows now new name value view none is =
+      is ∙ ap (λ (rs : List (List ℕ × V)). rs ++ (name, value) ∷ []) view ∙ sym (put_row-new now name value none)
 
   take-next : (rows : List (List ℕ × V)) (at : ℕ) (row : List ℕ × V) → slice_get rows at ≡ Some row → take (suc at) rows ≡ take at rows ++ row ∷ []
   take-next [] at row e = absurd (none_some row e)
@@ -325,20 +394,6 @@ module _ {V : Type 0} where
   take_get (r ∷ rows) zero k row e = absurd (none_some row e)
   take_get (r ∷ rows) (suc at) zero row e = (omega arith, e)
   take_get (r ∷ rows) (suc at) (suc k) row e = (let up = take_get rows at k row e in (omega (arith, up.0), up.1))
-
-  -- the name of a row isn't among those before it
-  pub copy-fresh : {Z : Type 0} (all seen before : List (List ℕ × V)) (entries : List (String Z × ℕ)) (at : ℕ) (row : List ℕ × V) (name : List ℕ) → seen ≡ all → IsIndexed all entries → before ≡ take at seen → slice_get seen at ≡ Some row → name ≡ row.0 → has_row name before ≡ false
-  copy-fresh all seen before entries at row name s indexed is e n =
-      ap (has_row name) is ∙ not_any name (take at seen) (λ k r g. by k r g (bytes_eq name r.0) refl)
-    where
-      by : (k : ℕ) (r : List ℕ × V) → slice_get (take at seen) k ≡ Some r → (b : Bool) → bytes_eq name r.0 ≡ b → bytes_eq name r.0 ≡ false
-      by k r g false h = h
-      by k r g true h =
-          let up = take_get seen at k r g in
-          let there : slice_get all k ≡ Some r = ap (λ (rs : List (List ℕ × V)). slice_get rs k) (sym s) ∙ up.1 in
-          let here : slice_get all at ≡ Some row = ap (λ (rs : List (List ℕ × V)). slice_get rs at) (sym s) ∙ e in
-          let place : k ≡ at = some_same k at (sym (indexed.at k r there) ∙ ap (place_in entries) (sym (same name r.0 h) ∙ n) ∙ indexed.at at row here) in
-          absurd (omega (arith, up.0, place))
 
   pub copy-step : (all before after : List (List ℕ × V)) (at : ℕ) (row : List ℕ × V) (name : List ℕ) (value : V) → before ≡ take at all → slice_get all at ≡ Some row → after ≡ before ++ (name, value) ∷ [] → name ≡ row.0 → value ≡ row.1 → after ≡ take (at + 1) all
   copy-step all before after at row name value is e new n v =

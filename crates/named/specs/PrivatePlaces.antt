@@ -1,6 +1,6 @@
 -- The index beside rows: it knows the place of each row by its name. It may know other names too, at whose places another row stands or none, since
 -- a row is compared before it is found.
-use Rattle.std.specs.Prelude.{◌≡◌, ℕ, Some, Bool, true, cond, List, Option, slice_get, bytes_eq, is_some}
+use Rattle.std.specs.Prelude.{◌≡◌, ℕ, Some, Bool, true, cond, List, Option, slice_get, length, bytes_eq, is_some}
 use Rattle.std.specs.List.{list_all}
 use Rattle.std.specs.Map.{lookup}
 use Rattle.std.specs.BTreeMap.{is_at}
@@ -36,3 +36,7 @@ pub record IsIndexed {V Z : Type 0} (rows : List (List ℕ × V)) (entries : Lis
 -- at a place stands the row of a name
 abbrev pub IsPlace : {V : Type 0} → List (List ℕ × V) → List ℕ → ℕ → Type 0
 IsPlace {V} rows name place = (row : List ℕ × V) × (slice_get rows place ≡ Some row) × (bytes_eq name row.0 ≡ true)
+
+-- the place of a name is the one after all rows
+abbrev pub IsNext : {V Z : Type 0} → List (List ℕ × V) → List (String Z × ℕ) → List ℕ → Type 0
+IsNext rows entries name = place_in entries name ≡ Some (length rows)

@@ -1,8 +1,8 @@
 // The index beside a list of rows: the place of each by its name.
 
-ghost use Rattle.std.specs.Prelude.{◌≡◌, ◌+◌, ◌≤◌, ◌<◌, true, false, [], ◌∷◌, ◌++◌, length, IfSome, IfNone, OnOk, OnErr, vec_len, vec_capacity};
+ghost use Rattle.std.specs.Prelude.{◌≡◌, ◌+◌, ◌≤◌, ◌<◌, true, false, [], ◌∷◌, ◌++◌, length, IfOk, IfSome, IfNone, OnOk, OnErr, vec_len, vec_capacity};
 ghost use Rattle.named.specs.Rows.{put_row, give_row, has_row};
-ghost use Rattle.named.specs.PrivatePlaces.{IsIndexed, IsPlace, IsPut, Grows, are_known, is_known};
+ghost use Rattle.named.specs.PrivatePlaces.{IsIndexed, IsNext, IsPlace, IsPut, Grows, are_known, is_known};
 
 use plain::growth::add;
 use plain::{Memory, Text};
@@ -55,24 +55,27 @@ fn move_to(places: &mut Places, name: &str, place: usize)
     *places.get_mut(name).unwrap() = place;
 }
 
-/// Adds a row whose name isn't there. After `Memory` the rows are as they were.
-pub(crate) fn push<V: Drop>(
+/// The place of the row of a name. If there is none, the name's place is now the one after all rows, and its row can be added there. The
+/// index is searched once in either case.
+pub(crate) fn place_or_enter<V>(
     alloc: Global,
-    rows: &mut Vec<(Text, V)>,
+    rows: &[(Text, V)],
     places: &mut Places,
-    name: Text,
-    value: V,
-) -> Result<(), Memory>
-    requires indexed { IsIndexed rows.old.items places.old.entries }
-    requires fresh { has_row name rows.old.items ≡ false }
-    ensures ok { OnOk result (rows.new.items ≡ rows.old.items ++ (name, value) ∷ []) }
-    ensures err { OnErr result (rows.new.items ≡ rows.old.items) }
-    ensures indexed { IsIndexed rows.new.items places.new.entries }
+    name: &str,
+) -> Result<Option<usize>, Memory>
+    requires indexed { IsIndexed rows.now places.old.entries }
+    ensures found { IfOk result (λ place. IfSome place (IsPlace rows.now name.now)) }
+    ensures none { IfOk result (λ place. IfNone place (has_row name.now rows.now ≡ false)) }
+    ensures next { IfOk result (λ place. IfNone place (IsNext rows.now places.new.entries name.now)) }
+    ensures indexed { IsIndexed rows.now places.new.entries }
 {
-    rows.reserve(1)?;
-    enter(alloc, places, name.as_str(), rows.len())?;
-    add(rows, (name, value));
-    Ok(())
+    let key = String::from_str(alloc, name)?;
+    let place = places.entry(key)?.or_insert(rows.len());
+    if stands(rows, name, *place) {
+        return Ok(Some(*place));
+    }
+    *place = rows.len();
+    Ok(None)
 }
 
 /// Makes the names of rows known, so that putting these takes no memory but that of the list.

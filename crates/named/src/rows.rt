@@ -3,7 +3,7 @@ ghost use Rattle.std.specs.Map.{lookup};
 ghost use Rattle.named.specs.Rows.{put_row, put_rows, add_row, has_row, give_rows};
 ghost use Rattle.named.specs.PrivatePlaces.{IsIndexed, are_known};
 
-use crate::places::{Places, give, know_all, place, push, put};
+use crate::places::{Places, give, know_all, place, place_or_enter, put};
 use plain::growth::room;
 use plain::{Exact, Items, Memory, Text};
 use std::alloc::Global;
@@ -95,13 +95,12 @@ impl<V: Drop> NamedRows<V> {
         ensures ok { OnOk result (self.new ≡ put_row self.old name value) }
         ensures err { OnErr result (self.new ≡ self.old) }
     {
-        match place(self.rows.as_slice(), &self.places, name.as_str()) {
-            Some(place) => {
-                self.rows[place].1 = value;
-                Ok(())
-            }
-            None => push(alloc, &mut self.rows, &mut self.places, name, value),
+        let place = place_or_enter(alloc, self.rows.as_slice(), &mut self.places, name.as_str())?;
+        match place {
+            Some(place) => self.rows[place].1 = value,
+            None => self.rows.push((name, value))?,
         }
+        Ok(())
     }
 
     /// Adds a row, unless its name has one, and answers whether it was added. After `Memory` the rows are as they were.
@@ -110,10 +109,11 @@ impl<V: Drop> NamedRows<V> {
         ensures ok { OnOk result (self.new ≡ add_row self.old name value) }
         ensures err { OnErr result (self.new ≡ self.old) }
     {
-        match place(self.rows.as_slice(), &self.places, name.as_str()) {
+        let place = place_or_enter(alloc, self.rows.as_slice(), &mut self.places, name.as_str())?;
+        match place {
             Some(_) => Ok(false),
             None => {
-                push(alloc, &mut self.rows, &mut self.places, name, value)?;
+                self.rows.push((name, value))?;
                 Ok(true)
             }
         }
@@ -163,12 +163,13 @@ impl<V: Exact + Drop> NamedRows<V> {
         ensures { IfOk result (λ copied. copied ≡ self.now) }
     {
         let mut rows = Vec::with_capacity(alloc, self.rows.len())?;
-        let mut places = BTreeMap::new(alloc);
         for (name, value) in self.rows.as_slice() {
             let name = name.copy(alloc)?;
             let value = value.copy(alloc)?;
-            push(alloc, &mut rows, &mut places, name, value)?;
+            rows.push((name, value))?;
         }
+        // a clone of the index takes its order as it is, and compares each name once
+        let places = self.places.clone()?;
         Ok(NamedRows { rows, places })
     }
 }

@@ -1,9 +1,9 @@
-use Rattle.std.proofs.Common.{refl}
-use Rattle.std.proofs.lemmas.Option.{slice_get_read}
-use Rattle.named.proofs.PlaceFacts.{copy-fresh}
+use Rattle.std.proofs.Common.{arith, ◌∙◌}
+use Rattle.std.proofs.lemmas.List.{take_all}
+use Rattle.named.proofs.PlaceFacts.{clone-indexed}
 use Rattle.named.proofs.rows.NamedRows.copy.Goals as goal
 
-pub push-requires-clause-fresh : goal.push-requires-clause-fresh
-push-requires-clause-fresh g c =
-    let there = slice_get_read c.as_slice-name-items.result.now _ c.loop-name.name-index c.loop-name-item.result refl c.loop-name-test.true c.loop-name-item.is in
-    copy-fresh c.self.inside.rows.items c.as_slice-name-items.result.now c.loop-name.rows.items _ c.loop-name.name-index c.loop-name-item.result c.in_ok-name.name c.as_slice-name-items.ensures.value c.self.invariant c.loop-name.invariant.rows there c.in_ok-name.ensures
+pub invariant_of-result : goal.invariant_of-result
+invariant_of-result g c =
+    clone-indexed c.self.inside.rows.items c.loop-name.rows.items c.self.inside.places.entries c.in_ok-places.places.entries
+    (c.loop-name.invariant.rows ∙ take_all _ _ (omega (arith, c.loop-name-test.false)) ∙ c.as_slice-name-items.ensures.value) c.in_ok-places.ensures.cases c.self.invariant

@@ -1,9 +1,7 @@
 use Rattle.std.proofs.Common.{◌≡◌, take}
-use Rattle.named.specs.PrivatePlaces.{IsIndexed}
 use Rattle.named.proofs.rows.NamedRows.copy.Given as goal
 
 abbrev pub invariant-loop-name : goal.invariant-loop-name
 invariant-loop-name g l = record {
   rows : l.rows.items ≡ take l.name-index l.name-items;
-  indexed : IsIndexed l.rows.items l.places.entries;
 }
