@@ -52,31 +52,6 @@ module _ {V : Type 0} where
       ap (λ (s : List ℕ × V). bytes_eq name s.0) (sym (some_same r row e)) ∙ parts.0
   each_not name (r ∷ rows) none (suc k) row e = (let parts = or_parts (bytes_eq name r.0) (has_row name rows) none in each_not name rows parts.1 k row e)
 
-  -- one more row
-  pub push-indexed : {Z : Type 0} (rows now : List (List ℕ × V)) (old new : List (String Z × ℕ)) (key name : List ℕ) (value : V) (place : ℕ) → now ≡ rows ++ (name, value) ∷ [] → key ≡ name → place ≡ length rows → has_row name rows ≡ false → IsPut old new key place → IsIndexed rows old → IsIndexed now new
-  push-indexed {Z} rows now old new key name value place is same_key end fresh entered indexed =
-      subst (λ (rs : List (List ℕ × V)). IsIndexed rs new) (sym is) (record { at = λ k row e. at k row (get-push rows (name, value) row k e) })
-    where
-      put : IsPut old new name place
-      put = subst (λ (n : List ℕ). IsPut old new n place) same_key entered
-
-      at : (k : ℕ) (row : List ℕ × V) → (slice_get rows k ≡ Some row) ⊎ ((k ≡ length rows) × ((name, value) ≡ row)) → place_in new row.0 ≡ Some k
-      at k row (inl e) =
-          put row.0 ∙ ap (λ b. cond b (Some place) (place_in old row.0)) (each_not name rows fresh k row e) ∙ indexed.at k row e
-      at k row (inr (e, g)) =
-          let n : name ≡ row.0 = ap (λ (s : List ℕ × V). s.0) g in
-          put row.0 ∙ ap (λ b. cond b (Some place) (place_in old row.0)) ((bytes_decides name row.0).1 n) ∙ ap Some (end ∙ sym e)
-
-  -- a name that is put where it wasn't known
-  pub know-indexed : {Z : Type 0} (rows : List (List ℕ × V)) (old new : List (String Z × ℕ)) (name : List ℕ) (place : ℕ) → is_known old name ≡ false → IsPut old new name place → IsIndexed rows old → IsIndexed rows new
-  know-indexed rows old new name place none put indexed = record { at = λ k row e. by k row e (bytes_eq name row.0) refl }
-    where
-      by : (k : ℕ) (row : List ℕ × V) → slice_get rows k ≡ Some row → (b : Bool) → bytes_eq name row.0 ≡ b → place_in new row.0 ≡ Some k
-      by k row e true h =
-          let there : is_known old name ≡ true = ap (λ (n : List ℕ). is_known old n) (same name row.0 h) ∙ ap is_some (indexed.at k row e) in
-          absurd (true≢false (sym there ∙ none))
-      by k row e false h = put row.0 ∙ ap (λ b. cond b (Some place) (place_in old row.0)) h ∙ indexed.at k row e
-
   -- the row of a name stands nowhere else
   only : {Z : Type 0} (rows : List (List ℕ × V)) (entries : List (String Z × ℕ)) (name : List ℕ) (place : ℕ) → IsIndexed rows entries → IsPlace rows name place → (k : ℕ) (row : List ℕ × V) → slice_get rows k ≡ Some row → bytes_eq name row.0 ≡ true → k ≡ place
   only rows entries name place indexed there k row e h =
@@ -253,6 +228,15 @@ indexed-as {V} {Z} rows now entries is indexed = subst (λ (es : List (String Z 
 pub next-as : {V Z : Type 0} (rows : List (List ℕ × V)) (now entries : List (String Z × ℕ)) (name : List ℕ) → now ≡ entries → IsNext rows entries name → IsNext rows now name
 next-as {V} {Z} rows now entries name is next = subst (λ (es : List (String Z × ℕ)). IsNext rows es name) (sym is) next
 
+pub grows-as : {Z : Type 0} (old now entries : List (String Z × ℕ)) → now ≡ entries → Grows old entries → Grows old now
+grows-as {Z} old now entries is grows = subst (λ (es : List (String Z × ℕ)). Grows old es) (sym is) grows
+
+pub known-as : {Z : Type 0} (now entries : List (String Z × ℕ)) (name : List ℕ) → now ≡ entries → is_known entries name ≡ true → is_known now name ≡ true
+known-as {Z} now entries name is known = ap (λ (es : List (String Z × ℕ)). is_known es name) is ∙ known
+
+pub seen-indexed : {V Z : Type 0} (seen rows : List (List ℕ × V)) (entries : List (String Z × ℕ)) → seen ≡ rows → IsIndexed seen entries → IsIndexed rows entries
+seen-indexed {V} seen rows entries is indexed = subst (λ (rs : List (List ℕ × V)). IsIndexed rs entries) is indexed
+
 -- a clone of an index
 
 pub clone-indexed : {V Z : Type 0} (rows now : List (List ℕ × V)) (old new : List (String Z × ℕ)) → now ≡ rows → AllZip (λ p q. (string_bytes q.0 ≡ string_bytes p.0) × (q.1 ≡ p.1)) old new → IsIndexed rows old → IsIndexed now new
@@ -266,20 +250,6 @@ clone-indexed {V} {Z} rows now old new is clones indexed =
     same_place (p ∷ ps) (q ∷ qs) name clones =
         ap₂ (λ (key : List ℕ) (place : ℕ). cond (is_eq (slice_cmp nat_cmp name key)) (Some place) (place_in qs name)) clones.0.0 clones.0.1
         ∙ ap (λ (rest : Option ℕ). cond (is_eq (slice_cmp nat_cmp name (string_bytes p.0))) (Some p.1) rest) (same_place ps qs name clones.1)
-
--- what a name that is put, or was to be, leaves
-
-pub know-either : {V Z : Type 0} (result : Result (Unit {0}) Memory) (rows : List (List ℕ × V)) (old new : List (String Z × ℕ)) (name : List ℕ) (place : ℕ) → OnOk result (IsPut old new name place) → OnErr result (new ≡ old) → is_known old name ≡ false → IsIndexed rows old → IsIndexed rows new
-know-either (Ok done) rows old new name place ok err none indexed = know-indexed rows old new name place none ok indexed
-know-either {V} {Z} (Err memory) rows old new name place ok err none indexed = subst (λ (es : List (String Z × ℕ)). IsIndexed rows es) (sym err) indexed
-
-pub know-grows : {Z : Type 0} (result : Result (Unit {0}) Memory) (old new : List (String Z × ℕ)) (name : List ℕ) (place : ℕ) → OnOk result (IsPut old new name place) → OnErr result (new ≡ old) → Grows old new
-know-grows (Ok done) old new name place ok err = put-grows old new name place ok
-know-grows {Z} (Err memory) old new name place ok err = λ other h. ap (λ (es : List (String Z × ℕ)). is_known es other) err ∙ h
-
-pub know-known : {Z : Type 0} (result : Result (Unit {0}) Memory) (old new : List (String Z × ℕ)) (name : List ℕ) (place : ℕ) → OnOk result (IsPut old new name place) → OnOk result (is_known new name ≡ true)
-know-known (Ok done) old new name place ok = put-known old new name place ok
-know-known (Err memory) old new name place ok = tt
 
 -- names that are known, one after another
 

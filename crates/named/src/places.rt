@@ -37,24 +37,6 @@ pub(crate) fn place<V>(rows: &[(Text, V)], places: &Places, name: &str) -> Optio
     }
 }
 
-/// Gives a name a place. After `Memory` the places are as they were.
-fn enter(alloc: Global, places: &mut Places, name: &str, place: usize) -> Result<(), Memory>
-    ensures ok { OnOk result (IsPut places.old.entries places.new.entries name.now place) }
-    ensures err { OnErr result (places.new.entries ≡ places.old.entries) }
-{
-    let key = String::from_str(alloc, name)?;
-    places.insert(key, place)?;
-    Ok(())
-}
-
-/// Gives a name that is known another place. It takes no memory.
-fn move_to(places: &mut Places, name: &str, place: usize)
-    requires known { is_known places.old.entries name.now ≡ true }
-    ensures { IsPut places.old.entries places.new.entries name.now place }
-{
-    *places.get_mut(name).unwrap() = place;
-}
-
 /// The place of the row of a name. If there is none, the name's place is now the one after all rows, and its row can be added there. The
 /// index is searched once in either case.
 pub(crate) fn place_or_enter<V>(
@@ -68,13 +50,16 @@ pub(crate) fn place_or_enter<V>(
     ensures none { IfOk result (λ place. IfNone place (has_row name.now rows.now ≡ false)) }
     ensures next { IfOk result (λ place. IfNone place (IsNext rows.now places.new.entries name.now)) }
     ensures indexed { IsIndexed rows.now places.new.entries }
+    ensures grows { Grows places.old.entries places.new.entries }
+    ensures known { OnOk result (is_known places.new.entries name.now ≡ true) }
 {
     let key = String::from_str(alloc, name)?;
-    let place = places.entry(key)?.or_insert(rows.len());
+    let next = rows.len();
+    let place = places.entry(key)?.or_insert(next);
     if stands(rows, name, *place) {
         return Ok(Some(*place));
     }
-    *place = rows.len();
+    *place = next;
     Ok(None)
 }
 
@@ -90,38 +75,27 @@ pub(crate) fn know_all<V, W>(
     ensures known { OnOk result (are_known places.new.entries more.now ≡ true) }
 {
     for (name, _) in more {
-        know(alloc, rows, places, name.as_str())?;
+        place_or_enter(alloc, rows, places, name.as_str())?;
     }
     Ok(())
 }
 
-/// Makes a name known.
-fn know<V>(alloc: Global, rows: &[(Text, V)], places: &mut Places, name: &str) -> Result<(), Memory>
+/// The place of the row of a name that is known. If there is none, the name's place is now the one after all rows. It takes no memory.
+fn place_or_move<V>(rows: &[(Text, V)], places: &mut Places, name: &str) -> Option<usize>
     requires indexed { IsIndexed rows.now places.old.entries }
+    requires known { is_known places.old.entries name.now ≡ true }
+    ensures found { IfSome result (IsPlace rows.now name.now) }
+    ensures none { IfNone result (has_row name.now rows.now ≡ false) }
+    ensures next { IfNone result (IsNext rows.now places.new.entries name.now) }
     ensures indexed { IsIndexed rows.now places.new.entries }
     ensures grows { Grows places.old.entries places.new.entries }
-    ensures known { OnOk result (is_known places.new.entries name.now ≡ true) }
 {
-    if places.contains_key(name) {
-        return Ok(());
+    let place = places.get_mut(name).unwrap();
+    if stands(rows, name, *place) {
+        return Some(*place);
     }
-    enter(alloc, places, name, rows.len())
-}
-
-/// Adds a row whose name isn't there, but is known.
-fn append<V>(rows: &mut Vec<(Text, V)>, places: &mut Places, name: Text, value: V)
-    requires indexed { IsIndexed rows.old.items places.old.entries }
-    requires fresh { has_row name rows.old.items ≡ false }
-    requires known { is_known places.old.entries name ≡ true }
-    requires room { vec_len rows.old < vec_capacity rows.old }
-    ensures rows { rows.new.items ≡ rows.old.items ++ (name, value) ∷ [] }
-    ensures indexed { IsIndexed rows.new.items places.new.entries }
-    ensures grows { Grows places.old.entries places.new.entries }
-    ensures len { vec_len rows.new ≡ vec_len rows.old + 1 }
-    ensures capacity { vec_capacity rows.old ≤ vec_capacity rows.new }
-{
-    move_to(places, name.as_str(), rows.len());
-    add(rows, (name, value));
+    *place = rows.len();
+    None
 }
 
 /// Puts a row whose name is known. It takes no memory.
@@ -135,9 +109,9 @@ pub(crate) fn put<V: Drop>(rows: &mut Vec<(Text, V)>, places: &mut Places, name:
     ensures len { vec_len rows.new ≤ vec_len rows.old + 1 }
     ensures capacity { vec_capacity rows.old ≤ vec_capacity rows.new }
 {
-    match place(rows.as_slice(), places, name.as_str()) {
+    match place_or_move(rows.as_slice(), places, name.as_str()) {
         Some(place) => rows[place].1 = value,
-        None => append(rows, places, name, value),
+        None => add(rows, (name, value)),
     }
 }
 
@@ -157,12 +131,12 @@ pub(crate) fn give<V: Drop>(
     ensures len { vec_len rows.new ≤ vec_len rows.old + 1 }
     ensures capacity { vec_capacity rows.old ≤ vec_capacity rows.new }
 {
-    match place(rows.as_slice(), places, name.as_str()) {
+    match place_or_move(rows.as_slice(), places, name.as_str()) {
         Some(place) => {
             if value.is_some() {
                 rows[place].1 = value;
             }
         }
-        None => append(rows, places, name, value),
+        None => add(rows, (name, value)),
     }
 }
