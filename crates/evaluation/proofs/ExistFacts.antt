@@ -1,7 +1,7 @@
 -- Each table has an evaluation or a refusal: there are marks of the stages that it needs, and trees of the images that these name.
-use Rattle.std.specs.Prelude.{◌≡◌, ◌<◌, ◌+◌, ◌⊎◌, ◌||◌, ◌&&◌, ℕ, zero, suc, Bool, true, false, List, [], ◌∷◌, Option, Some, None, Result, Ok, Err, Contains, length, slice_get, nat_eq, refl}
+use Rattle.std.specs.Prelude.{◌≡◌, ◌<◌, ◌+◌, ◌⊎◌, ◌||◌, ◌&&◌, ℕ, zero, suc, Bool, true, false, List, [], ◌∷◌, Some, Result, Ok, Err, Contains, length, slice_get, nat_eq, refl}
 use Rattle.std.specs.List.{All, list_any}
-use Rattle.std.specs.FinMap.{empty, get, insert}
+use Rattle.std.specs.FinMap.{empty, entries, insert}
 use Rattle.std.proofs.Common.{sym, ◌∙◌, ap, subst, arith, inl, inr}
 use Rattle.std.proofs.lemmas.Bool.{true≢false}
 use Rattle.std.proofs.lemmas.Bool.Decides.{nat_tests}
@@ -24,7 +24,7 @@ use Rattle.stages.specs.declared.stage.ResolvedInstruction.{ResolvedInstruction}
 use Rattle.stages.specs.declared.stage.ResolvedStage.{ResolvedStage}
 use Rattle.imageconfig.specs.declared.config.Config.{Config}
 use Rattle.evaluation.specs.Evaluated.{evaluated, config_at, EvaluatesTable}
-use Rattle.evaluation.specs.Images.{ImageNames, AreSources}
+use Rattle.evaluation.specs.Images.{ImageNames, is_among, AreSources}
 use Rattle.evaluation.specs.declared.evaluated.Evaluated.{Evaluated}
 use Rattle.evaluation.specs.declared.walk.Walk.{Walk}
 use Rattle.evaluation.proofs.ImageFacts.{NamedSoFar, named_first, named_some, named_none, named_all}
@@ -214,34 +214,34 @@ marks_are table is = record {
 
 -- the trees of the images that are named
 
-record Named {C : Type 0} (context : TreeMap) (all : ImagesValue C) (names rest : ImageNames) : Type 0 where
+record Named {C : Type 0} (context : TreeMap) (all : ImagesValue C) (names : ImageNames) (rest : List (List ℕ × image.Image C)) : Type 0 where
   sources : SourcesValue
   far : NamedSoFar context all names rest sources
 
-named_next : {C : Type 0} (context : TreeMap) (all : ImagesValue C) (names rest : ImageNames) (next : List ℕ) (sources : SourcesValue) (found : Option (image.Image C))
-    → NamedSoFar context all names (next ∷ rest) sources → get all next ≡ found → Named context all names rest
-named_next context all names rest next sources (Some found) far is =
-    let more : SourcesValue = record sources { images = insert sources.images next found.tree } in
+named_next : {C : Type 0} (context : TreeMap) (all : ImagesValue C) (names : ImageNames) (rest : List (List ℕ × image.Image C)) (next : List ℕ × image.Image C) (sources : SourcesValue) (named : Bool)
+    → NamedSoFar context all names (next ∷ rest) sources → is_among names next.0 ≡ named → Named context all names rest
+named_next context all names rest next sources true far is =
+    let more : SourcesValue = record sources { images = insert sources.images next.0 next.1.tree } in
     record {
       sources = more;
-      far = named_some context all names (next ∷ rest) rest next sources more found far refl is refl;
+      far = named_some context all names (next ∷ rest) rest next sources far refl more is refl;
     }
-named_next context all names rest next sources None far is = record {
+named_next context all names rest next sources false far is = record {
   sources = sources;
   far = named_none context all names (next ∷ rest) rest next sources far refl is;
 }
 
-sources_from : {C : Type 0} (context : TreeMap) (all : ImagesValue C) (names rest : ImageNames) (sources : SourcesValue)
+sources_from : {C : Type 0} (context : TreeMap) (all : ImagesValue C) (names : ImageNames) (rest : List (List ℕ × image.Image C)) (sources : SourcesValue)
     → NamedSoFar context all names rest sources → (held : SourcesValue) × AreSources context all names held
-sources_from context all names [] sources far = (sources, (named_all context all names [] sources far refl).0)
+sources_from context all names [] sources far = (sources, named_all context all names [] sources far refl)
 sources_from context all names (next ∷ rest) sources far =
-    let more = named_next context all names rest next sources (get all next) far refl in
+    let more = named_next context all names rest next sources (is_among names next.0) far refl in
     sources_from context all names rest more.sources more.far
 
 sources_are : (context : TreeMap) (all : ImagesValue Config) (names : ImageNames) → (held : SourcesValue) × AreSources context all names held
 sources_are context all names =
     let none : SourcesValue = record { context = context; images = empty } in
-    sources_from context all names names none (named_first context all names none refl)
+    sources_from context all names (entries all) none (named_first context all names (entries all) none refl refl)
 
 -- an evaluation or a refusal
 

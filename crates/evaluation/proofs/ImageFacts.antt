@@ -1,12 +1,16 @@
 -- The images that are named: names are kept, and each has its tree.
-use Rattle.std.specs.Prelude.{◌≡◌, ◌≤◌, ◌+◌, ◌||◌, ℕ, Bool, true, false, cond, List, [], ◌∷◌, ◌++◌, Option, Some, None, option_map, length, map, nat_lt, bytes_eq, refl, if◌then◌else◌}
+use Rattle.std.specs.Prelude.{◌≡◌, ◌≤◌, ◌-◌, ◌&&◌, ◌||◌, ℕ, suc, T, Bool, true, false, cond, List, [], ◌∷◌, ◌++◌, Option, Some, None, option_map, length, map, nat_lt, bytes_eq, refl, if◌then◌else◌}
 use Rattle.std.specs.List.{All}
 use Rattle.std.specs.Cmp.Lexicographic.{nat_list_cmp_total, texts_ties}
-use Rattle.std.specs.FinMap.{FinMap, empty, get, insert, contains_key, len, get-empty, get-insert, len-empty, len-insert}
-use Rattle.std.proofs.Common.{sym, ◌∙◌, ap, subst, arith, append_assoc, length-append}
+use Rattle.std.specs.FinMap.{FinMap, empty, entries, get, insert, remove, contains_key, len, entries_sorted, get-entries, get-empty, get-insert, get-remove, len-empty, len-remove, same_map, slice_cmp-IsAntisymmetric, nat_cmp-IsAntisymmetric}
+use Rattle.std.specs.FinMap.Entries.{find, below_all, is_sorted}
+use Rattle.std.specs.Option.{option_or}
+use Rattle.std.specs.Ordering.{eq_by_cmp, is_eq, is_lt}
+use Rattle.std.specs.declared.cmp.Ordering.{Ordering}
+use Rattle.std.specs.declared.cmp.Ordering.TheVariants.{Less, Equal, Greater}
+use Rattle.std.proofs.Common.{sym, ◌∙◌, ap, subst, arith}
 use Rattle.std.proofs.lemmas.Bool.{true≢false}
 use Rattle.std.proofs.lemmas.Bool.Decides.{nat_tests}
-use Rattle.std.proofs.lemmas.List.{append-nil}
 use Rattle.std.proofs.lemmas.Slice.Eq.{bytes_eq-Decides}
 use Rattle.std.proofs.lemmas.List.Elements.{All-nil, All-cons}
 use Rattle.std.proofs.lemmas.List.Folds.{list_any-append}
@@ -41,6 +45,9 @@ row_added {V} rows name value = by (has_row name rows) ∙ ap (λ b. cond b (map
 pub name_added : {V : Type 0} (rows new : List (List ℕ × V)) (copied name : List ℕ) (value : V) (old : ImageNames) → new ≡ add_row rows copied value → copied ≡ name → map (λ r. r.0) rows ≡ old → map (λ r. r.0) new ≡ with_name old name
 name_added {V} rows new copied name value old made is view =
     ap (λ (rs : List (List ℕ × V)). map (λ r. r.0) rs) made ∙ row_added rows copied value ∙ ap (λ (ns : ImageNames). with_name ns copied) view ∙ ap (with_name old) is
+
+pub name_there : {V : Type 0} (rows : List (List ℕ × V)) (lent name : List ℕ) (names : ImageNames) (found : Bool) → found ≡ has_row lent rows → lent ≡ name → map (λ r. r.0) rows ≡ names → found ≡ is_among names name
+name_there rows lent name names found is same view = is ∙ any_named rows lent ∙ (λ i. is_among (view i) (same i))
 
 -- names that are there stay, and those that are added are there
 
@@ -121,104 +128,130 @@ few_named names h = few_by most_images (length names) h
 
 -- the trees of the images that are named
 
-among_push : (names : ImageNames) (more name : List ℕ) → is_among (names ++ more ∷ []) name ≡ (is_among names name || bytes_eq name more)
-among_push names more name = list_any-append (bytes_eq name) names (more ∷ []) ∙ ap (λ b. is_among names name || b) (or_false (bytes_eq name more))
-  where
-    or_false : (b : Bool) → (b || false) ≡ b
-    or_false true = refl
-    or_false false = refl
+-- the tree of an image that was found, if the image is among those that are named
+abbrev tree_if : {C : Type 0} → Bool → Option (image.Image C) → Option TreeMap
+tree_if among found = if among then option_map (λ found. found.tree) found else None
 
--- the sources that were made of the images whose names came so far
-pub record NamedSoFar {C : Type 0} (context : TreeMap) (all : ImagesValue C) (names rest : ImageNames) (sources : SourcesValue) : Type 0 where
-  pub before : ImageNames
-  pub split : names ≡ before ++ rest
+-- the sources that were made of the images that came before these
+pub record NamedSoFar {C : Type 0} (context : TreeMap) (all : ImagesValue C) (names : ImageNames) (rest : List (List ℕ × image.Image C)) (sources : SourcesValue) : Type 0 where
   pub same : sources.context ≡ context
-  pub trees : (name : List ℕ) → get sources.images name ≡ named_tree all before name
-  pub few : len sources.images ≤ length before
+  pub ordered : T (is_sorted name_cmp rest)
+  pub trees : (name : List ℕ) → named_tree all names name ≡ option_or (tree_if (is_among names name) (find name_cmp name rest)) (get sources.images name)
 
-pub named_first : {C : Type 0} (context : TreeMap) (all : ImagesValue C) (names : ImageNames) (sources : SourcesValue) → sources ≡ (record { context = context; images = empty })
-    → NamedSoFar context all names names sources
-named_first context all names sources is = record {
-  before = [];
-  split = refl;
+or_none : {A : Type 0} (found : Option A) → option_or found None ≡ found
+or_none None = refl
+or_none (Some x) = refl
+
+pub named_first : {C : Type 0} (context : TreeMap) (all : ImagesValue C) (names : ImageNames) (rest : List (List ℕ × image.Image C)) (sources : SourcesValue)
+    → rest ≡ entries all → sources ≡ (record { context = context; images = empty }) → NamedSoFar context all names rest sources
+named_first context all names rest sources lent is = record {
   same = ap (λ (s : SourcesValue). s.context) is;
-  trees = λ name. ap (λ (s : SourcesValue). get s.images name) is ∙ get-empty name_cmp name;
-  few = subst (λ (n : ℕ). n ≤ 0) (sym (ap (λ (s : SourcesValue). len s.images) is ∙ len-empty name_cmp TreeMap)) (omega arith);
+  ordered = subst (λ (r : List (List ℕ × image.Image _)). T (is_sorted name_cmp r)) (sym lent) (entries_sorted all);
+  trees = λ name.
+      sym (or_none (named_tree all names name))
+      ∙ (λ i.
+      option_or (tree_if (is_among names name) ((get-entries all name ∙ ap (find name_cmp name) (sym lent)) i))
+      (sym (ap (λ (s : SourcesValue). get s.images name) is ∙ get-empty name_cmp name) i));
 }
 
-tree_some : {C : Type 0} (found : image.Image C) (whole : Option (image.Image C)) (now : Option TreeMap) (among same : Bool) → (same ≡ true → whole ≡ Some found)
-    → now ≡ (if among then option_map (λ (i : image.Image C). i.tree) whole else None)
-    → cond same (Some found.tree) now ≡ (if (among || same) then option_map (λ (i : image.Image C). i.tree) whole else None)
-tree_some found whole now true true is h = sym (ap (option_map (λ i. i.tree)) (is refl))
-tree_some found whole now false true is h = sym (ap (option_map (λ i. i.tree)) (is refl))
-tree_some found whole now true false is h = h
-tree_some found whole now false false is h = h
+first : (a b : Bool) → T (a && b) → T a
+first true b h = tt
+first false b h = absurd h
 
-tree_none : {C : Type 0} (whole : Option (image.Image C)) (now : Option TreeMap) (among same : Bool) → (same ≡ true → whole ≡ None)
-    → now ≡ (if among then option_map (λ (i : image.Image C). i.tree) whole else None)
-    → now ≡ (if (among || same) then option_map (λ (i : image.Image C). i.tree) whole else None)
-tree_none whole now true same is h = h
-tree_none whole now false true is h = h ∙ sym (ap (option_map (λ i. i.tree)) (is refl))
-tree_none whole now false false is h = h
+second : (a b : Bool) → T (a && b) → T b
+second true b h = h
+second false b h = absurd h
 
-trees_more : {C : Type 0} (all : ImagesValue C) (before : ImageNames) (next : List ℕ) (found : image.Image C) (trees : FinMap name_cmp TreeMap)
-    → get all next ≡ Some found → ((name : List ℕ) → get trees name ≡ named_tree all before name)
-    → (name : List ℕ) → get (insert trees next found.tree) name ≡ named_tree all (before ++ next ∷ []) name
-trees_more all before next found trees is now name =
-    get-insert nat_list_cmp_total trees next found.tree name
-    ∙ (ap (λ b. cond b (Some found.tree) (get trees name)) (sym (texts_ties name next))
-    ∙ (tree_some found (get all name) (get trees name) (is_among before name) (bytes_eq name next)
-    (λ same. ap (get all) ((bytes_eq-Decides name next).0 same) ∙ is) (now name)
-    ∙ ap (λ b. if b then option_map (λ i. i.tree) (get all name) else None) (sym (among_push before next name))))
+-- a name that is below all others isn't among these
+unfound : {X : Type 0} (name : List ℕ) (rows : List (List ℕ × X)) → T (below_all name_cmp name rows) → find name_cmp name rows ≡ None
+unfound name [] h = refl
+unfound {X} name (row ∷ rows) h = by (name_cmp name row.0) (unfound name rows) h
+  where
+    by : (o : Ordering) → (T (below_all name_cmp name rows) → find name_cmp name rows ≡ None) → T (is_lt o && below_all name_cmp name rows)
+        → cond (is_eq o) (Some row.1) (find name_cmp name rows) ≡ None
+    by Less rest h = rest h
+    by Equal rest h = absurd h
+    by Greater rest h = absurd h
 
-trees_same : {C : Type 0} (all : ImagesValue C) (before : ImageNames) (next : List ℕ) (trees : FinMap name_cmp TreeMap)
-    → get all next ≡ None → ((name : List ℕ) → get trees name ≡ named_tree all before name)
-    → (name : List ℕ) → get trees name ≡ named_tree all (before ++ next ∷ []) name
-trees_same all before next trees is now name =
-    tree_none (get all name) (get trees name) (is_among before name) (bytes_eq name next)
-    (λ same. ap (get all) ((bytes_eq-Decides name next).0 same) ∙ is) (now name)
-    ∙ ap (λ b. if b then option_map (λ i. i.tree) (get all name) else None) (sym (among_push before next name))
+same_name : (name next : List ℕ) → eq_by_cmp name_cmp name next ≡ true → name ≡ next
+same_name name next h = (bytes_eq-Decides name next).0 (texts_ties name next ∙ h)
 
-long_push : (before : ImageNames) (next : List ℕ) → length (before ++ next ∷ []) ≡ length before + 1
-long_push before next = length-append before (next ∷ [])
+tree_moved : {C : Type 0} (found : image.Image C) (after : Option (image.Image C)) (now : Option TreeMap) (among same : Bool) → (same ≡ true → among ≡ true) → (same ≡ true → after ≡ None)
+    → option_or (tree_if among (cond same (Some found) after)) now ≡ option_or (tree_if among after) (cond same (Some found.tree) now)
+tree_moved found after now true true named once = sym (ap (λ (o : Option (image.Image _)). option_or (tree_if true o) (Some found.tree)) (once refl))
+tree_moved found after now false true named once = absurd (true≢false (sym (named refl)))
+tree_moved found after now among false named once = refl
 
-len_by : (n m : ℕ) (b : Bool) → n ≤ m → cond b n (n + 1) ≤ m + 1
-len_by n m true h = omega arith
-len_by n m false h = omega arith
+tree_dropped : {C : Type 0} (found : image.Image C) (after : Option (image.Image C)) (now : Option TreeMap) (among same : Bool) → (same ≡ true → among ≡ false)
+    → option_or (tree_if among (cond same (Some found) after)) now ≡ option_or (tree_if among after) now
+tree_dropped found after now true true unnamed = absurd (true≢false (unnamed refl))
+tree_dropped found after now false true unnamed = refl
+tree_dropped found after now among false unnamed = refl
 
-split_more : (names before rest left : ImageNames) (next : List ℕ) → names ≡ before ++ rest → rest ≡ next ∷ left → names ≡ (before ++ next ∷ []) ++ left
-split_more names before rest left next h is = h ∙ (ap (λ ns. before ++ ns) is ∙ sym (append_assoc before (next ∷ []) left))
+module _ {C : Type 0} (context : TreeMap) (all : ImagesValue C) (names : ImageNames) (rest after : List (List ℕ × image.Image C)) (next : List ℕ × image.Image C) (sources : SourcesValue)
+    (far : NamedSoFar context all names rest sources) (is : rest ≡ next ∷ after) where
+  rises : T (is_sorted name_cmp (next ∷ after))
+  rises = subst (λ (r : List (List ℕ × image.Image C)). T (is_sorted name_cmp r)) is far.ordered
 
-pub named_some : {C : Type 0} (context : TreeMap) (all : ImagesValue C) (names rest after : ImageNames) (next : List ℕ) (sources more : SourcesValue) (found : image.Image C)
-    → NamedSoFar context all names rest sources → rest ≡ next ∷ after → get all next ≡ Some found → more ≡ (record sources { images = insert sources.images next found.tree })
-    → NamedSoFar context all names after more
-named_some {C = C} context all names rest after next sources more found far is there added = record {
-  before = far.before ++ next ∷ [];
-  split = split_more names far.before rest after next far.split is;
-  same = ap (λ (s : SourcesValue). s.context) added ∙ far.same;
-  trees = λ name. ap (λ (s : SourcesValue). get s.images name) added ∙ trees_more all far.before next found sources.images there far.trees name;
-  few =
-      subst (λ (s : SourcesValue). len s.images ≤ length (far.before ++ next ∷ [])) (sym added)
-      (subst (λ (n : ℕ). len (insert sources.images next found.tree) ≤ n) (sym (long_push far.before next))
-      (subst (λ (n : ℕ). n ≤ length far.before + 1) (sym (len-insert nat_list_cmp_total sources.images next found.tree))
-      (len_by (len sources.images) (length far.before) (contains_key sources.images next) far.few)));
-}
+  trees_now : (name : List ℕ) → named_tree all names name ≡ option_or (tree_if (is_among names name) (find name_cmp name (next ∷ after))) (get sources.images name)
+  trees_now name = far.trees name ∙ ap (λ (r : List (List ℕ × image.Image C)). option_or (tree_if (is_among names name) (find name_cmp name r)) (get sources.images name)) is
 
-pub named_none : {C : Type 0} (context : TreeMap) (all : ImagesValue C) (names rest after : ImageNames) (next : List ℕ) (sources : SourcesValue)
-    → NamedSoFar context all names rest sources → rest ≡ next ∷ after → get all next ≡ None → NamedSoFar context all names after sources
-named_none {C = C} context all names rest after next sources far is none = record {
-  before = far.before ++ next ∷ [];
-  split = split_more names far.before rest after next far.split is;
+  pub named_some : (more : SourcesValue) → is_among names next.0 ≡ true → more ≡ (record sources { images = insert sources.images next.0 next.1.tree }) → NamedSoFar context all names after more
+  named_some more named added = record {
+    same = ap (λ (s : SourcesValue). s.context) added ∙ far.same;
+    ordered = second (below_all name_cmp next.0 after) _ rises;
+    trees = λ name.
+        trees_now name
+        ∙ tree_moved next.1 (find name_cmp name after) (get sources.images name) (is_among names name) (eq_by_cmp name_cmp name next.0)
+        (λ same. ap (is_among names) (same_name name next.0 same) ∙ named)
+        (λ same. ap (λ (n : List ℕ). find name_cmp n after) (same_name name next.0 same) ∙ unfound next.0 after (first _ _ rises))
+        ∙ ap (option_or (tree_if (is_among names name) (find name_cmp name after)))
+        (sym (ap (λ (s : SourcesValue). get s.images name) added ∙ get-insert nat_list_cmp_total sources.images next.0 next.1.tree name));
+  }
+
+  pub named_none : is_among names next.0 ≡ false → NamedSoFar context all names after sources
+  named_none unnamed = record {
+    same = far.same;
+    ordered = second (below_all name_cmp next.0 after) _ rises;
+    trees = λ name.
+        trees_now name
+        ∙ tree_dropped next.1 (find name_cmp name after) (get sources.images name) (is_among names name) (eq_by_cmp name_cmp name next.0)
+        (λ same. ap (is_among names) (same_name name next.0 same) ∙ unnamed);
+  }
+
+none_left : (C : Type 0) (among : Bool) (now : Option TreeMap) → option_or (tree_if {C = C} among None) now ≡ now
+none_left C true now = refl
+none_left C false now = refl
+
+pub named_all : {C : Type 0} (context : TreeMap) (all : ImagesValue C) (names : ImageNames) (rest : List (List ℕ × image.Image C)) (sources : SourcesValue)
+    → NamedSoFar context all names rest sources → rest ≡ [] → AreSources context all names sources
+named_all {C} context all names rest sources far over = record {
   same = far.same;
-  trees = trees_same all far.before next sources.images none far.trees;
-  few = subst (λ (n : ℕ). len sources.images ≤ n) (sym (long_push far.before next)) (omega (arith, far.few));
+  trees = λ name. sym (
+      far.trees name ∙ ap (λ (r : List (List ℕ × image.Image C)). option_or (tree_if (is_among names name) (find name_cmp name r)) (get sources.images name)) over
+      ∙ none_left C (is_among names name) (get sources.images name)
+      );
 }
 
-pub named_all : {C : Type 0} (context : TreeMap) (all : ImagesValue C) (names rest : ImageNames) (sources : SourcesValue)
-    → NamedSoFar context all names rest sources → length rest ≡ 0 → AreSources context all names sources × (len sources.images ≤ length names)
-named_all context all names [] sources far over =
-    let whole : names ≡ far.before = far.split ∙ append-nil far.before in (
-      record { same = far.same; trees = λ name. far.trees name ∙ ap (λ (ns : ImageNames). named_tree all ns name) (sym whole) },
-      subst (λ (ns : ImageNames). len sources.images ≤ length ns) (sym whole) far.few,
-    )
-named_all context all names (name ∷ rest) sources far over = absurd (omega (arith, over))
+-- trees whose names are all among some aren't more than these
+
+one_less : (b : Bool) (n m : ℕ) → cond b (n - 1) n ≤ m → n ≤ suc m
+one_less true n m h = omega (arith, h)
+one_less false n m h = omega (arith, h)
+
+few_among : (names : ImageNames) (trees : FinMap name_cmp TreeMap) → ((name : List ℕ) → is_among names name ≡ false → get trees name ≡ None) → len trees ≤ length names
+few_among [] trees none =
+    let same : trees ≡ empty = same_map nat_list_cmp_total (slice_cmp-IsAntisymmetric nat_cmp-IsAntisymmetric) trees empty (λ name. none name refl ∙ sym (get-empty name_cmp name)) in
+    subst (λ (n : ℕ). n ≤ 0) (sym (ap len same ∙ len-empty name_cmp TreeMap)) (omega arith)
+few_among (next ∷ names) trees none =
+    one_less (contains_key trees next) (len trees) (length names)
+    (subst (λ (n : ℕ). n ≤ length names) (len-remove nat_list_cmp_total trees next)
+    (few_among names (remove trees next) (λ name apart. get-remove nat_list_cmp_total trees next name ∙ by name apart (eq_by_cmp name_cmp name next) refl)))
+  where
+    by : (name : List ℕ) → is_among names name ≡ false → (b : Bool) → eq_by_cmp name_cmp name next ≡ b → cond b None (get trees name) ≡ None
+    by name apart true h = refl
+    by name apart false h = none name (λ i. (texts_ties name next ∙ h) i || apart i)
+
+pub few_sources : {C : Type 0} (context : TreeMap) (all : ImagesValue C) (names : ImageNames) (sources : SourcesValue) → AreSources context all names sources → len sources.images ≤ length names
+few_sources context all names sources are =
+    few_among names sources.images (λ name apart. are.trees name ∙ ap (λ among. tree_if among (get all name)) apart)

@@ -1,4 +1,4 @@
-ghost use Rattle.std.specs.Prelude.{◌≡◌, ◌≤◌, ◌<◌, length, None as NoneOf, Some as SomeOf, slice_get, slice_index_or, IfOk};
+ghost use Rattle.std.specs.Prelude.{◌≡◌, ◌≤◌, ◌<◌, None as NoneOf, Some as SomeOf, slice_get, slice_index_or, IfOk};
 ghost use Rattle.std.specs.List.{All};
 ghost use Rattle.std.specs.FinMap.{get as arg_value, len};
 ghost use Rattle.plain.specs.Limits.{most_images, most_lines};
@@ -9,7 +9,6 @@ ghost use Rattle.stages.specs.Naming.{names_in};
 ghost use Rattle.stages.specs.Needed.{AreNeeded};
 ghost use Rattle.stages.specs.Table.{NamesKnown};
 ghost use Rattle.evaluation.specs.Evaluated.{EvaluatesTable, config_at, config_of};
-ghost use Rattle.evaluation.specs.Images.{AreSources};
 ghost use Rattle.evaluation.specs.PrivateMaking.{MakesWith, Makes, AnswersWhole};
 
 use crate::given::Given;
@@ -82,26 +81,6 @@ fn config_at(alloc: Global, states: Vec<Option<State>>, number: u32) -> Result<C
     config_of(alloc, state_at(states, number))
 }
 
-/// The trees of the context and of the images that are named.
-fn named_sources(
-    alloc: Global,
-    context: Tree,
-    images: Images<BoxedConfig>,
-    names: NamedImages,
-) -> Result<Sources, Memory>
-    ensures sources { IfOk result (λ sources. AreSources context images names sources) }
-    ensures few { IfOk result (λ sources. len sources.images ≤ length names) }
-{
-    match names.into_items(alloc) {
-        Ok(names) => sources_of(alloc, context, images, names.into_vec()),
-        Err(memory) => {
-            drop(images);
-            drop(context);
-            Err(memory)
-        }
-    }
-}
-
 /// These rows, with this configuration and the trees of what they name.
 fn make_with(
     alloc: Global,
@@ -114,7 +93,9 @@ fn make_with(
 ) -> Result<Evaluated, RejectionFault>
     ensures { MakesWith images context target rows names config result }
 {
-    match named_sources(alloc, context, images, names) {
+    let sources = sources_of(alloc, context, images, &names);
+    drop(names);
+    match sources {
         Ok(sources) => Ok(Evaluated {
             rows,
             target,

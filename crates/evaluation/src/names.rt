@@ -1,11 +1,11 @@
-ghost use Rattle.std.specs.Prelude.{◌≡◌, [], length, nat_lt, IfOk, OnOk, OnErr};
+ghost use Rattle.std.specs.Prelude.{◌≡◌, [], length, nat_lt, OnOk, OnErr};
 ghost use Rattle.plain.specs.Limits.{most_images};
-ghost use Rattle.evaluation.specs.Images.{with_name, with_origin, with_origins};
+ghost use Rattle.evaluation.specs.Images.{is_among, with_name, with_origin, with_origins};
 
 use llb::Source;
 use named::{NamedRows, Present};
 use plain::limits::MOST_IMAGES;
-use plain::{Exact, Items, Memory, Text};
+use plain::{Exact, Memory, Text};
 use rows::Origin;
 use std::alloc::Global;
 use std::marker::Model;
@@ -46,6 +46,13 @@ impl NamedImages {
         self.names.len()
     }
 
+    /// Whether an image is among these.
+    pub fn has(&self, name: &Text) -> bool
+        ensures { result ≡ is_among self.now name.now }
+    {
+        self.names.has(name.as_str())
+    }
+
     /// Adds a name, unless it is there. After `Memory` nothing has changed.
     pub fn add(&mut self, alloc: Global, name: &Text) -> Result<(), Memory>
         ensures ok { OnOk result (self.new ≡ with_name self.old name.now) }
@@ -82,17 +89,5 @@ impl NamedImages {
         ensures { result ≡ nat_lt most_images (length self.now) }
     {
         self.len() > MOST_IMAGES
-    }
-
-    /// The names as a list.
-    pub fn into_items(self, alloc: Global) -> Result<Items<Text>, Memory>
-        ensures { IfOk result (λ names. names ≡ self) }
-    {
-        let NamedImages { names } = self;
-        let mut items = Items::new(alloc);
-        for (name, _) in names.into_rows().into_vec() {
-            items.push(name)?;
-        }
-        Ok(items)
     }
 }

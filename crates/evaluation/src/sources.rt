@@ -2,28 +2,22 @@ ghost use Rattle.std.specs.Prelude.{◌≡◌, ◌≤◌, length, IfOk};
 ghost use Rattle.std.specs.FinMap.{insert, len};
 ghost use Rattle.evaluation.specs.Images.{AreSources};
 
+use crate::names::NamedImages;
 use imageconfig::BoxedConfig;
-use plain::{Exact, Memory, Text};
+use plain::{Memory, Text};
 use plans::{Image, Images, Sources};
 use std::alloc::Global;
 use trees::Tree;
 
-/// The sources with a copy of an image's tree, which shares what is below its root.
+/// The sources with an image's tree.
 ///
 /// It takes the sources and gives them back, so that the loop below holds nothing that is half moved out: that is dear to prove.
-fn with_image(
-    alloc: Global,
-    sources: Sources,
-    name: Text,
-    image: &Image<BoxedConfig>,
-) -> Result<Sources, Memory>
-    ensures { IfOk result (λ more. more ≡ record sources { images = insert sources.images name image.now.tree }) }
+fn with_image(sources: Sources, name: Text, image: Image<BoxedConfig>) -> Result<Sources, Memory>
+    ensures { IfOk result (λ more. more ≡ record sources { images = insert sources.images name image.tree }) }
 {
     let mut sources = sources;
-    let Ok(tree) = image.tree.copy(alloc) else {
-        drop(sources);
-        return Err(Memory);
-    };
+    let Image { config, tree } = image;
+    drop(config);
     match sources.add_image(name, tree) {
         Ok(()) => Ok(sources),
         Err(memory) => {
@@ -39,25 +33,20 @@ pub(crate) fn sources_of(
     alloc: Global,
     context: Tree,
     images: Images<BoxedConfig>,
-    names: Vec<Text>,
+    names: &NamedImages,
 ) -> Result<Sources, Memory>
-    ensures sources { IfOk result (λ sources. AreSources context images names.items sources) }
-    ensures few { IfOk result (λ sources. len sources.images ≤ length names.items) }
+    ensures sources { IfOk result (λ sources. AreSources context images names.now sources) }
+    ensures few { IfOk result (λ sources. len sources.images ≤ length names.now) }
 {
     let mut sources = Sources::new(alloc, context);
-    for name in names {
-        // An image that is found stays where it is: to take each out moves those beside it in the map.
-        match images.find(&name) {
-            Some(image) => match with_image(alloc, sources, name, image) {
-                Ok(more) => sources = more,
-                Err(memory) => {
-                    drop(images);
-                    return Err(memory);
-                }
-            },
-            None => drop(name),
+    // The images come in the order of their names, so each that is added goes to the end of the sources' map.
+    for (name, image) in images.into_rows() {
+        if names.has(&name) {
+            sources = with_image(sources, name, image)?;
+        } else {
+            drop(name);
+            drop(image);
         }
     }
-    drop(images);
     Ok(sources)
 }

@@ -1,15 +1,16 @@
--- A `BTreeMap` by names as a finite map: what it looks up and what it inserts.
-use Rattle.std.specs.Prelude.{◌≡◌, ℕ, List, [], ◌∷◌, cond, None, refl}
+-- A `BTreeMap` by names as a finite map: what it looks up, what it inserts, and its entries.
+use Rattle.std.specs.Prelude.{◌≡◌, ℕ, Bool, true, false, ◌&&◌, T, List, [], ◌∷◌, cond, refl}
 use Rattle.std.specs.declared.cmp.Ordering.{Ordering}
 use Rattle.std.specs.declared.cmp.Ordering.TheVariants.{Less, Equal, Greater}
-use Rattle.std.specs.Ordering.{match_ordering, eq_by_cmp}
-use Rattle.std.specs.Map.{lookup}
+use Rattle.std.specs.Ordering.{match_ordering, eq_by_cmp, is_lt}
+use Rattle.std.specs.List.{AllByRecursion}
+use Rattle.std.specs.List.Sorted.{IsStrictlySortedBy}
+use Rattle.std.specs.Map.{lookup, keys_of}
 use Rattle.std.specs.BTreeMap.{is_at, insert_entry}
 use Rattle.std.specs.Cmp.Lexicographic.{nat_list_cmp_total}
-use Rattle.std.specs.FinMap.{get, insert, remove, from_entries, get-from_entries, get-insert, get-remove, same_map, slice_cmp-IsAntisymmetric, nat_cmp-IsAntisymmetric}
-use Rattle.std.specs.FinMap.Entries.{find, put, find-put, by_order}
-use Rattle.std.proofs.Common.{ap, sym, ◌∙◌}
-use Rattle.std.proofs.lemmas.Cmp.{eq_by_cmp_equiv}
+use Rattle.std.specs.FinMap.{entries, get, insert, from_entries, entries_sorted, get-entries, get-from_entries, get-insert, same_map, slice_cmp-IsAntisymmetric, nat_cmp-IsAntisymmetric}
+use Rattle.std.specs.FinMap.Entries.{find, put, find-put, by_order, below_all, is_sorted, same_entries}
+use Rattle.std.proofs.Common.{ap, subst, sym, ◌∙◌}
 use Rattle.plans.specs.Sources.{name_cmp}
 
 lookup-find : {X : Type 0} (q : List ℕ) (es : List (List ℕ × X)) → lookup (is_at (name_cmp q)) es ≡ find name_cmp q es
@@ -38,13 +39,22 @@ insert_is es k v = same_map nat_list_cmp_total (slice_cmp-IsAntisymmetric nat_cm
     ∙ ap (cond (eq_by_cmp name_cmp q k) _) (sym (get-from_entries nat_list_cmp_total es q))
     ∙ sym (get-insert nat_list_cmp_total (from_entries es) k v q))
 
--- taking an entry away is removing it from the map
-pub remove_is : {X : Type 0} (old new : List (List ℕ × X)) (k : List ℕ)
-    → ((q : List ℕ) → lookup (is_at (name_cmp q)) new ≡ cond (is_at (name_cmp k) q) None (lookup (is_at (name_cmp q)) old))
-    → from_entries {R = name_cmp} new ≡ remove (from_entries {R = name_cmp} old) k
-remove_is old new k taken = same_map nat_list_cmp_total (slice_cmp-IsAntisymmetric nat_cmp-IsAntisymmetric) _ _ (λ q.
-    sym (lookup_is new q)
-    ∙ taken q
-    ∙ ap (cond (is_at (name_cmp k) q) None) (lookup_is old q)
-    ∙ ap (λ b. cond b None (get (from_entries {R = name_cmp} old) q)) ((eq_by_cmp_equiv nat_list_cmp_total).symm k q)
-    ∙ sym (get-remove nat_list_cmp_total (from_entries old) k q))
+-- each of some entries comes after a name, if each of their keys does
+below_from_keys : {X : Type 0} (k : List ℕ) (es : List (List ℕ × X)) → AllByRecursion (λ q. name_cmp k q ≡ Less) (keys_of es) → T (below_all name_cmp k es)
+below_from_keys k [] h = tt
+below_from_keys k (e ∷ es) h = subst (λ (o : Ordering). T (is_lt o && below_all name_cmp k es)) (sym h.0) (below_from_keys k es h.1)
+
+both : (a b : Bool) → T a → T b → T (a && b)
+both true b p q = q
+both false b p q = p
+
+sorted_from_keys : {X : Type 0} (es : List (List ℕ × X)) → IsStrictlySortedBy name_cmp (keys_of es) → T (is_sorted name_cmp es)
+unfolding IsStrictlySortedBy
+sorted_from_keys [] h = tt
+sorted_from_keys (e ∷ es) h = both (below_all name_cmp e.0 es) _ (below_from_keys e.0 es h.0) (sorted_from_keys es h.1)
+
+-- the entries of a map that is made of a list in order are that list
+pub entries_are : {X : Type 0} (es : List (List ℕ × X)) → IsStrictlySortedBy name_cmp (keys_of es) → entries (from_entries {R = name_cmp} es) ≡ es
+entries_are es ordered = same_entries name_cmp nat_list_cmp_total (slice_cmp-IsAntisymmetric nat_cmp-IsAntisymmetric) _ es (entries_sorted (from_entries {R = name_cmp} es)) (sorted_from_keys es ordered) (λ q.
+    sym (get-entries (from_entries {R = name_cmp} es) q)
+    ∙ get-from_entries nat_list_cmp_total es q)

@@ -1,9 +1,10 @@
 ghost use Rattle.std.specs.Prelude.{◌≡◌, IfOk, OnOk, OnErr, option_copied};
-ghost use Rattle.std.specs.FinMap.{empty, get, insert, remove};
+ghost use Rattle.std.specs.FinMap.{empty, entries, get, insert};
 
 use plain::{Memory, Text};
 use std::alloc::Global;
 use std::collections::BTreeMap;
+use std::collections::btree_map::IntoIter;
 use std::marker::Model;
 use trees::Tree;
 
@@ -47,14 +48,6 @@ impl<C> Images<C> {
     {
         self.images.get(name)
     }
-
-    /// Takes the image of exactly this name out, and gives it; `None` where there is none. It takes no memory.
-    pub fn take(&mut self, name: &Text) -> Option<Image<C>>
-        ensures taken { result ≡ get self.old name.now }
-        ensures left { self.new ≡ remove self.old name.now }
-    {
-        self.images.remove(name)
-    }
 }
 
 impl<C: Drop> Images<C> {
@@ -65,5 +58,13 @@ impl<C: Drop> Images<C> {
         ensures err { OnErr result (self.new ≡ self.old) }
     {
         Ok(self.images.insert(name, image)?)
+    }
+
+    /// The images in the order of their names. It takes no memory.
+    pub fn into_rows(self) -> IntoIter<Text, Image<C>, Global>
+        ensures { result ≡ entries self }
+    {
+        let Images { images } = self;
+        images.into_iter()
     }
 }

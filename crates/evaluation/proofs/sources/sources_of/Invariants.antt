@@ -2,4 +2,4 @@ use Rattle.evaluation.proofs.ImageFacts.{NamedSoFar}
 use Rattle.evaluation.proofs.sources.sources_of.Given as goal
 
 abbrev pub invariant-loop-name : goal.invariant-loop-name
-invariant-loop-name l = NamedSoFar l.fn.context l.fn.images l.initial.name-iterator.rest.items l.name-iterator.rest.items l.sources
+invariant-loop-name l = NamedSoFar l.fn.context l.fn.images l.fn.names l.name-iterator l.sources
