@@ -11,20 +11,21 @@ use crate::Numbering;
 use crate::finding::Findings;
 use crate::running::vertex_at;
 use board::{Board, Job};
+use cells::Place;
 use executor::Executor;
 use llb::{Op, VertexId};
 use memo::{Age, Memo};
 use plain::{Items, Memory};
 use std::alloc::Global;
-use trees::Tree;
+use trees::{Tree, TreeOrCause};
 
 /// Adds to a memo what the vertices of a board gave: the tree of each one that is no source, with the trees of its inputs. What was found among the recent
 /// entries of the memo, by the findings, isn't added once more; what was found among the earlier ones is, so that the next call of `forget` leaves it. What there
 /// is no memory for is left out, and so is all if the memo is for one build.
-pub fn remember<E: Executor, M: Executor, N: Numbering>(
+pub fn remember<E: Executor, M: Executor, N: Numbering, P: Place<TreeOrCause>>(
     alloc: Global,
     memo: &mut Memo<M>,
-    board: &Board<E>,
+    board: &Board<E, P>,
     findings: Option<&Findings<N>>,
 )
     requires executor { M.out memo.old.executor ≡ E.out board.now.job.executor }
@@ -40,10 +41,10 @@ pub fn remember<E: Executor, M: Executor, N: Numbering>(
 }
 
 /// The same, up to where there is no memory.
-fn remember_all<E: Executor, M: Executor, N: Numbering>(
+fn remember_all<E: Executor, M: Executor, N: Numbering, P: Place<TreeOrCause>>(
     alloc: Global,
     memo: &mut Memo<M>,
-    board: &Board<E>,
+    board: &Board<E, P>,
     findings: Option<&Findings<N>>,
 ) -> Result<(), Memory>
     requires executor { M.out memo.old.executor ≡ E.out board.now.job.executor }
@@ -104,10 +105,10 @@ fn is_remembered<N: Numbering>(findings: Option<&Findings<N>>, vertex: VertexId)
 
 /// Adds to a memo what a vertex of a board gave, if it is no source. Of some vertices the numbers are known under which the memo keeps their trees, and those
 /// of others are put beside them.
-fn remember_vertex<E: Executor, M: Executor>(
+fn remember_vertex<E: Executor, M: Executor, P: Place<TreeOrCause>>(
     alloc: Global,
     memo: &mut Memo<M>,
-    board: &Board<E>,
+    board: &Board<E, P>,
     kept: &mut Vec<Option<usize>>,
     vertex: VertexId,
 ) -> Result<(), Memory>
@@ -144,10 +145,10 @@ fn is_source(op: &Op) -> bool
 }
 
 /// The numbers under which a memo keeps the trees of these vertices; none if one has no tree.
-fn keep_trees<E: Executor, M: Executor>(
+fn keep_trees<E: Executor, M: Executor, P: Place<TreeOrCause>>(
     alloc: Global,
     memo: &mut Memo<M>,
-    board: &Board<E>,
+    board: &Board<E, P>,
     kept: &mut Vec<Option<usize>>,
     vertices: &[VertexId],
 ) -> Result<Option<Items<usize>>, Memory>
@@ -167,10 +168,10 @@ fn keep_trees<E: Executor, M: Executor>(
 }
 
 /// The number under which a memo keeps the tree of a vertex, which it keeps now if it didn't; none if the vertex has no tree.
-fn keep_tree<E: Executor, M: Executor>(
+fn keep_tree<E: Executor, M: Executor, P: Place<TreeOrCause>>(
     alloc: Global,
     memo: &mut Memo<M>,
-    board: &Board<E>,
+    board: &Board<E, P>,
     kept: &mut Vec<Option<usize>>,
     vertex: VertexId,
 ) -> Result<Option<usize>, Memory>
