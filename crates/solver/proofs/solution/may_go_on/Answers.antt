@@ -1,4 +1,4 @@
-use Rattle.std.proofs.Common.{◌≡◌, true, is_some, ap, sym, subst, rules, ◌∙◌}
+use Rattle.std.proofs.Common.{◌≡◌, true, is_some, ap, subst, rules, ◌∙◌}
 use Rattle.board.specs.Board.{board_problem}
 use Rattle.board.specs.Play.{value_at}
 use Rattle.solver.proofs.SolutionLemmas.{settled-over}
