@@ -127,12 +127,6 @@ next-unbuilt problem run worker vertex is replay next =
     let right = right-is problem run is replay in
     no_tree (value_at run.state.settled problem.target) (ap is_some (right.agrees.settled problem.target) ∙ (or_parts _ _ next.ready.goes_on).0)
 
--- where the target is settled, no vertex is ready
-pub settled-over : (problem : Problem) (run : Run) → IsProblem problem → IsReplay problem run → is_some (value_at run.state.settled problem.target) ≡ true → (vertex : ℕ) → ¬ IsReady problem run.history vertex
-settled-over problem run is replay settled vertex ready =
-    let right = right-is problem run is replay in
-    both_ways _ (ap is_some (right.agrees.settled problem.target) ∙ (or_parts _ _ ready.goes_on).0) settled
-
 -- where no claim is out and a worker may claim nothing, no vertex is ready
 pub none-ready : (problem : Problem) (run : Run) (worker : ℕ) → IsProblem problem → IsReplay problem run → run.state.claims ≡ [] → IsNextClaim problem run.history worker None → (vertex : ℕ) → ¬ IsReady problem run.history vertex
 none-ready problem run worker is replay idle (inl busy) = absurd (busy (idle_all problem run (right-is problem run is replay) idle worker))

@@ -38,5 +38,5 @@ pub use recall::Recall;
 pub use recalling::{Recalling, run_recalled};
 pub use remembering::remember;
 pub use running::{run, run_gated};
-pub use solution::{Solution, solution_if_over};
+pub use solution::Solution;
 pub use sweep::{finish, finish_recalled, solve_here, solve_problem};

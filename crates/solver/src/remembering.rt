@@ -11,21 +11,20 @@ use crate::Numbering;
 use crate::finding::Findings;
 use crate::running::vertex_at;
 use board::{Board, Job};
-use cells::Place;
 use executor::Executor;
 use llb::{Op, VertexId};
 use memo::{Age, Memo};
 use plain::{Items, Memory};
 use std::alloc::Global;
-use trees::{Tree, TreeOrCause};
+use trees::Tree;
 
 /// Adds to a memo what the vertices of a board gave: the tree of each one that is no source, with the trees of its inputs. What was found among the recent
 /// entries of the memo, by the findings, isn't added once more; what was found among the earlier ones is, so that the next call of `forget` leaves it. What there
 /// is no memory for is left out, and so is all if the memo is for one build.
-pub fn remember<E: Executor, M: Executor, N: Numbering, P: Place<TreeOrCause>>(
+pub fn remember<E: Executor, M: Executor, N: Numbering>(
     alloc: Global,
     memo: &mut Memo<M>,
-    board: &Board<E, P>,
+    board: &Board<E>,
     findings: Option<&Findings<N>>,
 )
     requires executor { M.out memo.old.executor ≡ E.out board.now.job.executor }
@@ -41,10 +40,10 @@ pub fn remember<E: Executor, M: Executor, N: Numbering, P: Place<TreeOrCause>>(
 }
 
 /// The same, up to where there is no memory.
-fn remember_all<E: Executor, M: Executor, N: Numbering, P: Place<TreeOrCause>>(
+fn remember_all<E: Executor, M: Executor, N: Numbering>(
     alloc: Global,
     memo: &mut Memo<M>,
-    board: &Board<E, P>,
+    board: &Board<E>,
     findings: Option<&Findings<N>>,
 ) -> Result<(), Memory>
     requires executor { M.out memo.old.executor ≡ E.out board.now.job.executor }
@@ -105,10 +104,10 @@ fn is_remembered<N: Numbering>(findings: Option<&Findings<N>>, vertex: VertexId)
 
 /// Adds to a memo what a vertex of a board gave, if it is no source. Of some vertices the numbers are known under which the memo keeps their trees, and those
 /// of others are put beside them.
-fn remember_vertex<E: Executor, M: Executor, P: Place<TreeOrCause>>(
+fn remember_vertex<E: Executor, M: Executor>(
     alloc: Global,
     memo: &mut Memo<M>,
-    board: &Board<E, P>,
+    board: &Board<E>,
     kept: &mut Vec<Option<usize>>,
     vertex: VertexId,
 ) -> Result<(), Memory>
@@ -145,10 +144,10 @@ fn is_source(op: &Op) -> bool
 }
 
 /// The numbers under which a memo keeps the trees of these vertices; none if one has no tree.
-fn keep_trees<E: Executor, M: Executor, P: Place<TreeOrCause>>(
+fn keep_trees<E: Executor, M: Executor>(
     alloc: Global,
     memo: &mut Memo<M>,
-    board: &Board<E, P>,
+    board: &Board<E>,
     kept: &mut Vec<Option<usize>>,
     vertices: &[VertexId],
 ) -> Result<Option<Items<usize>>, Memory>
@@ -168,10 +167,10 @@ fn keep_trees<E: Executor, M: Executor, P: Place<TreeOrCause>>(
 }
 
 /// The number under which a memo keeps the tree of a vertex, which it keeps now if it didn't; none if the vertex has no tree.
-fn keep_tree<E: Executor, M: Executor, P: Place<TreeOrCause>>(
+fn keep_tree<E: Executor, M: Executor>(
     alloc: Global,
     memo: &mut Memo<M>,
-    board: &Board<E, P>,
+    board: &Board<E>,
     kept: &mut Vec<Option<usize>>,
     vertex: VertexId,
 ) -> Result<Option<usize>, Memory>

@@ -1,4 +1,4 @@
-ghost use Rattle.std.specs.Prelude.{◌≡◌, ◌+◌, ℕ, [], None, Some, Ok, false, length, IfOk, IfSome, IfNone, IsFalse};
+ghost use Rattle.std.specs.Prelude.{◌≡◌, ◌+◌, ℕ, [], None, Some, Ok, false, length, IfOk, IfSome, IfNone};
 ghost use Rattle.trees.specs.TreeMap.{TreeMap};
 ghost use Rattle.board.specs.Board.{board_problem};
 ghost use Rattle.board.specs.Legal.{IsReady};
@@ -8,12 +8,11 @@ ghost use Rattle.solver.specs.PrivateSolution.{IsLeastFailure};
 ghost use Rattle.solver.specs.Solution.{IsSolution, IsBuilt};
 
 use board::Board;
-use cells::Place;
 use executor::Executor;
 use llb::VertexId;
 use plain::{Exact, Memory};
 use std::alloc::Global;
-use trees::{Cause, Tree, TreeOrCause};
+use trees::{Cause, Tree};
 
 /// The solution of a job: it knows no configuration.
 #[derive(Drop)]
@@ -29,39 +28,9 @@ pub enum Solution {
     },
 }
 
-/// The solution of a board on which nothing is left to do; none while a claim is out, or if a vertex may be ready. It is read off the board as it is,
-/// wherever the values stand.
-pub fn solution_if_over<E: Executor, P: Place<TreeOrCause>>(
-    alloc: Global,
-    board: &Board<E, P>,
-) -> Result<Option<Solution>, Memory>
-    ensures solution { IfOk result (λ found. IfSome found (IsSolution (board_problem E.out board.now))) }
-    ensures over { IfOk result (λ found. IfSome found (λ solution. (vertex : ℕ) → ¬ IsReady (board_problem E.out board.now) board.now.run.history vertex)) }
-{
-    if !board.is_idle() || may_go_on(board) {
-        return Ok(None);
-    }
-    let solution = solution_of(alloc, board)?;
-    Ok(Some(solution))
-}
-
-/// Whether a vertex of a board may be ready: the target isn't settled, and some vertex is available.
-fn may_go_on<E: Executor, P: Place<TreeOrCause>>(board: &Board<E, P>) -> bool
-    ensures { IsFalse result → (vertex : ℕ) → ¬ IsReady (board_problem E.out board.now) board.now.run.history vertex }
-{
-    let _known = board.history();
-    match board.value(board.job().target()) {
-        Some(_) => false,
-        None => board.has_more(),
-    }
-}
-
 /// The solution of a board on which no claim is out and no vertex is ready: a copy of the target's tree if it is settled with one, else the
 /// vertex of least line that is settled with a cause.
-pub(crate) fn solution_of<E: Executor, P: Place<TreeOrCause>>(
-    alloc: Global,
-    board: &Board<E, P>,
-) -> Result<Solution, Memory>
+pub(crate) fn solution_of<E: Executor>(alloc: Global, board: &Board<E>) -> Result<Solution, Memory>
     requires idle { board.now.run.state.claims ≡ [] }
     requires over { (vertex : ℕ) → ¬ IsReady (board_problem E.out board.now) board.now.run.history vertex }
     ensures solution { IfOk result (IsSolution (board_problem E.out board.now)) }
@@ -96,7 +65,7 @@ struct Failure {
 }
 
 /// Of the vertices that are settled with a cause one of the least line, if any is.
-fn least_failure<E: Executor, P: Place<TreeOrCause>>(board: &Board<E, P>) -> Option<Failure>
+fn least_failure<E: Executor>(board: &Board<E>) -> Option<Failure>
     ensures { IsLeastFailure (board_problem E.out board.now) board.now.run.state.settled (length board.now.job.graph.vertices) result }
 {
     let mut least = None;
@@ -107,8 +76,8 @@ fn least_failure<E: Executor, P: Place<TreeOrCause>>(board: &Board<E, P>) -> Opt
 }
 
 /// The lesser of this failure and the vertex's, if the vertex is settled with a cause.
-fn lesser_failure<E: Executor, P: Place<TreeOrCause>>(
-    board: &Board<E, P>,
+fn lesser_failure<E: Executor>(
+    board: &Board<E>,
     least: Option<Failure>,
     vertex: VertexId,
 ) -> Option<Failure>
@@ -137,10 +106,7 @@ fn lesser_failure<E: Executor, P: Place<TreeOrCause>>(
 }
 
 /// The tree with which a vertex is settled.
-fn tree_of<'a, E: Executor, P: Place<TreeOrCause>>(
-    board: &'a Board<E, P>,
-    vertex: VertexId,
-) -> Option<&'a Tree>
+fn tree_of<'a, E: Executor>(board: &'a Board<E>, vertex: VertexId) -> Option<&'a Tree>
     ensures found { IfSome result (λ tree. value_at board.now.run.state.settled vertex ≡ Some (Ok tree.now)) }
     ensures none { IfNone result (has_tree (value_at board.now.run.state.settled vertex) ≡ false) }
 {

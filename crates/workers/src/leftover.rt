@@ -1,10 +1,9 @@
 use board::Board;
-use cells::Place;
 use executor::Executor;
 use llb::VertexId;
 use plain::{Exact, Memory};
 use std::alloc::Global;
-use trees::{Tree, TreeOrCause};
+use trees::Tree;
 
 /// The trees that a solve made on its way, which share what is in them with its solution.
 ///
@@ -30,20 +29,12 @@ impl Leftover {
     }
 
     /// Adds the trees of a board's vertices. What there is no memory for is left out.
-    pub(crate) fn add<E: Executor, P: Place<TreeOrCause>>(
-        &mut self,
-        alloc: Global,
-        board: &Board<E, P>,
-    ) {
+    pub(crate) fn add<E: Executor>(&mut self, alloc: Global, board: &Board<E>) {
         let _rest_left_out = self.add_all(alloc, board);
     }
 
     /// The same, up to where there is no memory.
-    fn add_all<E: Executor, P: Place<TreeOrCause>>(
-        &mut self,
-        alloc: Global,
-        board: &Board<E, P>,
-    ) -> Result<(), Memory> {
+    fn add_all<E: Executor>(&mut self, alloc: Global, board: &Board<E>) -> Result<(), Memory> {
         let count = board.job().graph().vertices().len() as u32;
         for number in 0..count {
             if let Some(Ok(tree)) = board.value(VertexId::new(number)) {

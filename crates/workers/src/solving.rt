@@ -21,10 +21,7 @@ use plain::{Memory, growth};
 use plans::Plan;
 use rolls::{Opened, Room};
 use sites::{Case, Known, Results, Site};
-use solver::{
-    Findings, Gate, Numbering, Recall, Recalling, Solution, finish_recalled, remember,
-    solution_if_over,
-};
+use solver::{Gate, Numbering, Recall, Recalling, Solution, finish_recalled, remember};
 use std::alloc::Global;
 use std::marker::Brand;
 use std::mem;
@@ -128,8 +125,7 @@ struct Ended {
     caches: CacheStore,
 }
 
-/// The solution of a job by so many workers, and by the caller's thread if they leave something to do. All of them ask a memo. If there is a solution, the memo
-/// gets what the vertices gave.
+/// The solution of a job by so many workers and then by the caller's thread, all of which ask a memo. If there is one, the memo gets what the vertices gave.
 fn solved<
     C,
     E: Executor,
@@ -169,90 +165,34 @@ fn solved<
     ensures err { OnErr result.solution (memo.new ≡ memo.old) }
 {
     let recalling = Recalling::<E, J>::new(executor);
-    let Ok(results) = Results::<J>::new(alloc, plan.graph().len()) else {
+    let job = Job::new(plan, &recalling);
+    let count = job.graph().len();
+    let Ok(results) = Results::<J>::new(alloc, count) else {
         return unsolved(caches);
     };
-    solved_in(
-        alloc, rt, plan, &recalling, workers, gate, caches, &results, opened, memo, leftover,
-    )
-}
-
-/// The same. The executor and the cells for the results are lent for one time, which the board's type names.
-fn solved_in<
-    'a,
-    C,
-    E: Executor,
-    M: Executor,
-    G: Gate,
-    J: Case + Room + Numbering + Send + Sync,
-    R: Threads + Wait + Sync,
->(
-    alloc: Global,
-    rt: &R,
-    plan: &'a Plan<C>,
-    executor: &'a E,
-    workers: u32,
-    gate: &G,
-    caches: CacheStore,
-    results: &'a Results<J>,
-    opened: Opened,
-    memo: &mut Memo<M>,
-    leftover: &mut Leftover,
-) -> Ended
-    requires problem { problem_of (E.out executor.now) plan.now ≡ J.problem }
-    requires first { caches.contents ≡ J.first }
-    requires leaves { LeaveTheSame (E.leaves executor.now) J.leaves }
-    requires stays { MayStay J.knows J.leaves }
-    requires idle { caches.holds ≡ [] }
-    requires long { results.now ≡ length J.problem.vertices }
-    requires room { opened.table.shared.table_id ≡ J.table }
-    requires workers { workers ≤ most_workers }
-    requires executor { M.out memo.old.executor ≡ J.out }
-    requires named { AreOf J.problem J.out J.values }
-    requires recent { memo.old.recent.trees ≡ J.recent }
-    requires earlier { memo.old.earlier.trees ≡ J.earlier }
-    requires knows { (request : RunRequest) → Knows memo.old request → J.knows request }
-    ensures solution { IfOk result.solution (IsSolution J.problem) }
-    ensures idle { result.caches.holds ≡ [] }
-    ensures left { AreLeft J.problem J.first result.caches.contents }
-    ensures runs { AreLeftByRuns J.leaves J.problem J.first result.caches.contents }
-    ensures ended { OnOk result.solution (AreLeftAtEnd J.leaves J.problem J.first result.caches.contents) }
-    ensures memo { Grows memo.old memo.new }
-    ensures one { IsTrue memo.old.is_for_one_build → memo.new ≡ memo.old }
-    ensures err { OnErr result.solution (memo.new ≡ memo.old) }
-{
-    let Ok(recall) = Recall::<M, J>::new(alloc, &*memo, results.len()) else {
+    let Ok(recall) = Recall::<E, J>::new(alloc, &*memo, count) else {
         return unsolved(caches);
     };
-    let job = Job::new(plan, executor);
-    let own = Job::new(plan, executor);
+    let own = Job::new(plan, &recalling);
     let asked = recall.as_ref();
-    let left = left_by_workers(
-        alloc, rt, workers, gate, &job, asked, own, caches, results, opened,
+    let outcome = closed(
+        alloc, rt, workers, gate, &job, asked, own, caches, &results, opened,
     );
-    let board = match left {
-        Ok(board) => board,
-        Err(caches) => return unsolved(caches),
-    };
-    let over = solution_if_over(alloc, &board);
-    if let Ok(Some(solution)) = over {
-        let findings = findings_of(recall);
-        return taken_down(alloc, memo, findings, leftover, solution, board);
-    }
-    match finished(alloc, recall.as_ref(), gate, board) {
+    match outcome {
         Ok(Home { solution, board }) => {
-            let findings = findings_of(recall);
-            taken_down(alloc, memo, findings, leftover, solution, board)
+            let findings = match recall {
+                Some(recall) => Some(recall.into_findings()),
+                None => None,
+            };
+            remember(alloc, memo, &board, findings.as_ref());
+            leftover.add(alloc, &board);
+            let _known = board.history();
+            Ended {
+                solution: Ok(solution),
+                caches: board.into_caches(),
+            }
         }
         Err(caches) => unsolved(caches),
-    }
-}
-
-/// What was found in a memo, if one was asked.
-fn findings_of<E: Executor, N: Numbering>(recall: Option<Recall<E, N>>) -> Option<Findings<N>> {
-    match recall {
-        Some(recall) => Some(recall.into_findings()),
-        None => None,
     }
 }
 
@@ -267,44 +207,16 @@ fn unsolved(caches: CacheStore) -> Ended
     }
 }
 
-/// What becomes of a board on which nothing is left to do, and whose solution is known. The memo gets what the vertices gave.
-fn taken_down<E: Executor, M: Executor, J: Case + Numbering, P: Place<TreeOrCause>>(
-    alloc: Global,
-    memo: &mut Memo<M>,
-    findings: Option<Findings<J>>,
-    leftover: &mut Leftover,
+/// A board with each value in a place of its own, on which no claim is out, and its solution.
+#[derive(Drop)]
+struct Home<'a, E: Executor> {
     solution: Solution,
-    board: Board<E, P>,
-) -> Ended
-    requires executor { M.out memo.old.executor ≡ J.out }
-    requires named { AreOf J.problem J.out J.values }
-    requires recent { memo.old.recent.trees ≡ J.recent }
-    requires solution { IsSolution J.problem solution }
-    requires problem { board_problem E.out board ≡ J.problem }
-    requires first { board.first ≡ J.first }
-    requires leaves { LeaveTheSame (E.leaves board.job.executor) J.leaves }
-    requires claims { board.run.state.claims ≡ [] }
-    requires over { (vertex : ℕ) → ¬ IsReady J.problem board.run.history vertex }
-    ensures solution { IfOk result.solution (IsSolution J.problem) }
-    ensures ok { OnErr result.solution ⊥ }
-    ensures idle { result.caches.holds ≡ [] }
-    ensures left { AreLeft J.problem J.first result.caches.contents }
-    ensures runs { AreLeftByRuns J.leaves J.problem J.first result.caches.contents }
-    ensures ended { AreLeftAtEnd J.leaves J.problem J.first result.caches.contents }
-    ensures memo { Grows memo.old memo.new }
-    ensures one { IsTrue memo.old.is_for_one_build → memo.new ≡ memo.old }
-{
-    remember(alloc, memo, &board, findings.as_ref());
-    leftover.add(alloc, &board);
-    let _known = board.history();
-    Ended {
-        solution: Ok(solution),
-        caches: board.into_caches(),
-    }
+    board: Board<'a, E>,
 }
 
-/// The board of a job after the work of so many workers, whose results stand in cells. If there is no memory for the board, what comes is the store.
-fn left_by_workers<
+/// The board of a job after the work of so many workers, whose results stand in cells, and then of the caller's thread. If there is no memory for the
+/// board, nobody works, and if there is none for the solution, what comes is the store.
+fn closed<
     'a,
     E: Executor,
     M: Executor,
@@ -322,7 +234,7 @@ fn left_by_workers<
     caches: CacheStore,
     results: &'a Results<J>,
     opened: Opened,
-) -> Result<Board<'a, E, Known<'a, J>>, CacheStore>
+) -> Result<Home<'a, E>, CacheStore>
     requires job { job_problem E.out job.now ≡ J.problem }
     requires same { LeaveTheSame (E.leaves job.now.executor) J.leaves }
     requires named { AreOf J.problem J.out J.values }
@@ -334,11 +246,15 @@ fn left_by_workers<
     requires idle { caches.holds ≡ [] }
     requires room { opened.table.shared.table_id ≡ J.table }
     requires workers { workers ≤ most_workers }
-    ensures problem { IfOk result (λ board. board_problem E.out board ≡ J.problem) }
-    ensures first { IfOk result (λ board. board.first ≡ J.first) }
-    ensures leaves { IfOk result (λ board. LeaveTheSame (E.leaves board.job.executor) J.leaves) }
-    ensures claims { IfOk result (λ board. board.run.state.claims ≡ []) }
-    ensures back { IfErr result (λ back. back ≡ caches) }
+    ensures solution { IfOk result (λ closed. IsSolution J.problem closed.solution) }
+    ensures problem { IfOk result (λ closed. board_problem E.out closed.board ≡ J.problem) }
+    ensures first { IfOk result (λ closed. closed.board.first ≡ J.first) }
+    ensures leaves { IfOk result (λ closed. LeaveTheSame (E.leaves closed.board.job.executor) J.leaves) }
+    ensures claims { IfOk result (λ closed. closed.board.run.state.claims ≡ []) }
+    ensures over { IfOk result (λ closed. (vertex : ℕ) → ¬ IsReady J.problem closed.board.run.history vertex) }
+    ensures idle { IfErr result (λ caches. caches.holds ≡ []) }
+    ensures left { IfErr result (λ caches. AreLeft J.problem J.first caches.contents) }
+    ensures runs { IfErr result (λ caches. AreLeftByRuns J.leaves J.problem J.first caches.contents) }
 {
     let board = match Board::new(alloc, own, caches) {
         Ok(board) => board,
@@ -354,42 +270,30 @@ fn left_by_workers<
         gate,
         bell: Condvar::new(),
     };
-    Ok(worked(rt, &tools, workers, board, results, opened))
+    let board = worked(rt, &tools, workers, board, results, opened);
+    finished(&tools, board)
 }
 
-/// A board with each value in a place of its own, and its solution.
-#[derive(Drop)]
-struct Home<'a, E: Executor> {
-    solution: Solution,
-    board: Board<'a, E>,
-}
-
-/// What becomes of a board on which no claim is out, but something is left to do: the caller's thread does it, on the same board with each result in a
-/// place of its own. If there is no memory for these, it does nothing, and what comes is the store.
-fn finished<'a, E: Executor, M: Executor, G: Gate, J: Case + Numbering, P: Place<TreeOrCause>>(
-    alloc: Global,
-    recall: Option<&Recall<M, J>>,
-    gate: &G,
+/// What becomes of a board on which no claim is out: the caller's thread does what is left, on the same board with each result in a place of its own.
+/// If there is no memory for these, it does nothing.
+fn finished<'a, E: Executor, M: Executor, G: Gate, J: Numbering, P: Place<TreeOrCause>>(
+    tools: &Tools<E, M, G, J>,
     board: Board<'a, E, P>,
 ) -> Result<Home<'a, E>, CacheStore>
-    requires named { AreOf J.problem J.out J.values }
-    requires stays { MayStay J.knows J.leaves }
-    requires problem { board_problem E.out board ≡ J.problem }
-    requires first { board.first ≡ J.first }
-    requires leaves { LeaveTheSame (E.leaves board.job.executor) J.leaves }
     requires claims { board.run.state.claims ≡ [] }
-    ensures solution { IfOk result (λ home. IsSolution J.problem home.solution) }
-    ensures problem { IfOk result (λ home. board_problem E.out home.board ≡ J.problem) }
-    ensures first { IfOk result (λ home. home.board.first ≡ J.first) }
-    ensures leaves { IfOk result (λ home. LeaveTheSame (E.leaves home.board.job.executor) J.leaves) }
-    ensures claims { IfOk result (λ home. home.board.run.state.claims ≡ []) }
-    ensures over { IfOk result (λ home. (vertex : ℕ) → ¬ IsReady J.problem home.board.run.history vertex) }
+    requires named { AreOf (board_problem E.out board) J.out J.values }
+    requires stays { MayStay J.knows (E.leaves board.job.executor) }
+    ensures solution { IfOk result (λ closed. IsSolution (board_problem E.out board.entry) closed.solution) }
+    ensures job { IfOk result (λ closed. closed.board.job ≡ board.entry.job) }
+    ensures first { IfOk result (λ closed. closed.board.first ≡ board.entry.first) }
+    ensures claims { IfOk result (λ closed. closed.board.run.state.claims ≡ []) }
+    ensures over { IfOk result (λ closed. (vertex : ℕ) → ¬ IsReady (board_problem E.out board.entry) closed.board.run.history vertex) }
     ensures idle { IfErr result (λ caches. caches.holds ≡ []) }
-    ensures left { IfErr result (λ caches. AreLeft J.problem J.first caches.contents) }
-    ensures runs { IfErr result (λ caches. AreLeftByRuns J.leaves J.problem J.first caches.contents) }
+    ensures left { IfErr result (λ caches. AreLeft (board_problem E.out board.entry) board.entry.first caches.contents) }
+    ensures runs { IfErr result (λ caches. AreLeftByRuns (E.leaves board.entry.job.executor) (board_problem E.out board.entry) board.entry.first caches.contents) }
 {
-    match board.at_home(alloc) {
-        Ok(mut board) => match finish_recalled(alloc, recall, gate, &mut board) {
+    match board.at_home(tools.alloc) {
+        Ok(mut board) => match finish_recalled(tools.alloc, tools.recall, tools.gate, &mut board) {
             Ok(solution) => Ok(Home { solution, board }),
             Err(_) => Err(board.into_caches()),
         },
