@@ -1,10 +1,8 @@
 -- Each table has an evaluation or a refusal: there are marks of the stages that it needs, and trees of the images that these name.
-use Rattle.std.specs.Prelude.{◌≡◌, ◌<◌, ◌+◌, ◌⊎◌, ◌||◌, ◌&&◌, ℕ, zero, suc, Bool, true, false, List, [], ◌∷◌, Some, Result, Ok, Err, Contains, length, slice_get, nat_eq, refl, ◌++◌, reverse}
+use Rattle.std.specs.Prelude.{◌≡◌, ◌<◌, ◌+◌, ◌⊎◌, ◌||◌, ◌&&◌, ℕ, zero, suc, Bool, true, false, List, [], ◌∷◌, Some, Result, Ok, Err, Contains, length, slice_get, nat_eq, refl}
 use Rattle.std.specs.List.{All, list_any}
 use Rattle.std.specs.FinMap.{empty, entries, insert}
 use Rattle.std.proofs.Common.{sym, ◌∙◌, ap, subst, arith, inl, inr}
-use Rattle.std.proofs.lemmas.Grind.{reverse_onto}
-use Rattle.std.proofs.lemmas.List.{reverse-reverse}
 use Rattle.std.proofs.lemmas.Bool.{true≢false}
 use Rattle.std.proofs.lemmas.Bool.Decides.{nat_tests}
 use Rattle.std.proofs.lemmas.List.Elements.{All-nil, All-cons, All-head, All-tail, All-append, All-contains}
@@ -221,31 +219,29 @@ record Named {C : Type 0} (context : TreeMap) (all : ImagesValue C) (names : Ima
   far : NamedSoFar context all names rest sources
 
 named_next : {C : Type 0} (context : TreeMap) (all : ImagesValue C) (names : ImageNames) (rest : List (List ℕ × image.Image C)) (next : List ℕ × image.Image C) (sources : SourcesValue) (named : Bool)
-    → NamedSoFar context all names (rest ++ next ∷ []) sources → is_among names next.0 ≡ named → Named context all names rest
+    → NamedSoFar context all names (next ∷ rest) sources → is_among names next.0 ≡ named → Named context all names rest
 named_next context all names rest next sources true far is =
     let more : SourcesValue = record sources { images = insert sources.images next.0 next.1.tree } in
     record {
       sources = more;
-      far = named_some context all names (rest ++ next ∷ []) rest next sources far refl more is refl;
+      far = named_some context all names (next ∷ rest) rest next sources far refl more is refl;
     }
 named_next context all names rest next sources false far is = record {
   sources = sources;
-  far = named_none context all names (rest ++ next ∷ []) rest next sources far refl is;
+  far = named_none context all names (next ∷ rest) rest next sources far refl is;
 }
 
--- the rows that are left are gone through from the last to the first
-sources_from : {C : Type 0} (context : TreeMap) (all : ImagesValue C) (names : ImageNames) (back : List (List ℕ × image.Image C)) (sources : SourcesValue)
-    → NamedSoFar context all names (reverse back) sources → (held : SourcesValue) × AreSources context all names held
+sources_from : {C : Type 0} (context : TreeMap) (all : ImagesValue C) (names : ImageNames) (rest : List (List ℕ × image.Image C)) (sources : SourcesValue)
+    → NamedSoFar context all names rest sources → (held : SourcesValue) × AreSources context all names held
 sources_from context all names [] sources far = (sources, named_all context all names [] sources far refl)
-sources_from context all names (next ∷ back) sources far =
-    let last = subst (λ (rest : List (List ℕ × image.Image _)). NamedSoFar context all names rest sources) (reverse_onto back next []) far in
-    let more = named_next context all names (reverse back) next sources (is_among names next.0) last refl in
-    sources_from context all names back more.sources more.far
+sources_from context all names (next ∷ rest) sources far =
+    let more = named_next context all names rest next sources (is_among names next.0) far refl in
+    sources_from context all names rest more.sources more.far
 
 sources_are : (context : TreeMap) (all : ImagesValue Config) (names : ImageNames) → (held : SourcesValue) × AreSources context all names held
 sources_are context all names =
     let none : SourcesValue = record { context = context; images = empty } in
-    sources_from context all names (reverse (entries all)) none (named_first context all names (reverse (reverse (entries all))) none (reverse-reverse (entries all)) refl)
+    sources_from context all names (entries all) none (named_first context all names (entries all) none refl refl)
 
 -- an evaluation or a refusal
 

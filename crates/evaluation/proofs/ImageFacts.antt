@@ -132,7 +132,7 @@ few_named names h = few_by most_images (length names) h
 abbrev tree_if : {C : Type 0} → Bool → Option (image.Image C) → Option TreeMap
 tree_if among found = if among then option_map (λ found. found.tree) found else None
 
--- the sources that were made of the images that come after these
+-- the sources that were made of the images that came before these
 pub record NamedSoFar {C : Type 0} (context : TreeMap) (all : ImagesValue C) (names : ImageNames) (rest : List (List ℕ × image.Image C)) (sources : SourcesValue) : Type 0 where
   pub same : sources.context ≡ context
   pub ordered : T (is_sorted name_cmp rest)
@@ -162,60 +162,19 @@ second : (a b : Bool) → T (a && b) → T b
 second true b h = h
 second false b h = absurd h
 
-both : (a b : Bool) → T a → T b → T (a && b)
-both true b g h = h
-both false b g h = absurd g
+-- a name that is below all others isn't among these
+unfound : {X : Type 0} (name : List ℕ) (rows : List (List ℕ × X)) → T (below_all name_cmp name rows) → find name_cmp name rows ≡ None
+unfound name [] h = refl
+unfound {X} name (row ∷ rows) h = by (name_cmp name row.0) (unfound name rows) h
+  where
+    by : (o : Ordering) → (T (below_all name_cmp name rows) → find name_cmp name rows ≡ None) → T (is_lt o && below_all name_cmp name rows)
+        → cond (is_eq o) (Some row.1) (find name_cmp name rows) ≡ None
+    by Less rest h = rest h
+    by Equal rest h = absurd h
+    by Greater rest h = absurd h
 
 same_name : (name next : List ℕ) → eq_by_cmp name_cmp name next ≡ true → name ≡ next
 same_name name next h = (bytes_eq-Decides name next).0 (texts_ties name next ∙ h)
-
--- a name isn't one that is above it
-apart : (low high : List ℕ) → T (is_lt (name_cmp low high)) → low ≡ high → ⊥
-apart low high below same =
-    by (name_cmp low low) (sym (texts_ties low low) ∙ (bytes_eq-Decides low low).1 refl) (subst (λ (n : List ℕ). T (is_lt (name_cmp low n))) (sym same) below)
-  where
-    by : (o : Ordering) → is_eq o ≡ true → T (is_lt o) → ⊥
-    by Less is h = true≢false (sym is)
-    by Equal is h = h
-    by Greater is h = h
-
--- of rows in the order of their names, those before the last are in this order, and none of them has the last one's name
-
-above_before : {X : Type 0} (name : List ℕ) (rows : List (List ℕ × X)) (last : List ℕ × X) → T (below_all name_cmp name (rows ++ last ∷ [])) → T (below_all name_cmp name rows)
-above_before name [] last h = tt
-above_before name (row ∷ rows) last h = both (is_lt (name_cmp name row.0)) _ (first _ _ h) (above_before name rows last (second (is_lt (name_cmp name row.0)) _ h))
-
-above_last : {X : Type 0} (name : List ℕ) (rows : List (List ℕ × X)) (last : List ℕ × X) → T (below_all name_cmp name (rows ++ last ∷ [])) → T (is_lt (name_cmp name last.0))
-above_last name [] last h = first _ _ h
-above_last name (row ∷ rows) last h = above_last name rows last (second (is_lt (name_cmp name row.0)) _ h)
-
-sorted_before : {X : Type 0} (rows : List (List ℕ × X)) (last : List ℕ × X) → T (is_sorted name_cmp (rows ++ last ∷ [])) → T (is_sorted name_cmp rows)
-sorted_before [] last h = tt
-sorted_before (row ∷ rows) last h =
-    both (below_all name_cmp row.0 rows) _ (above_before row.0 rows last (first _ _ h)) (sorted_before rows last (second (below_all name_cmp row.0 (rows ++ last ∷ [])) _ h))
-
-unfound : {X : Type 0} (rows : List (List ℕ × X)) (last : List ℕ × X) → T (is_sorted name_cmp (rows ++ last ∷ [])) → find name_cmp last.0 rows ≡ None
-unfound [] last h = refl
-unfound {X} (row ∷ rows) last h =
-    by (unfound rows last (second (below_all name_cmp row.0 (rows ++ last ∷ [])) _ h)) (eq_by_cmp name_cmp last.0 row.0) refl
-  where
-    by : find name_cmp last.0 rows ≡ None → (b : Bool) → eq_by_cmp name_cmp last.0 row.0 ≡ b → cond b (Some row.1) (find name_cmp last.0 rows) ≡ None
-    by rest true same = absurd (apart row.0 last.0 (above_last row.0 rows last (first _ _ h)) (sym (same_name last.0 row.0 same)))
-    by rest false other = rest
-
-found_last : {X : Type 0} (name : List ℕ) (rows : List (List ℕ × X)) (last : List ℕ × X) → T (is_sorted name_cmp (rows ++ last ∷ []))
-    → find name_cmp name (rows ++ last ∷ []) ≡ cond (eq_by_cmp name_cmp name last.0) (Some last.1) (find name_cmp name rows)
-found_last name [] last h = refl
-found_last {X} name (row ∷ rows) last h =
-    by (found_last name rows last (second (below_all name_cmp row.0 (rows ++ last ∷ [])) _ h)) (eq_by_cmp name_cmp name row.0) (eq_by_cmp name_cmp name last.0) refl refl
-  where
-    by : find name_cmp name (rows ++ last ∷ []) ≡ cond (eq_by_cmp name_cmp name last.0) (Some last.1) (find name_cmp name rows)
-        → (b c : Bool) → eq_by_cmp name_cmp name row.0 ≡ b → eq_by_cmp name_cmp name last.0 ≡ c
-        → cond b (Some row.1) (find name_cmp name (rows ++ last ∷ [])) ≡ cond c (Some last.1) (cond b (Some row.1) (find name_cmp name rows))
-    by rest true true here there =
-        absurd (apart row.0 last.0 (above_last row.0 rows last (first _ _ h)) (sym (same_name name row.0 here) ∙ same_name name last.0 there))
-    by rest true false here other = refl
-    by rest false c other is = rest ∙ ap (λ b. cond b (Some last.1) (find name_cmp name rows)) is
 
 tree_moved : {C : Type 0} (found : image.Image C) (after : Option (image.Image C)) (now : Option TreeMap) (among same : Bool) → (same ≡ true → among ≡ true) → (same ≡ true → after ≡ None)
     → option_or (tree_if among (cond same (Some found) after)) now ≡ option_or (tree_if among after) (cond same (Some found.tree) now)
@@ -230,25 +189,22 @@ tree_dropped found after now false true unnamed = refl
 tree_dropped found after now among false unnamed = refl
 
 module _ {C : Type 0} (context : TreeMap) (all : ImagesValue C) (names : ImageNames) (rest after : List (List ℕ × image.Image C)) (next : List ℕ × image.Image C) (sources : SourcesValue)
-    (far : NamedSoFar context all names rest sources) (is : rest ≡ after ++ next ∷ []) where
-  rises : T (is_sorted name_cmp (after ++ next ∷ []))
+    (far : NamedSoFar context all names rest sources) (is : rest ≡ next ∷ after) where
+  rises : T (is_sorted name_cmp (next ∷ after))
   rises = subst (λ (r : List (List ℕ × image.Image C)). T (is_sorted name_cmp r)) is far.ordered
 
-  trees_now : (name : List ℕ) → named_tree all names name
-      ≡ option_or (tree_if (is_among names name) (cond (eq_by_cmp name_cmp name next.0) (Some next.1) (find name_cmp name after))) (get sources.images name)
-  trees_now name =
-      far.trees name ∙ ap (λ (r : List (List ℕ × image.Image C)). option_or (tree_if (is_among names name) (find name_cmp name r)) (get sources.images name)) is
-      ∙ ap (λ (o : Option (image.Image C)). option_or (tree_if (is_among names name) o) (get sources.images name)) (found_last name after next rises)
+  trees_now : (name : List ℕ) → named_tree all names name ≡ option_or (tree_if (is_among names name) (find name_cmp name (next ∷ after))) (get sources.images name)
+  trees_now name = far.trees name ∙ ap (λ (r : List (List ℕ × image.Image C)). option_or (tree_if (is_among names name) (find name_cmp name r)) (get sources.images name)) is
 
   pub named_some : (more : SourcesValue) → is_among names next.0 ≡ true → more ≡ (record sources { images = insert sources.images next.0 next.1.tree }) → NamedSoFar context all names after more
   named_some more named added = record {
     same = ap (λ (s : SourcesValue). s.context) added ∙ far.same;
-    ordered = sorted_before after next rises;
+    ordered = second (below_all name_cmp next.0 after) _ rises;
     trees = λ name.
         trees_now name
         ∙ tree_moved next.1 (find name_cmp name after) (get sources.images name) (is_among names name) (eq_by_cmp name_cmp name next.0)
         (λ same. ap (is_among names) (same_name name next.0 same) ∙ named)
-        (λ same. ap (λ (n : List ℕ). find name_cmp n after) (same_name name next.0 same) ∙ unfound after next rises)
+        (λ same. ap (λ (n : List ℕ). find name_cmp n after) (same_name name next.0 same) ∙ unfound next.0 after (first _ _ rises))
         ∙ ap (option_or (tree_if (is_among names name) (find name_cmp name after)))
         (sym (ap (λ (s : SourcesValue). get s.images name) added ∙ get-insert nat_list_cmp_total sources.images next.0 next.1.tree name));
   }
@@ -256,7 +212,7 @@ module _ {C : Type 0} (context : TreeMap) (all : ImagesValue C) (names : ImageNa
   pub named_none : is_among names next.0 ≡ false → NamedSoFar context all names after sources
   named_none unnamed = record {
     same = far.same;
-    ordered = sorted_before after next rises;
+    ordered = second (below_all name_cmp next.0 after) _ rises;
     trees = λ name.
         trees_now name
         ∙ tree_dropped next.1 (find name_cmp name after) (get sources.images name) (is_among names name) (eq_by_cmp name_cmp name next.0)

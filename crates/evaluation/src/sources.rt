@@ -39,8 +39,8 @@ pub(crate) fn sources_of(
     ensures few { IfOk result (λ sources. len sources.images ≤ length names.now) }
 {
     let mut sources = Sources::new(alloc, context);
-    // The last name comes first: a map finds the place before all its keys in one comparison a level.
-    for (name, image) in images.into_rows().rev() {
+    // The images come in the order of their names, so each that is added goes to the end of the sources' map.
+    for (name, image) in images.into_rows() {
         if names.has(&name) {
             sources = with_image(sources, name, image)?;
         } else {

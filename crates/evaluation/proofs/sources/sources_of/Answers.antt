@@ -1,10 +1,9 @@
-use Rattle.std.specs.Iterator.Adapters.{rev_source}
-use Rattle.std.proofs.Common.{sym, ◌∙◌, ap}
+use Rattle.std.proofs.Common.{sym, ◌∙◌}
 use Rattle.evaluation.proofs.ImageFacts.{named_first, named_some, named_none, named_all, few_sources}
 use Rattle.evaluation.proofs.sources.sources_of.Goals as goal
 
 pub loop-name-init : goal.loop-name-init
-loop-name-init c = named_first c.args.context c.args.images _ _ _ (ap rev_source c.into_iter-name-iterator.ensures.into_iter_gives ∙ c.rev-name-items.ensures.source ∙ c.into_rows.ensures) c.new-sources.ensures
+loop-name-init c = named_first c.args.context c.args.images _ _ _ (c.into_iter-name-iterator.ensures.into_iter_gives ∙ c.into_rows-name-items.ensures) c.new-sources.ensures
 
 pub loop-name-preserved-then-has : goal.loop-name-preserved-then-has
 loop-name-preserved-then-has c =

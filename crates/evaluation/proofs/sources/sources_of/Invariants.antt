@@ -1,6 +1,5 @@
-use Rattle.std.specs.Iterator.Adapters.{rev_source}
 use Rattle.evaluation.proofs.ImageFacts.{NamedSoFar}
 use Rattle.evaluation.proofs.sources.sources_of.Given as goal
 
 abbrev pub invariant-loop-name : goal.invariant-loop-name
-invariant-loop-name l = NamedSoFar l.fn.context l.fn.images l.fn.names (rev_source l.name-iterator) l.sources
+invariant-loop-name l = NamedSoFar l.fn.context l.fn.images l.fn.names l.name-iterator l.sources
