@@ -2,13 +2,10 @@
 use Rattle.std.specs.Prelude.{◌≡◌, ℕ, Bool, true, false, ◌||◌, cond, Option, Some, None, Result, Ok, Err, List, [], ◌∷◌, ◌++◌, length, is_some, nat_lt}
 use Rattle.std.proofs.Common.{sym, ap, refl, ◌∙◌, subst, true≢false, append-nil, append_assoc}
 use Rattle.std.specs.Option.{option_or}
+use Rattle.std.specs.declared.cmp.Reverse.{Reverse}
 use Rattle.std.specs.Ordering.{eq_by_cmp}
-use Rattle.std.specs.Map.{lookup}
-use Rattle.std.specs.BTreeMap.{is_at}
 use Rattle.std.specs.FinMap.{get}
 use Rattle.std.proofs.lemmas.Bool.{le-ltb}
-use Rattle.std.specs.Cmp.{eq_by_cmp_equiv}
-use Rattle.paths.specs.OrderLaws.{path_cmp_total}
 use Rattle.paths.specs.Order.{path_cmp}
 use Rattle.paths.specs.Path.{IsClean}
 use Rattle.trees.specs.declared.meta.Meta.{Meta}
@@ -27,7 +24,7 @@ use Rattle.trees.specs.Put.{cause_at, placed, clash_of}
 use Rattle.trees.specs.Make.{make_cause, with_directory, made_with, made}
 use Rattle.trees.specs.PrivateNode.{IsPlanted}
 use Rattle.trees.specs.Copy.{changed_tree, kind_of, kind_placed, is_repeated, change_cause, first_cause}
-use Rattle.trees.specs.PrivateCopy.{IsChanged, AppliesChange, TellsCause, with_change, kind_by}
+use Rattle.trees.specs.PrivateCopy.{IsChanged, AppliesChange, TellsCause, with_change, kind_by, kind_in}
 use Rattle.trees.proofs.CauseLaws.{tree_or-ok, tree_or-none, tree_or-err}
 use Rattle.trees.proofs.CopyLaws.{get-with_directory, with_directory-new, with_directory-kept, changed_tree-more, kind_placed-more}
 use Rattle.trees.proofs.SubtreeLaws.{way-open}
@@ -60,22 +57,22 @@ free-placement at p e false false is = is
 
 -- ---- what was placed
 
-updated : (new old : List (List (List ℕ) × Bool)) (p q : List (List ℕ)) (e : Entry) (tie : Bool) → eq_by_cmp path_cmp q p ≡ tie → lookup (is_at (path_cmp q)) new ≡ cond tie (Some (is_directory (Some e))) (lookup (is_at (path_cmp q)) old)
-    → lookup (is_at (path_cmp q)) new ≡ option_or (kind_of (cond (eq_by_cmp path_cmp q p) (Some e) None)) (lookup (is_at (path_cmp q)) old)
-updated new old p q e true t is = is ∙ sym (ap (λ b. option_or (kind_of (cond b (Some e) None)) (lookup (is_at (path_cmp q)) old)) t)
-updated new old p q e false t is = is ∙ sym (ap (λ b. option_or (kind_of (cond b (Some e) None)) (lookup (is_at (path_cmp q)) old)) t)
+updated : (new old : List (Reverse (List (List ℕ)) × Bool)) (p q : List (List ℕ)) (e : Entry) (tie : Bool) → eq_by_cmp path_cmp q p ≡ tie → kind_in new q ≡ cond tie (Some (is_directory (Some e))) (kind_in old q)
+    → kind_in new q ≡ option_or (kind_of (cond (eq_by_cmp path_cmp q p) (Some e) None)) (kind_in old q)
+updated new old p q e true t is = is ∙ sym (ap (λ b. option_or (kind_of (cond b (Some e) None)) (kind_in old q)) t)
+updated new old p q e false t is = is ∙ sym (ap (λ b. option_or (kind_of (cond b (Some e) None)) (kind_in old q)) t)
 
-pub place-done : (meta : Meta) (old new : TreeMap) (p a : List (List ℕ)) (e : Entry) (placed_old placed_new : List (List (List ℕ) × Bool)) (told : Option Cause) (kind : Bool)
-    → told ≡ change_cause (λ q. lookup (is_at (path_cmp q)) placed_old) (get old) (Place p e) → told ≡ None → kind ≡ is_directory (Some e) → a ≡ p → IsTree old → IsClean p → IsPlanted (get old) new a meta e
-    → ((q : List (List ℕ)) → lookup (is_at (path_cmp q)) placed_new ≡ cond (is_at (path_cmp p) q) (Some kind) (lookup (is_at (path_cmp q)) placed_old))
-    → IsChanged meta (Place p e) (λ q. lookup (is_at (path_cmp q)) placed_old) old (λ q. lookup (is_at (path_cmp q)) placed_new) new
+pub place-done : (meta : Meta) (old new : TreeMap) (p a : List (List ℕ)) (e : Entry) (placed_old placed_new : List (Reverse (List (List ℕ)) × Bool)) (told : Option Cause) (kind : Bool)
+    → told ≡ change_cause (kind_in placed_old) (get old) (Place p e) → told ≡ None → kind ≡ is_directory (Some e) → a ≡ p → IsTree old → IsClean p → IsPlanted (get old) new a meta e
+    → ((q : List (List ℕ)) → kind_in placed_new q ≡ cond (eq_by_cmp path_cmp q p) (Some kind) (kind_in placed_old q))
+    → IsChanged meta (Place p e) (kind_in placed_old) old (kind_in placed_new) new
 place-done meta old new p a e placed_old placed_new told kind is none dir same tree clean h updates =
-    let fine : change_cause (λ q. lookup (is_at (path_cmp q)) placed_old) (get old) (Place p e) ≡ None = sym is ∙ none in
+    let fine : change_cause (kind_in placed_old) (get old) (Place p e) ≡ None = sym is ∙ none in
     let map : new ≡ placed meta old p e = placed-from_planted old new a meta e h ∙ ap (λ x. placed meta old x e) same in
     record {
       fine = fine;
       map = map;
-      kinds = λ q. updated placed_new placed_old p q e (eq_by_cmp path_cmp q p) refl (updates q ∙ (λ i. cond ((eq_by_cmp_equiv path_cmp_total).symm p q i) (Some (dir i)) (lookup (is_at (path_cmp q)) placed_old)));
+      kinds = λ q. updated placed_new placed_old p q e (eq_by_cmp path_cmp q p) refl (updates q ∙ (λ i. cond (eq_by_cmp path_cmp q p) (Some (dir i)) (kind_in placed_old q)));
       tree = subst IsTree (sym map) (placed-IsTree meta old p e tree clean (free-from_cause (get old) p e (free-placement (get old) p e _ _ fine)));
     }
 
@@ -158,30 +155,30 @@ make-change meta old new p before (Err Memory) tree h = tt
 
 -- ---- one change after another
 
-pub record IsSoFar (meta : Meta) (old : TreeMap) (before rest all : List Change) (kinds_now : List (List (List ℕ) × Bool)) (now : TreeMap) : Type 0 where
+pub record IsSoFar (meta : Meta) (old : TreeMap) (before rest all : List Change) (kinds_now : List (Reverse (List (List ℕ)) × Bool)) (now : TreeMap) : Type 0 where
   pub causes : first_cause meta old before rest ≡ first_cause meta old [] all
   pub whole : before ++ rest ≡ all
   pub map : now ≡ changed_tree meta old before
-  pub kinds : (q : List (List ℕ)) → kind_placed before q ≡ lookup (is_at (path_cmp q)) kinds_now
+  pub kinds : (q : List (List ℕ)) → kind_placed before q ≡ kind_in kinds_now q
   pub tree : IsTree now
 
-pub so_far-start : (meta : Meta) (old : TreeMap) (rest all : List Change) (none : List (List (List ℕ) × Bool)) → rest ≡ all → none ≡ [] → IsTree old → IsSoFar meta old [] rest all none old
+pub so_far-start : (meta : Meta) (old : TreeMap) (rest all : List Change) (none : List (Reverse (List (List ℕ)) × Bool)) → rest ≡ all → none ≡ [] → IsTree old → IsSoFar meta old [] rest all none old
 so_far-start meta old rest all none same empty tree = record {
   causes = ap (first_cause meta old []) same;
   whole = same;
   map = refl;
-  kinds = λ q. ap (lookup (is_at (path_cmp q))) (sym empty);
+  kinds = λ q. ap (λ rows. kind_in rows q) (sym empty);
   tree = tree;
 }
 
-module _ (meta : Meta) (old : TreeMap) (before rest more all : List Change) (change : Change) (kinds_now : List (List (List ℕ) × Bool)) (now : TreeMap) (h : IsSoFar meta old before more all kinds_now now) (next : more ≡ change ∷ rest) where
-  change-is : change_cause (kind_placed before) (get (changed_tree meta old before)) change ≡ change_cause (λ q. lookup (is_at (path_cmp q)) kinds_now) (get now) change
+module _ (meta : Meta) (old : TreeMap) (before rest more all : List Change) (change : Change) (kinds_now : List (Reverse (List (List ℕ)) × Bool)) (now : TreeMap) (h : IsSoFar meta old before more all kinds_now now) (next : more ≡ change ∷ rest) where
+  change-is : change_cause (kind_placed before) (get (changed_tree meta old before)) change ≡ change_cause (kind_in kinds_now) (get now) change
   change-is = λ i. change_cause (λ q. h.kinds q i) (get (sym h.map i)) change
 
   whole-is : option_or (change_cause (kind_placed before) (get (changed_tree meta old before)) change) (first_cause meta old (before ++ change ∷ []) rest) ≡ first_cause meta old [] all
   whole-is = ap (first_cause meta old before) (sym next) ∙ h.causes
 
-  pub so_far-step : (kinds_then : List (List (List ℕ) × Bool)) (then_tree : TreeMap) → IsChanged meta change (λ q. lookup (is_at (path_cmp q)) kinds_now) now (λ q. lookup (is_at (path_cmp q)) kinds_then) then_tree → IsSoFar meta old (before ++ change ∷ []) rest all kinds_then then_tree
+  pub so_far-step : (kinds_then : List (Reverse (List (List ℕ)) × Bool)) (then_tree : TreeMap) → IsChanged meta change (kind_in kinds_now) now (kind_in kinds_then) then_tree → IsSoFar meta old (before ++ change ∷ []) rest all kinds_then then_tree
   so_far-step kinds_then then_tree s = record {
     causes = sym (ap (λ o. option_or o (first_cause meta old (before ++ change ∷ []) rest)) (change-is ∙ s.fine)) ∙ whole-is;
     whole = append_assoc before (change ∷ []) rest ∙ ap (λ xs. before ++ xs) (sym next) ∙ h.whole;
@@ -190,10 +187,10 @@ module _ (meta : Meta) (old : TreeMap) (before rest more all : List Change) (cha
     tree = s.tree;
   }
 
-  pub so_far-fault : (cause : Cause) → change_cause (λ q. lookup (is_at (path_cmp q)) kinds_now) (get now) change ≡ Some cause → first_cause meta old [] all ≡ Some cause
+  pub so_far-fault : (cause : Cause) → change_cause (kind_in kinds_now) (get now) change ≡ Some cause → first_cause meta old [] all ≡ Some cause
   so_far-fault cause c = sym whole-is ∙ ap (λ o. option_or o (first_cause meta old (before ++ change ∷ []) rest)) (change-is ∙ c)
 
-pub so_far-end : (meta : Meta) (old : TreeMap) (before rest all : List Change) (kinds_now : List (List (List ℕ) × Bool)) (now : TreeMap) → IsSoFar meta old before rest all kinds_now now → rest ≡ [] → (first_cause meta old [] all ≡ None) × ((now ≡ changed_tree meta old all) × IsTree now)
+pub so_far-end : (meta : Meta) (old : TreeMap) (before rest all : List Change) (kinds_now : List (Reverse (List (List ℕ)) × Bool)) (now : TreeMap) → IsSoFar meta old before rest all kinds_now now → rest ≡ [] → (first_cause meta old [] all ≡ None) × ((now ≡ changed_tree meta old all) × IsTree now)
 so_far-end meta old before rest all kinds_now now h none = (
   sym h.causes ∙ ap (first_cause meta old before) none,
   (h.map ∙ ap (changed_tree meta old) (sym (append-nil before) ∙ ap (λ xs. before ++ xs) (sym none) ∙ h.whole), h.tree),

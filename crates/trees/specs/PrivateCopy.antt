@@ -2,7 +2,10 @@
 use Rattle.std.specs.Prelude.{◌≡◌, ℕ, Bool, true, false, ◌||◌, ◌⊎◌, ◌∷◌, ◌++◌, is_some, Option, Some, None, Result, Ok, Err, List, []}
 use Rattle.std.specs.List.{AllByRecursion}
 use Rattle.std.specs.Option.{option_or}
+use Rattle.std.specs.declared.cmp.Reverse.{Reverse}
 use Rattle.std.specs.Ordering.{eq_by_cmp}
+use Rattle.std.specs.Map.{lookup}
+use Rattle.std.specs.BTreeMap.{is_at}
 use Rattle.std.specs.FinMap.{get, entries}
 use Rattle.paths.specs.Path.{IsClean}
 use Rattle.paths.specs.Long.{AreNames}
@@ -37,6 +40,10 @@ with_change meta tree (Make path) = with_directory meta tree path
 -- the kind of what a change places at q, if it places anything there
 abbrev pub kind_by : Change → List (List ℕ) → Option Bool
 kind_by change q = kind_of (placed_by change q)
+
+-- the kind of what was placed at q so far; the rows are in falling order of their paths
+abbrev pub kind_in : List (Reverse (List (List ℕ)) × Bool) → List (List ℕ) → Option Bool
+kind_in rows q = lookup (is_at (λ key. path_cmp key.0 q)) rows
 
 -- a change was made: it has no cause to fail; before and after are the kinds of what is placed so far
 pub record IsChanged (meta : Meta) (change : Change) (before : List (List ℕ) → Option Bool) (old : TreeMap) (after : List (List ℕ) → Option Bool) (new : TreeMap) : Type 0 where

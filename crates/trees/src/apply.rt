@@ -2,15 +2,12 @@
 
 ghost use Rattle.std.specs.Prelude.{◌≡◌};
 ghost use Rattle.std.specs.FinMap.{get};
-ghost use Rattle.std.specs.Map.{lookup};
-ghost use Rattle.std.specs.BTreeMap.{is_at};
-ghost use Rattle.paths.specs.Order.{path_cmp};
 ghost use Rattle.trees.specs.declared.copy.Change.TheVariants.{Place};
 ghost use Rattle.trees.specs.TreeMap.{IsTree};
 ghost use Rattle.trees.specs.Cause.{ChangesTree};
 ghost use Rattle.trees.specs.Make.{make_cause, made_with};
 ghost use Rattle.trees.specs.Copy.{is_repeated, change_cause};
-ghost use Rattle.trees.specs.PrivateCopy.{AppliesChange, AppliesChanges};
+ghost use Rattle.trees.specs.PrivateCopy.{AppliesChange, AppliesChanges, kind_in};
 ghost use Rattle.trees.specs.PrivateNode.{map_of};
 
 use crate::copy::Change;
@@ -20,7 +17,12 @@ use crate::{Cause, Entry, Meta, TreeFault};
 use paths::Path;
 use plain::{Fault, Text};
 use std::alloc::Global;
+use std::cmp::Reverse;
 use std::collections::BTreeMap;
+
+/// Each path at which a COPY placed an entry, and whether that is a directory. A COPY mostly places in the order of the paths, and the map finds the
+/// place before its first key in one comparison a level, and that after its last key by comparing with all keys on the way: so the greatest path is first.
+type Placed = BTreeMap<Reverse<Path>, bool>;
 
 /// Makes the changes, one after another. After a fault the root is left half done.
 pub(crate) fn apply_all(
@@ -39,17 +41,17 @@ pub(crate) fn apply_all(
     Ok(())
 }
 
-/// Makes one change. `placed` has each path at which this COPY placed an entry, and whether that is a directory.
+/// Makes one change.
 fn apply(
     alloc: Global,
     root: &mut Node,
-    placed: &mut BTreeMap<Path, bool>,
+    placed: &mut Placed,
     parent: &Meta,
     change: Change,
 ) -> Result<(), TreeFault>
     requires { IsTree (map_of root.old) }
-    ensures { AppliesChange parent.now change (λ q. lookup (is_at (path_cmp q)) placed.old.entries) (map_of root.old)
-        (λ q. lookup (is_at (path_cmp q)) placed.new.entries) (map_of root.new) result }
+    ensures { AppliesChange parent.now change (kind_in placed.old.entries) (map_of root.old)
+        (kind_in placed.new.entries) (map_of root.new) result }
 {
     match change {
         Change::Make(path) => make(alloc, root, parent, &path),
@@ -64,20 +66,21 @@ fn apply(
 fn place(
     alloc: Global,
     root: &mut Node,
-    placed: &mut BTreeMap<Path, bool>,
+    placed: &mut Placed,
     parent: &Meta,
     path: Path,
     entry: Entry,
 ) -> Result<(), TreeFault>
     requires { IsTree (map_of root.old) }
-    ensures { AppliesChange parent.now (Place path entry) (λ q. lookup (is_at (path_cmp q)) placed.old.entries) (map_of root.old)
-        (λ q. lookup (is_at (path_cmp q)) placed.new.entries) (map_of root.new) result }
+    ensures { AppliesChange parent.now (Place path entry) (kind_in placed.old.entries) (map_of root.old)
+        (kind_in placed.new.entries) (map_of root.new) result }
 {
+    let path = Reverse(path);
     if let Some(cause) = placement_cause(root, placed, &path, &entry) {
         return Err(Fault::Because(cause));
     }
     let is_directory = entry.is_directory();
-    root.plant(alloc, path.components(), *parent, entry)?;
+    root.plant(alloc, path.0.components(), *parent, entry)?;
     placed.insert(path, is_directory)?;
     Ok(())
 }
@@ -85,13 +88,13 @@ fn place(
 /// Why an entry can't be placed at a path that isn't too deep, if it can't.
 fn placement_cause(
     root: &Node,
-    placed: &BTreeMap<Path, bool>,
-    path: &Path,
+    placed: &Placed,
+    path: &Reverse<Path>,
     entry: &Entry,
 ) -> Option<Cause>
-    ensures { result ≡ change_cause (λ q. lookup (is_at (path_cmp q)) placed.now.entries) (get (map_of root.now)) (Place path.now entry.now) }
+    ensures { result ≡ change_cause (kind_in placed.now.entries) (get (map_of root.now)) (Place path.now.0 entry.now) }
 {
-    let parts = path.components();
+    let parts = path.0.components();
     if is_repeated(placed, path, entry) {
         return Some(Cause::F3);
     }
@@ -99,8 +102,8 @@ fn placement_cause(
 }
 
 /// Whether an entry is placed where one was placed before, and they aren't both directories.
-fn is_repeated(placed: &BTreeMap<Path, bool>, path: &Path, entry: &Entry) -> bool
-    ensures { result ≡ is_repeated (lookup (is_at (path_cmp path.now)) placed.now.entries) entry.now }
+fn is_repeated(placed: &Placed, path: &Reverse<Path>, entry: &Entry) -> bool
+    ensures { result ≡ is_repeated (kind_in placed.now.entries path.now.0) entry.now }
 {
     match placed.get(path) {
         None => false,
