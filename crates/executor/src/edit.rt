@@ -55,10 +55,13 @@ fn bump(alloc: Global, tree: &mut Tree, path: &Path) -> Result<(), TreeFault>
 fn bumped(alloc: Global, tree: &Tree, path: &Path) -> Result<Bytes, Memory>
     ensures { IfOk result (λ bytes. bytes ≡ bytes_or_none (bytes_of (get tree.now path.now)) ++ 43 ∷ []) }
 {
-    let mut bytes = Vec::new(alloc);
-    if let Some(LentEntry::File(_, content)) = tree.get(path) {
-        bytes.extend_from_slice(content.as_slice())?;
-    }
+    let before = match tree.get(path) {
+        Some(LentEntry::File(_, content)) => content.as_slice(),
+        _ => &[],
+    };
+    // A list that grows takes twice the room, and a file keeps what its list took.
+    let mut bytes = Vec::with_capacity(alloc, before.len().saturating_add(1))?;
+    bytes.extend_from_slice(before)?;
     bytes.push(b'+')?;
     Ok(Bytes::from_vec(bytes))
 }
