@@ -26,3 +26,5 @@ pub mod KeptLaws
 pub mod ReaderLaws
 pub mod FeedLaws
 pub mod LookLaws
+pub mod MarkLaws
+pub mod LoneLaws

@@ -1,14 +1,14 @@
--- The loop over the bytes of a piece: what is known of the bytes before one of them, and that byte, say what is known after it.
-use Rattle.std.specs.Prelude.{◌≡◌, ◌<◌, ◌≤◌, ◌⊎◌, ℕ, suc, ◌+◌, ◌-◌, ◌==◌, Bool, true, false, List, [], ◌∷◌, ◌++◌, Option, None, length, take, drop, bytes_eq, if◌then◌else◌, IsUtf8}
+-- The loop over the lines of a piece: what is known of the bytes before one of them, and where the next LF stands, say what is known after it.
+use Rattle.std.specs.Prelude.{◌≡◌, ◌<◌, ◌≤◌, ℕ, suc, ◌+◌, ◌-◌, ◌==◌, Bool, true, false, List, [], ◌∷◌, ◌++◌, Option, Some, None, length, take, drop, bytes_eq, if◌then◌else◌, IsUtf8}
 use Rattle.std.specs.List.{onto_first}
 use Rattle.std.specs.Str.Lines.{lines, strip_carriage_return}
 use Rattle.std.proofs.Common.{cond, ◌∙◌, sym, ap, ap₂, subst, inl, inr, append_assoc, arith, get_or}
-use Rattle.std.proofs.Math.Seq.{take-append_seam, drop-append_seam, get_or-append_seam, drop-cons}
-use Rattle.std.proofs.lemmas.List.{length-append, length-map, length-drop, get_or_append_left}
+use Rattle.std.proofs.Math.Seq.{take-append_seam, drop-append_seam, drop-cons}
+use Rattle.std.proofs.lemmas.List.{length-append, length-map, length-drop, length-take-le, drop-drop, take-append-drop, take_all}
+use Rattle.std.proofs.lemmas.List.Elements.{All-append}
 use Rattle.plain.specs.declared.refusal.Refusal.{Refusal}
-use Rattle.std.proofs.str.Laws.{order}
 use Rattle.lines.specs.Faults.{IsLeast}
-use Rattle.lines.specs.PrivateRead.{IsReadFrom, IsAt, StopsAt}
+use Rattle.lines.specs.PrivateRead.{IsReadFrom, IsNextLf, IsAt, StopsAt}
 use Rattle.lines.specs.PrivateScan.{state_at, block_lines, below, marks_in, Settles, Stops, IsAtRest}
 use Rattle.lines.specs.PrivateSteps.{read_line, after_lines}
 use Rattle.lines.specs.Ready.{IsWhole, empty, ended, HasNoLf}
@@ -25,24 +25,12 @@ use Rattle.lines.proofs.StepLaws.{read_line-count}
 use Rattle.lines.proofs.Utf8Lemmas.{utf8_above, utf8_below, utf8_line}
 use Rattle.lines.proofs.WholeLemmas.{parts, lines_whole, unmarked_whole, whole_more}
 
--- a byte after a list without an LF
-
 no_lf : HasNoLf []
 no_lf = λ k d l. absurd (omega arith)
 
-plain_more : (line : List ℕ) (b : ℕ) → HasNoLf line → (b == 10) ≡ false → HasNoLf (line ++ b ∷ [])
-plain_more line b h e = λ k d l. by k d l (order k (length line))
-  where
-    by : (k d : ℕ) → k < length (line ++ b ∷ []) → (k < length line) ⊎ (length line ≤ k) → (get_or (line ++ b ∷ []) k d == 10) ≡ false
-    by k d l (inl m) = ap (λ c. c == 10) (get_or_append_left line (b ∷ []) d k m) ∙ h k d m
-    by k d l (inr m) = let is : k ≡ length line = omega (arith, length-append line (b ∷ [])) in ap (λ n. get_or (line ++ b ∷ []) n d == 10) is ∙ ap (λ c. c == 10) (get_or-append_seam line b [] d) ∙ e
+-- the bytes before one of them
 
--- the bytes before one of them, and that one
-
-module _ (from : FileState) (begins : Bool) (kept : List Mark) (scan : Scan) (bytes : List ℕ) (at end : ℕ) (a : IsAt from begins kept scan bytes at end) (l : end < length bytes) where
-  abbrev pub behind : List ℕ
-  behind = drop (end + 1) bytes
-
+module _ (from : FileState) (begins : Bool) (kept : List Mark) (scan : Scan) (bytes : List ℕ) (at end : ℕ) (a : IsAt from begins kept scan bytes at end) where
   above_is : bytes ≡ (a.front ++ (a.own ++ a.line)) ++ a.rest
   above_is = a.cut ∙ ap (λ (x : List ℕ). a.front ++ x) (sym (append_assoc a.own a.line a.rest)) ∙ sym (append_assoc a.front (a.own ++ a.line) a.rest)
 
@@ -52,35 +40,50 @@ module _ (from : FileState) (begins : Bool) (kept : List Mark) (scan : Scan) (by
       let k = a.looked in
       omega (arith, length-append a.front (a.own ++ a.line), length-append a.own a.line)
 
-  rest_is : a.rest ≡ get_or bytes end 0 ∷ behind
-  rest_is =
-      let e : suc end ≡ end + 1 = omega arith in
-      sym (ap (λ n. drop n bytes) (sym long) ∙ ap (drop (length (a.front ++ (a.own ++ a.line)))) above_is ∙ drop-append_seam (a.front ++ (a.own ++ a.line)) a.rest)
-      ∙ drop-cons bytes end 0 l ∙ ap (λ n. get_or bytes end 0 ∷ drop n bytes) e
+  rest_is : a.rest ≡ drop end bytes
+  rest_is = sym (ap (λ n. drop n bytes) (sym long) ∙ ap (drop (length (a.front ++ (a.own ++ a.line)))) above_is ∙ drop-append_seam (a.front ++ (a.own ++ a.line)) a.rest)
 
-  pub cut_more : bytes ≡ a.front ++ (a.own ++ ((a.line ++ get_or bytes end 0 ∷ []) ++ behind))
-  cut_more =
-      a.cut ∙ ap (λ (x : List ℕ). a.front ++ (a.own ++ (a.line ++ x))) rest_is
-      ∙ ap (λ (x : List ℕ). a.front ++ (a.own ++ x)) (sym (append_assoc a.line (get_or bytes end 0 ∷ []) behind))
-
-  -- any other byte than an LF is one more of its line
-  pub at_more : (get_or bytes end 0 == 10) ≡ false → IsAt from begins kept scan bytes at (end + 1)
-  at_more e =
+  -- bytes after it without an LF are more of its line
+  at_more : (next : ℕ) → end ≤ next → next ≤ length bytes → HasNoLf (take (next - end) (drop end bytes)) → IsAt from begins kept scan bytes at next
+  at_more next l m plain =
       let k = a.looked in
+      let more = take (next - end) (drop end bytes) in
+      let far : end + (next - end) ≡ next = omega arith in
+      let two : more ++ drop next bytes ≡ drop end bytes =
+      ap (λ (x : List ℕ). more ++ x) (sym (drop-drop (next - end) end bytes ∙ ap (λ n. drop n bytes) far)) ∙ take-append-drop (next - end) (drop end bytes) in
       record {
         front = a.front;
         own = a.own;
-        line = a.line ++ get_or bytes end 0 ∷ [];
-        rest = behind;
-        cut = cut_more;
+        line = a.line ++ more;
+        rest = drop next bytes;
+        cut = a.cut ∙ ap (λ (x : List ℕ). a.front ++ (a.own ++ (a.line ++ x))) (rest_is ∙ sym two)
+            ∙ ap (λ (x : List ℕ). a.front ++ (a.own ++ x)) (sym (append_assoc a.line more (drop next bytes)));
         start = a.start;
         taken = a.taken;
-        looked = omega (arith, length-append a.line (get_or bytes end 0 ∷ []));
-        plain = plain_more a.line (get_or bytes end 0) a.plain e;
+        looked = omega (arith, length-append a.line more, length-take-le (next - end) (drop end bytes) (omega (arith, length-drop end bytes)));
+        plain = All-append (λ b. (b == 10) ≡ false) a.line more a.plain plain;
         read = a.read;
       }
 
-  -- an LF ends it
+  pub at_lf : (next : ℕ) → IsNextLf bytes end (Some next) → IsAt from begins kept scan bytes at next
+  at_lf next h = let low = h.1 in at_more next h.0 (omega arith) h.3
+
+  pub at_end : end ≤ length bytes → HasNoLf (drop end bytes) → IsAt from begins kept scan bytes at (length bytes)
+  at_end l plain =
+      let all : take (length bytes - end) (drop end bytes) ≡ drop end bytes = take_all (length bytes - end) (drop end bytes) (omega (arith, length-drop end bytes)) in
+      at_more (length bytes) l (omega arith) (subst HasNoLf (sym all) plain)
+
+-- an LF ends the line before it
+module _ (from : FileState) (begins : Bool) (kept : List Mark) (scan : Scan) (bytes : List ℕ) (at end : ℕ) (a : IsAt from begins kept scan bytes at end) (l : end < length bytes) where
+  abbrev pub behind : List ℕ
+  behind = drop (end + 1) bytes
+
+  cut_more : bytes ≡ a.front ++ (a.own ++ ((a.line ++ get_or bytes end 0 ∷ []) ++ behind))
+  cut_more =
+      let e : suc end ≡ end + 1 = omega arith in
+      a.cut ∙ ap (λ (x : List ℕ). a.front ++ (a.own ++ (a.line ++ x))) (rest_is from begins kept scan bytes at end a ∙ drop-cons bytes end 0 l ∙ ap (λ n. get_or bytes end 0 ∷ drop n bytes) e)
+      ∙ ap (λ (x : List ℕ). a.front ++ (a.own ++ x)) (sym (append_assoc a.line (get_or bytes end 0 ∷ []) behind))
+
   module _ (e : get_or bytes end 0 ≡ 10) where
     abbrev pub block : List ℕ
     block = a.own ++ (a.line ++ 10 ∷ [])

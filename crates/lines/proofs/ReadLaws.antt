@@ -110,12 +110,21 @@ pub no_lines : (first : Bool) → block_lines first [] ≡ []
 no_lines true = refl
 no_lines false = refl
 
--- a line between blocks that is dropped is a block of its own, after which the next one begins at another place
-pub dropped_block : (place next : Place) (room : ℕ) (own line : List ℕ) → own ≡ [] → HasNoLf line → read_line (state_at place room) (strip_carriage_return line) ≡ state_at next room
-    → state_at next room ≡ after_lines (state_at place room) (block_lines false (own ++ (line ++ 10 ∷ [])))
-dropped_block place next room own line b plain e =
-    let s : FileState = state_at place room in
-    sym (ap (λ (o : List ℕ). after_lines s (block_lines false (o ++ (line ++ 10 ∷ [])))) b ∙ ap (after_lines s) (one_line line plain) ∙ e)
+-- a line between blocks that is a block of its own
+pub block_alone : (place : Place) (room : ℕ) (first : Bool) (own line block : List ℕ) (s : FileState) → own ≡ [] → first ≡ false → HasNoLf line → block ≡ own ++ (line ++ 10 ∷ [])
+    → read_line (state_at place room) (strip_carriage_return line) ≡ s
+    → s ≡ after_lines (state_at place room) (block_lines first block)
+block_alone place room first own line block s none other plain cut e =
+    let r : FileState = state_at place room in
+    let is : block ≡ line ++ 10 ∷ [] = cut ∙ ap (λ (o : List ℕ). o ++ (line ++ 10 ∷ [])) none in
+    sym (ap₂ (λ (b : Bool) (bytes : List ℕ). after_lines r (block_lines b bytes)) other is ∙ ap (after_lines r) (one_line line plain) ∙ e)
+
+-- no line of a block stands above its first one, and the block isn't past the limit
+pub fresh_none : (stage : Stage) (own : List ℕ) → stage ≡ Fresh → IsBehind stage own → own ≡ []
+fresh_none stage own e h = subst (λ (s : Stage). IsBehind s own) e h
+
+pub fresh_past : (marks : List Mark) (progress : Progress) (s : FileState) → progress.stage ≡ Fresh → StageIs marks progress s → progress.is_past ≡ false
+fresh_past marks progress s e h = subst (λ (stage : Stage). IsInStage marks progress stage s) e h
 
 -- so a block that isn't complete has given no line yet, also after its next line
 pub block_inside : (marks : List Mark) (progress : Progress) (stage : Stage) (own line : List ℕ) → IsWhole own → IsBehind stage own → HasNoLf line

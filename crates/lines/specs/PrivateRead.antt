@@ -1,5 +1,5 @@
 -- How far a text was read: only private functions are stated by it (own).
-use Rattle.std.specs.Prelude.{◌≡◌, ◌≢◌, ◌⊎◌, ℕ, ◌+◌, Bool, true, false, List, [], ◌++◌, Some, None, MatchBool, length}
+use Rattle.std.specs.Prelude.{◌≡◌, ◌≢◌, ◌⊎◌, ◌<◌, ◌≤◌, ℕ, ◌+◌, ◌-◌, Bool, true, false, List, [], ◌++◌, Option, Some, None, MatchBool, length, take, drop, slice_index}
 use Rattle.plain.specs.Limits.{most_lines}
 use Rattle.lines.specs.declared.escape.Escape.TheVariants.{Backslash}
 use Rattle.lines.specs.declared.scan.Stage.TheVariants.{Fresh}
@@ -34,6 +34,11 @@ pub record IsReadFrom (from : FileState) (begins : Bool) (found : List Line) (pr
   pub first : IsFirst begins front progress.is_first
   pub state : below found (state_at progress.place progress.room) ≡ after_lines from (block_lines begins front)
   pub reached : StageIs marks progress (after_lines (state_at progress.place progress.room) (block_lines progress.is_first own))
+
+-- where the next LF of these bytes stands from an offset on, if there is one
+abbrev pub IsNextLf : List ℕ → ℕ → Option ℕ → Type 0
+IsNextLf bytes from None = HasNoLf (drop from bytes)
+IsNextLf bytes from (Some end) = (from ≤ end) × (end < length bytes) × (slice_index bytes end ≡ 10) × HasNoLf (take (end - from) (drop from bytes))
 
 -- the scan has taken the complete lines of these bytes up to `at`, and no LF stands from there up to `end`
 pub record IsAt (from : FileState) (begins : Bool) (kept : List Mark) (scan : Scan) (bytes : List ℕ) (at end : ℕ) : Type 0 where

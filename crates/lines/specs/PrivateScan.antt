@@ -1,5 +1,5 @@
 -- How far the block in progress was looked at: only private functions are stated by it (own).
-use Rattle.std.specs.Prelude.{◌≡◌, ◌≢◌, ◌⊎◌, ◌<◌, ◌≤◌, ℕ, ◌+◌, ◌==◌, ◌&&◌, not, Bool, true, false, List, [], ◌++◌, Option, Some, None, Result, Ok, Err, MatchBool, length, slice_get}
+use Rattle.std.specs.Prelude.{◌≡◌, ◌≢◌, ◌⊎◌, ◌<◌, ◌≤◌, ℕ, ◌+◌, ◌==◌, ◌&&◌, not, Bool, true, false, List, [], ◌∷◌, ◌++◌, Option, Some, None, Result, Ok, Err, MatchBool, length, slice_get}
 use Rattle.std.specs.declared.vec.Vec.{Vec}
 use Rattle.plain.specs.declared.fault.Fault.{Fault}
 use Rattle.plain.specs.declared.fault.Fault.TheVariants.{Because, Memory}
@@ -20,7 +20,11 @@ use Rattle.lines.specs.declared.scan.Stage.TheVariants.{Fresh, Own, Closing}
 use Rattle.lines.specs.declared.scan.Scan.{Scan}
 use Rattle.lines.specs.declared.scan.Stop.{Stop}
 use Rattle.lines.specs.declared.scan.Stop.TheVariants.{NoMemory, Refused}
+use Rattle.ascii.specs.Blanks.{trimmed}
 use Rattle.lines.specs.Blanks.{is_blank_line}
+use Rattle.lines.specs.Continued.{plain_line}
+use Rattle.lines.specs.File.{goes_on}
+use Rattle.lines.specs.Marks.{marks_of}
 use Rattle.lines.specs.Faults.{IsLeast}
 use Rattle.lines.specs.Text.{without_byte_order_mark}
 
@@ -32,6 +36,18 @@ position_of None = Between
 -- the state at a place between blocks, if only `room` more logical lines may be there
 abbrev pub state_at : Place → ℕ → FileState
 state_at place room = record { escape = place.escape; count = place.count; position = position_of place.seen; room = room; lines = []; faults = [] }
+
+-- the place after one more line, below which no directive stands
+abbrev pub place_after : Place → Place
+place_after place = record place { count = place.count + 1; seen = None }
+
+-- a line that is a logical line of this text by itself, without heredocs
+abbrev pub IsLone : ℕ → List ℕ → List ℕ → Type 0
+IsLone escape line text = (goes_on escape line ≡ false) × (text ≡ trimmed line) × (marks_of text ≡ [])
+
+-- the state after such a line between blocks
+abbrev pub after_lone : Place → ℕ → List ℕ → FileState
+after_lone place room text = record (state_at (place_after place) room) { lines = plain_line (place.count + 1) place.escape text ∷ [] }
 
 -- the lines of a block's bytes: the first block of a text may have a byte order mark
 abbrev pub block_lines : Bool → List ℕ → List (List ℕ)

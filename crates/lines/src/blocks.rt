@@ -1,27 +1,31 @@
-ghost use Rattle.std.specs.Prelude.{◌≡◌, ◌≢◌, ◌≤◌, ◌+◌, ◌==◌, ◌||◌, ◌&&◌, not, false, is_some, ◌++◌, ◌∷◌, [], ℕ, List, IfOk, IfErr, IfSome, IsUtf8, length};
+ghost use Rattle.std.specs.Prelude.{◌≡◌, ◌≢◌, ◌<◌, ◌≤◌, ◌+◌, ◌-◌, ◌==◌, ◌||◌, ◌&&◌, not, false, is_some, ◌++◌, ◌∷◌, [], ℕ, List, IsTrue, IfOk, IfErr, IfSome, IsUtf8, length};
 ghost use Rattle.std.specs.Str.Lines.{lines, strip_carriage_return};
 ghost use Rattle.plain.specs.Limits.{most_dockerfile_bytes};
 ghost use Rattle.lines.specs.Blanks.{is_blank_line};
+ghost use Rattle.lines.specs.Continued.{plain_line};
 ghost use Rattle.lines.specs.Directives.{directive_of};
 ghost use Rattle.lines.specs.Escape.{byte_of};
 ghost use Rattle.lines.specs.File.{goes_on, part_of};
-ghost use Rattle.lines.specs.PrivateScan.{state_at, block_lines, Fits, IsInside, StageIs, IsBehind, IsLater, IsMovedTo, Settles, StopsBy, Stops, marks_in};
+ghost use Rattle.lines.specs.PrivateScan.{state_at, place_after, IsLone, after_lone, block_lines, Fits, IsInside, StageIs, IsBehind, IsLater, IsMovedTo, Settles, StopsBy, Stops, marks_in};
 ghost use Rattle.lines.specs.PrivateSteps.{after_lines, read_line};
 ghost use Rattle.lines.specs.Ready.{IsWhole, HasNoLf};
 ghost use Rattle.lines.specs.Text.{IsShort};
 ghost use Rattle.lines.specs.declared.line.Mark.{Mark};
 ghost use Rattle.lines.specs.declared.scan.Stage.TheVariants.{Fresh, Own, Closing};
+ghost use Rattle.lines.specs.declared.scan.Stop.TheVariants.{NoMemory};
 ghost use Rattle.lines.specs.declared.state.FileState.{FileState};
 
 use crate::blanks::{continued_part, ends_with, is_blank_line, is_skipped};
 use crate::directives::directive_of;
 use crate::faults::least;
+use crate::marks::is_unmarked;
 use crate::scan::{Place, Progress, Scan, Stage, Stop};
 use crate::state::{FileState, Position, Seen, Unclosed};
 use crate::steps::{closes, read_line};
 use crate::text::{text_of, without_byte_order_mark};
 use crate::{Escape, Line, Mark};
-use plain::{Items, Memory, Refusal};
+use ascii::trimmed;
+use plain::{Items, Memory, Refusal, Text};
 use std::alloc::Global;
 
 /// The state at a place between blocks.
@@ -346,25 +350,36 @@ fn is_directive(seen: Option<Seen>, line: &str) -> bool
     seen.is_some() && directive_of(line).is_some()
 }
 
-/// Where the next block begins after a line between blocks that is dropped, and none if it isn't such a line. The first line may have
-/// a byte order mark, and is left to the block.
+/// Whether the next line begins a block. The first one of the text may have a byte order mark, and is left to the block.
+fn is_between(progress: &Progress) -> bool
+    ensures { IsTrue result → (progress.now.stage ≡ Fresh) × (progress.now.is_first ≡ false) }
+{
+    matches!(progress.stage, Stage::Fresh) && !progress.is_first
+}
+
+/// The place after one more line, below which no directive stands.
 #[tactic(auto, unfolding(plain::specs::Limits::most_dockerfile_bytes))]
+fn place_after(place: Place) -> Place
+    requires { place.count ≤ most_dockerfile_bytes }
+    ensures { result ≡ place_after place }
+{
+    Place {
+        escape: place.escape,
+        count: place.count + 1,
+        seen: None,
+    }
+}
+
+/// Where the next block begins after a line between blocks that is dropped, and none if it isn't such a line.
 fn after_dropped(progress: &Progress, line: &str) -> Option<Place>
     requires { progress.now.place.count ≤ most_dockerfile_bytes }
     ensures fresh { IfSome result (λ place. (progress.now.stage ≡ Fresh) × (progress.now.is_first ≡ false)) }
     ensures state { IfSome result (λ place. read_line (state_at progress.now.place progress.now.room) line.now ≡ state_at place progress.now.room) }
 {
-    let Stage::Fresh = progress.stage else {
-        return None;
-    };
-    if progress.is_first || !is_skipped(line) || is_directive(progress.place.seen, line) {
+    if !is_between(progress) || !is_skipped(line) || is_directive(progress.place.seen, line) {
         return None;
     }
-    Some(Place {
-        escape: progress.place.escape,
-        count: progress.place.count + 1,
-        seen: None,
-    })
+    Some(place_after(progress.place))
 }
 
 /// What a scan is after a line of so many bytes that is dropped, after which the next block begins at this place.
@@ -377,6 +392,79 @@ fn moved_over(scan: Scan, place: Place, size: usize) -> Scan
     scan.progress.place = place;
     scan.start += size;
     scan
+}
+
+/// The text of a line that is a logical line by itself, and none where that isn't known.
+fn lone_in(escape: Escape, line: &str) -> Option<&str>
+    ensures { IfSome result (λ text. IsLone (byte_of escape) line.now text.now) }
+{
+    if goes_on(escape, line) {
+        return None;
+    }
+    let text = trimmed(line);
+    if is_unmarked(text) { Some(text) } else { None }
+}
+
+/// The text of a line between blocks that is a logical line by itself, and none where that isn't known or there may be no more lines.
+/// Such a line isn't dropped, so it is no directive.
+fn lone_text<'a>(progress: &Progress, line: &'a str) -> Option<&'a str>
+    ensures fresh { IfSome result (λ text. (progress.now.stage ≡ Fresh) × (progress.now.is_first ≡ false)) }
+    ensures room { IfSome result (λ text. 0 < progress.now.room) }
+    ensures state { IfSome result (λ text. read_line (state_at progress.now.place progress.now.room) line.now ≡ after_lone progress.now.place progress.now.room text.now) }
+{
+    if !is_between(progress) || progress.room == 0 {
+        return None;
+    }
+    lone_in(progress.place.escape, line)
+}
+
+/// The logical line that a line of this text is by itself, at a place.
+#[tactic(auto, unfolding(plain::specs::Limits::most_dockerfile_bytes))]
+fn lone_line(alloc: Global, place: Place, text: &str) -> Result<Line, Memory>
+    requires { place.count ≤ most_dockerfile_bytes }
+    ensures { IfOk result (λ line. line ≡ plain_line (place.count + 1) place.escape text.now) }
+{
+    let text = Text::from_str(alloc, text)?;
+    Ok(Line {
+        number: place.count + 1,
+        text,
+        heredocs: Items::new(alloc),
+        escape: place.escape,
+    })
+}
+
+/// What a scan is after a line of so many bytes that is a logical line of this text by itself. It is put into the scan's own list, with
+/// no state and no list of its block.
+#[tactic(auto, unfolding(plain::specs::Limits::most_dockerfile_bytes))]
+fn take_lone(alloc: Global, scan: Scan, text: &str, size: usize) -> Result<Scan, Stop>
+    requires size { scan.start + size ≤ most_dockerfile_bytes }
+    requires count { scan.progress.place.count ≤ most_dockerfile_bytes }
+    requires room { 0 < scan.progress.room }
+    ensures ok { IfOk result (λ next. next ≡ record scan {
+      progress = record scan.progress { place = place_after scan.progress.place; room = scan.progress.room - 1 };
+      start = scan.start + size;
+      lines = scan.lines ++ plain_line (scan.progress.place.count + 1) scan.progress.place.escape text.now ∷ [];
+    }) }
+    ensures err { IfErr result (λ stop. stop ≡ NoMemory) }
+{
+    let mut scan = scan;
+    let place = scan.progress.place;
+    let Ok(line) = lone_line(alloc, place, text) else {
+        drop(scan);
+        return Err(Stop::NoMemory);
+    };
+    match scan.lines.push(line) {
+        Ok(()) => {
+            scan.progress.place = place_after(place);
+            scan.progress.room -= 1;
+            scan.start += size;
+            Ok(scan)
+        }
+        Err(_) => {
+            drop(scan);
+            Err(Stop::NoMemory)
+        }
+    }
 }
 
 /// Takes the next line of a text, with which `block` ends.
@@ -401,6 +489,9 @@ pub fn take_line(
     let text = without_carriage_return(text_of(line));
     if let Some(place) = after_dropped(&scan.progress, text) {
         return Ok(moved_over(scan, place, block.len()));
+    }
+    if let Some(text) = lone_text(&scan.progress, text) {
+        return take_lone(alloc, scan, text, block.len());
     }
     match progress_behind(&scan, kept, text) {
         Some(progress) => {

@@ -1,4 +1,4 @@
-ghost use Rattle.std.specs.Prelude.{◌≡◌, map, option_map, IfOk};
+ghost use Rattle.std.specs.Prelude.{◌≡◌, [], map, option_map, IsTrue, IfOk};
 ghost use Rattle.lines.specs.Marks.{is_quoted_by, named, mark_from, after_two, mark_dashed, mark_of, is_mark, is_flag, after_flags, marks_among, has_heredocs, marks_in};
 ghost use Rattle.lines.specs.Marks.{marks_of};
 ghost use Rattle.lines.specs.PrivateMarks.{mark_written};
@@ -8,6 +8,7 @@ use crate::blanks::{ends_with, starts_with};
 use crate::text::text_of;
 use crate::written_mark::WrittenMark;
 use ascii::{is_name, split_at_blanks};
+use memchr::memchr;
 use plain::{Items, Memory, Text};
 use std::alloc::Global;
 
@@ -150,10 +151,20 @@ fn marks_in(alloc: Global, pieces: &[&str]) -> Result<Items<Mark>, Memory>
     Ok(Items::new(alloc))
 }
 
+/// Whether a text is known to have no mark, since it has no `<`. Few lines have one.
+pub fn is_unmarked(text: &str) -> bool
+    ensures { IsTrue result → marks_of text.now ≡ [] }
+{
+    memchr(b'<', text.as_bytes()).is_none()
+}
+
 /// The marks of a logical line's heredocs, in order.
 pub fn marks_of(alloc: Global, text: &str) -> Result<Items<Mark>, Memory>
     ensures { IfOk result (λ marks. marks ≡ marks_of text.now) }
 {
+    if is_unmarked(text) {
+        return Ok(Items::new(alloc));
+    }
     let pieces = split_at_blanks(alloc, text)?;
     marks_in(alloc, pieces.as_slice())
 }

@@ -2,7 +2,7 @@ ghost use Rattle.std.specs.Prelude.{◌≡◌, ◌<◌, ◌≤◌, ◌+◌, ◌-
 ghost use Rattle.std.specs.Str.{IsValidUpTo};
 ghost use Rattle.std.specs.Str.Lossy.{utf8_error_len};
 ghost use Rattle.plain.specs.Limits.{most_dockerfile_bytes};
-ghost use Rattle.lines.specs.PrivateRead.{IsReadFrom, IsAt, IsTail, StopsAt};
+ghost use Rattle.lines.specs.PrivateRead.{IsReadFrom, IsNextLf, IsAt, IsTail, StopsAt};
 ghost use Rattle.lines.specs.PrivateScan.{state_at};
 ghost use Rattle.lines.specs.Ready.{HasNoLf};
 ghost use Rattle.lines.specs.declared.state.FileState.{FileState};
@@ -10,6 +10,7 @@ ghost use Rattle.lines.specs.declared.state.FileState.{FileState};
 use crate::Mark;
 use crate::blocks::take_line;
 use crate::scan::{Progress, Scan, Stop};
+use memchr::{memchr, memchr_iter};
 use plain::Items;
 use std::alloc::Global;
 
@@ -17,7 +18,18 @@ use std::alloc::Global;
 pub fn line_feeds(bytes: &[u8]) -> usize
     ensures { result ≡ count_by (λ b. b == 10) bytes.now }
 {
-    bytes.iter().filter(|byte| **byte == b'\n').count()
+    memchr_iter(b'\n', bytes).count()
+}
+
+/// Where the next LF of these bytes stands from an offset on, if there is one.
+fn next_line_feed(bytes: &[u8], from: usize) -> Option<usize>
+    requires { from ≤ length bytes.now }
+    ensures { IsNextLf bytes.now from result }
+{
+    match memchr(b'\n', &bytes[from..]) {
+        Some(far) => Some(from + far),
+        None => None,
+    }
 }
 
 /// Up to where bytes are whole characters, of which those before `valid` are known to be, or where a bad byte stands. Bytes at the
@@ -88,15 +100,15 @@ pub fn take_lines(
         lines: Items::new(alloc),
     };
     let mut at = looked;
-    for end in from..bytes.len() {
-        if bytes[end] == b'\n' {
-            match take_ended(alloc, scan, kept, bytes, at, end) {
-                Ok(next) => {
-                    scan = next;
-                    at = end + 1;
-                }
-                Err(stop) => return Err(stop),
+    let mut from = from;
+    while let Some(end) = next_line_feed(bytes, from) {
+        match take_ended(alloc, scan, kept, bytes, at, end) {
+            Ok(next) => {
+                scan = next;
+                at = end + 1;
+                from = at;
             }
+            Err(stop) => return Err(stop),
         }
     }
     Ok((scan, at))

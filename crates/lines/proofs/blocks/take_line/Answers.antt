@@ -1,10 +1,12 @@
-use Rattle.std.proofs.Common.{◌≡◌, ℕ, Bool, false, List, [], refl, sym, ap, ap₂, ◌∙◌, subst, length, inl, inr}
+use Rattle.std.proofs.Common.{◌≡◌, ◌+◌, ◌-◌, ◌++◌, ◌∷◌, [], ℕ, List, refl, sym, ap, ◌∙◌, subst, length, inl, inr}
+use Rattle.std.proofs.lemmas.Result.{IfOk-weaker}
 use Rattle.std.specs.Str.Lines.{strip_carriage_return}
 use Rattle.lines.specs.PrivateSteps.{after_lines, read_line}
-use Rattle.lines.specs.PrivateScan.{state_at, block_lines, below, marks_in, IsBehind, IsInStage, StageIs, IsInside, Settles}
+use Rattle.lines.specs.PrivateScan.{state_at, place_after, after_lone, block_lines, below, marks_in, StageIs, IsInside, Settles}
+use Rattle.lines.specs.Continued.{plain_line}
 use Rattle.lines.specs.declared.scan.Scan.{Scan}
-use Rattle.lines.specs.declared.scan.Stage.{Stage}
-use Rattle.lines.proofs.ReadLaws.{block_line, block_inside, dropped_block}
+use Rattle.lines.proofs.ReadLaws.{block_line, block_inside, block_alone, fresh_none, fresh_past}
+use Rattle.lines.proofs.LoneLaws.{below_lone}
 use Rattle.lines.proofs.blocks.take_line.Goals as goal
 
 pub take_block-requires-clause-inside : goal.take_block-requires-clause-inside
@@ -38,16 +40,45 @@ returns-in-Some-clause-ok c =
     let scan = c.args.scan in
     let p = scan.progress in
     let place = c.in-Some.place in
-    let own = c.requires.cut.0 in
+    let cut = c.requires.cut in
     let fresh = c.in-Some.ensures.fresh in
     let line : c.without_carriage_return-text.result.now ≡ strip_carriage_return c.args.line.now = c.without_carriage_return-text.ensures ∙ ap strip_carriage_return c.text_of.ensures in
-    let none : own ≡ [] = subst (λ (s : Stage). IsBehind s own) fresh.0 c.requires.cut.4 in
-    let past : p.is_past ≡ false =
-    subst (λ (s : Stage). IsInStage (marks_in scan.marks c.args.kept.now) p s (after_lines (state_at p.place p.room) (block_lines p.is_first own))) fresh.0 c.requires.cut.5 in
     let walk : state_at place p.room ≡ after_lines (state_at p.place p.room) (block_lines p.is_first c.args.block.now) =
-    dropped_block p.place place p.room own c.args.line.now none c.requires.cut.3 (ap (read_line (state_at p.place p.room)) (sym line) ∙ c.in-Some.ensures.state)
-    ∙ ap₂ (λ (b : Bool) (bytes : List ℕ). after_lines (state_at p.place p.room) (block_lines b bytes)) (sym fresh.1) (sym c.requires.cut.1) in
+    block_alone p.place p.room p.is_first cut.0 c.args.line.now c.args.block.now (state_at place p.room) (fresh_none p.stage cut.0 fresh.0 cut.4) fresh.1 cut.3 cut.1
+    (ap (read_line (state_at p.place p.room)) (sym line) ∙ c.in-Some.ensures.state) in
     subst
     (λ (next : Scan). Settles c.args.kept.now scan (after_lines (state_at p.place p.room) (block_lines p.is_first c.args.block.now)) (length c.args.block.now) next)
     (sym c.moved_over.ensures)
-    (inl (fresh.0, past, refl, fresh.1, ap (below scan.lines) walk))
+    (inl (
+      fresh.0,
+      fresh_past (marks_in scan.marks c.args.kept.now) p (after_lines (state_at p.place p.room) (block_lines p.is_first cut.0)) fresh.0 cut.5,
+      refl,
+      fresh.1,
+      ap (below scan.lines) walk,
+    ))
+
+pub returns-in-Some-lone_text-clause-ok : goal.returns-in-Some-lone_text-clause-ok
+returns-in-Some-lone_text-clause-ok c =
+    let scan = c.args.scan in
+    let p = scan.progress in
+    let text = c.in-Some-lone_text.text.now in
+    let cut = c.requires.cut in
+    let lone = c.in-Some-lone_text.ensures in
+    let line : c.without_carriage_return-text.result.now ≡ strip_carriage_return c.args.line.now = c.without_carriage_return-text.ensures ∙ ap strip_carriage_return c.text_of.ensures in
+    let walk : after_lone p.place p.room text ≡ after_lines (state_at p.place p.room) (block_lines p.is_first c.args.block.now) =
+    block_alone p.place p.room p.is_first cut.0 c.args.line.now c.args.block.now (after_lone p.place p.room text) (fresh_none p.stage cut.0 lone.fresh.0 cut.4) lone.fresh.1 cut.3 cut.1
+    (ap (read_line (state_at p.place p.room)) (sym line) ∙ lone.state) in
+    let past = fresh_past (marks_in scan.marks c.args.kept.now) p (after_lines (state_at p.place p.room) (block_lines p.is_first cut.0)) lone.fresh.0 cut.5 in
+    let settles = λ (next : Scan). Settles c.args.kept.now scan (after_lines (state_at p.place p.room) (block_lines p.is_first c.args.block.now)) (length c.args.block.now) next in
+    let more = plain_line (p.place.count + 1) p.place.escape text in
+    let taken = λ (next : Scan). next ≡ record scan { progress = record p { place = place_after p.place; room = p.room - 1 }; start = scan.start + length c.args.block.now; lines = scan.lines ++ more ∷ [] } in
+    IfOk-weaker c.take_lone.result taken settles
+    (λ next is. subst settles (sym is)
+    (inl (
+      lone.fresh.0,
+      past,
+      refl,
+      lone.fresh.1,
+      below_lone scan.lines (place_after p.place) p.room more lone.room ∙ ap (below scan.lines) walk,
+    )))
+    c.take_lone.ensures.ok

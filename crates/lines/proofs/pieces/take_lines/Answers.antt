@@ -1,25 +1,38 @@
-use Rattle.std.proofs.Common.{◌≡◌, ◌+◌, ◌==◌, false, subst, sym, get_or, arith}
-use Rattle.std.proofs.lemmas.Bool.Decides.{nat_tests}
+use Rattle.std.proofs.Common.{arith}
 use Rattle.lines.specs.PrivateScan.{state_at}
-use Rattle.lines.specs.PrivateRead.{IsAt}
-use Rattle.lines.specs.declared.scan.Scan.{Scan}
-use Rattle.lines.proofs.PieceLaws.{at_more}
-use Rattle.lines.proofs.pieces.take_lines.Goals.{then-bytes-end-eq10+in-Ok, else-bytes-end-eq10}
+use Rattle.lines.proofs.PieceLaws.{at_lf, at_end}
 use Rattle.lines.proofs.pieces.take_lines.Goals as goal
+
+pub take_ended-requires-clause-known : goal.take_ended-requires-clause-known
+take_ended-requires-clause-known c =
+    let p = c.args.progress in
+    let from = state_at p.place p.room in (
+      from,
+      p.is_first,
+      c.requires.size,
+      at_lf from p.is_first c.args.kept.now c.loop-end.scan c.args.bytes.now c.loop-end.at c.loop-end.from c.loop-end.invariant.reached c.in-Some.end c.in-Some.ensures,
+    )
 
 pub loop-end-preserved : goal.loop-end-preserved
 loop-end-preserved c =
     let p = c.args.progress in
     let from = state_at p.place p.room in
-    let bytes = c.args.bytes.now in
-    let end = c.loop-end.end in
-    elim c.if-bytes-end-eq10.branch [
-      | then-bytes-end-eq10+in-Ok w ↦
-          subst (λ (scan : Scan). IsAt from p.is_first c.args.kept.now scan bytes c.if-bytes-end-eq10.at (end + 1)) (sym w.scan-is)
-          (subst (λ at. IsAt from p.is_first c.args.kept.now w.in-Ok.next bytes at (end + 1)) (sym w.at-is) (w.in-Ok.ensures.ok from p.is_first c.loop-end.invariant))
-      | else-bytes-end-eq10 w ↦
-          let no : (get_or bytes end 0 == 10) ≡ false = grind (arith, nat_tests, w.if-bytes-end-eq10.false) in
-          subst (λ (scan : Scan). IsAt from p.is_first c.args.kept.now scan bytes c.if-bytes-end-eq10.at (end + 1)) (sym w.scan-is)
-          (subst (λ at. IsAt from p.is_first c.args.kept.now c.loop-end.scan bytes at (end + 1)) (sym w.at-is)
-          (at_more from p.is_first c.args.kept.now c.loop-end.scan bytes c.loop-end.at end c.loop-end.invariant c.loop-end-test.true no))
-    ]
+    let low = c.in-Some.ensures.1 in
+    record {
+      reached = c.in-Ok.ensures.ok from p.is_first
+          (at_lf from p.is_first c.args.kept.now c.loop-end.scan c.args.bytes.now c.loop-end.at c.loop-end.from c.loop-end.invariant.reached c.in-Some.end c.in-Some.ensures);
+      within = omega arith;
+    }
+
+pub returns-in-Err-clause-err : goal.returns-in-Err-clause-err
+returns-in-Err-clause-err c =
+    let p = c.args.progress in
+    let from = state_at p.place p.room in
+    c.in-Err.ensures.err from p.is_first
+    (at_lf from p.is_first c.args.kept.now c.loop-end.scan c.args.bytes.now c.loop-end.at c.loop-end.from c.loop-end.invariant.reached c.in-Some.end c.in-Some.ensures)
+
+pub returns-clause-ok : goal.returns-clause-ok
+returns-clause-ok c =
+    let p = c.args.progress in
+    at_end (state_at p.place p.room) p.is_first c.args.kept.now c.loop-end.scan c.args.bytes.now c.loop-end.at c.loop-end.from c.loop-end.invariant.reached c.loop-end.invariant.within
+    c.in_default.ensures
