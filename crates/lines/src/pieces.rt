@@ -18,7 +18,8 @@ use std::alloc::Global;
 pub fn line_feeds(bytes: &[u8]) -> usize
     ensures { result ≡ count_by (λ b. b == 10) bytes.now }
 {
-    memchr_iter(b'\n', bytes).count()
+    // The iterator's own `count` looks at each byte by itself. This one goes from LF to LF.
+    Iterator::count(memchr_iter(b'\n', bytes))
 }
 
 /// Where the next LF of these bytes stands from an offset on, if there is one.
