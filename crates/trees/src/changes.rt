@@ -8,6 +8,7 @@ ghost use Rattle.trees.specs.PrivateNode.{map_of};
 
 use crate::copy::Change;
 use crate::node::Node;
+use crate::work::Work;
 use crate::{CopyOptions, CopySource, Entry, Meta, Tree};
 use paths::{LongPath, Path};
 use plain::{Exact, Memory, Text};
@@ -82,8 +83,18 @@ pub(crate) fn changes_of(
     ensures { IfOk result (λ changes. changes.items ≡ changes_of options.now into from.now dest.now sources.now) }
 {
     let mut changes = Vec::new(alloc);
+    let mut work = Work::of_listing();
     for source in sources {
-        push_source(alloc, options, into, from, dest, source, &mut changes)?;
+        push_source(
+            alloc,
+            options,
+            into,
+            from,
+            dest,
+            source,
+            &mut changes,
+            &mut work,
+        )?;
     }
     Ok(changes)
 }
@@ -97,12 +108,22 @@ fn push_source(
     dest: &Path,
     source: &CopySource,
     changes: &mut Vec<Change>,
+    work: &mut Work,
 ) -> Result<(), Memory>
     ensures { OnOk result (changes.new.items ≡ changes.old.items ++ source_changes options.now into from.now dest.now source.now) }
 {
     match source {
         CopySource::Found(paths) => {
-            push_paths(alloc, options, into, from, dest, paths.as_slice(), changes)
+            push_paths(
+                alloc,
+                options,
+                into,
+                from,
+                dest,
+                paths.as_slice(),
+                changes,
+                work,
+            )
         }
         CopySource::Data(name, content) => {
             let path = file_path(alloc, into, dest, name.as_text())?;
@@ -122,11 +143,12 @@ fn push_paths(
     dest: &Path,
     paths: &[Path],
     changes: &mut Vec<Change>,
+    work: &mut Work,
 ) -> Result<(), Memory>
     ensures { OnOk result (changes.new.items ≡ changes.old.items ++ paths_changes options.now into from.now dest.now paths.now) }
 {
     for path in paths {
-        push_path(alloc, options, into, from, dest, path, changes)?;
+        push_path(alloc, options, into, from, dest, path, changes, work)?;
     }
     Ok(())
 }
@@ -140,6 +162,7 @@ fn push_path(
     dest: &Path,
     path: &Path,
     changes: &mut Vec<Change>,
+    work: &mut Work,
 ) -> Result<(), Memory>
     ensures { OnOk result (changes.new.items ≡ changes.old.items ++ path_changes options.now into from.now dest.now path.now) }
 {
@@ -148,7 +171,7 @@ fn push_path(
     };
     if node.is_directory() {
         changes.push(Change::Make(dest.copy(alloc)?))?;
-        return node.push_changes(alloc, options, &LongPath::of(alloc, dest)?, changes);
+        return node.push_changes(alloc, options, &LongPath::of(alloc, dest)?, changes, work);
     }
     let place = match_path(alloc, into, dest, path)?;
     changes.push(Change::Place(place, node.placed(options).entry().to_entry(alloc)?))?;

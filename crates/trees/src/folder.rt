@@ -15,6 +15,7 @@ use crate::apply::{apply_all, make, make_cause};
 use crate::changes::{changes_of, goes_into};
 use crate::lent_node::LentNode;
 use crate::node::Node;
+use crate::work::Work;
 use crate::{Cause, CopyOptions, CopySource, Entry, Meta, Tree, TreeFault};
 use paths::Path;
 use plain::limits::MOST_COMPONENTS;
@@ -94,7 +95,8 @@ fn whole_folder(
         return Ok(Whole::Neither);
     }
     let mut joined = Node::leaf(Entry::Directory(Meta::directory()));
-    match join_sources(alloc, &mut joined, options, from, dest, sources)? {
+    let mut work = Work::of_laying();
+    match join_sources(alloc, &mut joined, options, from, dest, sources, &mut work)? {
         Joined::All => {}
         Joined::TooDeep => return Ok(Whole::Deep),
         Joined::Other => return Ok(Whole::Neither),
@@ -115,12 +117,13 @@ fn join_sources(
     from: &Tree,
     dest: &Path,
     sources: &[CopySource],
+    work: &mut Work,
 ) -> Result<Joined, Memory>
     requires { IsClean dest.now }
     ensures { IfOk result (λ came. (into : Bool) → Comes dest.now (changes_of options.now into from.now dest.now sources.now) (map_of joined.old) (map_of joined.new) came) }
 {
     for source in sources {
-        match join_source(alloc, joined, options, from, dest, source)? {
+        match join_source(alloc, joined, options, from, dest, source, work)? {
             Joined::All => {}
             Joined::TooDeep => return Ok(Joined::TooDeep),
             Joined::Other => return Ok(Joined::Other),
@@ -137,13 +140,14 @@ fn join_source(
     from: &Tree,
     dest: &Path,
     source: &CopySource,
+    work: &mut Work,
 ) -> Result<Joined, Memory>
     requires { IsClean dest.now }
     ensures { IfOk result (λ came. (into : Bool) → Comes dest.now (source_changes options.now into from.now dest.now source.now) (map_of joined.old) (map_of joined.new) came) }
 {
     match source {
         CopySource::Found(paths) => {
-            join_paths(alloc, joined, options, from, dest, paths.as_slice())
+            join_paths(alloc, joined, options, from, dest, paths.as_slice(), work)
         }
         CopySource::Data(_, _) => Ok(Joined::Other),
     }
@@ -157,12 +161,13 @@ fn join_paths(
     from: &Tree,
     dest: &Path,
     paths: &[Path],
+    work: &mut Work,
 ) -> Result<Joined, Memory>
     requires { IsClean dest.now }
     ensures { IfOk result (λ came. (into : Bool) → Comes dest.now (paths_changes options.now into from.now dest.now paths.now) (map_of joined.old) (map_of joined.new) came) }
 {
     for path in paths {
-        match join_match(alloc, joined, options, from, dest, path)? {
+        match join_match(alloc, joined, options, from, dest, path, work)? {
             Joined::All => {}
             Joined::TooDeep => return Ok(Joined::TooDeep),
             Joined::Other => return Ok(Joined::Other),
@@ -179,6 +184,7 @@ fn join_match(
     from: &Tree,
     dest: &Path,
     path: &Path,
+    work: &mut Work,
 ) -> Result<Joined, Memory>
     requires { IsClean dest.now }
     ensures { IfOk result (λ came. (into : Bool) → Comes dest.now (path_changes options.now into from.now dest.now path.now) (map_of joined.old) (map_of joined.new) came) }
@@ -186,11 +192,11 @@ fn join_match(
     let Some(folder) = from.node_at(path) else {
         return Ok(Joined::Other);
     };
-    if !folder.is_directory() || joined.lent().meets(&folder) {
+    if !folder.is_directory() || joined.lent().meets(&folder, work)? {
         return Ok(Joined::Other);
     }
     if fits(&folder, dest) {
-        lay_placed(alloc, joined, options, &folder)?;
+        lay_placed(alloc, joined, options, &folder, work)?;
         return Ok(Joined::All);
     }
     if folder.is_deeper(MOST_COMPONENTS - dest.depth()) {
@@ -205,10 +211,11 @@ fn lay_placed(
     joined: &mut Node,
     options: &CopyOptions,
     folder: &LentNode<'_>,
+    work: &mut Work,
 ) -> Result<(), Memory>
     ensures { OnOk result (IsLaidPlaced options.now (map_of joined.old) folder.now (map_of joined.new)) }
 {
-    joined.lay_over(alloc, &folder.placed(options))?;
+    joined.lay_over(alloc, &folder.placed(options), work)?;
     Ok(())
 }
 

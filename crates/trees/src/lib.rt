@@ -41,6 +41,7 @@ mod slab;
 mod spine;
 mod tree;
 mod walk;
+mod work;
 
 pub use branch::{Branch, Branches};
 pub use builder::TreeBuilder;

@@ -20,6 +20,7 @@ use crate::growing::grow;
 use crate::lent_node::LentNode;
 use crate::node::Node;
 use crate::put::cause_at;
+use crate::work::Work;
 use crate::{Branch, Cause, CopyOptions, CopySource, Entry, LentEntry, Meta, TreeFault, Walk};
 use paths::Path;
 use plain::{Exact, Fault, Memory};
@@ -271,7 +272,7 @@ impl Tree {
         ensures { IfOk result (λ tree. tree ≡ over self upper.now) }
     {
         let Tree { mut root } = self;
-        root.lay_over(alloc, &upper.root.lent())?;
+        root.lay_over(alloc, &upper.root.lent(), &mut Work::of_laying())?;
         Ok(Tree { root })
     }
 
