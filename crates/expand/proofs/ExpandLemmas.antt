@@ -149,12 +149,12 @@ past-lt l m h = grind (arith, nat_tests)
 if_is : {X : Type 0} (b c : Bool) (x y : X) → b ≡ c → (if b then x else y) ≡ (if c then x else y)
 if_is b c x y h = ap (λ d. if d then x else y) h
 
-gives-within : (limit : ℕ) (text : List ℕ) (r : Result (List ℕ) (Fault Unexpanded)) → IsWithin limit text r → Gives (fault_of limit None text) text r
+pub gives-within : (limit : ℕ) (text : List ℕ) (r : Result (List ℕ) (Fault Unexpanded)) → IsWithin limit text r → Gives (fault_of limit None text) text r
 gives-within limit text (Ok found) h = (h.0, if_is _ _ _ _ (within-lt limit (length text) h.1))
 gives-within limit text (Err (Because why)) h = if_is _ _ _ _ (past-lt limit (length text) h.1) ∙ ap (λ (u : Unexpanded). Some u) (sym h.0)
 gives-within limit text (Err Memory) h = tt
 
-gives-by : (limit : ℕ) (one other : Option (List ℕ)) (text more : List ℕ) (r : Result (List ℕ) (Fault Unexpanded)) → one ≡ other → text ≡ more → Gives (fault_of limit one text) text r → Gives (fault_of limit other more) more r
+pub gives-by : (limit : ℕ) (one other : Option (List ℕ)) (text more : List ℕ) (r : Result (List ℕ) (Fault Unexpanded)) → one ≡ other → text ≡ more → Gives (fault_of limit one text) text r → Gives (fault_of limit other more) more r
 gives-by limit one other text more r h i g = subst (λ u. Gives (fault_of limit other u) u r) i (subst (λ o. Gives (fault_of limit o text) text r) h g)
 
 -- nothing is sought
@@ -182,7 +182,7 @@ pub refuses_long : (limit : ℕ) (s : List ℕ → Option (List ℕ)) (ts us : L
 refuses_long limit s ts us found why h i k =
     ap (λ o. fault_of limit o (value s (word_of ts))) (sym (text_is s ts us found h i)) ∙ refused-past limit (run s 0 0 us) (value s (word_of ts)) k.1 ∙ ap (λ (u : Unexpanded). Some u) (sym k.0)
 
-most_text_bytes-is : 1048576 ≡ most_text_bytes
+pub most_text_bytes-is : 1048576 ≡ most_text_bytes
 unfolding most_text_bytes
 most_text_bytes-is = refl
 

@@ -1,4 +1,5 @@
 mod ExpandLemmas
+mod FormLemmas
 mod OrdinaryLaws
 mod OutputLemmas
 mod PieceForms

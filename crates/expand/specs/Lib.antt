@@ -1,5 +1,6 @@
 pub mod Expanding
 pub mod PrivateExpanding
+pub mod PrivateForm
 pub mod PrivateOutput
 pub mod PrivatePieces
 pub mod PrivateReading

@@ -7,6 +7,7 @@ ghost use Rattle.expand.specs.PrivateTokens.{word_of};
 ghost use Rattle.expand.specs.Value.{choice_of, passes, refusal, value, text_of};
 
 use crate::fault::{ExpandFault, Unexpanded};
+use crate::form::Form;
 use crate::lookup::Lookup;
 use crate::operator::{Choice, Operator, Test};
 use crate::token::Token;
@@ -27,7 +28,10 @@ use std::alloc::Global;
 pub fn expand<S: Lookup>(alloc: Global, word: &Word, scope: &S) -> Result<Text, ExpandFault>
     ensures { Gives (unexpanded (S.value_of scope.now) word.now) (value (S.value_of scope.now) word.now) result }
 {
-    expand_tokens(alloc, word.tokens(), scope, MOST_TEXT_BYTES)
+    match word.form() {
+        Form::Plain(text) => copy_within(alloc, text, MOST_TEXT_BYTES),
+        Form::Tokens(tokens) => expand_tokens(alloc, tokens.as_slice(), scope, MOST_TEXT_BYTES),
+    }
 }
 
 /// The value of the next word of a line, if it has one, and what is reported of the line so far: `fault` is what was before.
@@ -122,7 +126,7 @@ fn joined<S: Lookup>(
     }
 }
 
-/// The value of a variable, if it has no more bytes than a limit: a copy, which shares the bytes of a long one.
+/// The value of a variable, if it has no more bytes than a limit.
 fn expand_variable<S: Lookup>(
     alloc: Global,
     name: &Text,
@@ -132,13 +136,20 @@ fn expand_variable<S: Lookup>(
     ensures { IsWithin limit (text_of (S.value_of scope.now name.now)) result }
 {
     match scope.find(name.as_str()) {
-        Some(text) if text.len() > limit => Err(Fault::Because(Unexpanded::TooLong)),
-        Some(text) => {
-            let text = text.copy(alloc)?;
-            Ok(text)
-        }
+        Some(text) => copy_within(alloc, text, limit),
         None => Ok(Text::from_str(alloc, "")?),
     }
+}
+
+/// A copy of a text, if it has no more bytes than a limit. It shares the bytes of a long one.
+fn copy_within(alloc: Global, text: &Text, limit: usize) -> Result<Text, ExpandFault>
+    ensures { IsWithin limit text.now result }
+{
+    if text.len() > limit {
+        return Err(Fault::Because(Unexpanded::TooLong));
+    }
+    let text = text.copy(alloc)?;
+    Ok(text)
 }
 
 /// Adds the value of what tokens begin with to a text, up to the close of the word that they stand in: `TooLong` where the whole

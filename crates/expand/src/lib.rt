@@ -19,6 +19,7 @@
 mod character;
 mod expanding;
 mod fault;
+mod form;
 mod kind;
 pub mod laws;
 mod lookup;
