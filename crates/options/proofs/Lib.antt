@@ -1,2 +1,3 @@
+mod CutFacts
 pub mod FlagLaws
 pub mod ListLaws

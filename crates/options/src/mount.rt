@@ -1,10 +1,10 @@
-ghost use Rattle.std.specs.Prelude.{◌≡◌, ◌==◌, map, option_map, IfOk};
-ghost use Rattle.std.specs.List.{list_all, slice_split};
+ghost use Rattle.std.specs.Prelude.{◌≡◌, ◌<◌, ◌∷◌, map, option_map, IfOk};
+ghost use Rattle.std.specs.List.{list_all};
 ghost use Rattle.options.specs.Item.{shown, value_at};
-ghost use Rattle.options.specs.Lists.{all_some};
 ghost use Rattle.options.specs.Mount.{mount_key, item_of, items, sharing_named, takes, is_known, is_cache, is_fitting, are_fitting, is_writable_by};
 ghost use Rattle.options.specs.Mount.{sharing_by, kind_of, mount_from, mount_of, is_target_name, is_writable_name, is_mount_flag, are_mount_flags};
 ghost use Rattle.options.specs.Mount.{mount_in, mounts};
+ghost use Rattle.options.specs.PrivateMount.{parts, bytes_left};
 
 use crate::item::{Item, Key, copy_value, has_twice, value_at};
 use crate::value::{is_filled, is_truth};
@@ -104,32 +104,31 @@ fn item_of(text: &str) -> Option<Item<'_>>
     }
 }
 
-/// The parts of a list, between its commas.
-fn parts(alloc: Global, text: &str) -> Result<Vec<&str>, AllocError>
-    ensures { IfOk result (λ found. map (λ part. part.now) found.items ≡ slice_split (λ c. c == 44) text.now) }
+/// The first part of a list, up to its first comma, and what follows that comma, if there is one.
+fn cut_at_comma(list: &str) -> (&str, Option<&str>)
+    ensures parts { parts (Some list.entry.now) ≡ result.0.now ∷ parts (option_map (λ rest. rest.now) result.1) }
+    ensures fewer { bytes_left (option_map (λ rest. rest.now) result.1) < bytes_left (Some list.entry.now) }
 {
-    text.split(',').collect(alloc)
+    match list.split_once(',') {
+        Some((part, rest)) => (part, Some(rest)),
+        None => (list, None),
+    }
 }
 
 /// The items of a mount, where each text between its commas is one.
+#[tactic(auto, using(crate::proofs::ListLaws::behind_none, crate::proofs::ListLaws::behind_some, std::proofs::lemmas::List::map_push))]
 fn items(alloc: Global, text: &str) -> Result<Option<Vec<Item<'_>>>, AllocError>
     ensures { IfOk result (λ found. option_map (λ is. map shown is.items) found ≡ items text.entry.now) }
 {
-    let parts = parts(alloc, text)?;
-    all_items(alloc, &parts)
-}
-
-/// The items that texts are, where each is one.
-#[tactic(auto, using(crate::proofs::ListLaws::behind_none, crate::proofs::ListLaws::behind_some, std::proofs::lemmas::List::map_push))]
-fn all_items<'a>(alloc: Global, parts: &[&'a str]) -> Result<Option<Vec<Item<'a>>>, AllocError>
-    ensures { IfOk result (λ found. option_map (λ is. map shown is.items) found ≡ all_some (map item_of (map (λ part. part.now) parts.now))) }
-{
     let mut found = Vec::new(alloc);
-    for part in parts {
+    let mut left = Some(text);
+    while let Some(list) = left {
+        let (part, rest) = cut_at_comma(list);
         match item_of(part) {
             Some(item) => found.push(item)?,
             None => return Ok(None),
         }
+        left = rest;
     }
     Ok(Some(found))
 }
