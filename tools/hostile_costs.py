@@ -156,12 +156,32 @@ def environments(count):
     return bundle_of(lines_of(*(line for k in range(count) for line in (f"ENV v{k}=", "RUN true"))))
 
 
-def doubled_trees(count):
-    """So many stages that each copy the one before twice, so the last has two to that number of files; the target has one."""
+def doubling(count):
+    """Lines of so many stages that each copy the one before twice, so the last has two to that number of files."""
     lines = ["FROM scratch AS s0", "RUN put /f x"]
     for k in range(1, count + 1):
         lines += [f"FROM scratch AS s{k}", f"COPY --from=s{k - 1} / /a/", f"COPY --from=s{k - 1} / /b/"]
-    return bundle_of("\n".join([*lines, "FROM scratch", f"COPY --from=s{count} {'/a' * count}/f /f"]))
+    return [*lines, "FROM scratch"]
+
+
+def doubled_trees(count):
+    """So many stages that each copy the one before twice, so the last has two to that number of files; the target has one."""
+    return bundle_of("\n".join([*doubling(count), f"COPY --from=s{count} {'/a' * count}/f /f"]))
+
+
+def doubled_trees_laid(count):
+    """Such stages, of which the last is linked twice to one place."""
+    return bundle_of("\n".join([*doubling(count), f"COPY --link --from=s{count} /a/ /x/", f"COPY --link --from=s{count} /b/ /x/"]))
+
+
+def doubled_trees_placed(count):
+    """Such stages, of which the last is copied to where a file lies."""
+    return bundle_of("\n".join([*doubling(count), "RUN put /x/f y", f"COPY --from=s{count} / /x/"]))
+
+
+def doubled_trees_found(count):
+    """Such stages, and a pattern that leads to all files of the last."""
+    return bundle_of("\n".join([*doubling(count), f"COPY --from=s{count} {'/*' * count}/f* /x/"]))
 
 
 def words_in_words(count):
@@ -207,7 +227,7 @@ KINDS = {
     stars: (30, 120), patterns_and_names: (500, 2000), ignore_lines: (100, 400), ignore_stars: (8, 32),
     images: (2000, 8000), nests: (1500, 6000), nest_too_deep: (1 << 20, 4 << 20), numbers: (60000, 240000), environments: (200, 800),
     doubled_trees: (20, 60), deep_paths: (250, 1000), words_in_words: (500, 2000), continued: (20000, 80000), heredocs: (1500, 6000),
-    bumps: (10000, 40000), cats: (8, 32),
+    bumps: (10000, 40000), cats: (8, 32), doubled_trees_laid: (12, 15), doubled_trees_placed: (12, 15), doubled_trees_found: (12, 15),
 }
 DRAWN = {values_drawn, environments}
 # sizes near the limits: a Dockerfile of 1 MiB, 4,096 lines, 256 stages, 8,000 images, a bundle of 64 MiB. Of values of 1 MiB there are fewer than the limits take
@@ -218,7 +238,7 @@ LARGEST = {
     stars: 500000, patterns_and_names: 20000, ignore_lines: 70000, ignore_stars: 130000,
     images: 8000, nests: 270000, nest_too_deep: 64 << 20, numbers: 33000000, environments: 2000,
     doubled_trees: 60, deep_paths: 430000, words_in_words: 4000, continued: 110000, heredocs: 50000,
-    bumps: 116000, cats: 4000,
+    bumps: 116000, cats: 4000, doubled_trees_laid: 60, doubled_trees_placed: 60, doubled_trees_found: 60,
 }
 
 
