@@ -17,6 +17,51 @@ use plain::{Fault, Items, Memory, Text};
 use std::alloc::Global;
 use trees::{Branch, Tree};
 
+/// How many names a search goes through at most, those of the paths that it finds among them. Trees share folders, so a few stages that copy each
+/// other twice make a tree of more paths than any machine could list: a pattern that leads to too many answers as for want of memory.
+const MOST_NAMES: usize = 67_108_864;
+
+/// What a search found so far, in path order, and how many names it may still go through.
+#[derive(Drop)]
+struct Found {
+    paths: Vec<Path>,
+    left: usize,
+}
+
+impl Found {
+    /// Nothing yet. It takes no memory.
+    fn new(alloc: Global) -> Found
+        ensures { result.paths.items ≡ [] }
+    {
+        Found {
+            paths: Vec::new(alloc),
+            left: MOST_NAMES,
+        }
+    }
+
+    /// Counts names that are gone through; `Memory` if there are too many.
+    fn count(&mut self, names: usize) -> Result<(), Memory>
+        ensures { self.new.paths.items ≡ self.old.paths.items }
+    {
+        match self.left.checked_sub(names) {
+            Some(left) => {
+                self.left = left;
+                Ok(())
+            }
+            None => Err(Memory),
+        }
+    }
+
+    /// Adds a path that was found.
+    fn push(&mut self, path: Path) -> Result<(), Memory>
+        ensures { OnOk result (self.new.paths.items ≡ self.old.paths.items ++ path ∷ []) }
+    {
+        self.count(path.depth())?;
+        self.paths.push(path)?;
+        Ok(())
+    }
+}
+
 /// The paths of a tree to which a pattern relates, in path order; none where it is malformed.
 pub(crate) fn find_matches(alloc: Global, from: &Tree, pattern: &str) -> Result<Items<Path>, Memory>
     ensures { IfOk result (λ paths. paths ≡ matches_in from.now pattern.now) }
@@ -66,7 +111,7 @@ fn matches_of(alloc: Global, from: &Tree, glob: &Glob) -> Result<Vec<Path>, Memo
 {
     // What `root` says of its tree: each of its paths keeps the limits.
     let _root = from.root();
-    let mut found = Vec::new(alloc);
+    let mut found = Found::new(alloc);
     descend(
         alloc,
         glob.components(),
@@ -74,7 +119,7 @@ fn matches_of(alloc: Global, from: &Tree, glob: &Glob) -> Result<Vec<Path>, Memo
         Path::root(alloc),
         &mut found,
     )?;
-    Ok(found)
+    Ok(found.paths)
 }
 
 /// Adds the paths at and below a branch to which components of a pattern relate from there, in path order; `at` is the branch's path.
@@ -87,10 +132,10 @@ fn descend(
     components: &[Component],
     branch: &Branch<'_>,
     at: Path,
-    found: &mut Vec<Path>,
+    found: &mut Found,
 ) -> Result<(), Memory>
     requires { AreClean at (entries branch.now) }
-    ensures { OnOk result (found.new.items ≡ found.old.items ++ paths_that at (matches components.now) (entries branch.now)) }
+    ensures { OnOk result (found.new.paths.items ≡ found.old.paths.items ++ paths_that at (matches components.now) (entries branch.now)) }
 {
     match components {
         [] => {
@@ -117,10 +162,10 @@ fn enter(
     child: &Branch<'_>,
     at: &Path,
     name: &Text,
-    found: &mut Vec<Path>,
+    found: &mut Found,
 ) -> Result<(), Memory>
     requires { AreClean (at.now ++ name.now ∷ []) (entries child.now) }
-    ensures { OnOk result (found.new.items ≡ found.old.items ++ paths_that (at.now ++ name.now ∷ []) (matches components.now) (entries child.now)) }
+    ensures { OnOk result (found.new.paths.items ≡ found.old.paths.items ++ paths_that (at.now ++ name.now ∷ []) (matches components.now) (entries child.now)) }
 {
     // What `entry` says of the child: something stands at its own path, which is clean then.
     let _entry = child.entry();
@@ -144,14 +189,15 @@ fn go_through(
     rest: &[Component],
     branch: &Branch<'_>,
     at: &Path,
-    found: &mut Vec<Path>,
+    found: &mut Found,
 ) -> Result<(), Memory>
     requires { AreClean at.now (entries branch.now) }
-    ensures { OnOk result (found.new.items ≡ found.old.items ++ paths_that at.now (matches (component.now ∷ rest.now)) (entries branch.now)) }
+    ensures { OnOk result (found.new.paths.items ≡ found.old.paths.items ++ paths_that at.now (matches (component.now ∷ rest.now)) (entries branch.now)) }
 {
     let front = component.front();
     let mut children = branch.children_from(front);
     while let Some((name, child)) = children.next() {
+        found.count(1)?;
         if !begins_as(name, front) {
             return Ok(());
         }
