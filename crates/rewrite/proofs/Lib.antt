@@ -9,5 +9,6 @@ pub mod MarkFacts
 pub mod OnceFacts
 pub mod OrderFacts
 pub mod PrunedFacts
+mod RenameFacts
 pub mod SpellSteps
 pub mod SpellingFacts

@@ -23,21 +23,16 @@ pub(crate) fn find_name(names: &[Option<VertexId>], id: VertexId) -> VertexId
     }
 }
 
-/// The new numbers of these vertices.
-fn rename(
-    alloc: Global,
-    names: &[Option<VertexId>],
-    inputs: &[VertexId],
-) -> Result<Items<VertexId>, Memory>
-    requires { All (HasName names.now) inputs.now }
-    ensures { IfOk result (AreNames names.now inputs.now) }
+/// The new numbers of these vertices, in place of the old ones.
+fn rename(names: &[Option<VertexId>], inputs: Items<VertexId>) -> Items<VertexId>
+    requires { All (HasName names.now) inputs }
+    ensures { AreNames names.now inputs result }
 {
-    let mut found = Items::new(alloc);
-    for input in inputs {
-        let name = find_name(names, *input);
-        found.push(name)?;
+    let mut found = inputs.into_vec();
+    for input in found.iter_mut() {
+        *input = find_name(names, *input);
     }
-    Ok(found)
+    Items::from_vec(found)
 }
 
 /// Adds a vertex with its lines. With `is_new` it isn't compared with those that are there.
@@ -84,7 +79,7 @@ fn join(
     ensures { IfOk result (IsJoined graph.old graph.new names.now vertex lines.now) }
 {
     let Vertex { op, inputs } = vertex;
-    let inputs = rename(alloc, names, inputs.as_slice())?;
+    let inputs = rename(names, inputs);
     match put(alloc, graph, Vertex { op, inputs }, lines, is_new) {
         Ok(id) => Ok(id),
         Err(Fault::Memory) => Err(Memory),

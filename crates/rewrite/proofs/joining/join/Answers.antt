@@ -7,21 +7,21 @@ use Rattle.rewrite.proofs.joining.join.Goals as goal
 
 pub put-requires-clause-inputs : goal.put-requires-clause-inputs
 put-requires-clause-inputs c =
-    let are = subst (λ (is : List ℕ). AreNames c.args.names.now is c.in_ok-inputs.inputs) c.as_slice.ensures c.in_ok-inputs.ensures in
-    names_inside c.args.names.now _ c.args.vertex.inputs c.in_ok-inputs.inputs c.requires.inside are
+    let are = c.rename-inputs.ensures in
+    names_inside c.args.names.now _ c.args.vertex.inputs c.rename-inputs.result c.requires.inside are
 
 pub put-requires-clause-well_formed : goal.put-requires-clause-well_formed
 put-requires-clause-well_formed c =
-    let are = subst (λ (is : List ℕ). AreNames c.args.names.now is c.in_ok-inputs.inputs) c.as_slice.ensures c.in_ok-inputs.ensures in
-    subst (λ n. IsTrue (is_well_formed_on c.args.vertex.op n)) (sym (names_long c.args.names.now c.args.vertex.inputs c.in_ok-inputs.inputs are))
+    let are = c.rename-inputs.ensures in
+    subst (λ n. IsTrue (is_well_formed_on c.args.vertex.op n)) (sym (names_long c.args.names.now c.args.vertex.inputs c.rename-inputs.result are))
     c.requires.well_formed
 
 pub put-requires-clause-fresh : goal.put-requires-clause-fresh
 put-requires-clause-fresh c is_new =
-    let are = subst (λ (is : List ℕ). AreNames c.args.names.now is c.in_ok-inputs.inputs) c.as_slice.ensures c.in_ok-inputs.ensures in
+    let are = c.rename-inputs.ensures in
     c.requires.fresh is_new _ (record { op = refl; inputs = are })
 
 pub returns-in-Ok : goal.returns-in-Ok
 returns-in-Ok c =
-    let are = subst (λ (is : List ℕ). AreNames c.args.names.now is c.in_ok-inputs.inputs) c.as_slice.ensures c.in_ok-inputs.ensures in
-    joined_by _ _ c.args.names.now c.args.vertex c.in_ok-inputs.inputs c.args.lines.now c.in-Ok.id are c.in-Ok.ensures.adds
+    let are = c.rename-inputs.ensures in
+    joined_by _ _ c.args.names.now c.args.vertex c.rename-inputs.result c.args.lines.now c.in-Ok.id are c.in-Ok.ensures.adds

@@ -1,16 +1,18 @@
-use Rattle.std.proofs.Common.{◌≡◌, ◌+◌, subst, sym, take}
-use Rattle.std.specs.Prelude.{slice_get, Some}
-use Rattle.std.proofs.lemmas.List.Elements.{all_zip_more}
+use Rattle.std.proofs.Common.{◌≡◌, ◌<◌, length, arith, sym, subst, ◌∙◌}
 use Rattle.rewrite.specs.Pruned.{AreNames}
 use Rattle.rewrite.specs.PrivateJoined.{HasName}
+use Rattle.rewrite.proofs.RenameFacts.{all_kept, renames_end}
 use Rattle.rewrite.proofs.joining.rename.Goals as goal
 
-pub loop-input-preserved : goal.loop-input-preserved
-loop-input-preserved c =
-    let is = all_zip_more (λ old new. slice_get c.args.names.now old ≡ Some (Some new)) c.args.inputs.now c.loop-input.found c.loop-input.input-index
-    c.input-item.result c.find_name-name.result c.loop-input-test.true c.input-item.is c.loop-input.invariant c.find_name-name.ensures in
-    subst (AreNames c.args.names.now (take (c.loop-input.input-index + 1) c.args.inputs.now)) (sym c.in_ok-push.ensures.ok) is
+pub find_name-requires : goal.find_name-requires
+find_name-requires c =
+    let is = c.loop-input.invariant in
+    let lt : c.loop-input.input-index < length c.args.inputs = omega (arith, is.long, c.loop-input-test.true) in
+    subst (HasName c.args.names.now) (sym (is.rest c.loop-input.input-index c.input-item.result (omega arith))) (c.requires c.loop-input.input-index c.input-item.result lt)
 
-pub find_name-name-requires : goal.find_name-name-requires
-find_name-name-requires c =
-    subst (HasName c.args.names.now) (sym c.input-item.is) (c.requires c.loop-input.input-index c.input-item.result c.loop-input-test.true)
+pub returns : goal.returns
+returns c =
+    let is = c.loop-input.invariant in
+    let long : length c.loop-input.input-items ≡ c.into_vec-found.result.len = omega (arith, c.loop-input.auto.input-items, c.deref_mut-input-items.ensures.len) in
+    subst (AreNames c.args.names.now c.args.inputs) (sym (c.from_vec.ensures ∙ all_kept c.into_vec-found.result.len c.loop-input.input-items c.into_vec-found.result.items long))
+    (renames_end c.args.names.now c.args.inputs c.loop-input.input-items c.loop-input.input-index is (omega (arith, c.loop-input.auto.input-items, c.loop-input-test.false)))
