@@ -1,5 +1,5 @@
 -- Each table has an evaluation or a refusal: there are marks of the stages that it needs, and trees of the images that these name.
-use Rattle.std.specs.Prelude.{◌≡◌, ◌<◌, ◌+◌, ◌⊎◌, ◌||◌, ◌&&◌, ℕ, zero, suc, Bool, true, false, List, [], ◌∷◌, Some, Result, Ok, Err, Contains, length, slice_get, nat_eq, refl}
+use Rattle.std.specs.Prelude.{◌≡◌, ◌<◌, ◌+◌, ◌⊎◌, ◌||◌, ◌&&◌, ℕ, zero, suc, Bool, true, false, List, [], ◌∷◌, Some, Result, Ok, Err, Contains, length, slice_get, nat_eq, reverse, refl}
 use Rattle.std.specs.List.{All, list_any}
 use Rattle.std.specs.FinMap.{empty, entries, insert}
 use Rattle.std.proofs.Common.{sym, ◌∙◌, ap, subst, arith, inl, inr}
@@ -241,7 +241,7 @@ sources_from context all names (next ∷ rest) sources far =
 sources_are : (context : TreeMap) (all : ImagesValue Config) (names : ImageNames) → (held : SourcesValue) × AreSources context all names held
 sources_are context all names =
     let none : SourcesValue = record { context = context; images = empty } in
-    sources_from context all names (entries all) none (named_first context all names (entries all) none refl refl)
+    sources_from context all names (reverse (entries all)) none (named_first context all names (reverse (entries all)) none refl refl)
 
 -- an evaluation or a refusal
 

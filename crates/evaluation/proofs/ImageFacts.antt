@@ -1,13 +1,11 @@
 -- The images that are named: names are kept, and each has its tree.
-use Rattle.std.specs.Prelude.{◌≡◌, ◌≤◌, ◌-◌, ◌&&◌, ◌||◌, ℕ, suc, T, Bool, true, false, cond, List, [], ◌∷◌, ◌++◌, Option, Some, None, option_map, length, map, nat_lt, bytes_eq, refl, if◌then◌else◌}
+use Rattle.std.specs.Prelude.{◌≡◌, ◌≤◌, ◌-◌, ◌||◌, ℕ, suc, Bool, true, false, cond, List, [], ◌∷◌, ◌++◌, Option, Some, None, option_map, length, map, reverse, nat_lt, bytes_eq, refl, if◌then◌else◌}
 use Rattle.std.specs.List.{All}
 use Rattle.std.specs.Cmp.Lexicographic.{nat_list_cmp_total, texts_ties}
 use Rattle.std.specs.FinMap.{FinMap, empty, entries, get, insert, remove, contains_key, len, entries_sorted, get-entries, get-empty, get-insert, get-remove, len-empty, len-remove, same_map, slice_cmp-IsAntisymmetric, nat_cmp-IsAntisymmetric}
 use Rattle.std.specs.FinMap.Entries.{find, below_all, is_sorted}
 use Rattle.std.specs.Option.{option_or}
-use Rattle.std.specs.Ordering.{eq_by_cmp, is_eq, is_lt}
-use Rattle.std.specs.declared.cmp.Ordering.{Ordering}
-use Rattle.std.specs.declared.cmp.Ordering.TheVariants.{Less, Equal, Greater}
+use Rattle.std.specs.Ordering.{flip_args, eq_by_cmp}
 use Rattle.std.proofs.Common.{sym, ◌∙◌, ap, subst, arith}
 use Rattle.std.proofs.lemmas.Bool.{true≢false}
 use Rattle.std.proofs.lemmas.Bool.Decides.{nat_tests}
@@ -15,12 +13,14 @@ use Rattle.std.proofs.lemmas.Slice.Eq.{bytes_eq-Decides}
 use Rattle.std.proofs.lemmas.List.Elements.{All-nil, All-cons}
 use Rattle.std.proofs.lemmas.List.Folds.{list_any-append}
 use Rattle.named.specs.Rows.{add_row, has_row}
+use Rattle.paths.proofs.FrontLaws.{both_first, both_second}
 use Rattle.plain.specs.Limits.{most_images}
 use Rattle.trees.specs.TreeMap.{TreeMap}
 use Rattle.llb.specs.declared.op.Source.TheVariants.{Scratch, Context, Image}
 use Rattle.plans.specs.Images.{ImagesValue}
 use Rattle.plans.specs.Sources.{name_cmp, SourcesValue}
 use Rattle.plans.specs.declared.images.Image as image
+use Rattle.plans.proofs.MapViews.{holds, sorted_reversed, unfound, find_reversed, find_falling}
 use Rattle.rows.specs.declared.row.Origin.{Origin}
 use Rattle.rows.specs.declared.row.Origin.TheVariants.{Source as SourceOf, Stage as StageOf}
 use Rattle.evaluation.specs.Images.{ImageNames, is_among, with_name, with_origin, with_origins, named_tree, AreSources}
@@ -132,10 +132,10 @@ few_named names h = few_by most_images (length names) h
 abbrev tree_if : {C : Type 0} → Bool → Option (image.Image C) → Option TreeMap
 tree_if among found = if among then option_map (λ found. found.tree) found else None
 
--- the sources that were made of the images that came before these
+-- the sources that were made of the images that came before these. Those that are left come in the order of their names, the last name first
 pub record NamedSoFar {C : Type 0} (context : TreeMap) (all : ImagesValue C) (names : ImageNames) (rest : List (List ℕ × image.Image C)) (sources : SourcesValue) : Type 0 where
   pub same : sources.context ≡ context
-  pub ordered : T (is_sorted name_cmp rest)
+  pub ordered : is_sorted (flip_args name_cmp) rest ≡ true
   pub trees : (name : List ℕ) → named_tree all names name ≡ option_or (tree_if (is_among names name) (find name_cmp name rest)) (get sources.images name)
 
 or_none : {A : Type 0} (found : Option A) → option_or found None ≡ found
@@ -143,35 +143,18 @@ or_none None = refl
 or_none (Some x) = refl
 
 pub named_first : {C : Type 0} (context : TreeMap) (all : ImagesValue C) (names : ImageNames) (rest : List (List ℕ × image.Image C)) (sources : SourcesValue)
-    → rest ≡ entries all → sources ≡ (record { context = context; images = empty }) → NamedSoFar context all names rest sources
-named_first context all names rest sources lent is = record {
-  same = ap (λ (s : SourcesValue). s.context) is;
-  ordered = subst (λ (r : List (List ℕ × image.Image _)). T (is_sorted name_cmp r)) (sym lent) (entries_sorted all);
-  trees = λ name.
-      sym (or_none (named_tree all names name))
-      ∙ (λ i.
-      option_or (tree_if (is_among names name) ((get-entries all name ∙ ap (find name_cmp name) (sym lent)) i))
-      (sym (ap (λ (s : SourcesValue). get s.images name) is ∙ get-empty name_cmp name) i));
-}
-
-first : (a b : Bool) → T (a && b) → T a
-first true b h = tt
-first false b h = absurd h
-
-second : (a b : Bool) → T (a && b) → T b
-second true b h = h
-second false b h = absurd h
-
--- a name that is below all others isn't among these
-unfound : {X : Type 0} (name : List ℕ) (rows : List (List ℕ × X)) → T (below_all name_cmp name rows) → find name_cmp name rows ≡ None
-unfound name [] h = refl
-unfound {X} name (row ∷ rows) h = by (name_cmp name row.0) (unfound name rows) h
-  where
-    by : (o : Ordering) → (T (below_all name_cmp name rows) → find name_cmp name rows ≡ None) → T (is_lt o && below_all name_cmp name rows)
-        → cond (is_eq o) (Some row.1) (find name_cmp name rows) ≡ None
-    by Less rest h = rest h
-    by Equal rest h = absurd h
-    by Greater rest h = absurd h
+    → rest ≡ reverse (entries all) → sources ≡ (record { context = context; images = empty }) → NamedSoFar context all names rest sources
+named_first context all names rest sources lent is =
+    let rises : is_sorted name_cmp (entries all) ≡ true = holds _ (entries_sorted all) in
+    record {
+      same = ap (λ (s : SourcesValue). s.context) is;
+      ordered = ap (is_sorted (flip_args name_cmp)) lent ∙ sorted_reversed name_cmp (entries all) rises;
+      trees = λ name.
+          sym (or_none (named_tree all names name))
+          ∙ (λ i.
+          option_or (tree_if (is_among names name) ((get-entries all name ∙ sym (find_reversed name_cmp nat_list_cmp_total name (entries all) rises) ∙ ap (find name_cmp name) (sym lent)) i))
+          (sym (ap (λ (s : SourcesValue). get s.images name) is ∙ get-empty name_cmp name) i));
+    }
 
 same_name : (name next : List ℕ) → eq_by_cmp name_cmp name next ≡ true → name ≡ next
 same_name name next h = (bytes_eq-Decides name next).0 (texts_ties name next ∙ h)
@@ -190,8 +173,11 @@ tree_dropped found after now among false unnamed = refl
 
 module _ {C : Type 0} (context : TreeMap) (all : ImagesValue C) (names : ImageNames) (rest after : List (List ℕ × image.Image C)) (next : List ℕ × image.Image C) (sources : SourcesValue)
     (far : NamedSoFar context all names rest sources) (is : rest ≡ next ∷ after) where
-  rises : T (is_sorted name_cmp (next ∷ after))
-  rises = subst (λ (r : List (List ℕ × image.Image C)). T (is_sorted name_cmp r)) is far.ordered
+  falls : is_sorted (flip_args name_cmp) (next ∷ after) ≡ true
+  falls = ap (is_sorted (flip_args name_cmp)) (sym is) ∙ far.ordered
+
+  unfound_after : find name_cmp next.0 after ≡ None
+  unfound_after = sym (find_falling next.0 after) ∙ unfound (flip_args name_cmp) next.0 after (both_first _ _ falls)
 
   trees_now : (name : List ℕ) → named_tree all names name ≡ option_or (tree_if (is_among names name) (find name_cmp name (next ∷ after))) (get sources.images name)
   trees_now name = far.trees name ∙ ap (λ (r : List (List ℕ × image.Image C)). option_or (tree_if (is_among names name) (find name_cmp name r)) (get sources.images name)) is
@@ -199,12 +185,12 @@ module _ {C : Type 0} (context : TreeMap) (all : ImagesValue C) (names : ImageNa
   pub named_some : (more : SourcesValue) → is_among names next.0 ≡ true → more ≡ (record sources { images = insert sources.images next.0 next.1.tree }) → NamedSoFar context all names after more
   named_some more named added = record {
     same = ap (λ (s : SourcesValue). s.context) added ∙ far.same;
-    ordered = second (below_all name_cmp next.0 after) _ rises;
+    ordered = both_second (below_all (flip_args name_cmp) next.0 after) _ falls;
     trees = λ name.
         trees_now name
         ∙ tree_moved next.1 (find name_cmp name after) (get sources.images name) (is_among names name) (eq_by_cmp name_cmp name next.0)
         (λ same. ap (is_among names) (same_name name next.0 same) ∙ named)
-        (λ same. ap (λ (n : List ℕ). find name_cmp n after) (same_name name next.0 same) ∙ unfound next.0 after (first _ _ rises))
+        (λ same. ap (λ (n : List ℕ). find name_cmp n after) (same_name name next.0 same) ∙ unfound_after)
         ∙ ap (option_or (tree_if (is_among names name) (find name_cmp name after)))
         (sym (ap (λ (s : SourcesValue). get s.images name) added ∙ get-insert nat_list_cmp_total sources.images next.0 next.1.tree name));
   }
@@ -212,7 +198,7 @@ module _ {C : Type 0} (context : TreeMap) (all : ImagesValue C) (names : ImageNa
   pub named_none : is_among names next.0 ≡ false → NamedSoFar context all names after sources
   named_none unnamed = record {
     same = far.same;
-    ordered = second (below_all name_cmp next.0 after) _ rises;
+    ordered = both_second (below_all (flip_args name_cmp) next.0 after) _ falls;
     trees = λ name.
         trees_now name
         ∙ tree_dropped next.1 (find name_cmp name after) (get sources.images name) (is_among names name) (eq_by_cmp name_cmp name next.0)

@@ -39,7 +39,7 @@ pub(crate) fn sources_of(
     ensures few { IfOk result (λ sources. len sources.images ≤ length names.now) }
 {
     let mut sources = Sources::new(alloc, context);
-    // The images come in the order of their names, so each that is added goes to the end of the sources' map.
+    // The last name comes first, so each image that is added goes to the end of the sources' list.
     for (name, image) in images.into_rows() {
         if names.has(&name) {
             sources = with_image(sources, name, image)?;

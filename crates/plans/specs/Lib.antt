@@ -4,4 +4,5 @@ pub mod Plan
 pub mod Request
 pub mod Sources
 pub mod Value
+pub mod PrivateSorted
 pub mod PrivateValue

@@ -1,10 +1,9 @@
-ghost use Rattle.std.specs.Prelude.{◌≡◌, IfOk, OnOk, OnErr, option_copied};
+ghost use Rattle.std.specs.Prelude.{◌≡◌, IfOk, OnOk, OnErr, option_copied, reverse};
 ghost use Rattle.std.specs.FinMap.{empty, entries, get, insert};
 
+use crate::sorted::Sorted;
 use plain::{Memory, Text};
 use std::alloc::Global;
-use std::collections::BTreeMap;
-use std::collections::btree_map::IntoIter;
 use std::marker::Model;
 use trees::Tree;
 
@@ -18,18 +17,17 @@ pub struct Image<C> {
 /// The images that a build may name.
 #[derive(Drop)]
 pub struct Images<C> {
-    images: BTreeMap<Text, Image<C>>,
+    images: Sorted<Image<C>>,
 }
 
 impl<C> Model for Images<C> {
-    ghost use Rattle.std.specs.FinMap as map;
     ghost use Rattle.plans.specs.Images.{ImagesValue, images_code};
 
     ghost Value = { ImagesValue C };
 
     ghost coded = { images_code C.code };
 
-    ghost view = { λ i. map.from_entries i.images.entries };
+    ghost view = { λ i. i.images };
 }
 
 impl<C> Images<C> {
@@ -38,7 +36,7 @@ impl<C> Images<C> {
         ensures { result ≡ empty }
     {
         Images {
-            images: BTreeMap::new(alloc),
+            images: Sorted::new(alloc),
         }
     }
 
@@ -51,20 +49,21 @@ impl<C> Images<C> {
 }
 
 impl<C: Drop> Images<C> {
-    /// Adds an image, and gives the one that had its name before. After `Memory` nothing has changed.
+    /// Adds an image, and gives the one that had its name before. After `Memory` nothing has changed. It costs least from the last name to the first:
+    /// a name moves all that come before it.
     pub fn insert(&mut self, name: Text, image: Image<C>) -> Result<Option<Image<C>>, Memory>
         ensures old { IfOk result (λ old. old ≡ get self.old name) }
         ensures ok { OnOk result (self.new ≡ insert self.old name image) }
         ensures err { OnErr result (self.new ≡ self.old) }
     {
-        Ok(self.images.insert(name, image)?)
+        self.images.insert(name, image)
     }
 
-    /// The images in the order of their names. It takes no memory.
-    pub fn into_rows(self) -> IntoIter<Text, Image<C>, Global>
-        ensures { result ≡ entries self }
+    /// The images, that of the last name first. It takes no memory.
+    pub fn into_rows(self) -> Vec<(Text, Image<C>)>
+        ensures { result.items ≡ reverse (entries self) }
     {
         let Images { images } = self;
-        images.into_iter()
+        images.into_rows()
     }
 }

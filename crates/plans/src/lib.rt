@@ -13,6 +13,7 @@
 mod images;
 pub mod laws;
 mod plan;
+mod sorted;
 mod sources;
 
 pub use images::{Image, Images};

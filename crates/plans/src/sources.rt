@@ -2,10 +2,10 @@ ghost use Rattle.std.specs.Prelude.{◌≡◌, ◌↔◌, IsTrue, OnOk, OnErr, o
 ghost use Rattle.std.specs.FinMap.{empty, insert};
 ghost use Rattle.plans.specs.Sources.{source_tree, HasSource, HasSources};
 
+use crate::sorted::Sorted;
 use llb::{Graph, Op, Source};
 use plain::{Memory, Text};
 use std::alloc::Global;
-use std::collections::BTreeMap;
 use std::marker::Model;
 use trees::Tree;
 
@@ -14,12 +14,11 @@ use trees::Tree;
 pub struct Sources {
     scratch: Tree,
     context: Tree,
-    images: BTreeMap<Text, Tree>,
+    images: Sorted<Tree>,
 }
 
 impl Model for Sources {
     ghost use Rattle.std.specs.Prelude.{◌≡◌};
-    ghost use Rattle.std.specs.FinMap as map;
     ghost use Rattle.trees.specs.TreeMap.{empty_tree};
     ghost use Rattle.plans.specs.Sources.{SourcesValue, sources_code};
 
@@ -27,7 +26,7 @@ impl Model for Sources {
 
     ghost coded = { sources_code };
 
-    ghost view = { λ s. record { context = s.context; images = map.from_entries s.images.entries } };
+    ghost view = { λ s. record { context = s.context; images = s.images } };
 
     ghost invariant = { λ s. s.scratch ≡ empty_tree };
 }
@@ -40,11 +39,12 @@ impl Sources {
         Sources {
             scratch: Tree::empty(alloc),
             context,
-            images: BTreeMap::new(alloc),
+            images: Sorted::new(alloc),
         }
     }
 
-    /// Adds the tree of an image, in place of one that had its name. After `Memory` nothing has changed.
+    /// Adds the tree of an image, in place of one that had its name. After `Memory` nothing has changed. It costs least from the last name to the first,
+    /// as with `Images`.
     pub fn add_image(&mut self, name: Text, tree: Tree) -> Result<(), Memory>
         ensures ok { OnOk result
             (self.new ≡ record self.old { images = insert self.old.images name tree }) }
