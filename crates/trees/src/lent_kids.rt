@@ -209,10 +209,11 @@ impl<'a> LentKids<'a> {
         requires { (q : List (List ℕ)) → is_some (get (joined self.now) q) ≡ true → IsClean q }
         ensures { OnOk result (changes.new.items ≡ changes.old.items ++ placements options.now at.now (entries (joined self.now))) }
     {
-        work.take(self.len())?;
         let mut kids = self.iter();
         while let Some((name, kid)) = kids.next() {
             let below = at.child(alloc, name)?;
+            // The list holds the whole path, so each name on the way counts.
+            work.take(below.components().len())?;
             let entry = kid.placed(options).entry().to_entry(alloc)?;
             changes.push(Change::Place(below.copy(alloc)?, entry))?;
             kid.push_changes(alloc, options, &below, changes, work)?;

@@ -5,14 +5,14 @@ use plain::Memory;
 /// The most names that one tree laid over another goes through.
 const MOST_LAID: usize = 16_777_216;
 
-/// The most names that a list of what a COPY changes goes through.
+/// The most names that the paths of a list of what a COPY changes have.
 const MOST_LISTED: usize = 67_108_864;
 
 /// How many names a call may still go through.
 ///
 /// Trees share folders, so a small one may stand for more paths than can be gone through. Whoever goes path by path counts the names of a
-/// folder before it goes through them; what is shared as a whole costs nothing. Where no work is left, the call answers as where there is
-/// no memory.
+/// folder before it goes through them, and whoever lists paths counts all names of each; what is shared as a whole costs nothing. Where no
+/// work is left, the call answers as where there is no memory.
 #[derive(Drop)]
 pub(crate) struct Work {
     left: usize,
@@ -24,7 +24,7 @@ impl Work {
         Work { left: MOST_LAID }
     }
 
-    /// What may be gone through where the changes of a COPY are listed.
+    /// What the paths may have where the changes of a COPY are listed.
     pub(crate) fn of_listing() -> Work {
         Work { left: MOST_LISTED }
     }
