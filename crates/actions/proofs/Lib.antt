@@ -1,4 +1,5 @@
 pub mod ActionLaws
+mod ClashFacts
 mod CopyFacts
 mod LimitFacts
 mod MountFacts

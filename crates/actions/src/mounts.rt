@@ -114,18 +114,18 @@ fn read_targets<'a>(
     alloc: Global,
     binds: &'a [ReadBind],
     caches: &'a [ReadCache],
-) -> Result<Vec<&'a Path>, Memory>
+) -> Result<Vec<&'a [Text]>, Memory>
     ensures { IfOk result (λ targets. map (λ target. target.now) targets.items ≡ read_targets binds.entry.now caches.entry.now) }
 {
-    let mut targets = Vec::new(alloc);
+    let mut targets = Vec::with_capacity(alloc, binds.len() + caches.len())?;
     for bind in binds {
         if let Some(target) = &bind.target {
-            targets.push(target)?;
+            targets.push(target.components())?;
         }
     }
     for cache in caches {
         if let Some(target) = &cache.target {
-            targets.push(target)?;
+            targets.push(target.components())?;
         }
     }
     Ok(targets)
@@ -135,7 +135,7 @@ fn read_targets<'a>(
 fn read_ids<'a>(alloc: Global, caches: &'a [ReadCache]) -> Result<Vec<&'a Text>, Memory>
     ensures { IfOk result (λ ids. map (λ id. id.now) ids.items ≡ read_ids caches.entry.now) }
 {
-    let mut ids = Vec::new(alloc);
+    let mut ids = Vec::with_capacity(alloc, caches.len())?;
     for cache in caches {
         if let Some(id) = &cache.id {
             ids.push(id)?;
@@ -144,29 +144,36 @@ fn read_ids<'a>(alloc: Global, caches: &'a [ReadCache]) -> Result<Vec<&'a Text>,
     Ok(ids)
 }
 
-/// Whether one of these is at, above or below the target.
-fn clashes(targets: &[&Path], target: &Path) -> bool
-    ensures { result ≡ list_any (λ other. targets_clash target.now other.now) targets.now }
+/// Whether one target is the other or lies below it: they are the same as far as both go.
+fn clash(these: &[Text], those: &[Text]) -> bool
+    ensures { result ≡ targets_clash these.now those.now }
 {
-    targets.iter().any(|other| target.is_at_or_under(other) || other.is_at_or_under(target))
+    these.iter().zip(those).all(|(this, that)| this == that)
 }
 
-/// Whether the path is `/`, where nothing may be mounted.
-fn is_root(path: &Path) -> bool
-    ensures { result ≡ is_root path.now }
+/// Whether one of these is at, above or below the target.
+fn clashes(targets: &[&[Text]], target: &[Text]) -> bool
+    ensures { result ≡ list_any (λ other. targets_clash target.now other.now) targets.now }
 {
-    path.is_root()
+    targets.iter().any(|other| clash(target, other))
+}
+
+/// Whether the target is `/`, where nothing may be mounted.
+fn is_root(target: &[Text]) -> bool
+    ensures { result ≡ is_root target.now }
+{
+    target.is_empty()
 }
 
 /// Whether something may be mounted at the target beside these.
-fn fits_beside(target: &Path, others: &[&Path]) -> bool
+fn fits_beside(target: &[Text], others: &[&[Text]]) -> bool
     ensures { result ≡ (not (is_root target.now) && not (list_any (λ other. targets_clash target.now other.now) others.now)) }
 {
     !is_root(target) && !clashes(others, target)
 }
 
 /// Whether something may be mounted at all targets. They are few: a RUN has 16 mounts at most.
-fn targets_fit(targets: &[&Path]) -> bool
+fn targets_fit(targets: &[&[Text]]) -> bool
     ensures { result ≡ mounts_fit (map (λ target. target.now) targets.now) }
 {
     let mut rest = targets;
@@ -223,14 +230,14 @@ pub(crate) fn whole_binds(
 ) -> Result<Option<Items<Bind>>, Memory>
     ensures { IfOk result (λ found. found ≡ all_some (map whole_bind binds)) }
 {
-    let mut found = Items::new(alloc);
+    let mut found = Vec::with_capacity(alloc, binds.len())?;
     for bind in binds.into_vec() {
         match whole_bind(bind) {
             Some(bind) => found.push(bind)?,
             None => return Ok(None),
         }
     }
-    Ok(Some(found))
+    Ok(Some(Items::from_vec(found)))
 }
 
 /// A cache whose target was read.
@@ -258,12 +265,12 @@ pub(crate) fn whole_caches(
 ) -> Result<Option<Items<CacheUse>>, Memory>
     ensures { IfOk result (λ found. found ≡ all_some (map whole_cache caches)) }
 {
-    let mut found = Items::new(alloc);
+    let mut found = Vec::with_capacity(alloc, caches.len())?;
     for cache in caches.into_vec() {
         match whole_cache(cache) {
             Some(cache) => found.push(cache)?,
             None => return Ok(None),
         }
     }
-    Ok(Some(found))
+    Ok(Some(Items::from_vec(found)))
 }

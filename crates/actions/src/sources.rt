@@ -127,7 +127,6 @@ fn with_files(
 }
 
 /// Sources with the file that a heredoc gives.
-#[tactic(auto, using(crate::proofs::LimitFacts::worse_added))]
 fn with_document(
     alloc: Global,
     sources: NearSources,
@@ -181,7 +180,7 @@ pub(crate) fn near_sources(
     ensures documents { IfOk result (λ found. found.documents ≡ worst (map (heredoc_fault (value_in scope.now)) sources)) }
 {
     let mut found = NearSources {
-        files: Items::new(alloc),
+        files: Items::from_vec(Vec::with_capacity(alloc, sources.len())?),
         patterns: None,
         documents: None,
     };
