@@ -14,10 +14,6 @@ first_alike : (b p q : Bool) → (b && (p || q)) ≡ ((b && p) || (b && q))
 first_alike true p q = refl
 first_alike false p q = refl
 
-or_true : (b : Bool) → true ≡ (b || true)
-or_true true = refl
-or_true false = refl
-
 pub clash_is : (these those : List (List ℕ)) → list_all are_same (zip these those) ≡ targets_clash these those
 clash_is [] [] = refl
 clash_is [] (that ∷ those) = refl
