@@ -192,6 +192,6 @@ impl Ord for Text {
     ghost matches_eq = { texts_ties };
 
     fn cmp(&self, other: &Text) -> Ordering {
-        self.as_str().as_bytes().cmp(other.as_str().as_bytes())
+        self.as_str().cmp(&other.as_str())
     }
 }
