@@ -139,7 +139,7 @@ fn build_within<R: CountedRead, W: CountedWrite, E: Executor, G: Gate>(
     tell_bundle(
         alloc,
         rt,
-        bytes.as_slice(),
+        bytes,
         output,
         executor,
         workers,

@@ -34,11 +34,11 @@ use std::thread::Threads;
 use trees::{Cause, Tree};
 use workers::solve_keeping;
 
-/// Tells of a bundle's bytes: writes one answer.
+/// Tells of a bundle's bytes: writes one answer. The bytes end as soon as the bundle is read, so that a build has their memory.
 pub(crate) fn tell_bundle<W: CountedWrite, E: Executor, G: Gate>(
     alloc: Global,
     rt: &(impl Threads + Wait + Sync),
-    bytes: &[u8],
+    bytes: Vec<u8>,
     output: &mut W,
     executor: &E,
     workers: u32,
@@ -49,11 +49,13 @@ pub(crate) fn tell_bundle<W: CountedWrite, E: Executor, G: Gate>(
     requires executor { E.out memo.old.executor ≡ E.out executor.now }
     requires workers { (0 < workers) × (workers ≤ most_workers) }
     requires writes { W.failures output.old < u64.MAX }
-    ensures told { IsTold (TellsBundle bytes.now (E.out executor.now))
+    ensures told { IsTold (TellsBundle bytes.items (E.out executor.now))
         (W.contents output.old) (W.failures output.old) (W.contents output.new) (W.failures output.new) result }
     ensures memo { Grows memo.old memo.new }
 {
-    match ask(alloc, rt, bytes) {
+    let asked = ask(alloc, rt, bytes.as_slice());
+    drop(bytes);
+    match asked {
         Ok(asked) => tell_asked(
             alloc, rt, asked, output, executor, workers, gate, memo, remains,
         ),

@@ -132,7 +132,8 @@ impl Scope {
     pub fn run_env(&self, alloc: Global) -> Result<Items<Variable>, Memory>
         ensures { IfOk result (λ rows. rows ≡ run_env self.now) }
     {
-        let mut rows = Items::new(alloc);
+        let most = self.variables.len().saturating_add(self.arguments.len());
+        let mut rows = Items::from_vec(Vec::with_capacity(alloc, most)?);
         push_variables(alloc, &mut rows, self.variables.as_slice())?;
         push_arguments(alloc, &mut rows, self.arguments.as_slice(), &self.variables)?;
         Ok(rows)

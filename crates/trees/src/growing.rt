@@ -11,7 +11,7 @@ ghost use Rattle.trees.specs.PrivateGrowing.{AreMoved, IsGrown, ComesNext, IsLas
 use crate::inner::lifted;
 use crate::names::Names;
 use crate::node::Node;
-use crate::part::{PART_NAMES, Part};
+use crate::part::{Part, most_names};
 use crate::{Entry, Meta};
 use paths::Path;
 use plain::{Exact, Memory, Text};
@@ -112,7 +112,7 @@ fn make_room(
     requires rise { is_sorted name_cmp (reverse rows.old.items) ≡ true }
     ensures { OnOk result (AreMoved rows.old.items (lists_of parts.old.items) rows.new.items (lists_of parts.new.items)) }
 {
-    if rows.len() < PART_NAMES {
+    if rows.len() < most_names(parts.len()) {
         return Ok(());
     }
     close(alloc, parts, rows)

@@ -14,11 +14,8 @@ use std::sync::Arc;
 /// Some children of a folder whose names follow each other, behind a pointer that folders share.
 pub(crate) type Part = Arc<Names, Global>;
 
-/// So many names a part has that is made whole at once. A change copies the names of one part, so they aren't many.
-pub(crate) const PART_NAMES: usize = 24;
-
 /// So many names every part may have before it is cut in two.
-const FEW_NAMES: usize = 15;
+const FEW_NAMES: usize = 10;
 
 /// For each so many parts of a folder, its parts may have one name more: a change copies the pointers to all parts and the names of
 /// one, and a name costs so many pointers.
@@ -129,9 +126,14 @@ pub(crate) fn take_away(alloc: Global, part: &mut Part, name: &Text) -> Result<b
     Ok(names.remove(name))
 }
 
+/// How many names each part of a folder may have, if there are so many parts.
+pub(crate) fn most_names(parts: usize) -> usize {
+    FEW_NAMES + parts / PARTS_A_NAME
+}
+
 /// Whether a part, one of so many, may take one name more.
 pub(crate) fn has_room(part: &Names, parts: usize) -> bool {
-    part.len() < FEW_NAMES + parts / PARTS_A_NAME
+    part.len() < most_names(parts)
 }
 
 /// Cuts the part at a place in two, so that a name has room.

@@ -13,7 +13,7 @@ ghost use Rattle.trees.specs.PrivateSpine.{ArePutAway, held, opened, Rise, IsSpi
 use crate::inner::lifted;
 use crate::names::Names;
 use crate::node::Node;
-use crate::part::{PART_NAMES, Part};
+use crate::part::{Part, most_names};
 use crate::{Entry, Meta};
 use plain::{Exact, Memory, Text};
 use std::alloc::Global;
@@ -132,7 +132,7 @@ fn make_room(
     requires rise { is_sorted name_cmp rows.old.items ≡ true }
     ensures { OnOk result (ArePutAway (lists_of parts.old.items) rows.old.items (lists_of parts.new.items) rows.new.items) }
 {
-    if rows.len() < PART_NAMES {
+    if rows.len() < most_names(parts.len()) {
         return Ok(());
     }
     put_away(alloc, parts, rows)
