@@ -3,7 +3,7 @@
 // One thread reads the tokens, and keeps of each entry what its text says, lent. The rows of a batch of such entries are made by several other
 // threads, and taken by whoever wants them, while it reads the next.
 
-ghost use Rattle.std.specs.Prelude.{◌≡◌, ℕ, [], IfOk, OnOk};
+ghost use Rattle.std.specs.Prelude.{◌≡◌, ◌<◌, ℕ, [], IfOk, OnOk};
 ghost use denote.Param.Send.{IsSend, IsSync};
 ghost use Rattle.serde_json.specs.Data.{Data, Members, object, put};
 ghost use Rattle.borrowed.specs.Pulled.{IsNext, Pulls};
@@ -58,17 +58,22 @@ fn pull_spelled<'a>(reader: &mut Reader<'a>, depth: usize) -> Result<Spelled<'a>
 /// How many entries are read before their rows are made. A batch is a megabyte, and threads are started once for each.
 const BATCH: usize = 8192;
 
-/// Reads the next entries of a list, at most a batch, in place of those that it read before. It tells whether the list goes on behind them.
+/// How many entries are read first. While they are read, no other thread has anything to do.
+const FIRST_BATCH: usize = 2048;
+
+/// Reads the next entries of a list, so many at most, in place of those that it read before. It tells whether the list goes on behind them.
 fn read_batch<'a>(
     reader: &mut Reader<'a>,
     inner: usize,
+    most: usize,
     read: &mut Vec<Spelled<'a>>,
 ) -> Result<bool, ReadFault>
+    requires { 0 < most }
     ensures { IfOk result (λ more. ReadsBatch inner reader.old reader.new read.new.items more) }
 {
     read.clear();
     'reading: while !reader.take_end_array() {
-        if read.len() >= BATCH {
+        if read.len() >= most {
             return Ok(true);
         }
         let spelled = pull_spelled(reader, inner)?;
@@ -98,7 +103,7 @@ fn make_and_read<'a, R: Threads + Sync, S: TakesRows + Send>(
             requires { IsSync R.row × IsSend S.row }
             ensures { OnOk result (AddsRows waiting.entry.now (S.rows rows.entry.now) (S.rows rows.exit.now)) }
         { add_rows(alloc, rt, waiting, rows) },
-        &mut || read_batch(reader, inner, read),
+        &mut || read_batch(reader, inner, BATCH, read),
     );
     match made {
         Ok(()) => more,
@@ -121,7 +126,7 @@ pub(crate) fn pull_rows<'a, S: TakesRows + Send>(
     open_list(reader)?;
     let mut waiting: Vec<Spelled<'a>> = Vec::new(alloc);
     let mut read: Vec<Spelled<'a>> = Vec::new(alloc);
-    let mut more = read_batch(reader, inner, &mut waiting)?;
+    let mut more = read_batch(reader, inner, FIRST_BATCH, &mut waiting)?;
     'making: while more {
         let now = waiting.as_slice();
         more = make_and_read(alloc, rt, now, rows, reader, inner, &mut read)?;

@@ -8,11 +8,11 @@ use Rattle.entries.specs.declared.spelled.Spelled.{Spelled}
 use Rattle.entries.proofs.MadeFacts.{reads_more, full_batch, last_batch}
 use Rattle.entries.proofs.pulling.read_batch.Goals as goal
 
-pub returns-then-len-ge-BATCH : goal.returns-then-len-ge-BATCH
-returns-then-len-ge-BATCH c =
+pub returns-then-len-most : goal.returns-then-len-most
+returns-then-len-most c =
     let l = c.reading in
     let going : (after_end_array l.reader ≡ None) × (c.take_end_array.new.self ≡ l.reader) = grind arith in
-    full_batch c.args.inner c.args.reader.now l.reader c.take_end_array.new.self l.read.items l.invariant (sym going.1) (omega (arith, c.if-len-ge-BATCH.true, c.len.ensures))
+    full_batch c.args.inner c.args.reader.now l.reader c.take_end_array.new.self l.read.items l.invariant (sym going.1) (omega (arith, c.requires, c.if-len-most.true, c.len.ensures))
 
 pub reading-smaller : goal.reading-smaller
 reading-smaller c =
