@@ -362,10 +362,13 @@ fn skip_rows(walk: &mut Walk<'_>, most: usize) -> bool
     ensures whole { IsTrue result → most ≤ length walk.old.left }
     ensures ended { result ≡ false → walk.new.left ≡ [] }
 {
-    for done in 0..most {
-        if !walk.pass() {
+    let mut done = 0;
+    while done < most {
+        let passed = walk.pass_up_to(most - done);
+        if passed == 0 {
             return false;
         }
+        done += passed;
     }
     true
 }

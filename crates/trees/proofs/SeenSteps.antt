@@ -1,7 +1,7 @@
 -- What is seen of nodes and children on which COPYs put modes and owners.
-use Rattle.std.specs.Prelude.{◌≡◌, ◌↔◌, ℕ, ◌+◌, ◌<◌, Bool, true, false, length, drop, get_or, cond, Option, Some, None, List, [], ◌∷◌, ◌++◌, is_some, not, ◌&&◌, option_map, option_and_then}
+use Rattle.std.specs.Prelude.{◌≡◌, ◌↔◌, ℕ, ◌+◌, ◌-◌, ◌<◌, ◌≤◌, Bool, true, false, length, drop, get_or, cond, Option, Some, None, List, [], ◌∷◌, ◌++◌, is_some, not, ◌&&◌, option_map, option_and_then}
 use Rattle.std.proofs.Common.{sym, ap, refl, ◌∙◌, subst, true≢false, append_assoc, append-nil, arith}
-use Rattle.std.proofs.lemmas.List.{drop_more}
+use Rattle.std.proofs.lemmas.List.{drop_more, drop_all, drop-map, drop-append-le}
 use Rattle.std.specs.Arc.{arc_value}
 use Rattle.std.specs.declared.sync.Arc.{Arc}
 use Rattle.std.specs.Option.{option_or}
@@ -109,6 +109,17 @@ seen-twice both first later same n =
 pub seen_kids-append : (o : CopyOptions) (xs ys : Kids) → seen_kids o (xs ++ ys) ≡ seen_kids o xs ++ seen_kids o ys
 seen_kids-append o [] ys = refl
 seen_kids-append o (x ∷ xs) ys = ap (λ (r : Kids). (x.0, seen o x.1) ∷ r) (seen_kids-append o xs ys)
+
+-- of children that lie side by side the first ones are passed, up to this one
+pub seen_kids-passed : (o : CopyOptions) (begun passed left behind : Kids) (kid : List ℕ × NodeValue) → begun ≡ passed ++ left → 0 < length passed → kid ≡ get_or passed (length passed - 1) kid
+    → drop (length passed - 1) (seen_kids o (begun ++ behind)) ≡ (kid.0, seen o kid.1) ∷ seen_kids o (left ++ behind)
+seen_kids-passed o begun passed left behind kid parted some is =
+    let n = length passed - 1 in
+    let end : length passed ≤ n + 1 = omega arith in
+    let last : drop n passed ≡ kid ∷ [] = drop_more passed n kid (omega arith) ∙ (λ i. sym is i ∷ drop_all (n + 1) passed end i) in
+    drop-map (λ (k : List ℕ × NodeValue). (k.0, seen o k.1)) n (begun ++ behind)
+    ∙ ap (λ (ks : Kids). seen_kids o (drop n ks)) (ap (λ (ks : Kids). ks ++ behind) parted ∙ append_assoc passed left behind)
+    ∙ ap (seen_kids o) (drop-append-le n passed (left ++ behind) (omega arith) ∙ ap (λ (ks : Kids). ks ++ (left ++ behind)) last)
 
 pub seen_kids-names : (o : CopyOptions) (kids : Kids) → keys_of (seen_kids o kids) ≡ keys_of kids
 seen_kids-names o [] = refl

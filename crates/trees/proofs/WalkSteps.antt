@@ -1,5 +1,5 @@
 -- The steps of a walk: it enters what comes next, and leaves a folder that has nothing left.
-use Rattle.std.specs.Prelude.{◌≡◌, ℕ, ◌+◌, ◌-◌, ◌<◌, ◌≤◌, Bool, true, false, IsTrue, Option, Some, None, List, [], ◌∷◌, ◌++◌, length, take, is_some, IsSome, vec_len, vec_capacity}
+use Rattle.std.specs.Prelude.{◌≡◌, ℕ, zero, suc, ◌+◌, ◌-◌, ◌<◌, ◌≤◌, Bool, true, false, IsTrue, Option, Some, None, List, [], ◌∷◌, ◌++◌, length, take, drop, is_some, IsSome, vec_len, vec_capacity}
 use Rattle.std.proofs.Common.{sym, ap, refl, ◌∙◌, subst, true≢false, arith, length-append, append-nil, Bor}
 use Rattle.std.proofs.lemmas.List.{map-append, length-map, take-take, take_at}
 use Rattle.std.specs.List.{AllByRecursion}
@@ -15,7 +15,7 @@ use Rattle.trees.specs.declared.entry.Entry.{Entry}
 use Rattle.trees.specs.TreeMap.{TreeMap, IsTree}
 use Rattle.trees.specs.Rows.{lent_names}
 use Rattle.trees.specs.PrivateNode.{NodeValue, map_of, below_name, IsDepth}
-use Rattle.trees.specs.PrivateWalk.{rows_of, rows_left, left_below_root, IsBare, AreBare, IsOnWay}
+use Rattle.trees.specs.PrivateWalk.{rows_of, rows_left, left_below_root, IsBare, AreBare, ArePassed, IsOnWay, IsAtFolder}
 use Rattle.trees.proofs.BranchLaws.{clean-rows, found-all, own-first}
 use Rattle.trees.proofs.NodeLaws.{get-map_of_root, get-map_of_cons}
 use Rattle.trees.proofs.KidLists.{keys-from_sorted}
@@ -166,14 +166,61 @@ gives_past names names' above kids rest are_bare name kid entry way level next n
       rows = rows;
     }
 
--- ---- an entry with nothing below it is left
+-- ---- several entries with nothing below them are passed
 
--- a walk at which each name is a folder's, and what it was
-pub record IsAtFolder {Z : Type 0} (old names : Vec (Bor (List ℕ)) Z) (above : Vec (List (List ℕ × NodeValue)) Z) (kids : List (List ℕ × NodeValue)) (are_bare : Bool) : Type 0 where
-  pub way : IsOnWay names above kids are_bare
-  pub level : length names.items ≡ length above.items
-  pub same : left_below_root names above kids ≡ left_below_root old above kids
-  pub first : take (length names.items) (lent_names old.items) ≡ lent_names names.items
+-- what is behind some items, and what holds of all
+all_behind : {A : Type 0} (P : A → Type 0) (n : ℕ) (xs : List A) → AllByRecursion P xs → AllByRecursion P (drop n xs)
+all_behind P zero xs all = all
+all_behind P (suc n) [] all = tt
+all_behind P (suc n) (x ∷ xs) all = all_behind P n xs all.1
+
+-- as many rows are passed as children, where each name is a folder's
+rows_left-behind : (names : List (List ℕ)) (above : List (List (List ℕ × NodeValue))) (n : ℕ) (kids rest : List (List ℕ × NodeValue)) (next : List ℕ × NodeValue) → length names ≡ length above → AreBare kids → drop n kids ≡ next ∷ rest
+    → drop n (rows_left names above kids) ≡ rows_left names above (drop n kids)
+rows_left-behind names above zero kids rest next level bare left = refl
+rows_left-behind names above (suc n) [] rest next level bare left = let e : suc (length rest) ≡ 0 = ap length (sym left) in absurd (omega arith)
+rows_left-behind names above (suc n) ((name, kid) ∷ kids) rest next level bare left =
+    ap (drop (suc n)) (rows_left-enter names above name kid kids [] level bare.0)
+    ∙ ap (drop n) (rows_left-leave names above name kids level)
+    ∙ rows_left-behind names above n kids rest next level bare.1 left
+
+-- the walk behind them
+pub record IsBehind {Z : Type 0} (names : Vec (Bor (List ℕ)) Z) (above : Vec (List (List ℕ × NodeValue)) Z) (kids : List (List ℕ × NodeValue)) (n : ℕ) (are_bare : Bool) : Type 0 where
+  pub way : IsOnWay names above (drop n kids) are_bare
+  pub rows : drop n (left_below_root names above kids) ≡ left_below_root names above (drop n kids)
+
+pub goes_behind : {Z : Type 0} (names : Vec (Bor (List ℕ)) Z) (above : Vec (List (List ℕ × NodeValue)) Z) (kids rest : List (List ℕ × NodeValue)) (next : List ℕ × NodeValue) (n : ℕ) (are_bare : Bool) → IsOnWay names above kids are_bare → length names.items ≡ length above.items → IsTrue are_bare → drop n kids ≡ next ∷ rest
+    → IsBehind names above kids n are_bare
+goes_behind names above kids rest next n are_bare way level known left =
+    let rows = rows_left-behind (lent_names names.items) above.items n kids rest next (length-lent_names names.items ∙ level) (way.bare known) left in
+    record {
+      way = record {
+        least = way.least;
+        most = way.most;
+        clean = subst (AllByRecursion (λ (row : List (List ℕ) × Entry). IsClean row.0)) rows (all_behind (λ (row : List (List ℕ) × Entry). IsClean row.0) n (left_below_root names above kids) way.clean);
+        bare = λ _. all_behind (λ (kid : List ℕ × NodeValue). IsBare kid.1) n kids (way.bare known);
+        room_names = way.room_names;
+        room_above = way.room_above;
+      };
+      rows = rows;
+    }
+
+-- what is behind the last of some items
+steps_behind : {A : Type 0} (n : ℕ) (xs rest : List A) (x : A) → drop n xs ≡ x ∷ rest → (rest ≡ drop (suc n) xs) × (suc n ≤ length xs)
+steps_behind zero [] rest x left = let e : suc (length rest) ≡ 0 = ap length (sym left) in absurd (omega arith)
+steps_behind (suc n) [] rest x left = let e : suc (length rest) ≡ 0 = ap length (sym left) in absurd (omega arith)
+steps_behind zero (y ∷ xs) rest x left = (sym (ap (drop 1) left), omega arith)
+steps_behind (suc n) (y ∷ xs) rest x left = let more = steps_behind n xs rest x left in (more.0, omega (arith, more.1))
+
+-- what is left of some rows, of which so many were passed, or none as none was left
+pub passed_left : {A B : Type 0} (count most : ℕ) (old new : List (A × B)) (at : A) → (0 < count → ArePassed most old new at count) → (count ≡ 0 → (old ≡ []) × (new ≡ [])) → (new ≡ drop count old) × (count ≤ length old)
+passed_left zero most old new at passed end = let none = end refl in (none.1 ∙ sym none.0, omega arith)
+passed_left (suc n) most old new at passed end =
+    let last = passed (omega arith) in
+    let less : n ≡ suc n - 1 = omega arith in
+    steps_behind n old new (at, last.last) (ap (λ k. drop k old) less ∙ last.left)
+
+-- ---- an entry with nothing below it is left
 
 -- its name goes, and the rows stay
 pub drops : {Z : Type 0} (names names' : Vec (Bor (List ℕ)) Z) (above : Vec (List (List ℕ × NodeValue)) Z) (kids : List (List ℕ × NodeValue)) (are_bare : Bool) (name : Option (Bor (List ℕ))) → IsOnWay names above kids are_bare → vec_len above < vec_len names → names.items ≡ names'.items ++ option_to_list name

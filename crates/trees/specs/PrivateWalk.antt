@@ -1,5 +1,5 @@
 -- What is left of a walk: the children that aren't gone through yet, of the folder that was entered last and of each folder above it.
-use Rattle.std.specs.Prelude.{◌≡◌, ◌≤◌, ◌+◌, ℕ, Bool, true, IsTrue, Option, Some, None, List, [], ◌∷◌, ◌++◌, length, vec_capacity}
+use Rattle.std.specs.Prelude.{◌≡◌, ◌<◌, ◌≤◌, ◌+◌, ◌-◌, ℕ, Bool, true, IsTrue, Option, Some, None, List, [], ◌∷◌, ◌++◌, length, take, drop, vec_capacity}
 use Rattle.std.specs.List.{AllByRecursion}
 use Rattle.std.specs.declared.vec.Vec.{Vec}
 use Rattle.std.specs.FinMap.{entries}
@@ -59,3 +59,17 @@ pub record IsOnWay {Z : Type 0} (names : Vec (Bor (List ℕ)) Z) (above : Vec (L
   pub bare : IsTrue are_bare → AreBare kids
   pub room_names : most_components ≤ vec_capacity names
   pub room_above : most_components ≤ vec_capacity above
+
+-- a walk at which each name is a folder's, and what it was
+pub record IsAtFolder {Z : Type 0} (old names : Vec (Bor (List ℕ)) Z) (above : Vec (List (List ℕ × NodeValue)) Z) (kids : List (List ℕ × NodeValue)) (are_bare : Bool) : Type 0 where
+  pub way : IsOnWay names above kids are_bare
+  pub level : length names.items ≡ length above.items
+  pub same : left_below_root names above kids ≡ left_below_root old above kids
+  pub first : take (length names.items) (lent_names old.items) ≡ lent_names names.items
+
+-- of what was left so many were passed, `most` at most, and the last of them stands at this name or path
+pub record ArePassed {A B : Type 0} (most : ℕ) (old new : List (A × B)) (at : A) (count : ℕ) : Type 0 where
+  pub some : 0 < count
+  pub few : count ≤ most
+  pub last : B
+  pub left : drop (count - 1) old ≡ (at, last) ∷ new

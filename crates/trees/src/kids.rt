@@ -1,6 +1,7 @@
 ghost use Rattle.std.specs.Prelude.{◌≡◌, true, [], ◌∷◌, ◌++◌, MatchOption};
 ghost use Rattle.trees.specs.PrivateNode.{lists_of, flat, are_full};
 ghost use Rattle.trees.specs.PrivateSeen.{seen_kids};
+ghost use Rattle.trees.specs.PrivateWalk.{ArePassed};
 
 use crate::CopyOptions;
 use crate::lent_node::LentNode;
@@ -78,5 +79,18 @@ impl<'a> Kids<'a> {
                 }
             }
         }
+    }
+
+    /// Goes past the next children, so many at most, as far as they lie side by side. It tells the last one's name and how many they are, and
+    /// looks at none of them. If the next one lies elsewhere, none is left or `most` is 0, it stays where it is.
+    pub(crate) fn pass_up_to(&mut self, most: usize) -> Option<(&'a Text, usize)>
+        ensures { MatchOption result (self.new ≡ self.old) (λ last. ArePassed most self.old self.new last.0.now last.1) }
+    {
+        let (passed, behind) = self.begun.split_at(most.min(self.begun.len()));
+        let Some((name, _)) = passed.last() else {
+            return None;
+        };
+        self.begun = behind;
+        Some((name, passed.len()))
     }
 }

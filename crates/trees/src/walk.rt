@@ -1,10 +1,10 @@
-ghost use Rattle.std.specs.Prelude.{◌≡◌, ◌-◌, ℕ, false, List, [], ◌∷◌, IfOk, IsTrue, MatchOption, length, take};
+ghost use Rattle.std.specs.Prelude.{◌≡◌, ◌-◌, ◌<◌, ◌≤◌, ℕ, Bool, List, [], ◌∷◌, IfOk, IsTrue, MatchOption, length, take, drop};
 ghost use Rattle.trees.specs.declared.entry.Entry.{Entry as EntryValue};
 ghost use Rattle.std.specs.FinMap.{entries};
 ghost use Rattle.trees.specs.Rows.{lent_names, entry_of};
 ghost use Rattle.trees.specs.TreeMap.{IsTree};
 ghost use Rattle.trees.specs.PrivateNode.{NodeValue, map_of};
-ghost use Rattle.trees.specs.PrivateWalk.{IsOnWay, IsBare, AreBare, rows_of, left_below_root};
+ghost use Rattle.trees.specs.PrivateWalk.{IsOnWay, IsAtFolder, IsBare, AreBare, ArePassed, rows_of, left_below_root};
 
 use crate::LentEntry;
 use crate::kids::Kids;
@@ -94,23 +94,28 @@ impl<'a> Walk<'a> {
         }
     }
 
-    /// Goes past the next entry, if one is left, and answers whether one was. It doesn't look at the entry, which `next` has to fetch from memory.
-    pub fn pass(&mut self) -> bool
-        ensures next { IsTrue result → (entry : EntryValue) × (self.old.left ≡ (self.new.at, entry) ∷ self.new.left) }
-        ensures end { result ≡ false → (self.old.left ≡ []) × (self.new.left ≡ []) }
+    /// Goes past the next entries, so many at most, and tells how many these are: at least one, if one is left and `most` isn't 0. It looks at few
+    /// of them, since `next` has to fetch each from memory.
+    pub fn pass_up_to(&mut self, most: usize) -> usize
+        ensures few { result ≤ most }
+        ensures left { self.new.left ≡ drop result self.old.left }
+        ensures inside { result ≤ length self.old.left }
+        ensures last { 0 < result → (entry : EntryValue) × (drop (result - 1) self.old.left ≡ (self.new.at, entry) ∷ self.new.left) }
+        ensures end { result ≡ 0 → 0 < most → self.old.left ≡ [] }
         ensures keeps { take (length self.new.at - 1) self.new.at ≡ take (length self.new.at - 1) self.old.at }
     {
+        if most == 0 {
+            return 0;
+        }
         match self.root.take() {
-            Some(_) => true,
-            None => match step(
+            Some(_) => 1,
+            None => step_up_to(
                 &mut self.names,
                 &mut self.above,
                 &mut self.kids,
                 &mut self.are_bare,
-            ) {
-                Some(_) => true,
-                None => false,
-            },
+                most,
+            ),
         }
     }
 }
@@ -129,10 +134,7 @@ fn step<'a>(
         (λ node. left_below_root names.old above.old kids.old ≡ (lent_names names.new.items, node.top) ∷ left_below_root names.new above.new kids.new) }
     ensures keeps { take (length names.new.items - 1) (lent_names names.new.items) ≡ take (length names.new.items - 1) (lent_names names.old.items) }
 {
-    // Nothing was below the entry that was given last, so no folder was entered for its name.
-    if names.len() > above.len() {
-        names.pop();
-    }
+    leave_bare(names, above);
     loop {
         if let Some((name, kid)) = kids.next() {
             names.push(name).unwrap();
@@ -150,6 +152,51 @@ fn step<'a>(
         *are_bare = false;
         names.pop();
     }
+}
+
+/// Goes past the next nodes below the root, so many at most, and tells how many these are. The names are those of the last one's path then.
+fn step_up_to<'a>(
+    names: &mut Vec<&'a Text>,
+    above: &mut Vec<Kids<'a>>,
+    kids: &mut Kids<'a>,
+    are_bare: &mut bool,
+    most: usize,
+) -> usize
+    requires way { IsOnWay names.old above.old kids.old are_bare.old }
+    requires some { 0 < most }
+    ensures way { IsOnWay names.new above.new kids.new are_bare.new }
+    ensures passed { 0 < result → ArePassed most (left_below_root names.old above.old kids.old) (left_below_root names.new above.new kids.new) (lent_names names.new.items) result }
+    ensures end { result ≡ 0 → (left_below_root names.old above.old kids.old ≡ []) × (left_below_root names.new above.new kids.new ≡ []) }
+    ensures keeps { take (length names.new.items - 1) (lent_names names.new.items) ≡ take (length names.new.items - 1) (lent_names names.old.items) }
+{
+    let Some((name, passed)) = pass_bare(kids, *are_bare, most) else {
+        return match step(names, above, kids, are_bare) {
+            Some(_) => 1,
+            None => 0,
+        };
+    };
+    leave_bare(names, above);
+    names.push(name).unwrap();
+    passed
+}
+
+/// Takes away the name of the entry that was given last, if nothing is below it: then no folder was entered for it.
+fn leave_bare<'a>(names: &mut Vec<&'a Text>, above: &Vec<Kids<'a>>)
+    ensures { (kids : List (List ℕ × NodeValue)) (are_bare : Bool) → IsOnWay names.old above.now kids are_bare → IsAtFolder names.old names.new above.now kids are_bare }
+{
+    if names.len() > above.len() {
+        names.pop();
+    }
+}
+
+/// Goes past the next of these children, as `Kids::pass_up_to` does, if it is known that nothing is below any of them.
+fn pass_bare<'a>(kids: &mut Kids<'a>, is_known: bool, most: usize) -> Option<(&'a Text, usize)>
+    ensures { MatchOption result (kids.new ≡ kids.old) (λ last. IsTrue is_known × ArePassed most kids.old kids.new last.0.now last.1) }
+{
+    if !is_known {
+        return None;
+    }
+    kids.pass_up_to(most)
 }
 
 /// Whether nothing is below a node. Where that is known, the node isn't looked at: to fetch it from memory costs more than all else that a

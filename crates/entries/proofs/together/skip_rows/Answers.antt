@@ -1,14 +1,16 @@
-use Rattle.std.proofs.Common.{sym, ◌∙◌, arith}
-use Rattle.entries.proofs.PrintingFacts.{drop-step, drop-end}
+use Rattle.std.proofs.Common.{◌≡◌, ◌+◌, [], refl, sym, ap, ◌∙◌, drop, length, arith}
+use Rattle.std.proofs.lemmas.List.{length-drop}
+use Rattle.entries.proofs.PrintingFacts.{drop-end}
+use Rattle.entries.proofs.TogetherFacts.{drop-behind}
 use Rattle.entries.proofs.together.skip_rows.Goals as goal
 
 pub loop-done-preserved : goal.loop-done-preserved
 loop-done-preserved c =
-    let next = c.pass.ensures.next c.if-not-pass.false in
-    let step = drop-step c.loop-done.done c.args.walk.now.left c.loop-done.walk.left c.pass.new.self.left _ c.loop-done.invariant.left next.1 in
-    record { left = step.0; inside = omega (arith, step.1) }
-
-pub returns-then-not-pass-clause-left : goal.returns-then-not-pass-clause-left
-returns-then-not-pass-clause-left c =
-    let none = c.pass.ensures.end c.if-not-pass.true in
-    none.1 ∙ sym (drop-end c.loop-done.done c.args.most c.args.walk.now.left c.loop-done.walk.left c.loop-done.invariant.left none.0 (omega arith))
+    let done = c.loop-done.done in
+    let rows = c.args.walk.now.left in
+    let is = c.loop-done.invariant.left in
+    record {
+      left = c.pass_up_to-passed.ensures.left ∙ drop-behind done c.pass_up_to-passed.result (done + c.pass_up_to-passed.result) rows c.loop-done.walk.left is refl;
+      inside = omega (arith, c.loop-done.invariant.inside, c.pass_up_to-passed.ensures.inside, ap length is, length-drop done rows);
+      few = omega (arith, c.pass_up_to-passed.ensures.few);
+    }

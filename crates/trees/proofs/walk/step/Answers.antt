@@ -1,23 +1,15 @@
-use Rattle.std.proofs.Common.{◌≡◌, [], ◌∷◌, sym, ap, refl, ◌∙◌, subst, arith}
+use Rattle.std.proofs.Common.{◌≡◌, [], ◌∷◌, sym, ap, refl, ◌∙◌, subst}
 use Rattle.std.specs.Option.{option_to_list}
 use Rattle.std.specs.FinMap.{entries}
 use Rattle.trees.specs.PrivateNode.{map_of}
 use Rattle.trees.specs.PrivateWalk.{rows_of}
-use Rattle.trees.proofs.WalkSteps.{Gives, IsAtFolder, gives_on, gives_past, has_room, drops, stays, is_named, leaves, stay_first}
+use Rattle.trees.proofs.WalkSteps.{Gives, gives_on, gives_past, has_room, is_named, leaves, stay_first}
 use Rattle.trees.proofs.walk.step.Goals as goal
-use Rattle.trees.proofs.walk.step.Goals.{then-len, else-len, then-not-is_bare, else-not-is_bare}
+use Rattle.trees.proofs.walk.step.Goals.{then-not-is_bare, else-not-is_bare}
 
 pub loop-name-init : goal.loop-name-init
 loop-name-init c =
-    let old = c.args.names.now in
-    let above = c.args.above.now in
-    let kids = c.args.kids.now in
-    let are_bare = c.args.are_bare.now in
-    let now : IsAtFolder old c.if-len.names above kids are_bare = elim c.if-len.branch [
-      | then-len w ↦ subst (λ names. IsAtFolder old names above kids are_bare) (sym w.names-is)
-          (drops old w.pop.new.self above kids are_bare w.pop.result c.requires (omega (arith, w.if-len.true, c.len.ensures, c.len-2.ensures)) w.pop.ensures.items w.pop.ensures.variant.1 w.pop.ensures.capacity)
-      | else-len w ↦ subst (λ names. IsAtFolder old names above kids are_bare) (sym w.names-is) (stays old above kids are_bare c.requires (omega (arith, w.if-len.false, c.len.ensures, c.len-2.ensures)))
-    ] in
+    let now = c.leave_bare.ensures c.args.kids.now c.args.are_bare.now c.requires in
     record { way = now.way; level = now.level; same = now.same; first = now.first }
 
 pub unwrap-requires : goal.unwrap-requires
@@ -31,16 +23,16 @@ unwrap-requires-then-not-is_bare c =
 pub loop-name-preserved : goal.loop-name-preserved
 loop-name-preserved c =
     let old = c.loop-name.names in
-    let new = c.pop-in-loop-name-2.new.self in
-    let above = c.pop-in-loop-name.new.self in
-    let some = c.pop-in-loop-name-2.ensures.variant.1 (is_named old c.loop-name.above above c.in-Some-pop.left c.loop-name.invariant.level c.in-Some-pop.ensures.items) in
-    let left = leaves old new c.loop-name.above above c.loop-name.kids c.in-Some-pop.left c.loop-name.are_bare c.pop-in-loop-name-2.result
-    c.loop-name.invariant.way c.loop-name.invariant.level c.in_default.ensures.0 c.in-Some-pop.ensures.items c.pop-in-loop-name-2.ensures.items some c.in-Some-pop.ensures.capacity c.pop-in-loop-name-2.ensures.capacity in
+    let new = c.pop-in-loop-name.new.self in
+    let above = c.pop.new.self in
+    let some = c.pop-in-loop-name.ensures.variant.1 (is_named old c.loop-name.above above c.in-Some-pop.left c.loop-name.invariant.level c.in-Some-pop.ensures.items) in
+    let left = leaves old new c.loop-name.above above c.loop-name.kids c.in-Some-pop.left c.loop-name.are_bare c.pop-in-loop-name.result
+    c.loop-name.invariant.way c.loop-name.invariant.level c.in_default.ensures.0 c.in-Some-pop.ensures.items c.pop-in-loop-name.ensures.items some c.in-Some-pop.ensures.capacity c.pop-in-loop-name.ensures.capacity in
     record {
       way = left.0;
       level = left.1.0;
       same = left.1.1 ∙ c.loop-name.invariant.same;
-      first = stay_first c.args.names.now.items old.items new.items (option_to_list c.pop-in-loop-name-2.result) c.loop-name.invariant.first c.pop-in-loop-name-2.ensures.items;
+      first = stay_first c.args.names.now.items old.items new.items (option_to_list c.pop-in-loop-name.result) c.loop-name.invariant.first c.pop-in-loop-name.ensures.items;
     }
 
 gives : (c : goal.Joined-not-is_bare) → Gives c.loop-name.names c.push.new.self c.loop-name.above c.if-not-is_bare.above c.loop-name.kids c.if-not-is_bare.kids c.if-not-is_bare.are_bare c.in-Some.kid.top
