@@ -94,11 +94,19 @@ impl Generation {
         result_number(self.steps.as_slice(), self.index.under(key), op, inputs)
     }
 
-    /// The number of a tree among those that an operation, whose key this is, was given at a place, as `input_number` finds it. It takes no memory.
-    pub(crate) fn input_number(&self, key: u64, op: &Op, place: usize, tree: &Tree) -> Option<usize>
+    /// The number of a tree among those that an operation, whose key this is, was given at a place, as `input_number` finds it.
+    pub(crate) fn input_number(
+        &self,
+        alloc: Global,
+        key: u64,
+        op: &Op,
+        place: usize,
+        tree: &Tree,
+    ) -> Option<usize>
         ensures { IfSome result (λ number. slice_get self.now.trees number ≡ Some tree.now) }
     {
         input_number(
+            alloc,
             self.trees.as_slice(),
             self.steps.as_slice(),
             self.index.under(key),
@@ -108,11 +116,16 @@ impl Generation {
         )
     }
 
-    /// The number of a tree among those that are kept as a source's, whose operation has this key, as `number_among` finds it. It takes no memory.
-    pub(crate) fn source_number(&self, key: u64, tree: &Tree) -> Option<usize>
+    /// The number of a tree among those that are kept as a source's, whose operation has this key, as `number_among` finds it.
+    pub(crate) fn source_number(&self, alloc: Global, key: u64, tree: &Tree) -> Option<usize>
         ensures { IfSome result (λ number. slice_get self.now.trees number ≡ Some tree.now) }
     {
-        number_among(self.trees.as_slice(), self.sources.under(key), tree)
+        number_among(
+            alloc,
+            self.trees.as_slice(),
+            self.sources.under(key),
+            tree,
+        )
     }
 
     /// Keeps a copy of a tree as a source's, whose operation has this key, and gives its number. After `Memory` nothing has changed.

@@ -106,7 +106,7 @@ impl<'a, E: Executor> Memo<'a, E> {
     /// The bytes of the files of all trees that it keeps, of each tree all its files; `usize::MAX` if they are more.
     ///
     /// A tree is kept for each entry, and for each tree that one was given and that wasn't kept before. Trees share files, and each counts them: so what is
-    /// held in memory is at most this, and mostly much less. It walks all these trees.
+    /// held in memory is at most this, and mostly much less. It walks all these trees, and answers want of memory if one has more than 16,777,216 entries.
     pub fn content_bytes(&self, alloc: Global) -> Result<usize, Memory>
         ensures { IfOk result (λ bytes. bytes ≡ capped (trees_bytes self.now.recent.trees + trees_bytes self.now.earlier.trees)) }
     {
@@ -255,21 +255,35 @@ impl<'a, E: Executor> Memo<'a, E> {
         self.generation(age).trees().get(number)
     }
 
-    /// The number of a tree, if it is among the last ones that were kept as this source's (`keep_source`). A few of those are walked at most, and it takes
-    /// no memory.
-    pub fn source_number(&self, age: Age, source: &Op, tree: &Tree) -> Option<usize>
-        ensures { IfSome result (λ number. slice_get (generation_of self.now age).trees number ≡ Some tree.now) }
-    {
-        self.generation(age).source_number(key_of(source), tree)
-    }
-
-    /// The number of a tree, if it is among the last ones that an operation was given at this place among its inputs. A few of those are walked at most, and
-    /// it takes no memory.
-    pub fn input_number(&self, age: Age, op: &Op, place: usize, tree: &Tree) -> Option<usize>
+    /// The number of a tree, if it is among the last ones that were kept as this source's (`keep_source`). A few of those are walked at most. Of a tree
+    /// that has more than 16,777,216 entries, since it shares folders, and if there is no memory for a walk, no number is found.
+    pub fn source_number(
+        &self,
+        alloc: Global,
+        age: Age,
+        source: &Op,
+        tree: &Tree,
+    ) -> Option<usize>
         ensures { IfSome result (λ number. slice_get (generation_of self.now age).trees number ≡ Some tree.now) }
     {
         self.generation(age)
-            .input_number(key_of(op), op, place, tree)
+            .source_number(alloc, key_of(source), tree)
+    }
+
+    /// The number of a tree, if it is among the last ones that an operation was given at this place among its inputs. A few of those are walked at most,
+    /// and none if the tree is too large for `source_number`.
+    pub fn input_number(
+        &self,
+        alloc: Global,
+        age: Age,
+        op: &Op,
+        place: usize,
+        tree: &Tree,
+    ) -> Option<usize>
+        ensures { IfSome result (λ number. slice_get (generation_of self.now age).trees number ≡ Some tree.now) }
+    {
+        self.generation(age)
+            .input_number(alloc, key_of(op), op, place, tree)
     }
 
     /// One of the two generations.

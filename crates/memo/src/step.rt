@@ -4,6 +4,7 @@ ghost use Rattle.memo.specs.Memo.{Has};
 ghost use Rattle.memo.specs.PrivateGeneration.{tree_at, trees_at, entries_at, AreAt, AreBelow, IsPlaced, ArePlaced, IsFor, Stands, Tells, step_of};
 
 use crate::Hit;
+use crate::content::MOST_ENTRIES;
 use crate::number::{Age, TreeNumber, known_at};
 use crate::sought::Sought;
 use llb::Op;
@@ -205,8 +206,10 @@ fn find_kept<'a>(
     None
 }
 
-/// The number of a tree among those that an operation was given at a place, by the steps of these numbers. Of those it walks a few at most, the latest first.
+/// The number of a tree among those that an operation was given at a place, by the steps of these numbers. Of those it walks a few at most, the latest
+/// first, and none if the tree is too large for that.
 pub(crate) fn input_number(
+    alloc: Global,
     kept: &[Tree],
     steps: &[Step],
     numbers: &[usize],
@@ -228,6 +231,9 @@ pub(crate) fn input_number(
         if walked == Some(given) {
             continue;
         }
+        if walked.is_none() && !is_small(alloc, tree) {
+            break;
+        }
         if is_kept_at(kept, given, tree) {
             return Some(given);
         }
@@ -248,10 +254,18 @@ fn given_at(steps: &[Step], number: usize, op: &Op, place: usize) -> Option<usiz
     }
 }
 
-/// The number of a tree among those of these numbers. Of those it walks a few at most, the latest first.
-pub(crate) fn number_among(kept: &[Tree], numbers: &[usize], tree: &Tree) -> Option<usize>
+/// The number of a tree among those of these numbers. Of those it walks a few at most, the latest first, and none if the tree is too large for that.
+pub(crate) fn number_among(
+    alloc: Global,
+    kept: &[Tree],
+    numbers: &[usize],
+    tree: &Tree,
+) -> Option<usize>
     ensures { IfSome result (λ number. slice_get kept.now number ≡ Some tree.now) }
 {
+    if numbers.is_empty() || !is_small(alloc, tree) {
+        return None;
+    }
     let mut left = MOST_WALKS;
     for number in numbers.iter().rev() {
         if left == 0 {
@@ -263,6 +277,22 @@ pub(crate) fn number_among(kept: &[Tree], numbers: &[usize], tree: &Tree) -> Opt
         left -= 1;
     }
     None
+}
+
+/// Whether a tree has no more entries than can be gone through, which it takes a little memory to know.
+fn is_small(alloc: Global, tree: &Tree) -> bool {
+    let Ok(mut walk) = tree.walk(alloc) else {
+        return false;
+    };
+    let mut left = MOST_ENTRIES;
+    while left > 0 {
+        let passed = walk.pass_up_to(left);
+        if passed == 0 {
+            return true;
+        }
+        left -= passed;
+    }
+    false
 }
 
 /// Whether the tree of a number is this one.

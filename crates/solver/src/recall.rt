@@ -185,7 +185,7 @@ impl<'m, 'k, E: Executor, N: Numbering> Recall<'m, 'k, E, N> {
         if at >= claim.input_count() {
             return None;
         }
-        match self.sought(job, &vertex.op, *input, at, claim.input(at)) {
+        match self.sought(alloc, job, &vertex.op, *input, at, claim.input(at)) {
             Some(finding) => {
                 self.write(alloc, *input, finding);
                 finding.number(age)
@@ -197,6 +197,7 @@ impl<'m, 'k, E: Executor, N: Numbering> Recall<'m, 'k, E, N> {
     /// What comes of the search for the tree of a vertex, which an operation gets at this place, if that is worth a walk.
     fn sought<X: Executor>(
         &self,
+        alloc: Global,
         job: &Job<X>,
         op: &Op,
         vertex: VertexId,
@@ -211,8 +212,8 @@ impl<'m, 'k, E: Executor, N: Numbering> Recall<'m, 'k, E, N> {
         };
         match &node.op {
             Op::Source(_) => Some(Finding {
-                recent: self.memo.source_number(Age::Recent, &node.op, tree),
-                earlier: self.memo.source_number(Age::Earlier, &node.op, tree),
+                recent: self.memo.source_number(alloc, Age::Recent, &node.op, tree),
+                earlier: self.memo.source_number(alloc, Age::Earlier, &node.op, tree),
                 is_remembered: false,
             }),
             Op::Exec(_) => None,
@@ -221,8 +222,8 @@ impl<'m, 'k, E: Executor, N: Numbering> Recall<'m, 'k, E, N> {
                     return None;
                 }
                 Some(Finding {
-                    recent: self.memo.input_number(Age::Recent, op, place, tree),
-                    earlier: self.memo.input_number(Age::Earlier, op, place, tree),
+                    recent: self.memo.input_number(alloc, Age::Recent, op, place, tree),
+                    earlier: self.memo.input_number(alloc, Age::Earlier, op, place, tree),
                     is_remembered: false,
                 })
             }

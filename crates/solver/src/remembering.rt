@@ -209,7 +209,7 @@ fn keep<E: Executor, M: Executor>(
     if !is_source(&node.op) {
         return memo.keep(alloc, tree);
     }
-    match memo.source_number(Age::Recent, &node.op, tree) {
+    match memo.source_number(alloc, Age::Recent, &node.op, tree) {
         Some(number) => Ok(number),
         None => memo.keep_source(alloc, &node.op, tree),
     }
