@@ -1,6 +1,5 @@
-use Rattle.std.proofs.Common.{◌≡◌, ◌+◌, [], refl, sym, ap, ◌∙◌, drop, length, arith}
+use Rattle.std.proofs.Common.{◌+◌, refl, ap, ◌∙◌, length, arith}
 use Rattle.std.proofs.lemmas.List.{length-drop}
-use Rattle.entries.proofs.PrintingFacts.{drop-end}
 use Rattle.entries.proofs.TogetherFacts.{drop-behind}
 use Rattle.entries.proofs.together.skip_rows.Goals as goal
 
