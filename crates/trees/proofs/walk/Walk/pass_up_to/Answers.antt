@@ -20,4 +20,4 @@ returns-in-None-clause-left c =
     ∙ (passed_left c.step_up_to.result c.args.most _ _ _ c.step_up_to.ensures.passed c.step_up_to.ensures.end).0
     ∙ ap (drop c.step_up_to.result)
     (sym (ap (λ (w : WalkValue). w.left) (sym c.self.view_is)
-        ∙ ap (λ (r : Option LentEntry). root_row (lent_names c.self.inside.names.items) r ++ left_below_root c.self.inside.names c.self.inside.above c.self.inside.kids) (sym c.in-None.ensures.value)))
+    ∙ ap (λ (r : Option LentEntry). root_row (lent_names c.self.inside.names.items) r ++ left_below_root c.self.inside.names c.self.inside.above c.self.inside.kids) (sym c.in-None.ensures.value)))
