@@ -137,14 +137,6 @@ fn build_within<R: CountedRead, W: CountedWrite, E: Executor, G: Gate>(
 {
     let bytes = read_all(alloc, input, most + 1)?;
     tell_bundle(
-        alloc,
-        rt,
-        bytes,
-        output,
-        executor,
-        workers,
-        gate,
-        memo,
-        remains,
+        alloc, rt, bytes, output, executor, workers, gate, memo, remains,
     )
 }

@@ -120,12 +120,7 @@ impl Generation {
     pub(crate) fn source_number(&self, alloc: Global, key: u64, tree: &Tree) -> Option<usize>
         ensures { IfSome result (λ number. slice_get self.now.trees number ≡ Some tree.now) }
     {
-        number_among(
-            alloc,
-            self.trees.as_slice(),
-            self.sources.under(key),
-            tree,
-        )
+        number_among(alloc, self.trees.as_slice(), self.sources.under(key), tree)
     }
 
     /// Keeps a copy of a tree as a source's, whose operation has this key, and gives its number. After `Memory` nothing has changed.

@@ -257,13 +257,7 @@ impl<'a, E: Executor> Memo<'a, E> {
 
     /// The number of a tree, if it is among the last ones that were kept as this source's (`keep_source`). A few of those are walked at most. Of a tree
     /// that has more than 16,777,216 entries, since it shares folders, and if there is no memory for a walk, no number is found.
-    pub fn source_number(
-        &self,
-        alloc: Global,
-        age: Age,
-        source: &Op,
-        tree: &Tree,
-    ) -> Option<usize>
+    pub fn source_number(&self, alloc: Global, age: Age, source: &Op, tree: &Tree) -> Option<usize>
         ensures { IfSome result (λ number. slice_get (generation_of self.now age).trees number ≡ Some tree.now) }
     {
         self.generation(age)
