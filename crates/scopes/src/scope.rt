@@ -133,7 +133,7 @@ impl Scope {
         ensures { IfOk result (λ rows. rows ≡ run_env self.now) }
     {
         let most = self.variables.len().saturating_add(self.arguments.len());
-        let mut rows = Items::from_vec(Vec::with_capacity(alloc, most)?);
+        let mut rows = no_rows(alloc, most)?;
         push_variables(alloc, &mut rows, self.variables.as_slice())?;
         push_arguments(alloc, &mut rows, self.arguments.as_slice(), &self.variables)?;
         Ok(rows)
@@ -150,6 +150,14 @@ impl Scope {
             arguments,
         })
     }
+}
+
+/// No rows yet, with room for so many.
+fn no_rows(alloc: Global, most: usize) -> Result<Items<Variable>, Memory>
+    ensures { IfOk result (λ rows. rows ≡ []) }
+{
+    let rows = Vec::with_capacity(alloc, most)?;
+    Ok(Items::from_vec(rows))
 }
 
 impl Lookup for Scope {
