@@ -46,6 +46,21 @@ pub fn ask(alloc: Global, rt: &(impl Threads + Sync), bytes: &[u8]) -> Result<As
     }
 }
 
+/// The same of bytes that end here.
+pub(crate) fn ask_once(
+    alloc: Global,
+    rt: &(impl Threads + Sync),
+    bytes: Vec<u8>,
+) -> Result<Asked, RejectionFault>
+    ensures asked { IsAsked bytes.items result }
+    ensures lowerable { IfOk result (λ asked. IsLowerable asked.evaluated) }
+    ensures caches { IfOk result (λ asked. asked.caches.holds ≡ []) }
+{
+    let asked = ask(alloc, rt, bytes.as_slice());
+    drop(bytes);
+    asked
+}
+
 /// The fault of what is read before any text is expanded.
 pub(crate) fn rejection_fault(fault: LineFault) -> RejectionFault
     ensures { result ≡ rejection_fault fault }

@@ -13,7 +13,7 @@ ghost use Rattle.counted.specs.Edges.{line_of};
 ghost use Rattle.build.specs.PrivateTelling.{TellsAsked, TellsBundle, TellsPlan, TellsSolution, TellsText, IsTold};
 ghost use Rattle.build.specs.declared.status.Status.TheVariants.{Built, Failed, Refused};
 
-use crate::asking::{Asked, ask};
+use crate::asking::{Asked, ask_once};
 use crate::remains::Remains;
 use crate::told::Told;
 use crate::{BuildFault, Status, plan_of};
@@ -53,9 +53,7 @@ pub(crate) fn tell_bundle<W: CountedWrite, E: Executor, G: Gate>(
         (W.contents output.old) (W.failures output.old) (W.contents output.new) (W.failures output.new) result }
     ensures memo { Grows memo.old memo.new }
 {
-    let asked = ask(alloc, rt, bytes.as_slice());
-    drop(bytes);
-    match asked {
+    match ask_once(alloc, rt, bytes) {
         Ok(asked) => tell_asked(
             alloc, rt, asked, output, executor, workers, gate, memo, remains,
         ),

@@ -9,14 +9,14 @@ use Rattle.build.proofs.telling.tell_bundle.Goals as goal
 pub returns-in-Ok-clause-told : goal.returns-in-Ok-clause-told
 returns-in-Ok-clause-told g c =
     let out = g.E.Executor.out c.args.executor.now in
-    told_of (TellsAsked out (Ok c.in-Ok.asked.evaluated)) (TellsBundle c.args.bytes.now out) (λ told is. bundle_told c.args.bytes.now out (Ok c.in-Ok.asked.evaluated) told c.in-Ok.ensures.asked is)
+    told_of (TellsAsked out (Ok c.in-Ok.asked.evaluated)) (TellsBundle c.args.bytes.items out) (λ told is. bundle_told c.args.bytes.items out (Ok c.in-Ok.asked.evaluated) told c.in-Ok.ensures.asked is)
     _ _ _ _ c.tell_asked.result c.tell_asked.ensures.told
 
 pub returns-in-Err-Because-clause-told : goal.returns-in-Err-Because-clause-told
 returns-in-Err-Because-clause-told g c =
     let out = g.E.Executor.out c.args.executor.now in
-    told_of (TellsText Refused (refused_text c.in-Err-Because.refusal)) (TellsBundle c.args.bytes.now out)
-    (λ told is. refusal_told c.args.bytes.now out c.in-Err-Because.refusal told (rw c.in-Err-Because.field-0-is at c.in-Err-Because.ensures.asked) is)
+    told_of (TellsText Refused (refused_text c.in-Err-Because.refusal)) (TellsBundle c.args.bytes.items out)
+    (λ told is. refusal_told c.args.bytes.items out c.in-Err-Because.refusal told (rw c.in-Err-Because.field-0-is at c.in-Err-Because.ensures.asked) is)
     _ _ _ _ c.tell_refusal.result c.tell_refusal.ensures
 
 -- nothing is built
