@@ -156,6 +156,21 @@ def environments(count):
     return bundle_of(lines_of(*(line for k in range(count) for line in (f"ENV v{k}=", "RUN true"))))
 
 
+def one_environment(count):
+    """So many names on one line of ENV, and a hundredth as many RUNs after it."""
+    return bundle_of(lines_of("ENV " + " ".join(f"a{k}=" for k in range(count)), *["RUN true"] * (count // 100)))
+
+
+def changed_environments(count):
+    """So many names on one line of ENV, and then lines of ENV and RUN in turn, a hundredth as many of each."""
+    return bundle_of(lines_of("ENV " + " ".join(f"a{k}=" for k in range(count)), *(line for k in range(count // 100) for line in (f"ENV v={k}", "RUN true"))))
+
+
+def words_of_shells(count):
+    """A SHELL of so many words, and a hundredth as many RUNs after it."""
+    return bundle_of(lines_of("SHELL [" + ",".join(['"a"'] * count) + "]", *["RUN true"] * (count // 100)))
+
+
 def doubling(count):
     """Lines of so many stages that each copy the one before twice, so the last has two to that number of files."""
     lines = ["FROM scratch AS s0", "RUN put /f x"]
@@ -226,6 +241,7 @@ KINDS = {
     values_kept: (16, 64), values_answered: (8, 32), values_replaced: (50, 200), values_drawn: (4, 16),
     stars: (30, 120), patterns_and_names: (500, 2000), ignore_lines: (100, 400), ignore_stars: (8, 32),
     images: (2000, 8000), nests: (1500, 6000), nest_too_deep: (1 << 20, 4 << 20), numbers: (60000, 240000), environments: (200, 800),
+    one_environment: (10000, 40000), changed_environments: (10000, 40000), words_of_shells: (10000, 40000),
     doubled_trees: (20, 60), deep_paths: (250, 1000), words_in_words: (500, 2000), continued: (20000, 80000), heredocs: (1500, 6000),
     bumps: (10000, 40000), cats: (8, 32), doubled_trees_laid: (12, 15), doubled_trees_placed: (12, 15), doubled_trees_found: (12, 15),
 }
@@ -237,6 +253,7 @@ LARGEST = {
     values_kept: 1000, values_answered: 1000, values_replaced: 4000, values_drawn: 1000,
     stars: 500000, patterns_and_names: 20000, ignore_lines: 70000, ignore_stars: 130000,
     images: 8000, nests: 270000, nest_too_deep: 64 << 20, numbers: 33000000, environments: 2000,
+    one_environment: 130000, changed_environments: 130000, words_of_shells: 200000,
     doubled_trees: 60, deep_paths: 430000, words_in_words: 4000, continued: 110000, heredocs: 50000,
     bumps: 116000, cats: 4000, doubled_trees_laid: 60, doubled_trees_placed: 60, doubled_trees_found: 60,
 }
