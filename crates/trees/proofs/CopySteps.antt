@@ -78,9 +78,6 @@ place-done meta old new p a e placed_old placed_new told kind is none dir same t
 
 -- ---- a making
 
-pub blocked-make : (at : List (List ℕ) → Option Entry) (p : List (List ℕ)) (shut : Bool) → shut ≡ is_blocked at p → shut ≡ true → Some F2 ≡ make_cause at p
-blocked-make at p shut is t = λ i. cond ((sym t ∙ is) i || is_file (at p)) (Some F2) None
-
 with_directory-of : (meta : Meta) (old : TreeMap) (p : List (List ℕ)) (o : Option Entry) (shut : Bool) → IsTree old → IsClean p → get old p ≡ o → is_blocked (get old) p ≡ shut → cond (shut || is_file o) (Some F2) None ≡ None → IsTree (with_directory meta old p)
 with_directory-of meta old p o true tree clean is way none = absurd (true≢false (ap is_some none))
 with_directory-of meta old p None false tree clean is way none =
@@ -92,34 +89,31 @@ with_directory-of meta old p (Some (File m b)) false tree clean is way none = ab
 pub with_directory-IsTree : (meta : Meta) (old : TreeMap) (p : List (List ℕ)) → IsTree old → IsClean p → make_cause (get old) p ≡ None → IsTree (with_directory meta old p)
 with_directory-IsTree meta old p tree clean none = with_directory-of meta old p (get old p) _ tree clean refl refl none
 
-no-kind : (o : Option Entry) → kind_of o ≡ None → o ≡ None
-no-kind None e = refl
-no-kind (Some x) e = absurd (true≢false (ap is_some e))
+nothing : (o : Option Entry) → is_some o ≡ false → o ≡ None
+nothing None e = refl
+nothing (Some x) e = absurd (true≢false e)
 
-pub make-new : (meta : Meta) (old new : TreeMap) (p a : List (List ℕ)) (told : Option Cause) (kind : Option Bool) → a ≡ p → told ≡ make_cause (get old) a → told ≡ None → kind ≡ kind_of (get old a) → kind ≡ None → IsPlanted (get old) new a meta (Directory meta)
-    → made_with meta old p ≡ Ok new
-make-new meta old new p a told kind same is none kind-is nothing h =
+pub make-new : (meta : Meta) (old new : TreeMap) (p a : List (List ℕ)) → a ≡ p → make_cause (get old) a ≡ None → is_some (get old a) ≡ false → IsPlanted (get old) new a meta (Directory meta) → made_with meta old p ≡ Ok new
+make-new meta old new p a same fine free h =
     tree_or-none (make_cause (get old) p) (with_directory meta old p) new
-    (ap (make_cause (get old)) (sym same) ∙ sym is ∙ none)
-    (placed-from_planted old new a meta (Directory meta) h ∙ sym (with_directory-new meta old a (no-kind (get old a) (sym kind-is ∙ nothing))) ∙ ap (with_directory meta old) same)
+    (ap (make_cause (get old)) (sym same) ∙ fine)
+    (placed-from_planted old new a meta (Directory meta) h ∙ sym (with_directory-new meta old a (nothing (get old a) free)) ∙ ap (with_directory meta old) same)
 
-stands : (o : Option Entry) (shut b : Bool) → kind_of o ≡ Some b → cond (shut || is_file o) (Some F2) None ≡ None → is_directory o ≡ true
-stands None shut b k none = absurd (true≢false (sym (ap is_some k)))
-stands (Some (Directory m)) shut b k none = refl
-stands (Some (File m c)) true b k none = absurd (true≢false (ap is_some none))
-stands (Some (File m c)) false b k none = absurd (true≢false (ap is_some none))
+stands : (o : Option Entry) (shut : Bool) → is_some o ≡ true → cond (shut || is_file o) (Some F2) None ≡ None → is_directory o ≡ true
+stands None shut there none = absurd (true≢false (sym there))
+stands (Some (Directory m)) shut there none = refl
+stands (Some (File m c)) true there none = absurd (true≢false (ap is_some none))
+stands (Some (File m c)) false there none = absurd (true≢false (ap is_some none))
 
-pub make-kept : (meta : Meta) (old : TreeMap) (p a : List (List ℕ)) (told : Option Cause) (kind : Option Bool) (b : Bool) → a ≡ p → IsTree old → told ≡ make_cause (get old) a → told ≡ None → kind ≡ kind_of (get old a) → kind ≡ Some b
-    → made_with meta old p ≡ Ok old
-make-kept meta old p a told kind b same tree is none kind-is there =
-    let fine : make_cause (get old) a ≡ None = sym is ∙ none in
+pub make-kept : (meta : Meta) (old : TreeMap) (p a : List (List ℕ)) → a ≡ p → IsTree old → make_cause (get old) a ≡ None → is_some (get old a) ≡ true → made_with meta old p ≡ Ok old
+make-kept meta old p a same tree fine there =
     tree_or-none (make_cause (get old) p) (with_directory meta old p) old
     (ap (make_cause (get old)) (sym same) ∙ fine)
-    (sym (with_directory-kept meta old a tree (stands (get old a) (is_blocked (get old) a) b (sym kind-is ∙ there) fine)) ∙ ap (with_directory meta old) same)
+    (sym (with_directory-kept meta old a tree (stands (get old a) (is_blocked (get old) a) there fine)) ∙ ap (with_directory meta old) same)
 
-pub make-new-tree : (meta : Meta) (old new : TreeMap) (p a : List (List ℕ)) (told : Option Cause) (kind : Option Bool) → a ≡ p → IsTree old → IsClean p → told ≡ make_cause (get old) a → told ≡ None → kind ≡ kind_of (get old a) → kind ≡ None → IsPlanted (get old) new a meta (Directory meta) → IsTree new
-make-new-tree meta old new p a told kind same tree clean is none kind-is nothing h =
-    let done = tree_or-ok _ _ _ (make-new meta old new p a told kind same is none kind-is nothing h) in
+pub make-new-tree : (meta : Meta) (old new : TreeMap) (p a : List (List ℕ)) → a ≡ p → IsTree old → IsClean p → make_cause (get old) a ≡ None → is_some (get old a) ≡ false → IsPlanted (get old) new a meta (Directory meta) → IsTree new
+make-new-tree meta old new p a same tree clean fine free h =
+    let done = tree_or-ok _ _ _ (make-new meta old new p a same fine free h) in
     subst IsTree done.1 (with_directory-IsTree meta old p tree clean done.0)
 
 -- what stands at each path after a making

@@ -21,6 +21,11 @@ use Rattle.trees.specs.TreeMap.{is_blocked, is_file, is_directory}
 use Rattle.trees.specs.PrivateNode.{NodeValue, map_of, joined, height_of, node_of, IsPlanted, ArePlanted, AreKids}
 use Rattle.trees.specs.Put.{planted}
 use Rattle.trees.specs.PrivateNode.{IsBelow}
+use Rattle.trees.specs.declared.lent_entry.LentEntry.{LentEntry}
+use Rattle.trees.specs.declared.landing.Landing.{Landing}
+use Rattle.trees.specs.declared.landing.Landing.TheVariants.{Blocked, Free, At}
+use Rattle.trees.specs.Rows.{entry_of}
+use Rattle.trees.specs.PrivateLanding.{Lands}
 use Rattle.paths.proofs.FrontLaws.{name_same, path_eq-cons}
 use Rattle.trees.proofs.WayLaws.{is_blocked-cons, open-from_fronts}
 use Rattle.trees.proofs.TreeLaws.{same_tree}
@@ -53,20 +58,6 @@ get-kid value path name kid more first below = ap (get (map_of value)) (path-par
 
 -- ---- whether a file stands on the way
 
--- what a test of one part says of both
-pub or-then : (a b x : Bool) → a ≡ b → a ≡ true → a ≡ (b || x)
-or-then true true x e t = refl
-or-then true false x e t = absurd (true≢false e)
-or-then false b x e t = absurd (true≢false (sym t))
-
-pub or-else : (a b x : Bool) → a ≡ b → a ≡ false → x ≡ (b || x)
-or-else a true x e f = absurd (true≢false (sym e ∙ f))
-or-else a false x e f = refl
-
-pub or-nothing : (a b : Bool) → a ≡ b → a ≡ (b || false)
-or-nothing a true e = e
-or-nothing a false e = e
-
 file_top : (top : Entry) → is_file (Some top) ≡ not (is_directory (Some top))
 file_top (Directory m) = refl
 file_top (File m c) = refl
@@ -88,6 +79,35 @@ blocked-step value path name kid more first below =
     ∙ is_blocked-cons (get (map_of value)) name rest
     ∙ (λ i. is_file (get-map_of_root value i) || is_blocked (λ p. below p i) rest)
     ∙ (λ i. file_top value.top i || blocked-in_kid kid rest i)
+
+-- ---- what a walk down finds
+
+-- at the root it is the node's own entry
+pub lands-own : (value : NodeValue) (path : List (List ℕ)) (entry : LentEntry) → length path < 1 → entry_of entry ≡ value.top → Lands (get (map_of value)) path (At entry)
+lands-own value path entry less is = (ap (is_blocked (get (map_of value))) (empty-path path less), get-own value path less ∙ ap Some (sym is))
+
+-- a file at the root is on the way to all else
+pub lands-blocked : (value : NodeValue) (path : List (List ℕ)) (name : List ℕ) → 1 ≤ length path → name ≡ get_or path 0 name → is_directory (Some value.top) ≡ false → Lands (get (map_of value)) path Blocked
+lands-blocked value path name more first file =
+    let rest = take (length path - 1) (drop 1 path) in
+    ap (is_blocked (get (map_of value))) (path-parts path name more first)
+    ∙ is_blocked-cons (get (map_of value)) name rest
+    ∙ (λ i. is_file (get-map_of_root value i) || is_blocked (λ p. get (map_of value) (name ∷ p)) rest)
+    ∙ (λ i. (file_top value.top ∙ ap not file) i || is_blocked (λ p. get (map_of value) (name ∷ p)) rest)
+
+-- below a directory it is what the child of the first name has on the rest of the way
+pub lands-kid : (value : NodeValue) (path : List (List ℕ)) (name : List ℕ) (kid : NodeValue) (landing : Landing) → 1 ≤ length path → name ≡ get_or path 0 name → is_directory (Some value.top) ≡ true → IsBelowName value name (Some kid)
+    → Lands (get (map_of kid)) (take (length path - 1) (drop 1 path)) landing → Lands (get (map_of value)) path landing
+lands-kid value path name kid Blocked more first way below h = blocked-step value path name (Some kid) more first below ∙ (λ i. not (way i) || h i)
+lands-kid value path name kid Free more first way below h =
+    (blocked-step value path name (Some kid) more first below ∙ (λ i. not (way i) || h.0 i), get-kid value path name (Some kid) more first below ∙ h.1)
+lands-kid value path name kid (At entry) more first way below h =
+    (blocked-step value path name (Some kid) more first below ∙ (λ i. not (way i) || h.0 i), get-kid value path name (Some kid) more first below ∙ h.1)
+
+-- where there is no such child, it is nothing
+pub lands-nowhere : (value : NodeValue) (path : List (List ℕ)) (name : List ℕ) → 1 ≤ length path → name ≡ get_or path 0 name → is_directory (Some value.top) ≡ true → IsBelowName value name None → Lands (get (map_of value)) path Free
+lands-nowhere value path name more first way below =
+    (blocked-step value path name None more first below ∙ (λ i. not (way i) || false), get-kid value path name None more first below)
 
 -- ---- an entry is put at a path
 

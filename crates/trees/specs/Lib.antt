@@ -17,6 +17,7 @@ pub mod PrivateSeen
 pub mod PrivateWalk
 pub mod PrivateFall
 pub mod PrivateLent
+pub mod PrivateLanding
 pub mod PrivateCopy
 pub mod PrivateGrowing
 pub mod Builder

@@ -12,7 +12,7 @@ use Rattle.trees.specs.declared.entry.Entry.TheVariants.{Directory, File}
 use Rattle.trees.specs.declared.cause.Cause.{Cause}
 use Rattle.trees.specs.declared.cause.Cause.TheVariants.{F2, F4, F5}
 use Rattle.paths.specs.Fronts.{fronts, is_front}
-use Rattle.trees.specs.TreeMap.{TreeMap, directory_meta, is_blocked}
+use Rattle.trees.specs.TreeMap.{TreeMap, directory_meta, file_meta, is_blocked}
 use Rattle.trees.specs.Cause.{TreeOrCause, tree_or}
 
 -- why an entry can't stand where another one stands: no directory takes a file's place, and no file a directory's
@@ -49,3 +49,14 @@ planted at path meta entry q =
 -- the tree after a placement in which nothing is said of missing parents: they are made 0755 and 0:0; or the cause why it isn't made
 abbrev pub put_into : TreeMap → List (List ℕ) → Entry → TreeOrCause
 put_into tree path entry = tree_or (cause_at (get tree) path entry) (placed directory_meta tree path entry)
+
+-- the mode and owner with which a file is written: those of the file that stands there, else 0644 and 0:0 (own)
+abbrev pub kept_meta : Option Entry → Meta
+kept_meta None = file_meta
+kept_meta (Some (Directory meta)) = file_meta
+kept_meta (Some (File meta content)) = meta
+
+-- Writing a file in a tree (own): what stands elsewhere stays, and missing parents are made 0755 and 0:0. It can't be done where a directory
+-- stands there or a file stands on the way.
+abbrev pub written : TreeMap → List (List ℕ) → List ℕ → TreeOrCause
+written tree path bytes = put_into tree path (File (kept_meta (get tree path)) bytes)

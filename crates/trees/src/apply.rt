@@ -1,6 +1,6 @@
 // The changes of a COPY are made on a node, one after another.
 
-ghost use Rattle.std.specs.Prelude.{◌≡◌};
+ghost use Rattle.std.specs.Prelude.{◌≡◌, Some, None, is_some, not, IfOk, IfErr};
 ghost use Rattle.std.specs.FinMap.{get};
 ghost use Rattle.trees.specs.declared.copy.Change.TheVariants.{Place};
 ghost use Rattle.trees.specs.TreeMap.{IsTree};
@@ -11,6 +11,7 @@ ghost use Rattle.trees.specs.PrivateCopy.{AppliesChange, AppliesChanges, kind_in
 ghost use Rattle.trees.specs.PrivateNode.{map_of};
 
 use crate::copy::Change;
+use crate::landing::Landing;
 use crate::node::Node;
 use crate::put::cause_at;
 use crate::{Cause, Entry, Meta, TreeFault};
@@ -123,15 +124,13 @@ pub(crate) fn make(
     ensures tree { IsTree (map_of root.new) }
 {
     let parts = path.components();
-    if let Some(cause) = make_cause(root, parts) {
-        return Err(Fault::Because(cause));
-    }
-    match root.lent().kind(parts) {
-        None => {
+    match is_unmade(root, parts) {
+        Err(cause) => Err(Fault::Because(cause)),
+        Ok(false) => Ok(()),
+        Ok(true) => {
             root.plant(alloc, parts, *meta, Entry::Directory(*meta))?;
             Ok(())
         }
-        Some(_) => Ok(()),
     }
 }
 
@@ -139,11 +138,27 @@ pub(crate) fn make(
 pub(crate) fn make_cause(root: &Node, path: &[Text]) -> Option<Cause>
     ensures { result ≡ make_cause (get (map_of root.now)) path.now }
 {
-    if root.lent().is_blocked(path) {
-        return Some(Cause::F2);
+    match is_unmade(root, path) {
+        Err(cause) => Some(cause),
+        Ok(_) => None,
     }
-    match root.lent().kind(path) {
-        Some(false) => Some(Cause::F2),
-        _ => None,
+}
+
+/// Whether nothing stands yet where a directory is to be made, or why it can't be made.
+fn is_unmade(root: &Node, path: &[Text]) -> Result<bool, Cause>
+    ensures cause { IfOk result (λ unmade. make_cause (get (map_of root.now)) path.now ≡ None) }
+    ensures there { IfOk result (λ unmade. is_some (get (map_of root.now) path.now) ≡ not unmade) }
+    ensures err { IfErr result (λ cause. make_cause (get (map_of root.now)) path.now ≡ Some cause) }
+{
+    match root.lent().landing(path) {
+        Landing::Blocked => Err(Cause::F2),
+        Landing::Free => Ok(true),
+        Landing::At(there) => {
+            if there.is_directory() {
+                Ok(false)
+            } else {
+                Err(Cause::F2)
+            }
+        }
     }
 }

@@ -2,7 +2,7 @@
 ghost use Rattle.std.specs.Prelude.{◌≡◌, ◌↔◌, ◌++◌, ◌∷◌, List, ℕ, [], Some, None, true, false, drop, is_some, IsTrue, IfOk, OnOk, MatchOption, option_and_then, option_map};
 ghost use Rattle.std.specs.FinMap.{get, empty, entries};
 ghost use Rattle.paths.specs.Path.{IsClean};
-ghost use Rattle.trees.specs.TreeMap.{is_blocked, is_directory, meta_of};
+ghost use Rattle.trees.specs.TreeMap.{is_directory, meta_of};
 ghost use Rattle.trees.specs.Rows.{lent_rows, entry_of};
 ghost use Rattle.trees.specs.Over.{over};
 ghost use Rattle.trees.specs.Copy.{placed_entry, placements, kind_of};
@@ -10,10 +10,12 @@ ghost use Rattle.trees.specs.PrivateNode.{map_of, node_of, IsDepth, IsDeeper, Is
 ghost use Rattle.trees.specs.PrivateHeld.{kids_of_lent};
 ghost use Rattle.trees.specs.PrivateSeen.{seen};
 ghost use Rattle.trees.specs.PrivateWalk.{rows_of, AreKidsFrom};
+ghost use Rattle.trees.specs.PrivateLanding.{Lands};
 ghost use Rattle.trees.specs.PrivateCopy.{MeetInDirectories};
 
 use crate::copy::Change;
 use crate::kids::Kids;
+use crate::landing::Landing;
 use crate::lent_kids::LentKids;
 use crate::node::{Held, Node};
 use crate::work::Work;
@@ -200,16 +202,21 @@ impl<'a> LentNode<'a> {
         }
     }
 
-    /// Whether a file stands on the way to a path below this node, this node's own entry included.
-    pub(crate) fn is_blocked(&self, path: &[Text]) -> bool
-        ensures { result ≡ is_blocked (get (map_of self.now)) path.now }
+    /// What a walk down to a path below this node finds. This node's own entry is on the way to all of them but its own.
+    pub(crate) fn landing(&self, path: &[Text]) -> Landing<'a>
+        ensures { Lands (get (map_of self.now)) path.now result }
     {
         match path {
-            [] => false,
-            [name, rest @ ..] => match self.child(name) {
-                Some(kid) => !self.is_directory() || kid.is_blocked(rest),
-                None => !self.is_directory(),
-            },
+            [] => Landing::At(self.entry()),
+            [name, rest @ ..] => {
+                if !self.is_directory() {
+                    return Landing::Blocked;
+                }
+                match self.child(name) {
+                    Some(kid) => kid.landing(rest),
+                    None => Landing::Free,
+                }
+            }
         }
     }
 

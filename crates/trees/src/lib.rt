@@ -28,6 +28,7 @@ mod folder;
 mod growing;
 mod inner;
 mod kids;
+mod landing;
 pub mod laws;
 mod lent_entry;
 mod lent_kids;

@@ -220,7 +220,15 @@ impl Node {
     pub(crate) fn copy(&self, alloc: Global) -> Result<Node, Memory>
         ensures { IfOk result (λ n. n ≡ self.now) }
     {
-        self.placed(alloc, &CopyOptions::keeping())
+        match &self.held {
+            Held::Leaf(entry) => Ok(Node::leaf(entry.copy(alloc)?)),
+            Held::Folder(inner, put_on) => {
+                let shared = Arc::try_clone(inner)?;
+                Ok(Node {
+                    held: Held::Folder(shared, *put_on),
+                })
+            }
+        }
     }
 
     /// Lays another node over this one, and answers whether this one is less deep than before. Where there is no memory, it is left

@@ -4,7 +4,7 @@ ghost use Rattle.trees.specs.declared.entry.Entry.TheVariants.{Directory};
 ghost use Rattle.trees.specs.TreeMap.{IsTree, directory_meta, empty_tree};
 ghost use Rattle.trees.specs.Cause.{GivesTree, ChangesTree};
 ghost use Rattle.trees.specs.Rows.{lent_rows, entry_of};
-ghost use Rattle.trees.specs.Put.{cause_at, placed, put_into};
+ghost use Rattle.trees.specs.Put.{cause_at, placed, put_into, written};
 ghost use Rattle.trees.specs.Whole.{tree_of, ArePlaceable};
 ghost use Rattle.trees.specs.Make.{made};
 ghost use Rattle.trees.specs.Remove.{removed};
@@ -19,9 +19,11 @@ use crate::folder::place_sources;
 use crate::growing::grow;
 use crate::lent_node::LentNode;
 use crate::node::Node;
-use crate::put::cause_at;
+use crate::put::{cause_at, written_meta};
 use crate::work::Work;
-use crate::{Branch, Cause, CopyOptions, CopySource, Entry, LentEntry, Meta, TreeFault, Walk};
+use crate::{
+    Branch, Cause, Content, CopyOptions, CopySource, Entry, LentEntry, Meta, TreeFault, Walk,
+};
 use paths::Path;
 use plain::{Exact, Fault, Memory};
 use std::alloc::Global;
@@ -168,6 +170,23 @@ impl Tree {
             Some(cause) => Err(Fault::Because(cause)),
             None => {
                 self.place(alloc, path, entry)?;
+                Ok(())
+            }
+        }
+    }
+
+    /// Writes a file at a path. One that stands there keeps its mode and owner, and a new one is 0644 and 0:0. Missing parents are made,
+    /// 0755 and 0:0.
+    ///
+    /// It fails with `F2` where a file stands on the way, and with `F4` where a directory stands there, as at the root. After any fault the
+    /// tree is as it was.
+    pub fn write(&mut self, alloc: Global, path: &Path, content: Content) -> Result<(), TreeFault>
+        ensures { ChangesTree (written self.old path.now content) self.old self.new result }
+    {
+        match written_meta(&self.root, path.components()) {
+            Err(cause) => Err(Fault::Because(cause)),
+            Ok(meta) => {
+                self.place(alloc, path, Entry::File(meta, content))?;
                 Ok(())
             }
         }
