@@ -2,13 +2,12 @@
 use Rattle.std.specs.Prelude.{ℕ, Bool, true, false, Option, Some, None, Result, Ok, Err, List, [], ◌∷◌, ◌++◌, slice_get, slice_set, refl}
 use Rattle.std.specs.Coded.{Coded, code_by, coded×, coded_list, coded_option}
 use Rattle.std.specs.FinMap.{get}
-use Rattle.trees.specs.declared.meta.Meta.{Meta}
 use Rattle.trees.specs.declared.entry.Entry.{Entry}
 use Rattle.trees.specs.declared.entry.Entry.TheVariants.{Directory, File}
-use Rattle.trees.specs.TreeMap.{TreeMap, file_meta}
+use Rattle.trees.specs.TreeMap.{TreeMap}
 use Rattle.trees.specs.contracts.tree.Tree as tree
 use Rattle.trees.specs.Cause.{TreeOrCause}
-use Rattle.trees.specs.Put.{put_into}
+use Rattle.trees.specs.Put.{written}
 use Rattle.trees.specs.Remove.{removed}
 use Rattle.runs.specs.declared.run.RunBind.{RunBind}
 use Rattle.runs.specs.declared.run.RunRequest.{RunRequest}
@@ -27,17 +26,6 @@ bytes_of (Some (File meta content)) = Some content
 abbrev pub bytes_or_none : Option (List ℕ) → List ℕ
 bytes_or_none None = []
 bytes_or_none (Some bytes) = bytes
-
--- the mode and owner with which a file is written: those of the file that stands there, else 0644 and 0:0
-abbrev pub kept_meta : Option Entry → Meta
-kept_meta None = file_meta
-kept_meta (Some (Directory meta)) = file_meta
-kept_meta (Some (File meta content)) = meta
-
--- Writing a file in a tree: what stands elsewhere stays, and missing parents are made 0755 and 0:0. It can't be done where a directory
--- stands there or a file stands on the way.
-abbrev pub written : TreeMap → List (List ℕ) → List ℕ → TreeOrCause
-written tree path bytes = put_into tree path (File (kept_meta (get tree path)) bytes)
 
 -- A tree with a change at a path, or why the change can't be made: a file holds these bytes; a `+` is added to a file, which is made if
 -- it is missing; the path goes with all below it, which it can't where nothing stands there, nor at the top of the tree.

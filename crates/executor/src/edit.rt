@@ -1,13 +1,14 @@
 ghost use Rattle.std.specs.Prelude.{◌≡◌, [], ◌∷◌, ◌++◌, IfOk};
 ghost use Rattle.std.specs.FinMap.{get};
 ghost use Rattle.trees.specs.Cause.{ChangesTree};
+ghost use Rattle.trees.specs.Put.{written};
 ghost use Rattle.executor.specs.declared.edit.Change.TheVariants.{Bump};
-ghost use Rattle.executor.specs.Edits.{kept_meta, bytes_of, bytes_or_none, written, changed};
+ghost use Rattle.executor.specs.Edits.{bytes_of, bytes_or_none, changed};
 
 use paths::Path;
 use plain::{Bytes, Memory};
 use std::alloc::Global;
-use trees::{Content, Entry, LentEntry, Meta, Tree, TreeFault};
+use trees::{Content, LentEntry, Tree, TreeFault};
 
 /// What a command makes of the path that it names.
 #[derive(Drop)]
@@ -70,17 +71,6 @@ fn bumped(alloc: Global, tree: &Tree, path: &Path) -> Result<Bytes, Memory>
 fn write(alloc: Global, tree: &mut Tree, path: &Path, bytes: Bytes) -> Result<(), TreeFault>
     ensures { ChangesTree (written tree.old path.now bytes) tree.old tree.new result }
 {
-    let meta = kept_meta(tree, path);
     let content = Content::new(alloc, bytes)?;
-    tree.put(alloc, path, Entry::File(meta, content))
-}
-
-/// The mode and owner with which a file is written at a path.
-fn kept_meta(tree: &Tree, path: &Path) -> Meta
-    ensures { result ≡ kept_meta (get tree.now path.now) }
-{
-    match tree.get(path) {
-        Some(LentEntry::File(meta, _)) => meta,
-        _ => Meta::file(),
-    }
+    tree.write(alloc, path, content)
 }
