@@ -91,7 +91,7 @@ impl<T: Exact + Drop> Exact for Items<T> {
 }
 
 /// Whether two lists have the same elements in the same order.
-fn same_items<T: Exact>(these: &[T], those: &[T]) -> bool
+pub(crate) fn same_items<T: Exact>(these: &[T], those: &[T]) -> bool
     ensures { IsTrue result ↔ (these.now ≡ those.now) }
 {
     if these.len() != those.len() {
