@@ -1,8 +1,8 @@
--- What a scope is seen as: the declarations that its two maps hold.
-use Rattle.std.specs.Prelude.{ℕ, Bool, List, ◌++◌, map, Option, None, if◌then◌else◌}
+-- What a scope is seen as: the declarations that its two maps hold. What it keeps beside them is RUN's environment by them.
+use Rattle.std.specs.Prelude.{◌≡◌, ℕ, Bool, List, ◌++◌, map, Option, None, IfSome, if◌then◌else◌}
 use Rattle.std.specs.List.{filter_map}
 use Rattle.named.specs.Rows.{has_row}
-use Rattle.scopes.specs.Scope.{env_row}
+use Rattle.scopes.specs.Scope.{env_row, run_env}
 use Rattle.scopes.specs.declared.declaration.Declaration.{Declaration}
 use Rattle.scopes.specs.declared.declaration.Declaration.TheVariants.{Env, Arg}
 use Rattle.plain.specs.declared.variable.Variable.{Variable}
@@ -30,3 +30,7 @@ argument_row is_set name value = if is_set then None else env_row name value
 -- the rows that ARGs make beside those of ENVs
 abbrev pub argument_rows : List (List ℕ × List ℕ) → List (List ℕ × Option (List ℕ)) → List Variable
 argument_rows variables arguments = filter_map (λ row. argument_row (has_row row.0 variables) row.0 row.1) arguments
+
+-- an environment that is kept is that of these declarations
+abbrev pub IsEnvironmentOf : List Declaration → Option (List Variable) → Type 0
+IsEnvironmentOf ds env = IfSome env (λ rows. rows ≡ run_env ds)

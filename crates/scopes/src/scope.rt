@@ -13,7 +13,7 @@ use crate::maps::{push_arguments, push_variables};
 use expand::{ExpandFault, Lookup};
 use instructions::{Argument, Assignment};
 use named::NamedRows;
-use plain::{Items, Memory, Text, Variable};
+use plain::{Exact, Items, Memory, Text, Variable, Variables};
 use std::alloc::Global;
 use std::marker::Model;
 
@@ -25,6 +25,8 @@ use std::marker::Model;
 pub struct Scope {
     variables: NamedRows<Text>,
     arguments: NamedRows<Option<Text>>,
+    // what RUN's environment is, from when it is asked for until something is declared: the commands between have one, and share it
+    env: Option<Variables>,
 }
 
 impl Model for Scope {
@@ -34,11 +36,11 @@ impl Model for Scope {
     ghost Value = { List Declaration };
 
     ghost use Rattle.scopes.specs.Scope.{kept, value_in};
-    ghost use Rattle.scopes.specs.PrivateMaps.{declared};
+    ghost use Rattle.scopes.specs.PrivateMaps.{declared, IsEnvironmentOf};
 
     ghost view = { λ s. declared s.variables s.arguments };
 
-    ghost invariant = { λ s. kept (declared s.variables s.arguments) ≡ declared s.variables s.arguments };
+    ghost invariant = { λ s. (kept (declared s.variables s.arguments) ≡ declared s.variables s.arguments) × IsEnvironmentOf (declared s.variables s.arguments) s.env };
 }
 
 impl Scope {
@@ -49,6 +51,7 @@ impl Scope {
         Scope {
             variables: NamedRows::new(alloc),
             arguments: NamedRows::new(alloc),
+            env: None,
         }
     }
 
@@ -105,6 +108,7 @@ impl Scope {
         ensures ok { OnOk result (self.new ≡ kept (self.old ++ map env_row_of rows)) }
         ensures err { OnErr result (self.new ≡ self.old) }
     {
+        drop(self.env.take());
         self.variables.set_all(alloc, rows)
     }
 
@@ -113,6 +117,7 @@ impl Scope {
         ensures ok { OnOk result (self.new ≡ kept (self.old ++ map arg_row_of rows)) }
         ensures err { OnErr result (self.new ≡ self.old) }
     {
+        drop(self.env.take());
         self.arguments.give_all(alloc, rows)
     }
 
@@ -128,8 +133,36 @@ impl Scope {
 
     /// The environment of RUN: the names that ENVs set, in the order in which they came first, with their last values; then
     /// the names that have a value by an ARG and no ENV, in the order in which they were first declared (own). There is no
-    /// `PATH` among them unless one was set (own).
-    pub fn run_env(&self, alloc: Global) -> Result<Items<Variable>, Memory>
+    /// `PATH` among them unless one was set (own). It is shared with the scope if [`keep_env`](Scope::keep_env) made it before.
+    pub fn run_env(&self, alloc: Global) -> Result<Variables, Memory>
+        ensures { IfOk result (λ env. env ≡ run_env self.now) }
+    {
+        match &self.env {
+            Some(env) => env.copy(alloc),
+            None => self.made_env(alloc),
+        }
+    }
+
+    /// Makes RUN's environment and keeps it, until the next ENV or ARG: the RUNs up to there share it, as many as they are.
+    pub fn keep_env(&mut self, alloc: Global) -> Result<(), Memory>
+        ensures { self.new ≡ self.old }
+    {
+        if self.env.is_none() {
+            self.env = Some(self.made_env(alloc)?);
+        }
+        Ok(())
+    }
+
+    /// RUN's environment, made of what is declared.
+    fn made_env(&self, alloc: Global) -> Result<Variables, Memory>
+        ensures { IfOk result (λ env. env ≡ run_env self.now) }
+    {
+        let rows = self.env_rows(alloc)?;
+        Variables::of(alloc, rows.into_vec())
+    }
+
+    /// Its rows.
+    fn env_rows(&self, alloc: Global) -> Result<Items<Variable>, Memory>
         ensures { IfOk result (λ rows. rows ≡ run_env self.now) }
     {
         let most = self.variables.len().saturating_add(self.arguments.len());
@@ -139,15 +172,17 @@ impl Scope {
         Ok(rows)
     }
 
-    /// A scope of its own with the same declarations, with which a stage from a stage begins.
+    /// A scope of its own with the same declarations, with which a stage from a stage begins. An environment that is kept is shared.
     pub fn copy(&self, alloc: Global) -> Result<Scope, Memory>
         ensures { IfOk result (λ copied. copied ≡ self.now) }
     {
         let variables = self.variables.copy(alloc)?;
         let arguments = self.arguments.copy(alloc)?;
+        let env = self.env.copy(alloc)?;
         Ok(Scope {
             variables,
             arguments,
+            env,
         })
     }
 }
