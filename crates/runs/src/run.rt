@@ -1,5 +1,5 @@
 use paths::Path;
-use plain::{Exact, Items, Memory, Sharing, Text, Variable, with_copy};
+use plain::{Exact, Items, Memory, Sharing, Text, Variables, with_copy};
 use std::alloc::Global;
 use trees::Tree;
 
@@ -63,8 +63,8 @@ pub struct RunRequest {
     pub binds: Items<RunBind>,
     /// The cache mounts, in the order of the line.
     pub caches: Items<CacheUse>,
-    /// The environment, each name once.
-    pub env: Items<Variable>,
+    /// The environment, each name once. Requests between whose commands nothing is declared share it.
+    pub env: Variables,
     /// The directory that the command runs in.
     pub dir: Path,
     /// The user that it runs as, as USER wrote it.
