@@ -1,11 +1,11 @@
 -- The hash of a vertex (own): what is written of it to a hasher, and what the hasher gives. A hash narrows the search for an
 -- equal vertex and decides nothing: all that counts is that it is a function of the vertex.
 use Rattle.std.specs.Prelude.{ℕ, Option, Some, None, List, [], ◌∷◌, ◌++◌, fold, length}
-use Rattle.std.specs.Hash.{HashWrites, u8, u16, u32, usize, bool, str, slice}
+use Rattle.std.specs.Hash.{HashWrites, u8, u16, u32, u64, usize, bool, str, slice}
 use Rattle.std.specs.Hash.DefaultHasher as sip
 use Rattle.plain.specs.declared.sharing.Sharing.{Sharing}
 use Rattle.plain.specs.declared.sharing.Sharing.TheVariants.{Shared, Private, Locked}
-use Rattle.plain.specs.declared.variable.Variable.{Variable}
+use Rattle.plain.specs.Hash.{variables_hash}
 use Rattle.runs.specs.declared.run.CacheUse.{CacheUse}
 use Rattle.plain.specs.declared.owner.Owner.{Owner}
 use Rattle.trees.specs.declared.copy.CopyOptions.{CopyOptions}
@@ -24,10 +24,6 @@ use Rattle.llb.specs.declared.vertex.Vertex.{Vertex}
 abbrev pub path_writes : List (List ℕ) → HashWrites
 path_writes path = slice str path
 
--- what is written of a variable (own)
-abbrev pub variable_writes : Variable → HashWrites
-variable_writes variable = str variable.name ++ str variable.value
-
 -- what is written of a sharing: its place among the three (own)
 abbrev pub sharing_writes : Sharing → HashWrites
 sharing_writes Shared = u8 0
@@ -42,10 +38,10 @@ cache_writes cache = str cache.id ++ sharing_writes cache.sharing ++ path_writes
 abbrev pub bind_writes : Bind → HashWrites
 bind_writes bind = bool bind.rw ++ path_writes bind.source ++ path_writes bind.target
 
--- what is written of a command, each list with its length (own)
+-- what is written of a command, each list with its length, and of its environment the hash of that (own)
 abbrev pub exec_writes : Exec → HashWrites
 exec_writes exec =
-    slice bind_writes exec.binds ++ slice cache_writes exec.caches ++ path_writes exec.dir ++ slice variable_writes exec.env
+    slice bind_writes exec.binds ++ slice cache_writes exec.caches ++ path_writes exec.dir ++ u64 (variables_hash exec.env)
     ++ str exec.user ++ slice str exec.words
 
 -- what is written of a file's bytes: how many they are, and all of them at once (own)

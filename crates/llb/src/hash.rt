@@ -1,11 +1,11 @@
 ghost use Rattle.std.specs.Prelude.{◌≡◌, ℕ, List, fold};
 ghost use Rattle.std.specs.Hash.{bool as bool_writes, u16 as u16_writes, u32 as u32_writes, slice, str as str_writes};
 ghost use Rattle.std.specs.Hash.DefaultHasher as sip;
-ghost use Rattle.llb.specs.Hash.{path_writes, variable_writes, sharing_writes, cache_writes, bind_writes, exec_writes, content_writes, option_writes, owner_writes, copy_options_writes, file_source_writes, copy_writes, source_writes, op_writes, vertex_writes, hash_of};
+ghost use Rattle.llb.specs.Hash.{path_writes, sharing_writes, cache_writes, bind_writes, exec_writes, content_writes, option_writes, owner_writes, copy_options_writes, file_source_writes, copy_writes, source_writes, op_writes, vertex_writes, hash_of};
 
 use crate::{Bind, CopyFiles, Exec, FileSource, Op, Source, Vertex, VertexId};
 use paths::{Name, Path};
-use plain::{Items, Mode, Owner, Sharing, Text, Variable};
+use plain::{Items, Mode, Owner, Sharing, Text};
 use runs::CacheUse;
 use std::hash::{DefaultHasher, Hash, Hasher};
 use trees::{Content, CopyOptions};
@@ -77,15 +77,6 @@ impl Written for Path {
     }
 }
 
-impl Written for Variable {
-    ghost writes = { variable_writes };
-
-    fn write_to(&self, state: &mut DefaultHasher) {
-        self.name.write_to(state);
-        self.value.write_to(state);
-    }
-}
-
 impl Written for Sharing {
     ghost writes = { sharing_writes };
 
@@ -125,7 +116,8 @@ impl Written for Exec {
         self.binds.write_to(state);
         self.caches.write_to(state);
         self.dir.write_to(state);
-        self.env.write_to(state);
+        // its own hash is known, and a command may have thousands of variables
+        self.env.hash().hash(state);
         self.user.write_to(state);
         self.words.write_to(state);
     }

@@ -1,5 +1,5 @@
 use paths::{Name, Path};
-use plain::{Exact, Items, Memory, Text, Variable, with_copy};
+use plain::{Exact, Items, Memory, Text, Variables, with_copy};
 use runs::CacheUse;
 use std::alloc::Global;
 use trees::{Content, CopyOptions};
@@ -70,8 +70,8 @@ pub struct Exec {
     pub caches: Items<CacheUse>,
     /// The directory that the command runs in.
     pub dir: Path,
-    /// The environment, each name once.
-    pub env: Items<Variable>,
+    /// The environment, each name once. Commands between which nothing is declared share it.
+    pub env: Variables,
     /// The user that it runs as, as USER wrote it.
     pub user: Text,
     /// The command and its arguments.
