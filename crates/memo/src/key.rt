@@ -1,5 +1,4 @@
 ghost use Rattle.std.specs.Prelude.{◌≡◌};
-ghost use Rattle.llb.specs.Hash.{op_writes};
 ghost use Rattle.memo.specs.Key.{key_of, Takes};
 
 use crate::written::Written;

@@ -2,17 +2,19 @@
 
 ghost use Rattle.std.specs.Prelude.{◌≡◌, ◌∷◌, [], ℕ, List};
 ghost use Rattle.std.specs.Hash.{bool as bool_writes, u8 as u8_writes, u16 as u16_writes, u32 as u32_writes, usize as usize_writes, slice, str as str_writes};
-ghost use Rattle.llb.specs.Hash.{path_writes, variable_writes, sharing_writes, cache_writes, bind_writes, exec_writes, content_writes, option_writes, owner_writes, copy_options_writes, file_source_writes, copy_writes, source_writes, op_writes};
-ghost use Rattle.memo.specs.Key.{Takes};
+ghost use Rattle.plain.specs.Hash.{variable_writes};
+ghost use Rattle.llb.specs.Hash.{path_writes, sharing_writes, cache_writes, bind_writes, content_writes, option_writes, owner_writes, copy_options_writes, file_source_writes, copy_writes, source_writes};
+ghost use Rattle.memo.specs.Key.{Takes, command_writes, operation_writes};
 
 use llb::{Bind, CopyFiles, Exec, FileSource, Op, Source};
 use paths::{Name, Path};
-use plain::{Items, Mode, Owner, Sharing, Text, Variable};
+use plain::{Items, Mode, Owner, Sharing, Text, Variable, Variables};
 use runs::CacheUse;
 use sha2::{Digest, Sha256};
 use trees::{Content, CopyOptions};
 
-/// Values that are written to a hasher, equal ones by equal pieces. What is written of an operation is what `llb` writes of it to a hasher of its own.
+/// Values that are written to a hasher, equal ones by equal pieces. What is written of an operation is what `llb` writes of it to a hasher of its own, but for its
+/// environment: its variables are written, and not their hash, of which others that share it could be searched for.
 pub(crate) trait Written {
     // the pieces, in order
     ghost writes: { Self → List (List ℕ) };
@@ -114,6 +116,14 @@ impl Written for Variable {
     }
 }
 
+impl Written for Variables {
+    ghost writes = { slice variable_writes };
+
+    fn write_to(&self, hasher: &mut Sha256) {
+        write_items(self.as_slice(), hasher);
+    }
+}
+
 impl Written for Sharing {
     ghost writes = { sharing_writes };
 
@@ -148,7 +158,7 @@ impl Written for Bind {
 }
 
 impl Written for Exec {
-    ghost writes = { exec_writes };
+    ghost writes = { command_writes };
 
     fn write_to(&self, hasher: &mut Sha256) {
         self.binds.write_to(hasher);
@@ -263,7 +273,7 @@ impl Written for Source {
 }
 
 impl Written for Op {
-    ghost writes = { op_writes };
+    ghost writes = { operation_writes };
 
     fn write_to(&self, hasher: &mut Sha256) {
         match self {

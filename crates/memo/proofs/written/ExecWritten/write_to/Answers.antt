@@ -1,6 +1,7 @@
 use Rattle.std.specs.Prelude.{◌++◌}
 use Rattle.std.specs.Hash.{HashWrites, slice, str}
-use Rattle.llb.specs.Hash.{bind_writes, cache_writes, path_writes, variable_writes}
+use Rattle.plain.specs.Hash.{variable_writes}
+use Rattle.llb.specs.Hash.{bind_writes, cache_writes, path_writes}
 use Rattle.memo.specs.Key.{Takes}
 use Rattle.memo.proofs.WrittenLemmas.{takes_then}
 use Rattle.memo.proofs.written.ExecWritten.write_to.Goals as goal
