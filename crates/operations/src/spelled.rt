@@ -6,14 +6,14 @@ ghost use Rattle.std.specs.Option.{option_and_then};
 ghost use Rattle.serde_json.specs.View.{view};
 ghost use Rattle.serde_json.specs.Find.{get};
 ghost use Rattle.strict.specs.Gives.{Gives};
-ghost use Rattle.strict.specs.Strict.{short_number_in};
-ghost use Rattle.operations.specs.Spelled.{is_digit, is_address, inputs_in, variable_of, sharing_of, source_of, source_in, exec_in, or_null, mode_of, mode_in, owner_of, owner_in, options_in, name_of, content_in, pattern_in, own_file_in, copy_in, mkdir_in, file_op_of, file_op_in, merge_in, op_of, spelled_in};
+ghost use Rattle.strict.specs.Strict.{short_number_in, list_in};
+ghost use Rattle.operations.specs.Spelled.{is_digit, is_address, inputs_in, variable_of, variable_in, sharing_of, source_of, source_in, exec_in, or_null, mode_of, mode_in, owner_of, owner_in, options_in, name_of, content_in, pattern_in, own_file_in, copy_in, mkdir_in, file_op_of, file_op_in, merge_in, op_of, spelled_in};
 
 use crate::lists::{Readable, part_at, parts_at};
 use hex::FromHexError;
 use llb::{Bind, CopyFiles, Exec, FileSource, Op, Source};
 use paths::{Name, Path};
-use plain::{Bytes, Fault, Items, Mode, Owner, Sharing, Text, Variable};
+use plain::{Bytes, Fault, Items, Mode, Owner, Sharing, Text, Variable, Variables};
 use runs::CacheUse;
 use serde_json::Value;
 use std::alloc::Global;
@@ -167,6 +167,14 @@ fn source_in(alloc: Global, value: &Value) -> Result<Source, ReadFault>
     part_at::<Source>(alloc, value, "source")
 }
 
+/// The variables that stand at a key.
+fn variables_at(alloc: Global, value: &Value, key: &str) -> Result<Variables, ReadFault>
+    ensures { Gives result (option_and_then (list_in variable_in) (get key.now (view value.now))) }
+{
+    let rows = parts_at::<Variable>(alloc, value, key)?;
+    Ok(Variables::of(alloc, rows.into_vec())?)
+}
+
 /// A command.
 #[tactic(auto, unfolding(crate::specs::Spelled::exec_in))]
 fn exec_in(alloc: Global, value: &Value) -> Result<Exec, ReadFault>
@@ -181,7 +189,7 @@ fn exec_in(alloc: Global, value: &Value) -> Result<Exec, ReadFault>
     let binds = parts_at::<Bind>(alloc, value, "binds")?;
     let caches = parts_at::<CacheUse>(alloc, value, "caches")?;
     let dir = one_at::<Path>(alloc, value, "dir")?;
-    let env = parts_at::<Variable>(alloc, value, "env")?;
+    let env = variables_at(alloc, value, "env")?;
     let user = one_at::<Text>(alloc, value, "user")?;
     let words = list_at::<Text>(alloc, value, "words")?;
     Ok(Exec {
