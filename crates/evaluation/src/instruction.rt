@@ -290,6 +290,16 @@ fn leave(
     }
 }
 
+/// Makes a RUN's environment where it stands, and has the scope keep it: the RUNs up to the next ENV or ARG then share it.
+fn keep_env(alloc: Global, state: &mut State, kind: &InstructionKind) -> Result<(), Memory>
+    ensures { state.new ≡ state.old }
+{
+    match kind {
+        InstructionKind::Run { .. } => state.scope.keep_env(alloc),
+        _ => Ok(()),
+    }
+}
+
 /// What an instruction does to the tree, beside what it left.
 fn finish(
     alloc: Global,
@@ -300,6 +310,13 @@ fn finish(
     ensures { EvaluatesTo (finished state instruction.kind origins) (acted_due state instruction.kind) (acted_fault state instruction.kind) instruction.line result }
 {
     let Instruction { line, kind } = instruction;
+    let mut state = state;
+    if keep_env(alloc, &mut state, &kind).is_err() {
+        drop(state);
+        drop(kind);
+        drop(origins);
+        return Err(Fault::Memory);
+    }
     match act(alloc, &state, kind, origins) {
         Ok(action) => Ok(Done { state, action }),
         Err(fault) => {
