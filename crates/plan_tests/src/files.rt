@@ -5,7 +5,7 @@ ghost use Rattle.plan_tests.specs.PrivateFiles.{run_exec, run_stage, two_stages}
 use llb::{Exec, Source, VertexId};
 use lowering::lower_program;
 use paths::Path;
-use plain::{Items, Memory, Text};
+use plain::{Items, Memory, Text, Variables};
 use plans::{Plan, Sources};
 use rewrite::prune;
 use rows::{Action, Origin, Stage, Step};
@@ -23,7 +23,7 @@ fn run_exec(alloc: Global, word: &str) -> Result<Exec, Memory>
         binds: Items::new(alloc),
         caches: Items::new(alloc),
         dir: Path::root(alloc),
-        env: Items::new(alloc),
+        env: Variables::none(),
         user: Text::from_string(String::new(alloc)),
         words,
     })

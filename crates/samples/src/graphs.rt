@@ -2,7 +2,7 @@ use crate::data::{path, texts, tree};
 use llb::{Bind, CopyFiles, Exec, FileSource, Graph, Op, Source, Vertex, VertexId};
 use paths::Path;
 use plain::limits::MOST_LINE_NUMBER;
-use plain::{Items, Memory, Sharing, Text};
+use plain::{Items, Memory, Sharing, Text, Variables};
 use plans::{Plan, Sources};
 use runs::CacheUse;
 use std::alloc::Global;
@@ -16,7 +16,7 @@ pub fn command(alloc: Global, text: &str) -> Result<Exec, Memory> {
         binds: Items::new(alloc),
         caches: Items::new(alloc),
         dir: Path::root(alloc),
-        env: Items::new(alloc),
+        env: Variables::none(),
         user,
         words,
     })

@@ -7,7 +7,7 @@ use crate::reading::path_of;
 use crate::telling::{begin, text_of};
 use executor::{Executor, Fixture, Outcome, Request};
 use paths::Path;
-use plain::{Exact, Items, Memory, Sharing, Text, Variable};
+use plain::{Exact, Items, Memory, Sharing, Text, Variable, Variables};
 use runs::{CacheUse, RunBind};
 use std::alloc::Global;
 use trees::{Cause, Meta, Tree};
@@ -82,7 +82,7 @@ fn request_on(alloc: Global, tree: &Tree) -> Result<Request, Memory>
         root,
         binds: Items::new(alloc),
         caches: Items::new(alloc),
-        env: Items::new(alloc),
+        env: Variables::none(),
         dir: Path::root(alloc),
         user: Text::from_string(String::new(alloc)),
         words: Items::new(alloc),
@@ -96,14 +96,14 @@ fn ask(alloc: Global, request: &mut Request, script: &str) -> Result<(), Memory>
 {
     request.dir = path_of(alloc, "/d")?;
     request.user = Text::from_str(alloc, "nobody")?;
-    push_variable(alloc, &mut request.env)?;
+    request.env = one_variable(alloc)?;
     push_words(alloc, &mut request.words, script)
 }
 
-fn push_variable(alloc: Global, env: &mut Items<Variable>) -> Result<(), Memory> {
+fn one_variable(alloc: Global) -> Result<Variables, Memory> {
     let name = Text::from_str(alloc, "A")?;
     let value = Text::from_str(alloc, "1")?;
-    env.push(Variable { name, value })
+    Variables::of(alloc, vec![in alloc; Variable { name, value }]?)
 }
 
 fn push_words(alloc: Global, words: &mut Items<Text>, script: &str) -> Result<(), Memory> {
