@@ -1,4 +1,6 @@
-use Rattle.std.specs.Prelude.{Some}
+use Rattle.std.specs.Prelude.{Some, Err}
+use Rattle.std.proofs.Common.{subst}
+use Rattle.instructions.specs.Reason.{Evaluates}
 use Rattle.evaluation.specs.PrivateInstruction.{acted, acted_due, acted_fault, finished}
 use Rattle.evaluation.proofs.LineFacts.{line_reported, reason_met}
 use Rattle.evaluation.proofs.instruction.finish.Goals as goal
@@ -9,4 +11,5 @@ returns-in-Err c =
     let codes = acted_due c.args.state kind in
     let against = acted_fault c.args.state kind in
     line_reported (finished c.args.state kind c.args.origins) codes against c.args.instruction.line c.in-Err.fault _ c.with_line.ensures
-    (reason_met (Some (acted c.args.state kind c.args.origins)) codes against c.in-Err.fault c.in-Err.ensures)
+    (reason_met (Some (acted c.args.state kind c.args.origins)) codes against c.in-Err.fault
+    (subst (λ state. Evaluates (Some (acted state kind c.args.origins)) (acted_due state kind) (acted_fault state kind) (Err c.in-Err.fault)) c.keep_env.ensures c.in-Err.ensures))
