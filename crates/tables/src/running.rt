@@ -103,7 +103,9 @@ fn ask(alloc: Global, request: &mut Request, script: &str) -> Result<(), Memory>
 fn one_variable(alloc: Global) -> Result<Variables, Memory> {
     let name = Text::from_str(alloc, "A")?;
     let value = Text::from_str(alloc, "1")?;
-    Variables::of(alloc, vec![in alloc; Variable { name, value }]?)
+    let mut rows = Vec::with_capacity(alloc, 1)?;
+    rows.push(Variable { name, value })?;
+    Variables::of(alloc, rows)
 }
 
 fn push_words(alloc: Global, words: &mut Items<Text>, script: &str) -> Result<(), Memory> {
