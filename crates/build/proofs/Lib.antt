@@ -9,4 +9,5 @@ mod OnePlanFacts
 mod PlanFacts
 mod ShowFacts
 mod TellFacts
+mod TextFacts
 mod TitledFacts

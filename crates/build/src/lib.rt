@@ -16,6 +16,7 @@
 // ```
 #![tactic(auto)]
 
+mod answering;
 mod asking;
 mod building;
 mod code;
@@ -29,6 +30,7 @@ mod telling;
 mod titled;
 mod told;
 
+pub use answering::put_built;
 pub use asking::{Asked, ask};
 pub use building::{run_build, run_build_keeping};
 pub use code::status_code;

@@ -1,10 +1,7 @@
 ghost use Rattle.std.specs.Prelude.{◌≡◌, ◌<◌, ◌≤◌, [], IfOk, Ok as OkOf};
 ghost use Rattle.std.specs.FinMap.{entries};
-ghost use Rattle.std.specs.String.{string_bytes};
 ghost use Rattle.plain.specs.Limits.{most_workers};
 ghost use Rattle.counted.specs.Gathering.{nothing};
-ghost use Rattle.serde_json.specs.Data.{Data};
-ghost use Rattle.serde_json.specs.Written.{compact_text};
 ghost use Rattle.imageconfig.specs.Writing.{config_data};
 ghost use Rattle.bundle.specs.Answer.{built_text, failed_text, refused_text};
 ghost use Rattle.memo.specs.Memo.{Grows};
@@ -13,12 +10,14 @@ ghost use Rattle.counted.specs.Edges.{line_of};
 ghost use Rattle.build.specs.PrivateTelling.{TellsAsked, TellsBundle, TellsPlan, TellsSolution, TellsText, IsTold};
 ghost use Rattle.build.specs.declared.status.Status.TheVariants.{Built, Failed, Refused};
 
+use crate::answering::put_built;
 use crate::asking::{Asked, ask_once};
 use crate::remains::Remains;
 use crate::told::Told;
 use crate::{BuildFault, Status, plan_of};
-use bundle::{failed_answer, put_built, refused_answer};
+use bundle::{failed_answer, refused_answer};
 use cachemounts::CacheStore;
+use configtext::UnsaidConfig;
 use counted::{CountedWrite, Gathered, finish, gather, write_all};
 use entries::Unsaid;
 use executor::Executor;
@@ -187,34 +186,24 @@ fn tell_tree<W: CountedWrite, R: Threads + Sync>(
     ensures { IsTold (TellsText Built (built_text (config_data config.now) (entries tree.now)))
         (W.contents output.old) (W.failures output.old) (W.contents output.new) (W.failures output.new) result }
 {
-    let config = config_text(alloc, config)?;
+    let config = UnsaidConfig::of(alloc, config)?;
     let gathered = Gathered::new(alloc)?;
     let unsaid = Unsaid::of(alloc, tree)?;
-    write_built(alloc, rt, output, gathered, config.as_str(), unsaid)
+    write_built(alloc, rt, output, gathered, &config, unsaid)
 }
 
-/// A configuration as compact JSON.
-fn config_text(alloc: Global, config: &Config) -> Result<String, Memory>
-    ensures { IfOk result (λ text. string_bytes text ≡ compact_text (config_data config.now)) }
-{
-    let value = config.to_json(alloc)?;
-    let text = value.to_string(alloc)?;
-    Ok(text)
-}
-
-/// Writes the answer of a build that gave this tree, with this text of a configuration, piece by piece. Want of memory changes nothing of it.
+/// Writes the answer of a build that gave this tree, with this configuration, piece by piece. Want of memory changes nothing of it.
 fn write_built<W: CountedWrite, R: Threads + Sync>(
     alloc: Global,
     rt: &R,
     output: &mut W,
     gathered: Gathered,
-    config: &str,
+    config: &UnsaidConfig<'_>,
     unsaid: Unsaid<'_>,
 ) -> Result<Status, BuildFault>
     requires empty { gathered ≡ nothing }
     requires writes { W.failures output.old < u64.MAX }
-    ensures { (value : Data) → config.now ≡ compact_text value
-        → IsTold (TellsText Built (built_text value unsaid.entry))
+    ensures { IsTold (TellsText Built (built_text (config_data config.now) unsaid.entry))
         (W.contents output.old) (W.failures output.old) (W.contents output.new) (W.failures output.new) result }
 {
     let mut gathered = gathered;

@@ -1,42 +1,12 @@
 ghost use Rattle.std.specs.Prelude.{◌≡◌, IfOk};
-ghost use Rattle.counted.specs.Gathering.{sink, Says, HasRoom};
-ghost use Rattle.serde_json.specs.Data.{Data};
-ghost use Rattle.serde_json.specs.Written.{compact_text};
 ghost use Rattle.serde_json.specs.View.{view};
-ghost use Rattle.bundle.specs.Answer.{failed_data, coded_data, required_data, refused_data, built_text, failed_text, refused_text};
+ghost use Rattle.bundle.specs.Answer.{failed_data, coded_data, required_data, refused_data, failed_text, refused_text};
 
-use counted::{CountedWrite, Gathered, gather};
-use entries::{Unsaid, put_tree};
 use expand::{Reason, Rejection};
 use plain::{Code, Memory, Text};
 use serde_json::{Value, json};
 use std::alloc::Global;
-use std::thread::Threads;
 use trees::Cause;
-
-/// Says the answer of a build that gave this tree, with this text of the image's configuration, which is compact JSON: one line of compact
-/// JSON, without the LF that ends it. Want of memory changes nothing of it.
-pub fn put_built<W: CountedWrite, R: Threads + Sync>(
-    alloc: Global,
-    rt: &R,
-    output: &mut W,
-    gathered: &mut Gathered,
-    config: &str,
-    unsaid: Unsaid<'_>,
-)
-    requires room { HasRoom (W.failures output.old) gathered.old }
-    ensures says { (value : Data) → config.now ≡ compact_text value → Says
-        (sink (W.contents output.old) (W.failures output.old) gathered.old)
-        (sink (W.contents output.new) (W.failures output.new) gathered.new)
-        (built_text value unsaid.entry) }
-    ensures room { HasRoom (W.failures output.new) gathered.new }
-{
-    gather(output, gathered, b"{\"config\":");
-    gather(output, gathered, config.as_bytes());
-    gather(output, gathered, b",\"result\":\"built\",\"tree\":");
-    put_tree(alloc, rt, output, gathered, unsaid);
-    gather(output, gathered, b"}");
-}
 
 /// The answer of a build in which the instruction on this line failed with this cause.
 pub fn failed_answer(alloc: Global, line: u32, cause: Cause) -> Result<Text, Memory>

@@ -3,9 +3,10 @@ use Rattle.std.proofs.Common.{◌≡◌, ℕ, zero, suc, ◌+◌, ◌/◌, ◌%�
 use Rattle.std.specs.List.{list_all}
 use Rattle.std.proofs.lemmas.Bool.{and_parts, cases_lt}
 use Rattle.std.proofs.lemmas.List.{take-append-drop, take_all, drop_all, length-drop}
-use Rattle.std.proofs.lemmas.Grind.{flat_map-append}
 use Rattle.hex.specs.Hex.{IsBytes, encode_with, encode_lower, lower_digits}
 use Rattle.json.specs.Print.{escape_byte, escape, quoted}
+use Rattle.quoted.specs.Plain.{is_plain}
+use Rattle.quoted.proofs.EscapeFacts.{escape-plain, escape-append}
 use Rattle.paths.specs.Path.{rooted, text_of}
 use Rattle.serde_json.specs.Data.{number, unsigned, string, Members, no_members, member}
 use Rattle.serde_json.specs.View.{items_of}
@@ -16,26 +17,11 @@ use Rattle.trees.specs.declared.entry.Entry.TheVariants.{Directory, File}
 use Rattle.trees.specs.Row.{Row}
 use Rattle.trees.specs.Rows.{lent_names}
 use Rattle.entries.specs.Written.{mode_text, entry_data}
-use Rattle.entries.specs.PrivatePrinting.{is_plain, end_text, entry_text, rows_text, rest_text}
+use Rattle.entries.specs.PrivatePrinting.{end_text, entry_text, rows_text, rest_text}
 
 both_hold : (a b : Bool) → a ≡ true → b ≡ true → (a && b) ≡ true
 both_hold true b p q = q
 both_hold false b p q = p
-
--- ---- what isn't escaped
-
-plain-byte : (b : ℕ) → is_plain b ≡ true → escape_byte b ≡ b ∷ []
-unfolding escape_byte
-plain-byte b h = grind (arith)
-
-pub escape-plain : (s : List ℕ) → list_all is_plain s ≡ true → escape s ≡ s
-escape-plain [] h = refl
-escape-plain (b ∷ s) h =
-    let p = and_parts (is_plain b) (list_all is_plain s) h in
-    ap (λ e. e ++ escape s) (plain-byte b p.0) ∙ ap (λ e. b ∷ e) (escape-plain s p.1)
-
-escape-append : (s t : List ℕ) → escape (s ++ t) ≡ escape s ++ escape t
-escape-append s t = flat_map-append escape_byte s t
 
 -- a path's text in a string, name by name
 pub escape-rooted : (name : List ℕ) (path : List (List ℕ)) → escape (rooted (name ∷ path)) ≡ (47 ∷ escape name) ++ escape (rooted path)
@@ -160,10 +146,6 @@ encode-none (b ∷ rest) none = absurd (omega arith)
 
 pub drop-item : {A : Type 0} (xs : List A) (x : A) (i : ℕ) → i < length xs → x ≡ get_or xs i x → drop i xs ≡ x ∷ drop (i + 1) xs
 drop-item xs x i lt is = drop-cons xs i x lt ∙ ap (λ y. y ∷ drop (suc i) xs) (sym is) ∙ ap (λ n. x ∷ drop n xs) (sym (add-one i))
-
--- the escapes of the bytes from one on, that byte first
-pub escape-from : (bytes : List ℕ) (i : ℕ) → i < length bytes → escape_byte (get_or bytes i 0) ++ escape (drop (i + 1) bytes) ≡ escape (drop i bytes)
-escape-from bytes i lt = sym (ap escape (drop-cons bytes i 0 lt ∙ ap (λ n. get_or bytes i 0 ∷ drop n bytes) (sym (add-one i))))
 
 -- the names of a path from one on, that name first
 pub names-from : (names : List (Bor (List ℕ))) (name : Bor (List ℕ)) (bytes : List ℕ) (i : ℕ) → i < length names → name ≡ get_or names i name → bytes ≡ name.now

@@ -1,5 +1,5 @@
--- How an entry's text ends, and which bytes aren't escaped.
-use Rattle.std.specs.Prelude.{ℕ, Bool, true, not, ◌&&◌, ◌==◌, ◌++◌, List, [], ◌∷◌, drop, nat_le, codes, decimal}
+-- How an entry's text begins and ends.
+use Rattle.std.specs.Prelude.{ℕ, Bool, true, ◌++◌, List, [], ◌∷◌, drop, codes, decimal}
 use Rattle.json.specs.Print.{escape}
 use Rattle.paths.specs.Path.{rooted, text_of}
 use Rattle.serde_json.specs.Written.{comma_if, compact_text}
@@ -7,10 +7,6 @@ use Rattle.trees.specs.declared.meta.Meta.{Meta}
 use Rattle.trees.specs.declared.entry.Entry.{Entry}
 use Rattle.trees.specs.Row.{Row}
 use Rattle.entries.specs.Written.{mode_text, entry_data}
-
--- a byte that stands for itself in a string: it is no control character, no `"` and no `\`
-abbrev pub is_plain : ℕ → Bool
-is_plain byte = nat_le 32 byte && (not (byte == 34) && not (byte == 92))
 
 -- what a directory's text has before its mode's digits, behind a comma where others stand before
 abbrev pub directory_start : Bool → ℕ → List ℕ

@@ -2,11 +2,11 @@ ghost use Rattle.std.specs.Prelude.{◌≡◌, ◌+◌, ◌-◌, ◌<◌, ◌≤
 ghost use Rattle.std.specs.List.{list_all};
 ghost use Rattle.trees.specs.Rows.{lent_names};
 ghost use Rattle.entries.specs.PrivateFront.{HoldsNames};
-ghost use Rattle.entries.specs.PrivatePrinting.{is_plain};
+ghost use Rattle.quoted.specs.Plain.{is_plain};
 
 use crate::pieces::{ModeAndFront, write_at};
-use crate::printing::is_plain;
 use plain::{Mode, Text};
+use quoted::is_plain;
 
 /// How many bytes of a path's text are held. Few paths are longer.
 const ROOM: usize = 4096;

@@ -1,21 +1,20 @@
 ghost use Rattle.std.specs.Prelude.{◌≡◌, ◌+◌, ◌<◌, ◌≤◌, [], ◌∷◌, ◌++◌, IsTrue, false, length, take, drop, codes, decimal};
-ghost use Rattle.std.specs.Char.{digit_char};
-ghost use Rattle.std.specs.List.{list_all};
 ghost use Rattle.hex.specs.Hex.{encode_lower};
-ghost use Rattle.json.specs.Print.{escape, escape_byte, escape_letter};
+ghost use Rattle.json.specs.Print.{escape};
 ghost use Rattle.paths.specs.Path.{text_of, rooted};
 ghost use Rattle.counted.specs.Gathering.{sink, Says, HasRoom};
 ghost use Rattle.serde_json.specs.Written.{comma_if, compact_text};
 ghost use Rattle.trees.specs.declared.entry.Entry.TheVariants.{Directory, File};
 ghost use Rattle.trees.specs.Rows.{entry_of, lent_names};
 ghost use Rattle.entries.specs.Written.{mode_text, entry_data};
-ghost use Rattle.entries.specs.PrivatePrinting.{is_plain, end_text, entry_text, text_behind, rows_text, rest_text};
+ghost use Rattle.entries.specs.PrivatePrinting.{end_text, entry_text, text_behind, rows_text, rest_text};
 ghost use Rattle.entries.specs.PrivateFront.{HoldsNames};
 
 use crate::front::PathFront;
 use crate::pieces::{Digits, DirectoryStart, FileStart, UserEnd};
 use counted::{CountedWrite, Gathered, gather, gather_piece};
 use plain::Text;
+use quoted::put_text;
 use trees::{LentEntry, Meta, Walk};
 
 /// How many bytes are turned into hexadecimal at once: their digits are the most that a piece has.
@@ -253,86 +252,5 @@ fn put_name<W: CountedWrite>(output: &mut W, gathered: &mut Gathered, name: &[u8
     ensures room { HasRoom (W.failures output.new) gathered.new }
 {
     gather(output, gathered, b"/");
-    if is_plain_text(name) {
-        gather(output, gathered, name);
-    } else {
-        put_escaped(output, gathered, name);
-    }
-}
-
-/// Says bytes as they stand in a JSON string, one by one.
-fn put_escaped<W: CountedWrite>(output: &mut W, gathered: &mut Gathered, bytes: &[u8])
-    requires room { HasRoom (W.failures output.old) gathered.old }
-    ensures says { Says
-        (sink (W.contents output.old) (W.failures output.old) gathered.old)
-        (sink (W.contents output.new) (W.failures output.new) gathered.new)
-        (escape bytes.now) }
-    ensures room { HasRoom (W.failures output.new) gathered.new }
-{
-    for byte in bytes {
-        put_byte(output, gathered, *byte);
-    }
-}
-
-/// Says a byte as it stands in a JSON string.
-#[tactic(auto, unfolding(json::specs::Print::escape_byte))]
-fn put_byte<W: CountedWrite>(output: &mut W, gathered: &mut Gathered, byte: u8)
-    requires room { HasRoom (W.failures output.old) gathered.old }
-    ensures says { Says
-        (sink (W.contents output.old) (W.failures output.old) gathered.old)
-        (sink (W.contents output.new) (W.failures output.new) gathered.new)
-        (escape_byte byte) }
-    ensures room { HasRoom (W.failures output.new) gathered.new }
-{
-    let letter = escape_letter(byte);
-    if letter > 0 {
-        gather(output, gathered, &[b'\\', letter]);
-    } else if byte < 32 {
-        let high = hex_digit(byte / 16);
-        let low = hex_digit(byte % 16);
-        gather(output, gathered, &[b'\\', b'u', b'0', b'0', high, low]);
-    } else {
-        gather(output, gathered, &[byte]);
-    }
-}
-
-/// The letter that stands for a byte behind a `\` in a JSON string; 0 where none does.
-fn escape_letter(byte: u8) -> u8
-    ensures { result ≡ escape_letter byte }
-{
-    match byte {
-        b'"' | b'\\' => byte,
-        8 => b'b',
-        12 => b'f',
-        b'\n' => b'n',
-        b'\r' => b'r',
-        b'\t' => b't',
-        _ => 0,
-    }
-}
-
-/// The character of a hexadecimal digit.
-fn hex_digit(digit: u8) -> u8
-    requires { digit < 16 }
-    ensures { result ≡ digit_char digit }
-{
-    if digit < 10 {
-        b'0' + digit
-    } else {
-        b'a' - 10 + digit
-    }
-}
-
-/// Whether each byte stands for itself in a JSON string.
-fn is_plain_text(bytes: &[u8]) -> bool
-    ensures { result ≡ list_all is_plain bytes.now }
-{
-    bytes.iter().all(|byte| is_plain(*byte))
-}
-
-/// Whether a byte stands for itself in a JSON string.
-pub(crate) fn is_plain(byte: u8) -> bool
-    ensures { result ≡ is_plain byte }
-{
-    byte >= 32 && byte != b'"' && byte != b'\\'
+    put_text(output, gathered, name);
 }

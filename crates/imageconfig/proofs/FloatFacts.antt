@@ -10,7 +10,7 @@ use Rattle.paths.specs.Path.{text_of}
 use Rattle.strict.specs.Written.{list_data}
 use Rattle.imageconfig.specs.declared.config.Config.{Config}
 use Rattle.imageconfig.specs.Rows.{Row}
-use Rattle.imageconfig.specs.Writing.{variable_data, put_names, names_data, put_texts_of, rows_data, is_set, put_if, put_dir, put_lists, put_objects, put_texts, settings_data, config_data}
+use Rattle.imageconfig.specs.Writing.{variable_data, put_names, names_data, put_texts_of, rows_data, is_set, put_if, put_dir, put_first, put_middle, put_last, settings_data, config_data}
 
 neither : (a b : Bool) → a ≡ false → b ≡ false → (a || b) ≡ false
 neither a b h i = rw (h, i) refl
@@ -55,9 +55,9 @@ rows-plain : (rows : List Row) (ms : Members) → members_have_float ms ≡ fals
 rows-plain [] ms h = h
 rows-plain (row ∷ rows) ms h = rows-plain rows (put row.0 (string row.1) ms) (put-plain row.0 (string row.1) ms refl h)
 
-names-data : (ns : List (List ℕ)) → has_float (names_data ns) ≡ false
+pub names_are_plain : (ns : List (List ℕ)) → has_float (names_data ns) ≡ false
 unfolding names_data
-names-data ns = names-plain ns no_members refl
+names_are_plain ns = names-plain ns no_members refl
 
 rows-data : (rows : List Row) → has_float (rows_data rows) ≡ false
 unfolding rows_data
@@ -67,25 +67,25 @@ three-plain : (a b c : Bool) (k l m : List ℕ) (d e f : Data) (ms : Members) �
     → members_have_float (put_if a k d (put_if b l e (put_if c m f ms))) ≡ false
 three-plain a b c k l m d e f ms p q r h = if-plain a k d (put_if b l e (put_if c m f ms)) p (if-plain b l e (put_if c m f ms) q (if-plain c m f ms r h))
 
-lists-plain : (c : Config) (ms : Members) → members_have_float ms ≡ false → members_have_float (put_lists c ms) ≡ false
-lists-plain c ms h =
-    three-plain (is_set c.env) (is_set c.entrypoint) (is_set c.cmd) (codes "Env") (codes "Entrypoint") (codes "Cmd")
-    (list_data variable_data c.env) (list_data string c.entrypoint) (list_data string c.cmd) ms (variables-plain c.env) (strings-plain c.entrypoint) (strings-plain c.cmd) h
+first-plain : (c : Config) (ms : Members) → members_have_float ms ≡ false → members_have_float (put_first c ms) ≡ false
+first-plain c ms h =
+    three-plain (is_set c.cmd) (is_set c.entrypoint) (is_set c.env) (codes "Cmd") (codes "Entrypoint") (codes "Env")
+    (list_data string c.cmd) (list_data string c.entrypoint) (list_data variable_data c.env) ms (strings-plain c.cmd) (strings-plain c.entrypoint) (variables-plain c.env) h
 
-objects-plain : (c : Config) (ms : Members) → members_have_float ms ≡ false → members_have_float (put_objects c ms) ≡ false
-objects-plain c ms h =
-    three-plain (is_set c.volumes) (is_set c.labels) (is_set c.exposed_ports) (codes "Volumes") (codes "Labels") (codes "ExposedPorts")
-    (names_data c.volumes) (rows_data c.labels) (names_data c.exposed_ports) ms (names-data c.volumes) (rows-data c.labels) (names-data c.exposed_ports) h
+middle-plain : (c : Config) (ms : Members) → members_have_float ms ≡ false → members_have_float (put_middle c ms) ≡ false
+middle-plain c ms h =
+    three-plain (is_set c.exposed_ports) (is_set c.labels) (is_set c.stop_signal) (codes "ExposedPorts") (codes "Labels") (codes "StopSignal")
+    (names_data c.exposed_ports) (rows_data c.labels) (string c.stop_signal) ms (names_are_plain c.exposed_ports) (rows-data c.labels) refl h
 
-texts-plain : (c : Config) (ms : Members) → members_have_float ms ≡ false → members_have_float (put_texts c ms) ≡ false
-texts-plain c ms h =
-    let signal = put_if (is_set c.stop_signal) (codes "StopSignal") (string c.stop_signal) ms in
-    dir-plain c.working_dir (put_if (is_set c.user) (codes "User") (string c.user) signal)
-    (if-plain (is_set c.user) (codes "User") (string c.user) signal refl (if-plain (is_set c.stop_signal) (codes "StopSignal") (string c.stop_signal) ms refl h))
+last-plain : (c : Config) (ms : Members) → members_have_float ms ≡ false → members_have_float (put_last c ms) ≡ false
+last-plain c ms h =
+    let volumes = put_if (is_set c.volumes) (codes "Volumes") (names_data c.volumes) (put_dir c.working_dir ms) in
+    if-plain (is_set c.user) (codes "User") (string c.user) volumes refl
+    (if-plain (is_set c.volumes) (codes "Volumes") (names_data c.volumes) (put_dir c.working_dir ms) (names_are_plain c.volumes) (dir-plain c.working_dir ms h))
 
 settings-plain : (c : Config) → has_float (settings_data c) ≡ false
 unfolding settings_data
-settings-plain c = texts-plain c (put_objects c (put_lists c no_members)) (objects-plain c (put_lists c no_members) (lists-plain c no_members refl))
+settings-plain c = first-plain c (put_middle c (put_last c no_members)) (middle-plain c (put_last c no_members) (last-plain c no_members refl))
 
 pub config_is_plain : (c : Config) → has_float (config_data c) ≡ false
 unfolding config_data

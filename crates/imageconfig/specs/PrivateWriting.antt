@@ -3,11 +3,11 @@ use Rattle.std.specs.Prelude.{[], codes}
 use Rattle.serde_json.specs.Data.{string, Members, put}
 use Rattle.strict.specs.Written.{list_data}
 use Rattle.imageconfig.specs.declared.config.Config.{Config}
-use Rattle.imageconfig.specs.Writing.{put_lists, put_objects, put_texts, settings_data, rootfs_data}
+use Rattle.imageconfig.specs.Writing.{put_first, put_middle, put_last, settings_data, rootfs_data}
 
 -- those of `config`
 abbrev pub put_settings : Config → Members → Members
-put_settings c members = put_texts c (put_objects c (put_lists c members))
+put_settings c members = put_first c (put_middle c (put_last c members))
 
 -- those of `rootfs`
 abbrev pub put_rootfs : Members → Members

@@ -40,30 +40,30 @@ put_dir (Some path) members = put (codes "WorkingDir") (string (text_of path)) m
 abbrev pub is_set : {A : Type 0} → List A → Bool
 is_set xs = not (length xs == 0)
 
--- the fields that are lists, as far as they are set
-abbrev pub put_lists : Config → Members → Members
-put_lists c members =
-    put_if (is_set c.env) (codes "Env") (list_data variable_data c.env)
+-- Cmd, Entrypoint and Env, as far as they are set: the last key is put first, so each stands before those that are there
+abbrev pub put_first : Config → Members → Members
+put_first c members =
+    put_if (is_set c.cmd) (codes "Cmd") (list_data string c.cmd)
     (put_if (is_set c.entrypoint) (codes "Entrypoint") (list_data string c.entrypoint)
-    (put_if (is_set c.cmd) (codes "Cmd") (list_data string c.cmd) members))
+    (put_if (is_set c.env) (codes "Env") (list_data variable_data c.env) members))
 
--- those that are objects
-abbrev pub put_objects : Config → Members → Members
-put_objects c members =
-    put_if (is_set c.volumes) (codes "Volumes") (names_data c.volumes)
+-- ExposedPorts, Labels and StopSignal
+abbrev pub put_middle : Config → Members → Members
+put_middle c members =
+    put_if (is_set c.exposed_ports) (codes "ExposedPorts") (names_data c.exposed_ports)
     (put_if (is_set c.labels) (codes "Labels") (rows_data c.labels)
-    (put_if (is_set c.exposed_ports) (codes "ExposedPorts") (names_data c.exposed_ports) members))
-
--- those that are texts
-abbrev pub put_texts : Config → Members → Members
-put_texts c members =
-    put_dir c.working_dir
-    (put_if (is_set c.user) (codes "User") (string c.user)
     (put_if (is_set c.stop_signal) (codes "StopSignal") (string c.stop_signal) members))
+
+-- User, Volumes and WorkingDir
+abbrev pub put_last : Config → Members → Members
+put_last c members =
+    put_if (is_set c.user) (codes "User") (string c.user)
+    (put_if (is_set c.volumes) (codes "Volumes") (names_data c.volumes)
+    (put_dir c.working_dir members))
 
 -- `config`
 unfoldable pub settings_data : Config → Data
-settings_data c = object (put_texts c (put_objects c (put_lists c no_members)))
+settings_data c = object (put_first c (put_middle c (put_last c no_members)))
 
 -- `rootfs`, without layers
 abbrev pub rootfs_data : Data

@@ -65,6 +65,13 @@ impl Environment {
         self.rows.variables(alloc)
     }
 
+    /// The variables as rows, lent.
+    pub fn as_slice(&self) -> &[(Text, Text)]
+        ensures { result.now ≡ self.now }
+    {
+        self.rows.as_slice()
+    }
+
     /// Gives variables their values, each in the place that its name has, or at the end where it has none. The values share the bytes of
     /// those that are shared. After `Memory` the environment is as it was.
     ///

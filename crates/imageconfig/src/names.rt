@@ -1,6 +1,8 @@
 ghost use Rattle.std.specs.Prelude.{◌≡◌, ◌==◌, [], length, map, IfOk, OnOk, OnErr};
+ghost use Rattle.std.specs.String.{string_bytes};
 ghost use Rattle.serde_json.specs.View.{view, members_view};
 ghost use Rattle.serde_json.specs.Data.{no_members};
+ghost use Rattle.serde_json.specs.Written.{compact_text};
 ghost use Rattle.imageconfig.specs.PrivateRows.{of_names};
 ghost use Rattle.imageconfig.specs.Rows.{add_names};
 ghost use Rattle.imageconfig.specs.Writing.{put_names, names_data};
@@ -71,6 +73,15 @@ impl Names {
     {
         let members = members(alloc, self.names.as_slice())?;
         Ok(Value::Object(members))
+    }
+
+    /// The names as compact JSON: an object whose values are empty objects.
+    pub fn to_text(&self, alloc: Global) -> Result<String, Memory>
+        ensures { IfOk result (λ text. string_bytes text ≡ compact_text (names_data self.now)) }
+    {
+        let value = self.to_json(alloc)?;
+        let text = value.to_string(alloc)?;
+        Ok(text)
     }
 }
 

@@ -50,6 +50,13 @@ impl Rows {
         self.rows.is_empty()
     }
 
+    /// The rows, lent.
+    pub fn as_slice(&self) -> &[(Text, Text)]
+        ensures { result.now ≡ self.now }
+    {
+        self.rows.as_slice()
+    }
+
     /// Equal rows of its own.
     pub fn copy(&self, alloc: Global) -> Result<Rows, Memory>
         ensures { IfOk result (λ copied. copied ≡ self.now) }

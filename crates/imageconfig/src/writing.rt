@@ -3,7 +3,7 @@ ghost use Rattle.serde_json.specs.Data.{string};
 ghost use Rattle.serde_json.specs.View.{view, members_view};
 ghost use Rattle.strict.specs.Written.{list_data};
 ghost use Rattle.imageconfig.specs.PrivateWriting.{put_settings, put_rootfs, put_config};
-ghost use Rattle.imageconfig.specs.Writing.{is_set, put_if, put_dir, put_lists, put_objects, put_texts, names_data, rows_data, variable_data, settings_data, rootfs_data, config_data};
+ghost use Rattle.imageconfig.specs.Writing.{is_set, put_if, put_dir, put_first, put_middle, put_last, names_data, rows_data, variable_data, settings_data, rootfs_data, config_data};
 
 use crate::config::Config;
 use crate::environment::Environment;
@@ -105,37 +105,37 @@ fn put_dir(
     }
 }
 
-/// Adds the fields that are lists, as far as they are set.
-fn put_lists(alloc: Global, members: &mut Map<String, Value>, config: &Config) -> Result<(), Memory>
-    ensures { OnOk result (members_view members.new.entries ≡ put_lists config.now (members_view members.old.entries)) }
+/// Adds Env, Entrypoint and Cmd, as far as they are set.
+fn put_first(alloc: Global, members: &mut Map<String, Value>, config: &Config) -> Result<(), Memory>
+    ensures { OnOk result (members_view members.new.entries ≡ put_first config.now (members_view members.old.entries)) }
 {
-    put_list(alloc, members, "Cmd", &config.cmd)?;
-    put_list(alloc, members, "Entrypoint", &config.entrypoint)?;
     put_env(alloc, members, &config.env)?;
+    put_list(alloc, members, "Entrypoint", &config.entrypoint)?;
+    put_list(alloc, members, "Cmd", &config.cmd)?;
     Ok(())
 }
 
-/// Adds the fields that are objects, as far as they are set.
-fn put_objects(
+/// Adds StopSignal, Labels and ExposedPorts, as far as they are set.
+fn put_middle(
     alloc: Global,
     members: &mut Map<String, Value>,
     config: &Config,
 ) -> Result<(), Memory>
-    ensures { OnOk result (members_view members.new.entries ≡ put_objects config.now (members_view members.old.entries)) }
+    ensures { OnOk result (members_view members.new.entries ≡ put_middle config.now (members_view members.old.entries)) }
 {
-    put_names(alloc, members, "ExposedPorts", &config.exposed_ports)?;
+    put_text(alloc, members, "StopSignal", &config.stop_signal)?;
     put_labels(alloc, members, &config.labels)?;
-    put_names(alloc, members, "Volumes", &config.volumes)?;
+    put_names(alloc, members, "ExposedPorts", &config.exposed_ports)?;
     Ok(())
 }
 
-/// Adds the fields that are texts, as far as they are set.
-fn put_texts(alloc: Global, members: &mut Map<String, Value>, config: &Config) -> Result<(), Memory>
-    ensures { OnOk result (members_view members.new.entries ≡ put_texts config.now (members_view members.old.entries)) }
+/// Adds WorkingDir, Volumes and User, as far as they are set.
+fn put_last(alloc: Global, members: &mut Map<String, Value>, config: &Config) -> Result<(), Memory>
+    ensures { OnOk result (members_view members.new.entries ≡ put_last config.now (members_view members.old.entries)) }
 {
-    put_text(alloc, members, "StopSignal", &config.stop_signal)?;
-    put_text(alloc, members, "User", &config.user)?;
     put_dir(alloc, members, &config.working_dir)?;
+    put_names(alloc, members, "Volumes", &config.volumes)?;
+    put_text(alloc, members, "User", &config.user)?;
     Ok(())
 }
 
@@ -147,9 +147,9 @@ fn put_settings(
 ) -> Result<(), Memory>
     ensures { OnOk result (members_view members.new.entries ≡ put_settings config.now (members_view members.old.entries)) }
 {
-    put_lists(alloc, members, config)?;
-    put_objects(alloc, members, config)?;
-    put_texts(alloc, members, config)?;
+    put_last(alloc, members, config)?;
+    put_middle(alloc, members, config)?;
+    put_first(alloc, members, config)?;
     Ok(())
 }
 

@@ -1,11 +1,13 @@
-use bundle::{Bundle, failed_answer, put_built, read_bundle, refused_answer};
+use build::put_built;
+use bundle::{Bundle, failed_answer, read_bundle, refused_answer};
+use configtext::UnsaidConfig;
 use counted::{Counted, Gathered, finish};
 use entries::Unsaid;
 use expand::{Reason, Rejection};
 use imageconfig::Config;
 use lines::LineFault;
 use paths::Path;
-use plain::{Bytes, Code, Mode, Refusal, Text};
+use plain::{Bytes, Code, Memory, Mode, Refusal, Text};
 use std::alloc::Global;
 use std::ops::Range;
 use std::test::Fail;
@@ -41,17 +43,26 @@ fn odd_tree(alloc: Global) -> Result<Tree, Fail> {
     Ok(tree)
 }
 
+/// A configuration with a text that has to be escaped.
+fn odd_config(alloc: Global) -> Result<Config, Memory> {
+    let mut config = Config::plain(alloc)?;
+    config.user = Text::from_str(alloc, "a \"b\"\n\u{1}")?;
+    Ok(config)
+}
+
 #[test]
 fn answers_are_compact_text(rt: HostRuntime) -> Result<(), Fail> {
     let alloc = rt.alloc();
     let tree = odd_tree(alloc)?;
     let mut output = Counted::new(Vec::with_capacity(alloc, 4096)?);
     let mut gathered = Gathered::new(alloc)?;
+    let config = odd_config(alloc)?;
+    let config = UnsaidConfig::of(alloc, &config)?;
     let unsaid = Unsaid::of(alloc, &tree)?;
-    put_built(alloc, &rt, &mut output, &mut gathered, "true", unsaid);
+    put_built(alloc, &rt, &mut output, &mut gathered, &config, unsaid);
     assert!(rt; finish(&mut output, gathered).is_ok());
     let wanted =
-        r#"{"config":true,"result":"built","tree":[{"dir":true,"gid":7,"mode":"7001","path":"/","uid":4294967295},{"gid":0,"hex":"00ff","mode":"0644","path":"/a \"b\"\n\u0001","uid":0}]}"#;
+        r#"{"config":{"architecture":"amd64","config":{"User":"a \"b\"\n\u0001"},"os":"linux","rootfs":{"diff_ids":[],"type":"layers"}},"result":"built","tree":[{"dir":true,"gid":7,"mode":"7001","path":"/","uid":4294967295},{"gid":0,"hex":"00ff","mode":"0644","path":"/a \"b\"\n\u0001","uid":0}]}"#;
     assert_eq!(rt; output.into_inner().as_slice(), wanted.as_bytes());
     let failed = failed_answer(alloc, 1048576, Cause::Exit(255))?;
     let wanted = r#"{"cause":"exit 255","line":1048576,"result":"failed"}"#;
@@ -116,7 +127,7 @@ fn a_large_tree_is_printed_in_path_order(rt: HostRuntime) -> Result<(), Fail> {
     let mut tree = Tree::empty(alloc);
     let mut wanted = String::from_str(
         alloc,
-        r#"{"config":0,"result":"built","tree":[{"dir":true,"gid":0,"mode":"0755","path":"/","uid":0}"#,
+        r#"{"config":{"architecture":"amd64","config":{},"os":"linux","rootfs":{"diff_ids":[],"type":"layers"}},"result":"built","tree":[{"dir":true,"gid":0,"mode":"0755","path":"/","uid":0}"#,
     )?;
     for folder in FOLDERS {
         let path = format!(in alloc; "/{folder}")?;
@@ -132,8 +143,10 @@ fn a_large_tree_is_printed_in_path_order(rt: HostRuntime) -> Result<(), Fail> {
     wanted.push_str("]}")?;
     let mut output = Counted::new(Vec::new(alloc));
     let mut gathered = Gathered::new(alloc)?;
+    let config = Config::plain(alloc)?;
+    let config = UnsaidConfig::of(alloc, &config)?;
     let unsaid = Unsaid::of(alloc, &tree)?;
-    put_built(alloc, &rt, &mut output, &mut gathered, "0", unsaid);
+    put_built(alloc, &rt, &mut output, &mut gathered, &config, unsaid);
     assert!(rt; finish(&mut output, gathered).is_ok());
     assert!(rt; output.into_inner().as_slice() == wanted.as_bytes());
     Ok(())

@@ -1,6 +1,6 @@
 use Rattle.std.proofs.Common.{◌≡◌, ◌+◌, ◌++◌, true, length, take}
 use Rattle.std.specs.List.{list_all}
-use Rattle.entries.specs.PrivatePrinting.{is_plain}
+use Rattle.quoted.specs.Plain.{is_plain}
 use Rattle.entries.proofs.front.write_plain.Given as goal
 
 -- so many bytes stand for themselves, and are written

@@ -1,8 +1,8 @@
 use Rattle.std.proofs.Common.{◌≡◌, ◌+◌, ◌<◌, ◌≤◌, true, length, get_or, ◌∙◌, arith, rules}
 use Rattle.std.specs.List.{list_all}
 use Rattle.trees.specs.Rows.{lent_names}
-use Rattle.entries.specs.PrivatePrinting.{is_plain}
-use Rattle.entries.proofs.PrintingFacts.{escape-plain}
+use Rattle.quoted.specs.Plain.{is_plain}
+use Rattle.quoted.proofs.EscapeFacts.{escape-plain}
 use Rattle.entries.proofs.HeldFacts.{holds-more, holds-behind}
 use Rattle.entries.proofs.front.PathFront.add.Goals as goal
 

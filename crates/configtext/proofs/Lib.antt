@@ -1,0 +1,2 @@
+mod FieldFacts
+mod LabelFacts

@@ -1,0 +1,2 @@
+pub mod PrivateFields
+pub mod PrivateLabels
