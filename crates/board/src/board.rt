@@ -5,6 +5,7 @@ ghost use Rattle.cachemounts.specs.Content.{tree_held};
 ghost use Rattle.plans.specs.Plan.{uses_at};
 ghost use Rattle.board.specs.Board.{board_problem, IsStep, AreContents, AreLeft};
 ghost use Rattle.board.specs.Job.{job_problem};
+ghost use Rattle.board.specs.Readiness.{has_cause};
 ghost use Rattle.board.specs.Problem.{IsProblem};
 ghost use Rattle.board.specs.Play.{begun, claim_of, claimable, value_at, unsettled_count, IsReplay};
 ghost use Rattle.board.specs.Play.{Claim as Claiming, Settle as Settling, Abandon as Abandoning};
@@ -15,11 +16,10 @@ ghost use Rattle.board.specs.Leaving.{IsLent, IsLeftFor, GivesBackWhatIsLeft, Ar
 ghost use Rattle.board.specs.Legal.{IsAvailable, IsReady, IsNextClaim};
 
 use crate::frontier::Frontier;
-use crate::shelf::Shelf;
+use crate::shelf::{Keeping, Shelf};
 use crate::state::{self, NextClaim};
-use crate::{Claim, ClaimOut, Happened, Job, Refused};
+use crate::{Claim, ClaimOut, Happened, Job, Refused, Task};
 use cachemounts::{CacheStore, Content};
-use cells::Place;
 use executor::Executor;
 use llb::VertexId;
 use plain::{Items, Memory, copied_items, growth};
@@ -31,10 +31,10 @@ use trees::{Tree, TreeOrCause};
 /// the replay of the history, and that each settle of it gave back what a run left: so whatever calls were made, the history is legal, each vertex that is settled
 /// has its value, and each content is as it was at the start, or what the last settle that gave it back brought, which its vertex's run left of what it was lent.
 #[derive(Drop)]
-pub struct Board<'a, E: Executor, P: Place<TreeOrCause> = TreeOrCause> {
+pub struct Board<'a, E: Executor> {
     job: Job<'a, E>,
     /// For each vertex its value, once it is settled.
-    settled: Shelf<P>,
+    settled: Shelf,
     /// The claims that are out, the oldest first: no worker twice, no vertex twice.
     claims: Vec<ClaimOut>,
     /// All that happened, in order. It has room for the end of each claim that is out, so that an abandon takes no memory.
@@ -47,10 +47,11 @@ pub struct Board<'a, E: Executor, P: Place<TreeOrCause> = TreeOrCause> {
     frontier: Frontier,
 }
 
-impl<'a, E: Executor, P: Place<TreeOrCause>> Model for Board<'a, E, P> {
+impl<'a, E: Executor> Model for Board<'a, E> {
     ghost use Rattle.std.specs.Prelude.{◌+◌, ◌≤◌, vec_len, vec_capacity};
     ghost use Rattle.board.specs.Board.{BoardValue, board_code, IsBoard};
     ghost use Rattle.board.specs.Job.{job_problem};
+ghost use Rattle.board.specs.Readiness.{has_cause};
     ghost use Rattle.board.specs.Leaving.{GivesBackWhatIsLeft};
     ghost use Rattle.board.specs.PrivateFrontier.{IsFrontier};
 
@@ -62,7 +63,7 @@ impl<'a, E: Executor, P: Place<TreeOrCause>> Model for Board<'a, E, P> {
       job = b.job;
       first = b.first.items;
       contents = b.caches.contents;
-      run = record { history = b.history.items; state = record { settled = b.settled; claims = b.claims.items; holds = b.caches.holds } };
+      run = record { history = b.history.items; state = record { settled = b.settled.values; claims = b.claims.items; holds = b.caches.holds } };
     } };
 
     ghost invariant = { λ b.
@@ -70,11 +71,12 @@ impl<'a, E: Executor, P: Place<TreeOrCause>> Model for Board<'a, E, P> {
           job = b.job;
           first = b.first.items;
           contents = b.caches.contents;
-          run = record { history = b.history.items; state = record { settled = b.settled; claims = b.claims.items; holds = b.caches.holds } };
+          run = record { history = b.history.items; state = record { settled = b.settled.values; claims = b.claims.items; holds = b.caches.holds } };
         })
         × (vec_len b.history + vec_len b.claims ≤ vec_capacity b.history)
-        × IsFrontier b.job.graph.vertices b.job.graph.places b.settled b.claims.items b.frontier
-        × GivesBackWhatIsLeft (E.leaves b.job.executor) (job_problem E.out b.job) b.first.items b.history.items };
+        × IsFrontier b.job.graph.vertices b.job.graph.places b.settled.values b.claims.items b.frontier
+        × GivesBackWhatIsLeft (E.leaves b.job.executor) (job_problem E.out b.job) b.first.items b.history.items
+        × (b.settled.kept ≡ b.job.target) };
 }
 
 /// The store, given back where there was no memory for its board.
@@ -82,18 +84,20 @@ pub struct NoBoard {
     pub caches: CacheStore,
 }
 
-impl<'a, E: Executor, P: Place<TreeOrCause>> Board<'a, E, P> {
+impl<'a, E: Executor> Board<'a, E> {
     /// A board on which nothing has happened, with a store of which nobody holds anything. `CacheStore::is_idle` tests that.
     pub fn new(
         alloc: Global,
         job: Job<'a, E>,
         caches: CacheStore,
-    ) -> Result<Board<'a, E, P>, NoBoard>
+        keeping: Keeping,
+    ) -> Result<Board<'a, E>, NoBoard>
         requires idle { caches.holds ≡ [] }
         ensures ok { IfOk result (λ board. board ≡ record { job = job.entry; first = caches.contents; contents = caches.contents; run = begun (job_problem E.out job.entry) }) }
         ensures back { IfErr result (λ refused. refused.caches ≡ caches) }
     {
-        let Ok(settled) = Shelf::new(alloc, job.graph().len()) else {
+        let vertices = job.graph().vertices();
+        let Ok(settled) = Shelf::new(alloc, vertices, job.target(), keeping) else {
             return Err(NoBoard { caches });
         };
         let Ok(first) = caches.contents(alloc) else {
@@ -113,9 +117,10 @@ impl<'a, E: Executor, P: Place<TreeOrCause>> Board<'a, E, P> {
         })
     }
 
-    /// Claims the ready vertex of least id for a worker, with the places of its inputs' trees and the lease of its caches. It claims nothing where
-    /// no vertex is ready, or where the worker has a claim out. After `Memory` the board is as it was.
-    pub fn claim(&mut self, alloc: Global, worker: u32) -> Result<Option<Claim<P>>, Memory>
+    /// Claims the ready vertex of least id for a worker, with the trees of its inputs and the lease of its caches. It claims nothing where no
+    /// vertex is ready, or where the worker has a claim out. After `Memory` the board is as it was. It also answers `Memory` where the tree of an
+    /// input went to a claim that was given up.
+    pub fn claim(&mut self, alloc: Global, worker: u32) -> Result<Option<Task>, Memory>
         ensures next { IfOk result (λ claim. IsNextClaim (board_problem E.out self.old) self.old.run.history worker
             (option_map (λ c. c.vertex) claim)) }
         ensures worker { IfOk result (λ claim. IfSome claim (λ c. c.worker ≡ worker)) }
@@ -138,8 +143,8 @@ impl<'a, E: Executor, P: Place<TreeOrCause>> Board<'a, E, P> {
         );
         match next {
             Some(next) => {
-                let claim = self.claim_vertex(alloc, worker, next)?;
-                Ok(Some(claim))
+                let task = self.claim_vertex(alloc, worker, next)?;
+                Ok(Some(task))
             }
             None => Ok(None),
         }
@@ -152,21 +157,21 @@ impl<'a, E: Executor, P: Place<TreeOrCause>> Board<'a, E, P> {
     pub fn settle(
         &mut self,
         alloc: Global,
-        claim: Claim<P>,
-        value: P,
+        claim: Claim,
+        value: TreeOrCause,
         given: Vec<Tree>,
-    ) -> Result<(), Refused<P>>
+    ) -> Result<(), Refused>
         requires out { IsOut self.old.run.state claim }
         requires of { IsClaim (board_problem E.out self.old) claim }
-        requires value { IsResult (board_problem E.out self.old) claim (P.stands value) }
+        requires value { IsResult (board_problem E.out self.old) claim value }
         requires given { IsGivenBack (board_problem E.out self.old) claim given.items }
         requires lent { IsLent (board_problem E.out self.old) self.old.first self.old.run.history claim }
         requires left { IsLeftFor (E.leaves self.old.job.executor) (board_problem E.out self.old) claim given.items }
         ensures run { OnOk result (IsStep E.out (Settling claim.worker given.items) self.old self.new) }
-        ensures value { OnOk result (slice_get self.new.run.state.settled claim.vertex ≡ Some (Some (P.stands value))) }
+        ensures value { OnOk result (slice_get self.new.run.state.settled claim.vertex ≡ Some (Some value.entry)) }
         ensures nearer { OnOk result (unsettled_count self.new.run.state.settled < unsettled_count self.old.run.state.settled) }
         ensures err { OnErr result (self.new ≡ self.old) }
-        ensures back { IfErr result (λ refused. (refused.claim ≡ claim) × (refused.value ≡ value) × (refused.given.items ≡ given.items)) }
+        ensures back { IfErr result (λ refused. (refused.claim ≡ claim) × (refused.value ≡ value.entry) × (refused.given.items ≡ given.items)) }
     {
         let Ok(noted) = copied_items(alloc, given.as_slice()) else {
             return Err(Refused {
@@ -180,7 +185,7 @@ impl<'a, E: Executor, P: Place<TreeOrCause>> Board<'a, E, P> {
         let lease = claim.into_lease();
         state::drop_claim(&mut self.claims, worker);
         let line = self.job.graph().least_place(vertex);
-        self.frontier.settle(vertex, line, value.value());
+        self.frontier.settle(vertex, line, &value);
         self.settled.put(vertex, value);
         self.caches.give(lease, given);
         growth::add(
@@ -196,7 +201,7 @@ impl<'a, E: Executor, P: Place<TreeOrCause>> Board<'a, E, P> {
 
     /// Gives a claim up: its vertex may be claimed again, and the contents of its caches stay as they are. A claim that isn't out any more is
     /// spent, and nothing else changes. It takes no memory.
-    pub fn abandon(&mut self, claim: Claim<P>)
+    pub fn abandon(&mut self, claim: Claim)
         ensures out { IsOut self.old.run.state claim → IsStep E.out (Abandoning claim.worker) self.old self.new }
         ensures ended { ¬ IsOut self.old.run.state claim → self.new ≡ self.old }
     {
@@ -222,9 +227,12 @@ impl<'a, E: Executor, P: Place<TreeOrCause>> Board<'a, E, P> {
         }
     }
 
-    /// The value of a vertex, once it is settled.
+    /// The value of a vertex that is settled, unless its tree went to the last claim that asked for it (`Keeping`). A cause stays, and so does
+    /// what the target has.
     pub fn value(&self, vertex: VertexId) -> Option<&TreeOrCause>
-        ensures { option_map (λ value. value.now) result ≡ value_at self.now.run.state.settled vertex }
+        ensures value { IfSome result (λ value. value_at self.now.run.state.settled vertex ≡ Some value.now) }
+        ensures none { IfNone result (has_cause (value_at self.now.run.state.settled vertex) ≡ false) }
+        ensures target { IfNone result (vertex ≡ self.now.job.target → value_at self.now.run.state.settled vertex ≡ None) }
     {
         self.settled.get(vertex)
     }
@@ -242,7 +250,7 @@ impl<'a, E: Executor, P: Place<TreeOrCause>> Board<'a, E, P> {
     }
 
     /// Whether a claim is out.
-    pub fn is_out(&self, claim: &Claim<P>) -> bool
+    pub fn is_out(&self, claim: &Claim) -> bool
         ensures { IsTrue result ↔ IsOut self.now.run.state claim.now }
     {
         state::is_out(
@@ -314,41 +322,13 @@ impl<'a, E: Executor, P: Place<TreeOrCause>> Board<'a, E, P> {
         caches
     }
 
-    /// The same board with each value in a place of its own. If there is no memory for that, it comes back as it was.
-    pub fn at_home(self, alloc: Global) -> Result<Board<'a, E>, Board<'a, E, P>>
-        ensures ok { IfOk result (λ board. board ≡ self.entry) }
-        ensures back { IfErr result (λ board. board ≡ self.entry) }
-    {
-        let Ok(values) = self.settled.copied(alloc) else {
-            return Err(self);
-        };
-        let Board {
-            job,
-            settled: _,
-            claims,
-            history,
-            first,
-            caches,
-            frontier,
-        } = self;
-        Ok(Board {
-            job,
-            settled: values,
-            claims,
-            history,
-            first,
-            caches,
-            frontier,
-        })
-    }
-
     /// Claims a vertex for the worker that may claim it next. After `Memory` the board is as it was.
     fn claim_vertex(
         &mut self,
         alloc: Global,
         worker: u32,
         next: NextClaim,
-    ) -> Result<Claim<P>, Memory>
+    ) -> Result<Task, Memory>
         requires next { claimable (board_problem E.out self.old) self.old.run.state worker ≡ Some next.vertex }
         requires inputs { AreInputIds self.old.job.graph.vertices self.old.run.state.settled next.vertex next.inputs.now }
         ensures vertex { IfOk result (λ claim. claim.vertex ≡ next.entry.vertex) }
@@ -361,8 +341,8 @@ impl<'a, E: Executor, P: Place<TreeOrCause>> Board<'a, E, P> {
         ensures run { OnOk result (IsStep E.out (Claiming worker) self.old self.new) }
         ensures err { OnErr result (self.new ≡ self.old) }
     {
-        let NextClaim { vertex, inputs } = next;
-        let inputs = self.settled.again(alloc, inputs)?;
+        let NextClaim { vertex, inputs: ids } = next;
+        let inputs = self.settled.again(alloc, ids)?;
         growth::room(&mut self.claims, 1)?;
         // One event for this claim, one for its end, and one for the end of each that is out already.
         growth::room(&mut self.history, self.claims.len() + 2)?;
@@ -371,10 +351,11 @@ impl<'a, E: Executor, P: Place<TreeOrCause>> Board<'a, E, P> {
             .caches
             .take(alloc, worker, state::uses_of(vertices, vertex))?;
         let at = self.history.len();
+        self.settled.pass_on(ids);
         self.frontier.withdraw(vertex);
         growth::add(&mut self.claims, ClaimOut { worker, vertex, at });
         growth::add(&mut self.history, Happened::Claimed { worker, vertex });
-        Ok(Claim::new(worker, vertex, at, inputs, lease))
+        Ok(Task::new(worker, vertex, at, inputs, lease))
     }
 
     /// Gives up a claim that is out.
@@ -388,6 +369,8 @@ impl<'a, E: Executor, P: Place<TreeOrCause>> Board<'a, E, P> {
             at: _,
         } = claim;
         state::drop_claim(&mut self.claims, worker);
+        let vertices = self.job.graph().vertices();
+        self.settled.want_again(state::inputs_of(vertices, vertex));
         self.frontier.restore(vertex);
         self.caches.leave(worker);
         growth::add(&mut self.history, Happened::Abandoned { worker, vertex });

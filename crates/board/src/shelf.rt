@@ -1,138 +1,206 @@
-// The values of the settled vertices, each where it stands.
-ghost use Rattle.std.specs.Prelude.{◌≡◌, ◌<◌, IfOk, Some, None, true, length, map, replicate, slice_set};
-ghost use Rattle.std.specs.Option.{option_map};
-ghost use Rattle.board.specs.Readiness.{has_tree};
+// The values of the settled vertices.
+ghost use Rattle.std.specs.Prelude.{◌≡◌, ◌<◌, IfOk, IfSome, IfNone, Some, None, true, false, is_some, length, map, replicate, slice_set};
+ghost use Rattle.board.specs.Readiness.{has_cause};
 ghost use Rattle.board.specs.Play.{value_at, have_trees};
 ghost use Rattle.board.specs.PrivateClaim.{tree_value};
 
-use crate::inputs::Inputs;
-use cells::Place;
-use llb::VertexId;
+use llb::{Vertex, VertexId};
 use plain::{Exact, Memory};
 use std::alloc::Global;
 use std::marker::Model;
-use trees::TreeOrCause;
+use std::snapshot::Snapshot;
+use trees::{Tree, TreeOrCause};
 
-/// For each vertex its value, once it is settled. Contracts see the values, wherever they stand.
+/// Which trees stay on a board until it ends. Contracts don't see it.
+#[derive(Clone, Copy, Debug, PartialEq, Eq)]
+pub enum Keeping {
+    /// That of the target. Any other goes to the last claim that asks for it, which may change it in its place.
+    Target,
+    /// That of every vertex.
+    All,
+}
+
+/// For each vertex its value, once it is settled. Contracts see the values, also those of which the tree is no longer here.
+///
+/// A tree is let go as soon as no claim to come asks for it: then the last claim has it alone. A cause stays, and so does the tree of one
+/// vertex.
 #[derive(Drop)]
-pub(crate) struct Shelf<P: Place<TreeOrCause>> {
-    places: Vec<Option<P>>,
+pub(crate) struct Shelf {
+    places: Vec<Option<Settled>>,
+    /// For each vertex how many claims to come ask for its tree, each as often as it is an input. Contracts don't see it.
+    wanted: Vec<usize>,
+    /// The vertex whose tree stays.
+    kept: VertexId,
 }
 
-impl<P: Place<TreeOrCause>> Model for Shelf<P> {
-    ghost use Rattle.std.specs.Prelude.{List, Option, map};
+/// The value with which a vertex is settled, and as long as it is here the value itself.
+#[derive(Drop)]
+pub(crate) struct Settled {
+    value: Option<TreeOrCause>,
+    was: Snapshot<TreeOrCause>,
+}
+
+impl Model for Shelf {
+    ghost use Rattle.std.specs.Prelude.{◌≡◌, ℕ, Some, map, slice_get};
     ghost use Rattle.std.specs.Option.{option_map};
-    ghost use Rattle.trees.specs.Cause.{TreeOrCause};
-    ghost use Rattle.board.specs.PrivateShelf.{settled_code};
+    ghost use Rattle.board.specs.declared.shelf.Settled.{Settled};
+    ghost use Rattle.board.specs.PrivateShelf.{ShelfValue, shelf_code, IsHeld};
 
-    ghost Value = { List (Option TreeOrCause) };
+    ghost Value = { ShelfValue };
 
-    ghost coded = { settled_code };
+    ghost coded = { shelf_code };
 
-    ghost view = { λ s. map (option_map P.stands) s.places.items };
+    ghost view = { λ s. record { values = map (option_map (λ (place : Settled). place.was.value)) s.places.items; kept = s.kept } };
+
+    ghost invariant = { λ s. (vertex : ℕ) (place : Settled) → slice_get s.places.items vertex ≡ Some (Some place) → IsHeld s.kept vertex place.was.value place.value };
 }
 
-impl<P: Place<TreeOrCause>> Shelf<P> {
-    /// Nothing is settled yet, of so many vertices.
-    pub(crate) fn new(alloc: Global, count: usize) -> Result<Shelf<P>, Memory>
-        ensures { IfOk result (λ shelf. shelf ≡ replicate count None) }
+impl Shelf {
+    /// Nothing is settled yet of these vertices. The tree of one of them stays in any case.
+    pub(crate) fn new(
+        alloc: Global,
+        vertices: &[Vertex],
+        kept: VertexId,
+        keeping: Keeping,
+    ) -> Result<Shelf, Memory>
+        ensures { IfOk result (λ shelf. shelf ≡ record { values = replicate (length vertices.now) None; kept = kept }) }
     {
-        let mut places = Vec::with_capacity(alloc, count)?;
-        for _ in 0..count {
+        let mut places = Vec::with_capacity(alloc, vertices.len())?;
+        for _ in 0..vertices.len() {
             places.push(None)?;
         }
-        Ok(Shelf { places })
+        let mut wanted = Vec::from_elem(alloc, askers_at_end(keeping), vertices.len())?;
+        for vertex in vertices {
+            note_wanted(wanted.as_mut_slice(), vertex.inputs.as_slice());
+        }
+        Ok(Shelf {
+            places,
+            wanted,
+            kept,
+        })
     }
 
-    /// The value of a vertex, once it is settled.
-    pub(crate) fn get(&self, vertex: VertexId) -> Option<&TreeOrCause>
-        ensures { option_map (λ value. value.now) result ≡ value_at self.now vertex }
+    /// Whether a vertex is settled.
+    pub(crate) fn is_settled(&self, vertex: VertexId) -> bool
+        ensures { result ≡ is_some (value_at self.now.values vertex) }
     {
         match self.places.get(vertex.index()) {
-            Some(Some(place)) => Some(place.value()),
+            Some(place) => place.is_some(),
+            None => false,
+        }
+    }
+
+    /// The value of a vertex that is settled, unless its tree was let go.
+    pub(crate) fn get(&self, vertex: VertexId) -> Option<&TreeOrCause>
+        ensures value { IfSome result (λ value. value_at self.now.values vertex ≡ Some value.now) }
+        ensures none { IfNone result (has_cause (value_at self.now.values vertex) ≡ false) }
+        ensures kept { IfNone result (vertex ≡ self.now.kept → value_at self.now.values vertex ≡ None) }
+    {
+        match self.places.get(vertex.index()) {
+            Some(Some(place)) => place.value.as_ref(),
             _ => None,
         }
     }
 
-    /// Keeps the value of a vertex, where it stands.
-    pub(crate) fn put(&mut self, vertex: VertexId, place: P)
-        requires { vertex < length self.old }
-        ensures { self.new ≡ slice_set self.old vertex (Some (P.stands place)) }
+    /// Keeps the value of a vertex.
+    pub(crate) fn put(&mut self, vertex: VertexId, value: TreeOrCause)
+        requires { vertex < length self.old.values }
+        ensures { self.new ≡ record self.old { values = slice_set self.old.values vertex (Some value.entry) } }
     {
-        self.places[vertex.index()] = Some(place);
+        let was = Snapshot::of(&value);
+        self.places[vertex.index()] = Some(Settled {
+            value: Some(value),
+            was,
+        });
     }
 
-    /// The same values, each in a place of its own.
-    pub(crate) fn copied(&self, alloc: Global) -> Result<Shelf<TreeOrCause>, Memory>
-        ensures { IfOk result (λ shelf. shelf ≡ self.now) }
+    /// The trees of these vertices once more, in their order. `Memory` also if one isn't here any more: its last claim was given up.
+    pub(crate) fn again(&self, alloc: Global, vertices: &[VertexId]) -> Result<Vec<Tree>, Memory>
+        requires { have_trees self.now.values vertices.now ≡ true }
+        ensures { IfOk result (λ trees. map tree_value trees.items ≡ map (value_at self.now.values) vertices.now) }
     {
-        let places = all_copied(alloc, self.places.as_slice())?;
-        Ok(Shelf { places })
-    }
-
-    /// The trees of these vertices once more, where they stand, in their order.
-    pub(crate) fn again(
-        &mut self,
-        alloc: Global,
-        vertices: &[VertexId],
-    ) -> Result<Inputs<P>, Memory>
-        requires { have_trees self.old vertices.now ≡ true }
-        ensures same { self.new ≡ self.old }
-        ensures trees { IfOk result (λ trees. map tree_value trees ≡ map (value_at self.old) vertices.now) }
-    {
-        let mut inputs = Inputs::with_capacity(alloc, vertices.len())?;
+        let mut trees = Vec::with_capacity(alloc, vertices.len())?;
         for vertex in vertices {
-            let place = self.place_again(alloc, *vertex)?;
-            inputs.push(place)?;
+            trees.push(self.tree_again(alloc, *vertex)?)?;
         }
-        Ok(inputs)
+        Ok(trees)
     }
 
-    /// The place of a settled vertex once more.
-    fn place_again(&mut self, alloc: Global, vertex: VertexId) -> Result<P, Memory>
-        requires { has_tree (value_at self.old vertex) ≡ true }
-        ensures same { self.new ≡ self.old }
-        ensures again { IfOk result (λ place. Some (P.stands place) ≡ value_at self.old vertex) }
+    /// The tree of a vertex once more.
+    fn tree_again(&self, alloc: Global, vertex: VertexId) -> Result<Tree, Memory>
+        ensures { IfOk result (λ tree. value_at self.now.values vertex ≡ tree_value tree) }
     {
-        again(alloc, &mut self.places[vertex.index()])
+        match self.get(vertex) {
+            Some(Ok(tree)) => tree.copy(alloc),
+            _ => Err(Memory),
+        }
+    }
+
+    /// A claim has these vertices as its inputs: of those that no other one will ask for, the trees are let go. It has each of them, so
+    /// none ends here.
+    pub(crate) fn pass_on(&mut self, inputs: &[VertexId])
+        ensures { self.new ≡ self.old }
+    {
+        for input in inputs {
+            if self.is_last(*input) {
+                self.let_go(*input);
+            }
+        }
+    }
+
+    /// A claim of these inputs was given up, and they are asked for once more.
+    pub(crate) fn want_again(&mut self, inputs: &[VertexId])
+        ensures { self.new ≡ self.old }
+    {
+        note_wanted(self.wanted.as_mut_slice(), inputs);
+    }
+
+    /// Notes that one claim less asks for a vertex's tree, and answers whether it was the last.
+    fn is_last(&mut self, vertex: VertexId) -> bool
+        ensures { self.new ≡ self.old }
+    {
+        match self.wanted.get_mut(vertex.index()) {
+            Some(wanted) => {
+                *wanted = wanted.saturating_sub(1);
+                *wanted == 0
+            }
+            None => false,
+        }
+    }
+
+    /// Lets the tree of a vertex go, unless it is the one that stays.
+    fn let_go(&mut self, vertex: VertexId)
+        ensures { self.new ≡ self.old }
+    {
+        if vertex == self.kept || vertex.index() >= self.places.len() {
+            return;
+        }
+        empty(&mut self.places[vertex.index()]);
     }
 }
 
-/// What is in a place that is there, once more.
-fn again<P: Place<TreeOrCause>>(alloc: Global, place: &mut Option<P>) -> Result<P, Memory>
-    requires { has_tree (option_map P.stands place.old) ≡ true }
-    ensures same { place.new ≡ place.old }
-    ensures again { IfOk result (λ other. Some (P.stands other) ≡ option_map P.stands place.old) }
-{
-    match place {
-        Some(place) => place.again(alloc),
-        None => unreachable!(),
+/// How many ask for the tree of each vertex when all is over.
+fn askers_at_end(keeping: Keeping) -> usize {
+    match keeping {
+        Keeping::Target => 0,
+        Keeping::All => 1,
     }
 }
 
-/// Copies of what stands in these places.
-fn all_copied<P: Place<TreeOrCause>>(
-    alloc: Global,
-    places: &[Option<P>],
-) -> Result<Vec<Option<TreeOrCause>>, Memory>
-    ensures { IfOk result (λ values. map (option_map (λ value. value)) values.items ≡ map (option_map P.stands) places.now) }
-{
-    let mut values = Vec::with_capacity(alloc, places.len())?;
-    for place in places {
-        values.push(copied(alloc, place)?)?;
+/// Lets the tree go that is in a place.
+fn empty(place: &mut Option<Settled>) {
+    if let Some(settled) = place {
+        if let Some(Ok(_)) = settled.value {
+            drop(settled.value.take());
+        }
     }
-    Ok(values)
 }
 
-/// A copy of what stands in a place, if it is there.
-fn copied<P: Place<TreeOrCause>>(
-    alloc: Global,
-    place: &Option<P>,
-) -> Result<Option<TreeOrCause>, Memory>
-    ensures { IfOk result (λ copied. option_map (λ value. value) copied ≡ option_map P.stands place.now) }
-{
-    match place {
-        Some(place) => Ok(Some(place.value().copy(alloc)?)),
-        None => Ok(None),
+/// Notes that one claim more asks for the trees of these vertices.
+fn note_wanted(wanted: &mut [usize], inputs: &[VertexId]) {
+    for input in inputs {
+        if let Some(wanted) = wanted.get_mut(input.index()) {
+            *wanted = wanted.saturating_add(1);
+        }
     }
 }

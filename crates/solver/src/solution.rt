@@ -38,7 +38,7 @@ pub(crate) fn solution_of<E: Executor>(alloc: Global, board: &Board<E>) -> Resul
         → IfOk result (IsBuilt tree) }
 {
     let _known = board.history();
-    if let Some(tree) = tree_of(board, board.job().target()) {
+    if let Some(tree) = target_tree(board) {
         return Ok(Solution::Built(tree.copy(alloc)?));
     }
     let Some(failure) = least_failure(board) else {
@@ -105,12 +105,12 @@ fn lesser_failure<E: Executor>(
     }
 }
 
-/// The tree with which a vertex is settled.
-fn tree_of<'a, E: Executor>(board: &'a Board<E>, vertex: VertexId) -> Option<&'a Tree>
-    ensures found { IfSome result (λ tree. value_at board.now.run.state.settled vertex ≡ Some (Ok tree.now)) }
-    ensures none { IfNone result (has_tree (value_at board.now.run.state.settled vertex) ≡ false) }
+/// The tree with which the target is settled.
+fn target_tree<'a, E: Executor>(board: &'a Board<E>) -> Option<&'a Tree>
+    ensures found { IfSome result (λ tree. value_at board.now.run.state.settled board.now.job.target ≡ Some (Ok tree.now)) }
+    ensures none { IfNone result (has_tree (value_at board.now.run.state.settled board.now.job.target) ≡ false) }
 {
-    match board.value(vertex) {
+    match board.value(board.job().target()) {
         Some(Ok(tree)) => Some(tree),
         _ => None,
     }

@@ -1,9 +1,8 @@
-ghost use Rattle.std.specs.Prelude.{◌≡◌, Some, IfOk, IsSome, map};
+ghost use Rattle.std.specs.Prelude.{◌≡◌, Some, IfOk, IsSome};
 ghost use Rattle.trees.specs.Cause.{TreeOrCause as TreeOrCauseValue, GivesTree};
-ghost use Rattle.trees.specs.Make.{made};
 ghost use Rattle.trees.specs.Over.{merged};
 ghost use Rattle.plans.specs.Files.{source_in, sources_in};
-ghost use Rattle.plans.specs.Value.{copied_files, copy_value, file_value};
+ghost use Rattle.plans.specs.Value.{copied_files, copy_value, dirs_value, file_value};
 
 use crate::patterns::find_matches;
 use llb::{CopyFiles, FileSource, Op};
@@ -12,44 +11,43 @@ use plain::{Exact, Fault, Memory};
 use std::alloc::Global;
 use trees::{CopySource, Tree, TreeFault, TreeOrCause};
 
-/// The value of an operation on files, a copy or the making of a directory, on the trees of its inputs. The first input is copied,
-/// and all is done in that copy.
-pub fn settle_file(alloc: Global, op: &Op, inputs: &[&Tree]) -> Result<TreeOrCause, Memory>
-    requires { IsSome (file_value op.now (map (λ tree. tree.now) inputs.now)) }
-    ensures { IfOk result (λ value. file_value op.now (map (λ tree. tree.now) inputs.now) ≡ Some value) }
+/// The value of an operation on files, a copy or the making of a directory, on the trees of its inputs. All is done in the first of them.
+pub fn settle_file(alloc: Global, op: &Op, inputs: Vec<Tree>) -> Result<TreeOrCause, Memory>
+    requires { IsSome (file_value op.now inputs.items) }
+    ensures { IfOk result (λ value. file_value op.now inputs.items ≡ Some value) }
 {
     match op {
         Op::Copy(files) => settle_copy(alloc, files, inputs),
-        Op::MakeDirs(path) => match inputs {
-            [tree] => settle_dirs(alloc, path, tree),
-            _ => unreachable!(),
-        },
+        Op::MakeDirs(path) => settle_dirs(alloc, path, inputs),
         _ => unreachable!(),
     }
 }
 
 /// The trees of a merge's inputs laid over each other, the first at the bottom.
-pub fn settle_merge(alloc: Global, inputs: &[&Tree]) -> Result<Tree, Memory>
-    ensures { IfOk result (λ tree. tree ≡ merged (map (λ tree. tree.now) inputs.now)) }
+pub fn settle_merge(alloc: Global, inputs: Vec<Tree>) -> Result<Tree, Memory>
+    ensures { IfOk result (λ tree. tree ≡ merged inputs.items) }
 {
-    let [first, rest @ ..] = inputs else {
+    let mut uppers = inputs;
+    if uppers.is_empty() {
         return Ok(Tree::empty(alloc));
-    };
-    let mut tree = first.copy(alloc)?;
-    for upper in rest {
-        tree = tree.under(alloc, *upper)?;
+    }
+    let mut tree = uppers.remove(0);
+    for upper in &uppers {
+        tree = tree.under(alloc, upper)?;
     }
     Ok(tree)
 }
 
 /// The value of a copy on the tree that it copies into, and the one that it copies from, if it looks for a source in one.
-fn settle_copy(alloc: Global, files: &CopyFiles, inputs: &[&Tree]) -> Result<TreeOrCause, Memory>
-    requires { IsSome (copy_value files.now (map (λ tree. tree.now) inputs.now)) }
-    ensures { IfOk result (λ value. copy_value files.now (map (λ tree. tree.now) inputs.now) ≡ Some value) }
+fn settle_copy(alloc: Global, files: &CopyFiles, inputs: Vec<Tree>) -> Result<TreeOrCause, Memory>
+    requires { IsSome (copy_value files.now inputs.items) }
+    ensures { IfOk result (λ value. copy_value files.now inputs.items ≡ Some value) }
 {
-    match inputs {
-        [base] => copied_files(alloc, files, base, &Tree::empty(alloc)),
-        [base, from] => copied_files(alloc, files, base, from),
+    let mut from = inputs;
+    let base = from.remove(0);
+    match from.as_slice() {
+        [] => copied_files(alloc, files, base, &Tree::empty(alloc)),
+        [from] => copied_files(alloc, files, base, from),
         _ => unreachable!(),
     }
 }
@@ -58,21 +56,22 @@ fn settle_copy(alloc: Global, files: &CopyFiles, inputs: &[&Tree]) -> Result<Tre
 fn copied_files(
     alloc: Global,
     files: &CopyFiles,
-    base: &Tree,
+    base: Tree,
     from: &Tree,
 ) -> Result<TreeOrCause, Memory>
-    ensures { IfOk result (λ value. value ≡ copied_files files.now base.now from.now) }
+    ensures { IfOk result (λ value. value ≡ copied_files files.now base from.now) }
 {
     let sources = find_sources(alloc, from, files.sources.as_slice())?;
-    let base = base.copy(alloc)?;
     tree_or_cause(base.copied(alloc, from, sources.as_slice(), &files.dest, &files.options))
 }
 
-/// A tree with a directory and its parents made in it, or the cause why they can't be.
-fn settle_dirs(alloc: Global, path: &Path, tree: &Tree) -> Result<TreeOrCause, Memory>
-    ensures { IfOk result (λ value. value ≡ made tree.now path.now) }
+/// The one tree that there is, with a directory and its parents made in it, or the cause why they can't be.
+fn settle_dirs(alloc: Global, path: &Path, inputs: Vec<Tree>) -> Result<TreeOrCause, Memory>
+    requires { IsSome (dirs_value path.now inputs.items) }
+    ensures { IfOk result (λ value. dirs_value path.now inputs.items ≡ Some value) }
 {
-    let mut tree = tree.copy(alloc)?;
+    let mut trees = inputs;
+    let mut tree = trees.remove(0);
     match tree.mkdirs(alloc, path) {
         Ok(()) => Ok(Ok(tree)),
         Err(Fault::Because(cause)) => Ok(Err(cause)),
