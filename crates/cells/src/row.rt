@@ -52,12 +52,7 @@ impl<T: Drop, M: Meaning<T>> Row<T, M> {
         let cell = &self.cells[number as usize];
         let mine = Box::new(alloc, Found::new(number, value))?;
         let found = cell.get_or_init(move || mine);
-        let value = found.value();
-        if found.number() == number {
-            Ok(Some(value))
-        } else {
-            Ok(None)
-        }
+        Ok(found.value_for(number))
     }
 
     /// What stands in the cell of a number, if anything does that is of this number.
@@ -70,11 +65,6 @@ impl<T: Drop, M: Meaning<T>> Row<T, M> {
         let Some(found) = cell.get() else {
             return None;
         };
-        let value = found.value();
-        if found.number() == number {
-            Some(value)
-        } else {
-            None
-        }
+        found.value_for(number)
     }
 }
