@@ -1,5 +1,6 @@
 pub mod BindSteps
 pub mod FileSteps
+mod FirstSteps
 mod LookUps
 mod MatchSteps
 mod FrontSteps

@@ -4,6 +4,7 @@ ghost use Rattle.trees.specs.Over.{merged};
 ghost use Rattle.plans.specs.Files.{source_in, sources_in};
 ghost use Rattle.plans.specs.Value.{copied_files, copy_value, dirs_value, file_value};
 
+use crate::inputs::take_first;
 use crate::patterns::find_matches;
 use llb::{CopyFiles, FileSource, Op};
 use paths::Path;
@@ -27,11 +28,9 @@ pub fn settle_file(alloc: Global, op: &Op, inputs: Vec<Tree>) -> Result<TreeOrCa
 pub fn settle_merge(alloc: Global, inputs: Vec<Tree>) -> Result<Tree, Memory>
     ensures { IfOk result (λ tree. tree ≡ merged inputs.items) }
 {
-    let mut uppers = inputs;
-    if uppers.is_empty() {
+    let Some((mut tree, uppers)) = take_first(inputs) else {
         return Ok(Tree::empty(alloc));
-    }
-    let mut tree = uppers.remove(0);
+    };
     for upper in &uppers {
         tree = tree.under(alloc, upper)?;
     }
@@ -43,8 +42,9 @@ fn settle_copy(alloc: Global, files: &CopyFiles, inputs: Vec<Tree>) -> Result<Tr
     requires { IsSome (copy_value files.now inputs.items) }
     ensures { IfOk result (λ value. copy_value files.now inputs.items ≡ Some value) }
 {
-    let mut from = inputs;
-    let base = from.remove(0);
+    let Some((base, from)) = take_first(inputs) else {
+        unreachable!()
+    };
     match from.as_slice() {
         [] => copied_files(alloc, files, base, &Tree::empty(alloc)),
         [from] => copied_files(alloc, files, base, from),
@@ -70,8 +70,9 @@ fn settle_dirs(alloc: Global, path: &Path, inputs: Vec<Tree>) -> Result<TreeOrCa
     requires { IsSome (dirs_value path.now inputs.items) }
     ensures { IfOk result (λ value. dirs_value path.now inputs.items ≡ Some value) }
 {
-    let mut trees = inputs;
-    let mut tree = trees.remove(0);
+    let Some((mut tree, _)) = take_first(inputs) else {
+        unreachable!()
+    };
     match tree.mkdirs(alloc, path) {
         Ok(()) => Ok(Ok(tree)),
         Err(Fault::Because(cause)) => Ok(Err(cause)),

@@ -11,8 +11,8 @@ use runs::RunBind;
 use std::alloc::Global;
 use trees::{Cause, Tree, TreeOrCause};
 
-/// The request of a command on the tree that it runs in, which is handed over, and those of its binds: each bind has what is under its source in its own
-/// tree, in their order (Dockerfile reference, `RUN --mount=type=bind`).
+/// The request of a command on the tree that it runs in, which is handed over, and those of its binds: each bind has what is under
+/// its source in its own tree, in their order (Dockerfile reference, `RUN --mount=type=bind`).
 ///
 /// There is no request where a bind's source isn't a directory, and the first such bind decides: `F1` where nothing is at its
 /// source, `F2` where a file is.

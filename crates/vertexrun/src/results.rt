@@ -8,6 +8,7 @@ ghost use Rattle.plans.specs.Sources.{source_tree, HasSource};
 ghost use Rattle.plans.specs.Value.{ended, run_value, result_of};
 
 use crate::files::{settle_file, settle_merge};
+use crate::inputs::take_first;
 use crate::requests::request_of;
 use executor::{Executor, Outcome, Request};
 use llb::{Exec, Op, Source};
@@ -85,8 +86,9 @@ fn exec_result<E: Executor>(
     ensures left { IfOk result (λ ran. IsLeftBy (E.leaves executor.now) (ExecOp exec.now) inputs.items copies.now ran.given.items) }
 {
     let given = copied_items(alloc, copies)?;
-    let mut trees = inputs;
-    let root = trees.remove(0);
+    let Some((root, trees)) = take_first(inputs) else {
+        unreachable!()
+    };
     match request_of(alloc, exec, root, trees.as_slice())? {
         Ok(request) => run_result(alloc, executor, request, given),
         Err(cause) => Ok(Ran {
