@@ -51,7 +51,6 @@ impl<'a, E: Executor> Model for Board<'a, E> {
     ghost use Rattle.std.specs.Prelude.{◌+◌, ◌≤◌, vec_len, vec_capacity};
     ghost use Rattle.board.specs.Board.{BoardValue, board_code, IsBoard};
     ghost use Rattle.board.specs.Job.{job_problem};
-ghost use Rattle.board.specs.Readiness.{has_cause};
     ghost use Rattle.board.specs.Leaving.{GivesBackWhatIsLeft};
     ghost use Rattle.board.specs.PrivateFrontier.{IsFrontier};
 
@@ -168,10 +167,10 @@ impl<'a, E: Executor> Board<'a, E> {
         requires lent { IsLent (board_problem E.out self.old) self.old.first self.old.run.history claim }
         requires left { IsLeftFor (E.leaves self.old.job.executor) (board_problem E.out self.old) claim given.items }
         ensures run { OnOk result (IsStep E.out (Settling claim.worker given.items) self.old self.new) }
-        ensures value { OnOk result (slice_get self.new.run.state.settled claim.vertex ≡ Some (Some value.entry)) }
+        ensures value { OnOk result (slice_get self.new.run.state.settled claim.vertex ≡ Some (Some value)) }
         ensures nearer { OnOk result (unsettled_count self.new.run.state.settled < unsettled_count self.old.run.state.settled) }
         ensures err { OnErr result (self.new ≡ self.old) }
-        ensures back { IfErr result (λ refused. (refused.claim ≡ claim) × (refused.value ≡ value.entry) × (refused.given.items ≡ given.items)) }
+        ensures back { IfErr result (λ refused. (refused.claim ≡ claim) × (refused.value ≡ value) × (refused.given.items ≡ given.items)) }
     {
         let Ok(noted) = copied_items(alloc, given.as_slice()) else {
             return Err(Refused {

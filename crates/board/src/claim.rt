@@ -67,8 +67,8 @@ impl Task {
 
     /// The claim, and the trees of its vertex's inputs.
     pub fn into_parts(self) -> (Claim, Vec<Tree>)
-        ensures claim { result.0 ≡ self.entry }
-        ensures inputs { result.1.items ≡ self.entry.inputs }
+        ensures claim { result.0 ≡ self }
+        ensures inputs { result.1.items ≡ self.inputs }
     {
         let Task { claim, inputs } = self;
         (claim, inputs)

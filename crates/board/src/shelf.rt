@@ -1,6 +1,7 @@
 // The values of the settled vertices.
-ghost use Rattle.std.specs.Prelude.{◌≡◌, ◌<◌, IfOk, IfSome, IfNone, Some, None, true, false, is_some, length, map, replicate, slice_set};
-ghost use Rattle.board.specs.Readiness.{has_cause};
+ghost use Rattle.std.specs.Prelude.{◌≡◌, ◌<◌, ◌⊎◌, IfOk, IfSome, IfNone, Some, None, true, false, is_some, length, map, option_and_then, replicate, slice_set};
+ghost use Rattle.std.specs.Option.{option_map};
+ghost use Rattle.board.specs.Readiness.{has_tree, has_cause};
 ghost use Rattle.board.specs.Play.{value_at, have_trees};
 ghost use Rattle.board.specs.PrivateClaim.{tree_value};
 
@@ -69,10 +70,7 @@ impl Shelf {
         for _ in 0..vertices.len() {
             places.push(None)?;
         }
-        let mut wanted = Vec::from_elem(alloc, askers_at_end(keeping), vertices.len())?;
-        for vertex in vertices {
-            note_wanted(wanted.as_mut_slice(), vertex.inputs.as_slice());
-        }
+        let wanted = all_wanted(alloc, vertices, keeping)?;
         Ok(Shelf {
             places,
             wanted,
@@ -105,7 +103,7 @@ impl Shelf {
     /// Keeps the value of a vertex.
     pub(crate) fn put(&mut self, vertex: VertexId, value: TreeOrCause)
         requires { vertex < length self.old.values }
-        ensures { self.new ≡ record self.old { values = slice_set self.old.values vertex (Some value.entry) } }
+        ensures { self.new ≡ record self.old { values = slice_set self.old.values vertex (Some value) } }
     {
         let was = Snapshot::of(&value);
         self.places[vertex.index()] = Some(Settled {
@@ -179,6 +177,15 @@ impl Shelf {
     }
 }
 
+/// How many claims to come ask for the tree of each vertex, while none was made yet.
+fn all_wanted(alloc: Global, vertices: &[Vertex], keeping: Keeping) -> Result<Vec<usize>, Memory> {
+    let mut wanted = Vec::from_elem(alloc, askers_at_end(keeping), vertices.len())?;
+    for vertex in vertices {
+        note_wanted(wanted.as_mut_slice(), vertex.inputs.as_slice());
+    }
+    Ok(wanted)
+}
+
 /// How many ask for the tree of each vertex when all is over.
 fn askers_at_end(keeping: Keeping) -> usize {
     match keeping {
@@ -188,7 +195,11 @@ fn askers_at_end(keeping: Keeping) -> usize {
 }
 
 /// Lets the tree go that is in a place.
-fn empty(place: &mut Option<Settled>) {
+fn empty(place: &mut Option<Settled>)
+    ensures was { option_map (λ settled. settled.was) place.new ≡ option_map (λ settled. settled.was) place.old }
+    ensures value { (place.new ≡ place.old)
+        ⊎ ((has_tree (option_and_then (λ settled. settled.value) place.old) ≡ true) × (option_and_then (λ settled. settled.value) place.new ≡ None)) }
+{
     if let Some(settled) = place {
         if let Some(Ok(_)) = settled.value {
             drop(settled.value.take());

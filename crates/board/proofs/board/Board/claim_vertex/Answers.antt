@@ -76,7 +76,7 @@ invariant_of-self-2 g c =
     let more = frontier-claim b.job.graph.vertices b.job.graph.places b.settled.values b.claims.items c.add.new.list.items b.frontier c.withdraw.new.self (record { worker = c.args.worker; vertex = vertex; at = c.len-at.result }) c.self.invariant.2 (claimable-available problem run.state c.args.worker vertex can) c.withdraw.ensures (search rules) in
     let added : c.add-2.new.list.items ≡ b.history.items ++ Claimed c.args.worker vertex ∷ [] = search rules in
     let given = given-push (g.E.Executor.leaves b.job.executor) problem b.first.items b.history.items c.add-2.new.list.items (Claimed c.args.worker vertex) added c.self.invariant.3 tt in
-    rw c.again.ensures.same (gone.board, omega (arith, c.self.invariant.1, c.in_ok-room-2.ensures.room, c.room-2.ensures.len, c.room.ensures.len, c.add.ensures.len, c.add-2.ensures.len, c.add-2.ensures.capacity, c.len.ensures), more, given)
+    rw c.pass_on.ensures (gone.board, omega (arith, c.self.invariant.1, c.in_ok-room-2.ensures.room, c.room-2.ensures.len, c.room.ensures.len, c.add.ensures.len, c.add-2.ensures.len, c.add-2.ensures.capacity, c.len.ensures), more, given, c.self.invariant.4)
 
 pub returns-clause-run : goal.returns-clause-run
 returns-clause-run g c =
@@ -88,7 +88,7 @@ returns-clause-run g c =
     let uses : c.uses_of.result.now ≡ uses_at problem vertex = c.uses_of.ensures ∙ ap (λ vertices. uses_in vertices vertex) (c.vertices-vertices.ensures.value ∙ ap (λ graph. graph.vertices) c.graph.ensures.value) in
     let after : IsAfter (Takes c.args.worker (uses_at problem vertex)) b.caches c.take.new.self = subst (λ u. IsAfter (Takes c.args.worker u) b.caches c.take.new.self) uses c.in_ok-lease.ensures.ok in
     let gone = claim-gone g.E.Executor.out b.job b.first.items b.caches c.take.new.self b.history.items c.add-2.new.list.items b.settled.values b.claims.items c.add.new.list.items c.args.worker vertex c.len-at.result c.self.invariant.0 can (search rules) (search rules) (search rules) after in
-    subst (λ v. IsStep g.E.Executor.out (Claim c.args.worker) v (board_of b.job b.first.items c.take.new.self c.add-2.new.list.items c.again.new.self c.add.new.list.items)) c.self.view_is (rw c.again.ensures.same gone.goes)
+    subst (λ v. IsStep g.E.Executor.out (Claim c.args.worker) v (board_of b.job b.first.items c.take.new.self c.add-2.new.list.items c.pass_on.new.self.values c.add.new.list.items)) c.self.view_is (rw c.pass_on.ensures gone.goes)
 
 pub returns-clause-of : goal.returns-clause-of
 returns-clause-of g c =
@@ -98,9 +98,9 @@ returns-clause-of g c =
     let run = run_of b.history.items b.settled.values b.claims.items b.caches.holds in
     let uses : c.uses_of.result.now ≡ uses_at problem vertex = c.uses_of.ensures ∙ ap (λ vertices. uses_in vertices vertex) (c.vertices-vertices.ensures.value ∙ ap (λ graph. graph.vertices) c.graph.ensures.value) in
     let ids : AreInputIds b.job.graph.vertices b.settled.values vertex c.args.next.inputs.now = subst (λ v. AreInputIds v.job.graph.vertices v.run.state.settled vertex c.args.next.inputs.now) (sym c.self.view_is) c.requires.inputs in
-    let inputs = inputs-are b.job.graph.vertices b.settled.values vertex c.args.next.inputs.now c.in_ok-inputs.inputs ids c.in_ok-inputs.ensures.trees in
+    let inputs = inputs-are b.job.graph.vertices b.settled.values vertex c.args.next.inputs.now c.in_ok-inputs.inputs.items ids c.in_ok-inputs.ensures in
     let count = copies-count b.caches c.args.worker (uses_at problem vertex) c.in_ok-lease.lease (subst (λ u. c.in_ok-lease.lease ≡ record { holder = c.args.worker; trees = map (tree_held b.caches.contents) (new_holds c.args.worker b.caches.holds u) }) uses c.in_ok-lease.ensures.lease) in
-    subst (IsClaim problem) (sym c.new.ensures) (claim-is problem run c.args.worker vertex c.len-at.result c.in_ok-inputs.inputs c.in_ok-lease.lease.trees c.self.invariant.0.problem c.self.invariant.0.replay inputs count)
+    subst (IsClaim problem) (sym c.new.ensures) (claim-is problem run c.args.worker vertex c.len-at.result c.in_ok-inputs.inputs.items c.in_ok-lease.lease.trees c.self.invariant.0.problem c.self.invariant.0.replay inputs count)
 
 pub returns-clause-out : goal.returns-clause-out
 returns-clause-out g c =
@@ -109,7 +109,7 @@ returns-clause-out g c =
     let problem = job_problem g.E.Executor.out b.job in
     let run = run_of b.history.items b.settled.values b.claims.items b.caches.holds in
     let can : claimable problem run.state c.args.worker ≡ Some vertex = subst (λ v. claimable (board_problem g.E.Executor.out v) v.run.state c.args.worker ≡ Some vertex) (sym c.self.view_is) c.requires.next in
-    subst (IsOut (run_of b.history.items c.again.new.self c.add.new.list.items c.take.new.self.holds).state) (sym c.new.ensures) (claim-out problem run.state c.args.worker vertex c.len-at.result c.add.new.list.items can (search rules))
+    subst (IsOut (run_of b.history.items c.pass_on.new.self.values c.add.new.list.items c.take.new.self.holds).state) (sym c.new.ensures) (claim-out problem run.state c.args.worker vertex c.len-at.result c.add.new.list.items can (search rules))
 
 pub returns-clause-caches : goal.returns-clause-caches
 returns-clause-caches g c =
