@@ -1,4 +1,4 @@
-ghost use Rattle.std.specs.Prelude.{◌≡◌, ◌↔◌, ◌<◌, [], Some, ℕ, map, IsTrue, IsFalse, IfOk, IfSome, IfNone, IfErr, OnOk, OnErr, slice_get};
+ghost use Rattle.std.specs.Prelude.{◌≡◌, ◌↔◌, ◌<◌, [], Some, None, ℕ, false, map, IsTrue, IsFalse, IfOk, IfSome, IfNone, IfErr, OnOk, OnErr, slice_get};
 ghost use Rattle.std.specs.Option.{option_map};
 ghost use Rattle.cachemounts.specs.Holds.{new_holds};
 ghost use Rattle.cachemounts.specs.Content.{tree_held};
@@ -48,7 +48,7 @@ pub struct Board<'a, E: Executor> {
 }
 
 impl<'a, E: Executor> Model for Board<'a, E> {
-    ghost use Rattle.std.specs.Prelude.{◌+◌, ◌≤◌, vec_len, vec_capacity};
+    ghost use Rattle.std.specs.Prelude.{◌≡◌, ◌+◌, ◌≤◌, vec_len, vec_capacity};
     ghost use Rattle.board.specs.Board.{BoardValue, board_code, IsBoard};
     ghost use Rattle.board.specs.Job.{job_problem};
     ghost use Rattle.board.specs.Leaving.{GivesBackWhatIsLeft};
