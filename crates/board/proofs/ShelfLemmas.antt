@@ -1,5 +1,5 @@
 -- The values of settled vertices.
-use Rattle.std.proofs.Common.{◌≡◌, ℕ, zero, suc, Bool, true, false, ◌⊎◌, inl, inr, List, [], ◌∷◌, map, Option, Some, None, Ok, Err, refl, sym, ap, subst, ◌∙◌}
+use Rattle.std.proofs.Common.{◌≡◌, ℕ, zero, suc, true, ◌⊎◌, inl, inr, List, [], ◌∷◌, map, Option, Some, None, refl, sym, ap, subst, ◌∙◌}
 use Rattle.std.specs.Prelude.{slice_get, slice_set, option_and_then, replicate}
 use Rattle.std.specs.Option.{option_map}
 use Rattle.std.proofs.lemmas.List.{map-set}
@@ -8,8 +8,7 @@ use Rattle.trees.specs.Cause.{TreeOrCause}
 use Rattle.llb.specs.declared.vertex.Vertex.{Vertex}
 use Rattle.board.specs.Readiness.{has_tree}
 use Rattle.board.specs.Play.{value_at}
-use Rattle.board.specs.PrivateClaim.{tree_value}
-use Rattle.board.specs.PrivateClaim.{AreInputs}
+use Rattle.board.specs.PrivateClaim.{tree_value, AreInputs}
 use Rattle.board.specs.PrivateShelf.{ShelfValue, IsHeld, AreInputIds}
 use Rattle.board.specs.declared.shelf.Settled.{Settled}
 
@@ -35,16 +34,16 @@ get-set (z ∷ xs) zero zero x y e = inl (refl, cc)
 get-set (z ∷ xs) zero (suc k) x y e = inr e
 get-set (z ∷ xs) (suc i) zero x y e = inr e
 get-set (z ∷ xs) (suc i) (suc k) x y e = elim (get-set xs i k x y e) [
-        | inl here ↦ inl (ap suc here.0, here.1)
-        | inr before ↦ inr before
-    ]
+  | inl here ↦ inl (ap suc here.0, here.1)
+  | inr before ↦ inr before
+]
 
 -- another place
 pub held-set : (kept i : ℕ) (places : List (Option Settled)) (new : Option Settled) → AllHeld kept places → ((place : Settled) → new ≡ Some place → IsHeld kept i place.was.value place.value) → AllHeld kept (slice_set places i new)
 held-set kept i places new held here vertex place e = elim (get-set places i vertex new (Some place) e) [
-        | inl same ↦ subst (λ v. IsHeld kept v place.was.value place.value) (sym same.0) (here place same.1)
-        | inr before ↦ held vertex place before
-    ]
+  | inl same ↦ subst (λ v. IsHeld kept v place.was.value place.value) (sym same.0) (here place same.1)
+  | inr before ↦ held vertex place before
+]
 
 -- a value that is put in a place is as it has to be there
 pub held-put : (kept i : ℕ) (new : Settled) (value : TreeOrCause) → new.value ≡ Some value → new.was.value ≡ value → (place : Settled) → Some new ≡ Some place → IsHeld kept i place.was.value place.value

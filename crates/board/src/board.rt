@@ -322,12 +322,7 @@ impl<'a, E: Executor> Board<'a, E> {
     }
 
     /// Claims a vertex for the worker that may claim it next. After `Memory` the board is as it was.
-    fn claim_vertex(
-        &mut self,
-        alloc: Global,
-        worker: u32,
-        next: NextClaim,
-    ) -> Result<Task, Memory>
+    fn claim_vertex(&mut self, alloc: Global, worker: u32, next: NextClaim) -> Result<Task, Memory>
         requires next { claimable (board_problem E.out self.old) self.old.run.state worker ≡ Some next.vertex }
         requires inputs { AreInputIds self.old.job.graph.vertices self.old.run.state.settled next.vertex next.inputs.now }
         ensures vertex { IfOk result (λ claim. claim.vertex ≡ next.entry.vertex) }
@@ -340,7 +335,10 @@ impl<'a, E: Executor> Board<'a, E> {
         ensures run { OnOk result (IsStep E.out (Claiming worker) self.old self.new) }
         ensures err { OnErr result (self.new ≡ self.old) }
     {
-        let NextClaim { vertex, inputs: ids } = next;
+        let NextClaim {
+            vertex,
+            inputs: ids,
+        } = next;
         let inputs = self.settled.again(alloc, ids)?;
         growth::room(&mut self.claims, 1)?;
         // One event for this claim, one for its end, and one for the end of each that is out already.
