@@ -13,8 +13,8 @@ returns-in_default-clause-applies g c =
 
 pub returns-clause-applies : goal.returns-clause-applies
 returns-clause-applies g c =
-    let claim = c.into_parts.result.0 in
-    let found = taken-claim c.args.worker c.args.out.now.items c.take_claim.new.out.items c.in-Some.task claim c.into_parts.ensures.claim c.in-Some.ensures.found in
+    let claim = c.into_parts-claim.result.0 in
+    let found = taken-claim c.args.worker c.args.out.now.items c.take_claim.new.out.items c.in-Some.task claim c.into_parts-claim.ensures.claim c.in-Some.ensures.found in
     let b = c.args.board.now in
     let problem = board_problem g.E.Executor.out b in
     let out = taken-out problem b.run.state.claims c.args.worker c.args.out.now.items c.take_claim.new.out.items claim c.requires.out found in
@@ -23,8 +23,8 @@ returns-clause-applies g c =
 
 pub returns-clause-out : goal.returns-clause-out
 returns-clause-out g c =
-    let claim = c.into_parts.result.0 in
-    let found = taken-claim c.args.worker c.args.out.now.items c.take_claim.new.out.items c.in-Some.task claim c.into_parts.ensures.claim c.in-Some.ensures.found in
+    let claim = c.into_parts-claim.result.0 in
+    let found = taken-claim c.args.worker c.args.out.now.items c.take_claim.new.out.items c.in-Some.task claim c.into_parts-claim.ensures.claim c.in-Some.ensures.found in
     let b = c.args.board.now in
     let problem = board_problem g.E.Executor.out b in
     let out = taken-out problem b.run.state.claims c.args.worker c.args.out.now.items c.take_claim.new.out.items claim c.requires.out found in
@@ -32,15 +32,15 @@ returns-clause-out g c =
 
 pub returns-clause-job : goal.returns-clause-job
 returns-clause-job g c =
-    let claim = c.into_parts.result.0 in
-    let found = taken-claim c.args.worker c.args.out.now.items c.take_claim.new.out.items c.in-Some.task claim c.into_parts.ensures.claim c.in-Some.ensures.found in
+    let claim = c.into_parts-claim.result.0 in
+    let found = taken-claim c.args.worker c.args.out.now.items c.take_claim.new.out.items c.in-Some.task claim c.into_parts-claim.ensures.claim c.in-Some.ensures.found in
     let b = c.args.board.now in
     (c.abandon.ensures.out (taken-out (board_problem g.E.Executor.out b) b.run.state.claims c.args.worker c.args.out.now.items c.take_claim.new.out.items claim c.requires.out found)).job
 
 pub returns-clause-lent : goal.returns-clause-lent
 returns-clause-lent g c =
-    let claim = c.into_parts.result.0 in
-    let found = taken-claim c.args.worker c.args.out.now.items c.take_claim.new.out.items c.in-Some.task claim c.into_parts.ensures.claim c.in-Some.ensures.found in
+    let claim = c.into_parts-claim.result.0 in
+    let found = taken-claim c.args.worker c.args.out.now.items c.take_claim.new.out.items c.in-Some.task claim c.into_parts-claim.ensures.claim c.in-Some.ensures.found in
     let b = c.args.board.now in
     let now = c.abandon.new.self in
     let problem = board_problem g.E.Executor.out b in
@@ -50,7 +50,7 @@ returns-clause-lent g c =
 
 pub returns-clause-first : goal.returns-clause-first
 returns-clause-first g c =
-    let claim = c.into_parts.result.0 in
-    let found = taken-claim c.args.worker c.args.out.now.items c.take_claim.new.out.items c.in-Some.task claim c.into_parts.ensures.claim c.in-Some.ensures.found in
+    let claim = c.into_parts-claim.result.0 in
+    let found = taken-claim c.args.worker c.args.out.now.items c.take_claim.new.out.items c.in-Some.task claim c.into_parts-claim.ensures.claim c.in-Some.ensures.found in
     let b = c.args.board.now in
     (c.abandon.ensures.out (taken-out (board_problem g.E.Executor.out b) b.run.state.claims c.args.worker c.args.out.now.items c.take_claim.new.out.items claim c.requires.out found)).first

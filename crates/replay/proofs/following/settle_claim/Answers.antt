@@ -11,24 +11,24 @@ use Rattle.replay.proofs.following.settle_claim.Goals as goal
 
 pub run-requires-clause-of : goal.run-requires-clause-of
 run-requires-clause-of g c κs within =
-    let claim = c.into_parts.result.0 in
-    let found = taken-claim c.args.worker c.args.out.now.items c.take_claim.new.out.items c.in-Some.task claim c.into_parts.ensures.claim c.in-Some.ensures.found in
+    let claim = c.into_parts-claim.result.0 in
+    let found = taken-claim c.args.worker c.args.out.now.items c.take_claim.new.out.items c.in-Some.task claim c.into_parts-claim.ensures.claim c.in-Some.ensures.found in
     let b = c.args.board.now in
     let problem = board_problem g.E.Executor.out b in
     subst (λ job. IsClaim (job_problem g.E.Executor.out job) claim) (sym c.job.ensures) (taken-is problem b.run.state.claims c.args.worker c.args.out.now.items c.take_claim.new.out.items claim c.requires.out found)
 
 pub settle-requires-clause-out : goal.settle-requires-clause-out
 settle-requires-clause-out g c κs within =
-    let claim = c.into_parts.result.0 in
-    let found = taken-claim c.args.worker c.args.out.now.items c.take_claim.new.out.items c.in-Some.task claim c.into_parts.ensures.claim c.in-Some.ensures.found in
+    let claim = c.into_parts-claim.result.0 in
+    let found = taken-claim c.args.worker c.args.out.now.items c.take_claim.new.out.items c.in-Some.task claim c.into_parts-claim.ensures.claim c.in-Some.ensures.found in
     let b = c.args.board.now in
     let problem = board_problem g.E.Executor.out b in
     taken-out problem b.run.state.claims c.args.worker c.args.out.now.items c.take_claim.new.out.items claim c.requires.out found
 
 pub settle-requires-clause-of : goal.settle-requires-clause-of
 settle-requires-clause-of g c κs within =
-    let claim = c.into_parts.result.0 in
-    let found = taken-claim c.args.worker c.args.out.now.items c.take_claim.new.out.items c.in-Some.task claim c.into_parts.ensures.claim c.in-Some.ensures.found in
+    let claim = c.into_parts-claim.result.0 in
+    let found = taken-claim c.args.worker c.args.out.now.items c.take_claim.new.out.items c.in-Some.task claim c.into_parts-claim.ensures.claim c.in-Some.ensures.found in
     let b = c.args.board.now in
     let problem = board_problem g.E.Executor.out b in
     taken-is problem b.run.state.claims c.args.worker c.args.out.now.items c.take_claim.new.out.items claim c.requires.out found
@@ -41,8 +41,8 @@ returns-in_default-clause-applies g c =
 
 pub returns-in-Ok-settle-clause-applies : goal.returns-in-Ok-settle-clause-applies
 returns-in-Ok-settle-clause-applies g c =
-    let claim = c.into_parts.result.0 in
-    let found = taken-claim c.args.worker c.args.out.now.items c.take_claim.new.out.items c.in-Some.task claim c.into_parts.ensures.claim c.in-Some.ensures.found in
+    let claim = c.into_parts-claim.result.0 in
+    let found = taken-claim c.args.worker c.args.out.now.items c.take_claim.new.out.items c.in-Some.task claim c.into_parts-claim.ensures.claim c.in-Some.ensures.found in
     let b = c.args.board.now in
     let problem = board_problem g.E.Executor.out b in
     let out = taken-out problem b.run.state.claims c.args.worker c.args.out.now.items c.take_claim.new.out.items claim c.requires.out found in
@@ -53,8 +53,8 @@ returns-in-Ok-settle-clause-applies g c =
 
 pub returns-in-Ok-settle-clause-out : goal.returns-in-Ok-settle-clause-out
 returns-in-Ok-settle-clause-out g c =
-    let claim = c.into_parts.result.0 in
-    let found = taken-claim c.args.worker c.args.out.now.items c.take_claim.new.out.items c.in-Some.task claim c.into_parts.ensures.claim c.in-Some.ensures.found in
+    let claim = c.into_parts-claim.result.0 in
+    let found = taken-claim c.args.worker c.args.out.now.items c.take_claim.new.out.items c.in-Some.task claim c.into_parts-claim.ensures.claim c.in-Some.ensures.found in
     let b = c.args.board.now in
     let problem = board_problem g.E.Executor.out b in
     let same : job_problem g.E.Executor.out c.job.result.now ≡ problem = ap (job_problem g.E.Executor.out) c.job.ensures in
@@ -63,15 +63,15 @@ returns-in-Ok-settle-clause-out g c =
 
 pub settle-requires-clause-lent : goal.settle-requires-clause-lent
 settle-requires-clause-lent g c κs within =
-    let claim = c.into_parts.result.0 in
-    let found = taken-claim c.args.worker c.args.out.now.items c.take_claim.new.out.items c.in-Some.task claim c.into_parts.ensures.claim c.in-Some.ensures.found in
+    let claim = c.into_parts-claim.result.0 in
+    let found = taken-claim c.args.worker c.args.out.now.items c.take_claim.new.out.items c.in-Some.task claim c.into_parts-claim.ensures.claim c.in-Some.ensures.found in
     let b = c.args.board.now in
     taken-lent (board_problem g.E.Executor.out b) b.first b.run.history c.args.worker c.args.out.now.items c.take_claim.new.out.items claim c.requires.lent found
 
 pub returns-in-Ok-settle-clause-lent : goal.returns-in-Ok-settle-clause-lent
 returns-in-Ok-settle-clause-lent g c =
-    let claim = c.into_parts.result.0 in
-    let found = taken-claim c.args.worker c.args.out.now.items c.take_claim.new.out.items c.in-Some.task claim c.into_parts.ensures.claim c.in-Some.ensures.found in
+    let claim = c.into_parts-claim.result.0 in
+    let found = taken-claim c.args.worker c.args.out.now.items c.take_claim.new.out.items c.in-Some.task claim c.into_parts-claim.ensures.claim c.in-Some.ensures.found in
     let b = c.args.board.now in
     let now = c.settle.new.self in
     fewer-lent (board_problem g.E.Executor.out b) b.first now.first b.run now.run (Settle claim.worker c.in-Ok.ran.given.items) c.args.worker c.args.out.now.items c.take_claim.new.out.items claim c.requires.out c.requires.lent found refl c.in-Ok-settle.ensures.run.run c.in-Ok-settle.ensures.run.first
