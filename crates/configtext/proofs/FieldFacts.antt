@@ -1,6 +1,7 @@
 -- The fields of a configuration, said one behind the other, are the members of its object.
-use Rattle.std.proofs.Common.{◌≡◌, ℕ, suc, ◌+◌, ◌<◌, Bool, true, false, ◌||◌, List, [], ◌∷◌, ◌++◌, length, get_or, drop, map, Option, Some, None, Less, nat_cmp, refl, sym, ap, ◌∙◌, append_assoc, codes, arith, drop-cons, add-one}
+use Rattle.std.proofs.Common.{◌≡◌, ℕ, ◌+◌, ◌<◌, Bool, true, false, ◌||◌, List, [], ◌∷◌, ◌++◌, length, get_or, drop, map, Option, Some, None, Less, nat_cmp, refl, sym, ap, ◌∙◌, append_assoc, codes, arith}
 use Rattle.std.proofs.lemmas.Cmp.{nat_list_cmp_total}
+use Rattle.std.proofs.lemmas.List.{drop_more}
 use Rattle.std.specs.Cmp.Lexicographic.{slice_cmp}
 use Rattle.json.specs.Print.{escape_byte, escape, quoted}
 use Rattle.paths.specs.Path.{text_of, rooted}
@@ -39,8 +40,9 @@ variable-text said_name said_value name value first second =
 
 -- ---- items of a list
 
-drop-item : {A : Type 0} (xs : List A) (x : A) (i : ℕ) → i < length xs → x ≡ get_or xs i x → drop i xs ≡ x ∷ drop (i + 1) xs
-drop-item xs x i lt is = drop-cons xs i x lt ∙ ap (λ y. y ∷ drop (suc i) xs) (sym is) ∙ ap (λ n. x ∷ drop n xs) (sym (add-one i))
+-- what is left of a list, the next item first
+pub drop-item : {A : Type 0} (xs : List A) (x : A) (i : ℕ) → i < length xs → x ≡ get_or xs i x → drop i xs ≡ x ∷ drop (i + 1) xs
+drop-item xs x i lt is = drop_more xs i x lt ∙ ap (λ y. y ∷ drop (i + 1) xs) (sym is)
 
 -- the items from one on, that item first
 pub items-from : {A : Type 0} (f : A → Data) (later : Bool) (xs : List A) (x : A) (said : List ℕ) (i : ℕ) → i < length xs → x ≡ get_or xs i x → said ≡ compact_text (f x)

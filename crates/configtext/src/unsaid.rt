@@ -79,8 +79,8 @@ fn text_of_dir(alloc: Global, dir: &Option<Path>) -> Result<Text, Memory>
     }
 }
 
-/// Says a configuration as compact JSON: what `Config::to_json` gives, and no value and no text in between. It takes no memory, and after a
-/// failed write nothing more is written.
+/// Says a configuration as compact JSON: the text of what `Config::to_json` gives, though neither that value nor its text is made. It takes no
+/// memory, and after a failed write nothing more is written.
 pub fn put_config<W: CountedWrite>(
     output: &mut W,
     gathered: &mut Gathered,
