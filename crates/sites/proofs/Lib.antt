@@ -1,4 +1,3 @@
 mod BookLemmas
 mod TallyLemmas
 pub mod Crosses
-mod KeepLemmas

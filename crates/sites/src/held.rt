@@ -107,10 +107,10 @@ impl<'a, E: Executor, J: Case + Room> Held<'a, E, J> {
         requires left { IsLeftFor J.leaves J.problem claim given.items }
         ensures agrees { IsSeatOf self.old.run seat.old }
         ensures run { OnOk result (IsStep E.out (Settling seat.old.worker given.items) self.old self.new) }
-        ensures value { OnOk result (slice_get self.new.run.state.settled claim.entry.vertex ≡ Some (Some value.entry)) }
-        ensures seat { OnOk result (seat.new ≡ record { worker = seat.old.worker; out = None; tally = seat.old.tally ++ claim.entry.vertex ∷ []; lent = seat.old.lent }) }
+        ensures value { OnOk result (slice_get self.new.run.state.settled claim.vertex ≡ Some (Some value)) }
+        ensures seat { OnOk result (seat.new ≡ record { worker = seat.old.worker; out = None; tally = seat.old.tally ++ claim.vertex ∷ []; lent = seat.old.lent }) }
         ensures err { OnErr result ((self.new ≡ self.old) × (seat.new ≡ seat.old)) }
-        ensures back { IfErr result (λ refused. (refused.claim ≡ claim.entry) × (refused.value ≡ value.entry) × (refused.given.items ≡ given.items)) }
+        ensures back { IfErr result (λ refused. (refused.claim ≡ claim) × (refused.value ≡ value) × (refused.given.items ≡ given.items)) }
     {
         self.agree(seat);
         if growth::room(&mut seat.tally, 1).is_err() {

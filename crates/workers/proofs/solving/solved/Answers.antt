@@ -10,7 +10,7 @@ use Rattle.solver.specs.Recall.{leaves_or_stays}
 use Rattle.solver.proofs.SolutionLemmas.{left-same, runs-same}
 use Rattle.workers.proofs.solving.solved.Goals as goal
 
--- where there are no cells nothing has happened
+-- where there are no findings nothing has happened
 pub returns-in_default-clause-left : goal.returns-in_default-clause-left
 returns-in_default-clause-left g c = left-same g.J.Case.problem g.J.Case.first c.unsolved.result.caches.contents (ap (λ store. store.contents) c.unsolved.ensures.caches ∙ c.requires.first)
 
@@ -19,15 +19,6 @@ returns-in_default-clause-runs g c = runs-same g.J.Case.leaves g.J.Case.problem 
 
 pub returns-in_default-clause-memo : goal.returns-in_default-clause-memo
 returns-in_default-clause-memo g c = grows-same c.args.memo.now
-
-pub returns-in_default-new-clause-left : goal.returns-in_default-new-clause-left
-returns-in_default-new-clause-left g c = left-same g.J.Case.problem g.J.Case.first c.unsolved-in_default-new.result.caches.contents (ap (λ store. store.contents) c.unsolved-in_default-new.ensures.caches ∙ c.requires.first)
-
-pub returns-in_default-new-clause-runs : goal.returns-in_default-new-clause-runs
-returns-in_default-new-clause-runs g c = runs-same g.J.Case.leaves g.J.Case.problem g.J.Case.first c.unsolved-in_default-new.result.caches.contents (ap (λ store. store.contents) c.unsolved-in_default-new.ensures.caches ∙ c.requires.first)
-
-pub returns-in_default-new-clause-memo : goal.returns-in_default-new-clause-memo
-returns-in_default-new-clause-memo g c = grows-same c.args.memo.now
 
 pub returns-clause-memo : goal.returns-clause-memo
 returns-clause-memo g c = grows-same c.args.memo.now
