@@ -89,11 +89,7 @@ pub fn run_recalled<E: Executor, M: Executor, G: Gate, N: Numbering>(
 }
 
 /// A tree as the result of a claim, with the trees that are in the claim's caches.
-fn recalled(
-    alloc: Global,
-    claim: &Claim,
-    tree: &Tree,
-) -> Result<Ran, Memory>
+fn recalled(alloc: Global, claim: &Claim, tree: &Tree) -> Result<Ran, Memory>
     ensures value { IfOk result (λ ran. ran.value ≡ OkOf tree.now) }
     ensures given { IfOk result (λ ran. ran.given.items ≡ claim.now.caches) }
 {

@@ -183,7 +183,14 @@ fn turn<E: Executor, M: Executor, G: Gate, N: Numbering>(
         return Ok(false);
     };
     let (claim, inputs) = task.into_parts();
-    let Ran { value, given } = match run_recalled(alloc, board.job(), recall, gate, &claim, inputs) {
+    let Ran { value, given } = match run_recalled(
+        alloc,
+        board.job(),
+        recall,
+        gate,
+        &claim,
+        inputs,
+    ) {
         Ok(ran) => ran,
         Err(memory) => {
             board.abandon(claim);

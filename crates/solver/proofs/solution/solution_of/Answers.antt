@@ -1,7 +1,6 @@
-use Rattle.std.proofs.Common.{◌≡◌, ◌∙◌, Some, Ok, Err, false, sym, ap, subst}
+use Rattle.std.proofs.Common.{◌≡◌, ◌∙◌, Some, Ok, Err, sym, ap}
 use Rattle.board.specs.Board.{board_problem}
 use Rattle.board.specs.Play.{value_at}
-use Rattle.board.specs.Readiness.{has_tree}
 use Rattle.solver.proofs.SolutionLemmas.{settled-value, cause-found, least-at-end, first-is}
 use Rattle.solver.proofs.solution.solution_of.Goals as goal
 
