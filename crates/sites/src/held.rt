@@ -50,11 +50,7 @@ impl<'a, E: Executor, J: Case + Room> Held<'a, E, J> {
     /// Claims the ready vertex of least id for the seat's worker, with the trees of its inputs and the lease of its caches. It claims nothing
     /// where no vertex is ready, or where the seat has a claim out. After `Memory` board and seat are as they were. It also answers `Memory`
     /// where the tree of an input went to a claim that was given up.
-    pub fn claim(
-        &mut self,
-        alloc: Global,
-        seat: &mut Seat<J>,
-    ) -> Result<Option<Task>, Memory>
+    pub fn claim(&mut self, alloc: Global, seat: &mut Seat<J>) -> Result<Option<Task>, Memory>
         ensures agrees { IsSeatOf self.old.run seat.old }
         ensures next { IfOk result (λ claim. IsNextClaim J.problem self.old.run.history seat.old.worker
             (option_map (λ c. c.vertex) claim)) }
