@@ -168,7 +168,11 @@ fn solved<
         return unsolved(caches);
     };
     let own = Job::new(plan, &recalling);
-    let keeping = if memo.is_for_one_build() { Keeping::Target } else { Keeping::All };
+    let keeping = if memo.is_for_one_build() {
+        Keeping::Target
+    } else {
+        Keeping::All
+    };
     let asked = recall.as_ref();
     let outcome = closed(
         alloc, rt, workers, gate, &job, asked, own, caches, keeping, opened,
