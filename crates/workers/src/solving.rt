@@ -168,11 +168,7 @@ fn solved<
         return unsolved(caches);
     };
     let own = Job::new(plan, &recalling);
-    let keeping = if memo.is_for_one_build() {
-        Keeping::Target
-    } else {
-        Keeping::All
-    };
+    let keeping = keeping_for(&*memo);
     let asked = recall.as_ref();
     let outcome = closed(
         alloc, rt, workers, gate, &job, asked, own, caches, keeping, opened,
@@ -192,6 +188,15 @@ fn solved<
             }
         }
         Err(caches) => unsolved(caches),
+    }
+}
+
+/// Which trees stay on the board of a solve: all, if the memo will remember them.
+fn keeping_for<E: Executor>(memo: &Memo<E>) -> Keeping {
+    if memo.is_for_one_build() {
+        Keeping::Target
+    } else {
+        Keeping::All
     }
 }
 
