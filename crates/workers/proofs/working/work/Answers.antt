@@ -13,7 +13,7 @@ run_recalled-ran-requires-clause-stays g c κs within =
 pub end-ended-requires-clause-left : goal.end-ended-requires-clause-left
 end-ended-requires-clause-left g c κs within =
     let leaves = g.E.Executor.leaves c.args.tools.now.job.now.executor in
-    let claim = c.into_parts.result.0 in
+    let claim = c.into_parts-claim.result.0 in
     let ran = c.run_recalled-ran in
     let left = subst (λ p. IfOk ran.result (λ it. IsLeftFor leaves p claim it.given.items)) c.requires.job ran.ensures.left in
     ok-more (λ it. IsLeftFor leaves g.J.Case.problem claim it.given.items) (λ it. IsLeftFor g.J.Case.leaves g.J.Case.problem claim it.given.items) ran.result
