@@ -165,7 +165,7 @@ fn tallies_of_job<E: Executor, J: Case + Room + Send + Sync, R: Threads + Wait +
 {
     let caches = CacheStore::new(tools.alloc);
     match Board::new(tools.alloc, job, caches, Keeping::Target) {
-        Ok(board) => tallies_of_two(rt, tools, board, opened),
+        Ok(board) => tallies_of_two::<E, J, R>(rt, tools, board, opened),
         Err(NoBoard { caches }) => {
             drop(caches);
             drop(opened);
