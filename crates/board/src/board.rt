@@ -29,11 +29,11 @@ use trees::{Tree, TreeOrCause};
 
 /// Which vertices of a job are settled and with what, which claims are out, and what the job's caches hold. The type keeps that all of it is
 /// the replay of the history, and that each settle of it gave back what a run left: so whatever calls were made, the history is legal, each vertex that is settled
-/// has its value, and each content is as it was at the start, or what the last settle that gave it back brought, which its vertex's run left of what it was lent.
+/// has its value, and each cache holds what it held at the start, or what the run of the last settle that gave it back left in it.
 #[derive(Drop)]
 pub struct Board<'a, E: Executor> {
     job: Job<'a, E>,
-    /// For each vertex its value, once it is settled.
+    /// For each vertex its value, once it is settled; its tree may be gone.
     settled: Shelf,
     /// The claims that are out, the oldest first: no worker twice, no vertex twice.
     claims: Vec<ClaimOut>,
@@ -78,13 +78,14 @@ impl<'a, E: Executor> Model for Board<'a, E> {
         × (b.settled.kept ≡ b.job.target) };
 }
 
-/// The store, given back where there was no memory for its board.
+/// The store, given back since there was no memory for its board.
 pub struct NoBoard {
     pub caches: CacheStore,
 }
 
 impl<'a, E: Executor> Board<'a, E> {
-    /// A board on which nothing has happened, with a store of which nobody holds anything. `CacheStore::is_idle` tests that.
+    /// A board on which nothing has happened, with a store of which nobody holds anything: `CacheStore::is_idle` tests that. `keeping` says which
+    /// trees stay on it. If there is no memory, the store comes back as it was.
     pub fn new(
         alloc: Global,
         job: Job<'a, E>,
@@ -116,8 +117,8 @@ impl<'a, E: Executor> Board<'a, E> {
         })
     }
 
-    /// Claims the ready vertex of least id for a worker, with the trees of its inputs and the lease of its caches. It claims nothing where no
-    /// vertex is ready, or where the worker has a claim out. After `Memory` the board is as it was. It also answers `Memory` where the tree of an
+    /// Claims the ready vertex of least id for a worker, with the trees of its inputs and the lease of its caches. It claims nothing if no
+    /// vertex is ready, or if the worker has a claim out. After `Memory` the board is as it was. It also answers `Memory` if the tree of an
     /// input went to a claim that was given up.
     pub fn claim(&mut self, alloc: Global, worker: u32) -> Result<Option<Task>, Memory>
         ensures next { IfOk result (λ claim. IsNextClaim (board_problem E.out self.old) self.old.run.history worker
@@ -198,8 +199,9 @@ impl<'a, E: Executor> Board<'a, E> {
         Ok(())
     }
 
-    /// Gives a claim up: its vertex may be claimed again, and the contents of its caches stay as they are. A claim that isn't out any more is
-    /// spent, and nothing else changes. It takes no memory.
+    /// Gives a claim up: its vertex is available again, and the contents of its caches stay as they are. If the claim had the only pointer to
+    /// the tree of an input, that tree is gone, and each later claim of the vertex answers `Memory`. A claim that is no longer out is dropped,
+    /// and the board doesn't change. It takes no memory.
     pub fn abandon(&mut self, claim: Claim)
         ensures out { IsOut self.old.run.state claim → IsStep E.out (Abandoning claim.worker) self.old self.new }
         ensures ended { ¬ IsOut self.old.run.state claim → self.new ≡ self.old }
@@ -267,8 +269,8 @@ impl<'a, E: Executor> Board<'a, E> {
         self.claims.is_empty()
     }
 
-    /// Whether a vertex may be left to claim: no vertex is ready if not. If so, a vertex is available, and a cache that is held or a failure may still keep
-    /// it from being ready. It looks at no cache, so that it takes no longer where many vertices wait for one.
+    /// Whether a vertex is available. If so, it may still not be ready: a cache may be held, a failure may stop it, or the target may be settled.
+    /// If not, no vertex is ready. It looks at no cache, so that it takes no longer if many vertices wait for one.
     pub fn has_more(&self) -> bool
         ensures more { IsTrue result → (vertex : ℕ) × IsAvailable (board_problem E.out self.now) self.now.run.history vertex }
         ensures none { IsFalse result → (vertex : ℕ) → ¬ IsReady (board_problem E.out self.now) self.now.run.history vertex }
@@ -339,7 +341,7 @@ impl<'a, E: Executor> Board<'a, E> {
             vertex,
             inputs: ids,
         } = next;
-        let inputs = self.settled.again(alloc, ids)?;
+        let inputs = self.settled.copies(alloc, ids)?;
         growth::room(&mut self.claims, 1)?;
         // One event for this claim, one for its end, and one for the end of each that is out already.
         growth::room(&mut self.history, self.claims.len() + 2)?;

@@ -16,8 +16,8 @@ pub struct Claim {
     lease: Lease,
 }
 
-/// A claim as a board gives it, with the trees of its vertex's inputs, in their order: those that no other claim will ask for are in no other
-/// place. Contracts see the claim.
+/// A claim as a board gives it, with the trees of its vertex's inputs, in their order. The board no longer has those that no other claim
+/// will ask for, unless it keeps them (`Keeping`). Contracts see the claim.
 pub struct Task {
     claim: Claim,
     inputs: Vec<Tree>,
@@ -137,7 +137,7 @@ impl Claim {
     }
 }
 
-/// All that a settle took for which there was no memory, given back.
+/// What a settle took, given back since there was no memory for it.
 pub struct Refused {
     pub claim: Claim,
     pub value: TreeOrCause,

@@ -17,18 +17,19 @@ use trees::{Tree, TreeOrCause};
 pub enum Keeping {
     /// That of the target. Any other goes to the last claim that asks for it, which may change it in its place.
     Target,
-    /// That of every vertex.
+    /// That of every vertex, for a caller who reads trees at the end, or claims a vertex again whose claim was given up.
     All,
 }
 
-/// For each vertex its value, once it is settled. Contracts see the values, also those of which the tree is no longer here.
+/// For each vertex its value, once it is settled. Contracts see the values, also those whose tree is no longer here.
 ///
-/// A tree is let go as soon as no claim to come asks for it: then the last claim has it alone. A cause stays, and so does the tree of one
-/// vertex.
+/// When the last claim that asks for a tree is given it, the shelf lets its own pointer go: then the claim has the only one. A tree that no
+/// claim is given stays, and so do causes and the tree of one vertex.
 #[derive(Drop)]
 pub(crate) struct Shelf {
     places: Vec<Option<Settled>>,
-    /// For each vertex how many claims to come ask for its tree, each as often as it is an input. Contracts don't see it.
+    /// How many still ask for the tree of each vertex: one for each time that it is an input of a vertex not yet claimed, and one more under
+    /// `Keeping::All`, so that it never gets to 0. Contracts don't see it.
     wanted: Vec<usize>,
     /// The vertex whose tree stays.
     kept: VertexId,
@@ -112,20 +113,20 @@ impl Shelf {
         });
     }
 
-    /// The trees of these vertices once more, in their order. `Memory` also if one isn't here any more: its last claim was given up.
-    pub(crate) fn again(&self, alloc: Global, vertices: &[VertexId]) -> Result<Vec<Tree>, Memory>
+    /// Copies of the trees of these vertices, in their order. `Memory` also if one isn't here any more: a claim that was given up took it.
+    pub(crate) fn copies(&self, alloc: Global, vertices: &[VertexId]) -> Result<Vec<Tree>, Memory>
         requires { have_trees self.now.values vertices.now ≡ true }
         ensures { IfOk result (λ trees. map tree_value trees.items ≡ map (value_at self.now.values) vertices.now) }
     {
         let mut trees = Vec::with_capacity(alloc, vertices.len())?;
         for vertex in vertices {
-            trees.push(self.tree_again(alloc, *vertex)?)?;
+            trees.push(self.copy_of(alloc, *vertex)?)?;
         }
         Ok(trees)
     }
 
-    /// The tree of a vertex once more.
-    fn tree_again(&self, alloc: Global, vertex: VertexId) -> Result<Tree, Memory>
+    /// A copy of the tree of a vertex.
+    fn copy_of(&self, alloc: Global, vertex: VertexId) -> Result<Tree, Memory>
         ensures { IfOk result (λ tree. value_at self.now.values vertex ≡ tree_value tree) }
     {
         match self.get(vertex) {
@@ -134,13 +135,13 @@ impl Shelf {
         }
     }
 
-    /// A claim has these vertices as its inputs: of those that no other one will ask for, the trees are let go. It has each of them, so
-    /// none ends here.
+    /// Counts one claim less for each of a claim's inputs, and lets go of the trees that no other claim will ask for. The claim has a pointer
+    /// to each, so no tree is freed here, where the caller may hold a lock.
     pub(crate) fn pass_on(&mut self, inputs: &[VertexId])
         ensures { self.new ≡ self.old }
     {
         for input in inputs {
-            if self.is_last(*input) {
+            if self.count_down(*input) {
                 self.let_go(*input);
             }
         }
@@ -154,7 +155,7 @@ impl Shelf {
     }
 
     /// Notes that one claim less asks for a vertex's tree, and answers whether it was the last.
-    fn is_last(&mut self, vertex: VertexId) -> bool
+    fn count_down(&mut self, vertex: VertexId) -> bool
         ensures { self.new ≡ self.old }
     {
         match self.wanted.get_mut(vertex.index()) {
@@ -173,7 +174,7 @@ impl Shelf {
         if vertex == self.kept || vertex.index() >= self.places.len() {
             return;
         }
-        empty(&mut self.places[vertex.index()]);
+        drop_tree(&mut self.places[vertex.index()]);
     }
 }
 
@@ -186,7 +187,7 @@ fn all_wanted(alloc: Global, vertices: &[Vertex], keeping: Keeping) -> Result<Ve
     Ok(wanted)
 }
 
-/// How many ask for the tree of each vertex when all is over.
+/// How many ask for the tree of each vertex at the end: the caller, if it may read all trees then.
 fn askers_at_end(keeping: Keeping) -> usize {
     match keeping {
         Keeping::Target => 0,
@@ -194,8 +195,8 @@ fn askers_at_end(keeping: Keeping) -> usize {
     }
 }
 
-/// Lets the tree go that is in a place.
-fn empty(place: &mut Option<Settled>)
+/// Drops the tree of a settled vertex, and keeps what it was for the proofs.
+fn drop_tree(place: &mut Option<Settled>)
     ensures was { option_map (λ settled. settled.was) place.new ≡ option_map (λ settled. settled.was) place.old }
     ensures value { (place.new ≡ place.old)
         ⊎ ((has_tree (option_and_then (λ settled. settled.value) place.old) ≡ true) × (option_and_then (λ settled. settled.value) place.new ≡ None)) }

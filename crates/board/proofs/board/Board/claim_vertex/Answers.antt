@@ -19,8 +19,8 @@ use Rattle.board.proofs.FrontierSteps.{frontier-claim, available-within, claimab
 use Rattle.board.proofs.ShelfLemmas.{inputs-are}
 use Rattle.board.proofs.board.Board.claim_vertex.Goals as goal
 
-pub again-requires : goal.again-requires
-again-requires g c =
+pub copies-requires : goal.copies-requires
+copies-requires g c =
     let b = c.self.inside in
     let is : AreInputIds b.job.graph.vertices b.settled.values c.args.next.vertex c.args.next.inputs.now = subst (λ v. AreInputIds v.job.graph.vertices v.run.state.settled c.args.next.vertex c.args.next.inputs.now) (sym c.self.view_is) c.requires.inputs in
     is.trees

@@ -12,7 +12,7 @@ invariant_of-self c =
     let within : at < length s.places.items = omega (arith, s.places.ok.0) in
     let there : slice_get s.places.items at ≡ Some old = slice_get-get_or s.places.items at old within ∙ ap Some (sym c.index_mut.ensures.value) in
     let other : ¬ (at ≡ s.kept) = λ e. search rules in
-    held-set s.kept at s.places.items c.empty.new.place c.self.invariant (held-emptied s.kept at old c.empty.new.place other c.empty.ensures.was c.empty.ensures.value (λ place e. c.self.invariant at place (there ∙ ap Some e)))
+    held-set s.kept at s.places.items c.drop_tree.new.place c.self.invariant (held-emptied s.kept at old c.drop_tree.new.place other c.drop_tree.ensures.was c.drop_tree.ensures.value (λ place e. c.self.invariant at place (there ∙ ap Some e)))
 
 pub returns : goal.returns
 returns c =
@@ -21,4 +21,4 @@ returns c =
     let old = c.index_mut.result.now in
     let within : at < length s.places.items = omega (arith, s.places.ok.0) in
     let there : slice_get s.places.items at ≡ Some old = slice_get-get_or s.places.items at old within ∙ ap Some (sym c.index_mut.ensures.value) in
-    shelf-emptied s.kept at s.places.items old c.empty.new.place there c.empty.ensures.was ∙ c.self.view_is
+    shelf-emptied s.kept at s.places.items old c.drop_tree.new.place there c.drop_tree.ensures.was ∙ c.self.view_is
