@@ -65,3 +65,23 @@ fn push_row(
     let value = value.copy(alloc)?;
     rows.push(Variable { name, value })
 }
+
+/// How many arguments have a value.
+pub(crate) fn valued(arguments: &[(Text, Option<Text>)]) -> usize {
+    let mut count: usize = 0;
+    for (_, value) in arguments {
+        if value.is_some() {
+            count = count.saturating_add(1);
+        }
+    }
+    count
+}
+
+/// How many bytes the values of these rows have together.
+pub(crate) fn values_len(rows: &[Variable]) -> usize {
+    let mut len: usize = 0;
+    for row in rows {
+        len = len.saturating_add(row.value.len());
+    }
+    len
+}

@@ -9,5 +9,5 @@ pub returns : goal.returns
 returns c =
     c.in_ok-push_arguments.ensures
     ∙ ap₂ (λ (rows : List Variable) (us : List (List ℕ × Option (List ℕ))). rows ++ argument_rows c.self.inside.variables us)
-    (c.in_ok-push_variables.ensures ∙ ap₂ (λ (rows : List Variable) (es : List (List ℕ × List ℕ)). rows ++ variable_rows es) c.in_ok-rows.ensures c.as_slice.ensures) c.as_slice-2.ensures
+    (c.in_ok-push_variables.ensures ∙ ap₂ (λ (rows : List Variable) (es : List (List ℕ × List ℕ)). rows ++ variable_rows es) c.in_ok-rows.ensures c.as_slice-2.ensures) c.as_slice-3.ensures
     ∙ sym (run_env-declared _ _ c.self.invariant.0) ∙ ap run_env c.self.view_is
