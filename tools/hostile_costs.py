@@ -171,6 +171,28 @@ def words_of_shells(count):
     return bundle_of(lines_of("SHELL [" + ",".join(['"a"'] * count) + "]", *["RUN true"] * (count // 100)))
 
 
+def long_word_of_shell(count):
+    """A SHELL of one word of so many bytes, and 1,000 RUNs after it."""
+    return bundle_of(lines_of(f'SHELL ["{"a" * count}"]', *["RUN true"] * 1000))
+
+
+def long_names(count):
+    """So many names of 1,000 bytes on one line of ENV, and then 1,000 lines of ENV and RUN in turn."""
+    return bundle_of(lines_of("ENV " + " ".join(f"a{k:0999}=" for k in range(count)), *(line for k in range(1000) for line in (f"ENV v={k}", "RUN true"))))
+
+
+def values_of_an_environment(count):
+    """So many ARGs on one line that are one text of 1 MiB, and a RUN."""
+    return bundle_of(lines_of(*MEBIBYTE, "ARG " + " ".join(f"c{k}=$b" for k in range(count)), "RUN put /f x"))
+
+
+def environments_of_stages(count):
+    """250 stages from an image of so many variables, each with a RUN, of which the target copies a file."""
+    lines = [line for k in range(250) for line in (f"FROM a AS s{k}", "RUN put /f x")]
+    lines += ["FROM scratch", *(f"COPY --from=s{k} /f /f{k}" for k in range(250))]
+    return bundle_of("\n".join(lines), images={"a": image({"Env": [f"a{k}=" for k in range(count)]})})
+
+
 def doubling(count):
     """Lines of so many stages that each copy the one before twice, so the last has two to that number of files."""
     lines = ["FROM scratch AS s0", "RUN put /f x"]
@@ -242,6 +264,7 @@ KINDS = {
     stars: (30, 120), patterns_and_names: (500, 2000), ignore_lines: (100, 400), ignore_stars: (8, 32),
     images: (2000, 8000), nests: (1500, 6000), nest_too_deep: (1 << 20, 4 << 20), numbers: (60000, 240000), environments: (200, 800),
     one_environment: (10000, 40000), changed_environments: (10000, 40000), words_of_shells: (10000, 40000),
+    long_word_of_shell: (50000, 200000), long_names: (100, 400), values_of_an_environment: (50, 200), environments_of_stages: (10000, 40000),
     doubled_trees: (20, 60), deep_paths: (250, 1000), words_in_words: (500, 2000), continued: (20000, 80000), heredocs: (1500, 6000),
     bumps: (10000, 40000), cats: (8, 32), doubled_trees_laid: (12, 15), doubled_trees_placed: (12, 15), doubled_trees_found: (12, 15),
 }
@@ -254,6 +277,7 @@ LARGEST = {
     stars: 500000, patterns_and_names: 20000, ignore_lines: 70000, ignore_stars: 130000,
     images: 8000, nests: 270000, nest_too_deep: 64 << 20, numbers: 33000000, environments: 2000,
     one_environment: 130000, changed_environments: 130000, words_of_shells: 200000,
+    long_word_of_shell: 1000000, long_names: 1000, values_of_an_environment: 100000, environments_of_stages: 100000,
     doubled_trees: 60, deep_paths: 430000, words_in_words: 4000, continued: 110000, heredocs: 50000,
     bumps: 116000, cats: 4000, doubled_trees_laid: 60, doubled_trees_placed: 60, doubled_trees_found: 60,
 }

@@ -43,7 +43,7 @@ pub struct Evaluated {
     pub sources: Sources,
 }
 
-/// What a stage leaves, `None` where it isn't needed.
+/// What a stage leaves, `None` if it isn't needed, or was let go.
 #[tactic(auto, using(std::proofs::lemmas::List::get_or_past, std::proofs::lemmas::List::get_or_read))]
 fn state_at(states: Vec<Option<State>>, number: u32) -> Option<State>
     ensures { result ≡ slice_index_or states.items number NoneOf }
@@ -180,8 +180,11 @@ fn evaluate_needed(
 /// (own), R21 with a text if a variable is required that doesn't pass its test. A stage that isn't needed isn't evaluated, and nothing of
 /// it is refused.
 ///
-/// The rows are such as lowering asks for: each is well formed after those before it, the target is one of them, no more images and
-/// instructions come than a Dockerfile within its limits has, and each source that they name has its tree, where the table was made with
+/// `Memory` comes for want of memory, and also if the values of one RUN's environment have more than 268,435,456 bytes together, or if needed
+/// stages and their RUNs list more than 16,777,216 variables and words (own). What was handed over is let go then.
+///
+/// The rows are such as lowering asks for: each is well formed after those before it, the target is one of them, they name no more images and
+/// have no more steps than the limits allow, and each source that they name has its tree, where the table was made with
 /// just these images. Their lines ascend, and the target needs each stage that isn't left out.
 pub fn evaluate(
     alloc: Global,

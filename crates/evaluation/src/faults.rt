@@ -9,6 +9,7 @@ ghost use Rattle.evaluation.specs.PrivateFaults.{IsOpenedJudged, IsNeededJudged,
 ghost use Rattle.evaluation.specs.PrivateKept.{is_wanted, state_if};
 ghost use Rattle.evaluation.specs.PrivateNames.{AreWhole};
 
+use crate::budget::ListBudget;
 use crate::given::Given;
 use crate::names::NamedImages;
 use crate::opening::{Opened, open};
@@ -56,13 +57,15 @@ fn is_base_lost(needed: &[bool], states: &[Option<State>], base: &Origin) -> boo
     }
 }
 
-/// What was judged so far, with one stage more that is refused.
+/// What was judged so far, with one refused stage more. `budget` is what was left before the stage: what its RUNs listed is let go, so it doesn't
+/// count.
 fn refuse_stage(
     alloc: Global,
     rows: Items<Option<Stage>>,
     states: Items<Option<State>>,
     faults: Items<Rejection>,
     refusal: Rejection,
+    budget: ListBudget,
 ) -> Result<Judged, Memory>
     ensures { IfOk result (λ more. more ≡ record { walk = with_none (record { rows = rows; states = states; names = [] }); faults = faults ++ refusal ∷ [] }) }
 {
@@ -76,7 +79,7 @@ fn refuse_stage(
             return Err(memory);
         }
     }
-    let names = NamedImages::new(alloc);
+    let names = NamedImages::with_budget(alloc, budget);
     leave_out(Judged {
         walk: Walk {
             rows,
@@ -153,6 +156,7 @@ fn judge_opened(
         instructions,
     } = stage;
     let number = rows.len();
+    let budget = names.budget();
     match evaluate_stage(
         alloc,
         given,
@@ -168,7 +172,7 @@ fn judge_opened(
         }
         Err(Fault::Because(refusal)) => {
             drop(base);
-            refuse_stage(alloc, rows, states, faults, refusal)
+            refuse_stage(alloc, rows, states, faults, refusal, budget)
         }
         Err(Fault::Memory) => {
             drop(rows);
@@ -296,13 +300,14 @@ fn list_needed(
     judge_stages(alloc, &given, needed, target, stages.into_vec())
 }
 
-/// Lists of each stage that a table's target needs the refusal of its first line that is refused, in the order of the stages (own).
+/// Gives the refusal of the first refused line of each stage that a table's target needs, in the order of the stages (own).
 ///
 /// Each is refused as `evaluate` refuses, after what the stages before it leave. A stage that begins with one that is refused, or with one that is
-/// left out for that, has nothing to be evaluated from, and is left out. One that copies from such a stage, or mounts it, isn't. The images
-/// that R18 counts are counted anew after a stage that is refused.
+/// left out for that, has nothing to be evaluated from, and is left out. A stage that only copies from such a stage, or mounts it, is evaluated.
+/// The images that R18 counts are counted anew after a stage that is refused.
 ///
-/// The first of them is what `evaluate` refuses the table for, and there is none exactly if it evaluates it.
+/// The first of them is what `evaluate` refuses the table for, and there is none exactly if it evaluates it. `Memory` comes as of `evaluate`: also
+/// if a stage after the first refusal lists too much.
 pub fn list_faults(
     alloc: Global,
     table: StageTable,

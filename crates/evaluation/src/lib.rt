@@ -19,6 +19,7 @@
 // ```
 #![tactic(auto)]
 
+mod budget;
 mod evaluated;
 mod faults;
 mod given;

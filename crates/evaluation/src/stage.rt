@@ -16,7 +16,7 @@ use crate::names::NamedImages;
 use crate::state::State;
 use expand::{Reason, Rejection, RejectionFault};
 use plain::{Code, Fault, Items, Memory};
-use rows::{Action, Origin, Step};
+use rows::{Action, Step};
 use stages::ResolvedInstruction;
 use std::alloc::Global;
 
@@ -38,7 +38,7 @@ pub(crate) fn many_images(line: u32) -> RejectionFault
     })
 }
 
-/// Why a line is refused that is refused for this, and that goes past the limit of images or doesn't.
+/// The reason that is reported for a refused line: R18 in place of R21 if the line also names an image too many.
 fn reason_with(are_many: bool, reason: Reason) -> Reason
     ensures { result ≡ reason_with are_many reason }
 {
@@ -83,7 +83,7 @@ fn push_step(steps: Items<Step>, line: u32, action: Option<Action>) -> Result<It
     }
 }
 
-/// A stage of these steps, with what an instruction left and did.
+/// The stage with one instruction more: what it left and did. What a RUN lists is counted; `Memory` if too little is left.
 fn advance(
     steps: Items<Step>,
     names: NamedImages,
@@ -92,7 +92,15 @@ fn advance(
 ) -> Result<Progress, Memory>
     ensures { IfOk result (λ progress. progress ≡ put_to steps names line done) }
 {
+    let mut names = names;
     let Done { state, action } = done;
+    if names.take_listed(&action).is_err() {
+        drop(steps);
+        drop(names);
+        drop(state);
+        drop(action);
+        return Err(Memory);
+    }
     match push_step(steps, line, action) {
         Ok(steps) => Ok(Progress {
             state,
@@ -129,11 +137,15 @@ fn advance_unless_many(
 }
 
 /// The images that were named so far, and those that a line names.
-fn name_images(alloc: Global, names: NamedImages, origins: &[Origin]) -> Result<NamedImages, Memory>
-    ensures { IfOk result (λ more. more ≡ with_origins names origins.now) }
+fn name_images(
+    alloc: Global,
+    names: NamedImages,
+    line: &ResolvedInstruction,
+) -> Result<NamedImages, Memory>
+    ensures { IfOk result (λ more. more ≡ with_origins names line.now.origins) }
 {
     let mut names = names;
-    match names.add_origins(alloc, origins) {
+    match names.add_line(alloc, line) {
         Ok(()) => Ok(names),
         Err(memory) => {
             drop(names);
@@ -146,16 +158,16 @@ fn name_images(alloc: Global, names: NamedImages, origins: &[Origin]) -> Result<
 fn name_line_images(
     alloc: Global,
     progress: Progress,
-    origins: &[Origin],
+    line: &ResolvedInstruction,
 ) -> Result<Progress, Memory>
-    ensures { IfOk result (λ more. more ≡ record { state = progress.state; steps = progress.steps; names = with_origins progress.names origins.now }) }
+    ensures { IfOk result (λ more. more ≡ record { state = progress.state; steps = progress.steps; names = with_origins progress.names line.now.origins }) }
 {
     let Progress {
         state,
         steps,
         names,
     } = progress;
-    match name_images(alloc, names, origins) {
+    match name_images(alloc, names, line) {
         Ok(names) => Ok(Progress {
             state,
             steps,
@@ -210,7 +222,7 @@ fn evaluate_next(
     requires { IsInstruction resolved.instruction.kind }
     ensures { IsNext (arg_value given.now.args.now) (value_in given.now.outer.now) progress resolved result }
 {
-    match name_line_images(alloc, progress, resolved.origins.as_slice()) {
+    match name_line_images(alloc, progress, &resolved) {
         Ok(progress) => evaluate_named(alloc, given, progress, resolved),
         Err(_) => {
             drop(resolved);

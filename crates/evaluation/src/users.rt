@@ -12,7 +12,7 @@ use std::alloc::Global;
 pub struct Users {
     /// The stage whose configuration is answered.
     pub target: u32,
-    /// For each stage the last needed one that begins with it, 0 where none does. Each begins with an earlier one, so that isn't 0.
+    /// For each stage the last needed one that begins with it, 0 if none does. A stage comes after the one that it begins with, so that isn't 0.
     pub last: Items<usize>,
 }
 
@@ -32,7 +32,7 @@ fn note_user(last: &mut [usize], base: &Origin, user: usize)
 }
 
 impl Users {
-    /// Those of these stages, of which just the marked ones are needed.
+    /// The last users of these stages, of which just the marked ones are needed.
     pub(crate) fn of(
         alloc: Global,
         needed: &[bool],

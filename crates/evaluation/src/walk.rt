@@ -44,17 +44,18 @@ fn refuse_many(names: NamedImages, line: u32) -> Result<NamedImages, RejectionFa
     Ok(names)
 }
 
-/// The names with that of the image that a FROM names.
+/// The names with that of a FROM's image, or R18 at its line if they are too many. The stage begins with `state`, whose variables are counted.
 fn name_base(
     alloc: Global,
     names: NamedImages,
     base: &Origin,
+    state: &State,
     line: u32,
 ) -> Result<NamedImages, RejectionFault>
     ensures { AreNamed names base.now line result }
 {
     let mut names = names;
-    match names.add_origin(alloc, base) {
+    match names.add_base(alloc, base, state) {
         Ok(()) => refuse_many(names, line),
         Err(_) => {
             drop(names);
@@ -76,7 +77,7 @@ pub(crate) fn evaluate_stage(
     requires { All (λ (r : Resolved). IsInstruction r.instruction.kind) instructions.items }
     ensures { IsEnded (arg_value given.now.args.now) (value_in given.now.outer.now) state names line base.now instructions.items result }
 {
-    match name_base(alloc, names, base, line) {
+    match name_base(alloc, names, base, &state, line) {
         Ok(names) => {
             let begun = Progress {
                 state,
@@ -163,7 +164,7 @@ fn end_walk(
     }
 }
 
-/// The stages so far, with one more that ends so; the names so far are its own.
+/// The stages so far, and one more with this progress, which holds the names of all images so far.
 pub(crate) fn end_stage(
     rows: Items<Option<Stage>>,
     states: Items<Option<State>>,
