@@ -76,24 +76,6 @@ fn limits_count_for_the_cleaned_path(rt: HostRuntime) -> Result<(), Fail> {
 }
 
 #[test]
-fn long_texts_are_read_at_once(rt: HostRuntime) -> Result<(), Fail> {
-    // About a million bytes each; the last two are deep before they climb, or stay so.
-    let climb = repeated(rt.alloc(), "../", 199_999, "")?;
-    for (piece, times, end, want) in [
-        ("/.//", 250_000, "", Ok(0)),
-        ("a/b/../../", 100_000, "c", Ok(1)),
-        ("../", 300_000, "c", Ok(1)),
-        ("a/", 200_000, climb.as_str(), Ok(1)),
-        ("a/", 500_000, "", Err(Fault::Because(PathLimit::TooDeep))),
-    ] {
-        let text = repeated(rt.alloc(), piece, times, end)?;
-        let depth = depth_of(rt.alloc(), text.as_str());
-        assert_eq!(rt; depth, want, "{piece}");
-    }
-    Ok(())
-}
-
-#[test]
 fn a_path_shows_its_parts(rt: HostRuntime) -> Result<(), Fail> {
     let path = at(rt.alloc(), "usr/bin")?;
     let done = expect_parts(&rt, rt.alloc(), &path);

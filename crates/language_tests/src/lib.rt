@@ -1,14 +1,10 @@
-// Tests of what reads a Dockerfile: `plain`, `ascii`, `paths`, `counted`, `lines`, `words`, `options`, `expand`, `instructions` and `scopes`. They
-// stand in one crate of their own, since a library with tests in it is proved twice, and each crate of tests is compiled with all that it
-// stands on.
+// Tests of calls that no row of a table shows: the crate `tables` is a program that answers tables of cases, and says of a Dockerfile's lines,
+// words, flags and values whatever a whole instruction or a whole build can say. What is left for functions are copies, orders, printed errors,
+// devices of std, lists that grow together, and calls that only an embedder makes.
 //
-// Each shows what no clause says: an example from the rules, that a call succeeds if there is memory, that a generic works at a
-// type, that a device that fails is met once, that no text is read in another way when it is fed in pieces, and large inputs. All other
-// cases are data: `tables` is a program that is run on them.
+// A test function is proved, and what it holds with it. So a helper is lent what is heavy and answers by a `bool`, and the test asserts that.
 #![tactic(auto)]
 
-#[cfg(test)]
-mod arguments;
 #[cfg(test)]
 mod characters;
 #[cfg(test)]
@@ -19,13 +15,3 @@ mod devices;
 mod directories;
 #[cfg(test)]
 mod files;
-#[cfg(test)]
-mod flag_values;
-#[cfg(test)]
-mod limits;
-#[cfg(test)]
-mod names;
-#[cfg(test)]
-mod reading;
-#[cfg(test)]
-mod rows;
