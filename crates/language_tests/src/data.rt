@@ -1,139 +1,115 @@
 use plain::*;
 use std::alloc::Global;
-use std::process::Abort;
-use std::test::Fail;
 
-#[test]
-fn items_are_a_list(rt: HostRuntime) -> Result<(), Fail> {
-    let mut items = Items::new(rt.alloc());
-    assert!(rt; items.is_empty());
-    items.push(3u8)?;
-    items.push(5)?;
-    expect_copied(&rt, rt.alloc(), &items)?;
-    assert_eq!(rt; items.len(), 2);
-    let copied = copied_items(rt.alloc(), items.as_slice())?;
-    assert_eq!(rt; copied.as_slice(), [3u8, 5].as_slice());
-    let again = Items::from_vec(copied);
-    assert!(rt; items.same(&again));
-    items.push(5)?;
-    assert!(rt; !items.same(&again));
-    assert_eq!(rt; items.into_vec().as_slice(), [3u8, 5, 5].as_slice());
-    Ok(())
+/// Whether a list of two bytes is one of what is copied from it, until another one is pushed.
+fn is_list(alloc: Global, items: &mut Items<u8>) -> bool {
+    match copied_items(alloc, items.as_slice()) {
+        Ok(copied) => {
+            let again = Items::from_vec(copied);
+            let was_same = items.len() == 2 && items.same(&again);
+            was_same && items.push(5).is_ok() && !items.same(&again)
+        }
+        Err(Memory) => false,
+    }
 }
 
-/// Whether a value is the same as its copy.
-fn expect_copied<T: Exact + Drop>(rt: &impl Abort, alloc: Global, value: &T) -> Result<(), Memory> {
-    let copy = value.copy(alloc)?;
-    assert!(rt; value.same(&copy));
-    Ok(())
+#[test]
+fn items_are_a_list(rt: HostRuntime) {
+    let mut items = Items::new(rt.alloc());
+    let was_empty = items.is_empty();
+    let are_pushed = items.push(3u8).is_ok() && items.push(5).is_ok();
+    assert!(rt; was_empty && are_pushed && is_list(rt.alloc(), &mut items));
+    assert!(rt; items.into_vec().as_slice() == [3u8, 5, 5].as_slice());
 }
 
 /// Whether a text comes before another one.
-fn expect_below(rt: &impl Abort, low: &Text, high: &Text) {
-    assert!(rt; low < high && low != high && !low.same(high));
+fn is_before(alloc: Global, low: &str, high: &str) -> Result<bool, Memory> {
+    let low = Text::from_str(alloc, low)?;
+    let high = Text::from_str(alloc, high)?;
+    Ok(low < high && low != high && !low.same(&high))
 }
 
 #[test]
-fn texts_are_ordered_by_their_bytes(rt: HostRuntime) -> Result<(), Fail> {
+fn texts_are_ordered_by_their_bytes(rt: HostRuntime) {
     // In UTF-16 `𝒜` (1D49C) would be below `ﬀ` (FB00).
     for (low, high) in [("", "a"), ("ab", "b"), ("B", "a"), ("z", "é"), ("ﬀ", "𝒜")] {
-        let low = Text::from_str(rt.alloc(), low)?;
-        let high = Text::from_str(rt.alloc(), high)?;
-        expect_below(&rt, &low, &high);
+        assert!(rt;
+            is_before(rt.alloc(), low, high) == Ok(true),
+            "{low} {high}"
+        );
     }
-    Ok(())
 }
 
-#[test]
-fn texts_are_strings(rt: HostRuntime) -> Result<(), Fail> {
-    let word = Text::from_string(String::from_str(rt.alloc(), "né")?);
-    expect_copied(&rt, rt.alloc(), &word)?;
-    assert_eq!(rt; word.len(), 3);
-    assert_eq!(rt; word.as_str(), "né");
-    assert_eq!(rt; word.into_string(rt.alloc())?.as_str(), "né");
-    Ok(())
+/// Whether a text that is a string can be had as one.
+fn is_string(alloc: Global, text: &str) -> Result<bool, Memory> {
+    let word = Text::from_string(String::from_str(alloc, text)?);
+    let is_word = word.len() == text.len() && word.as_str() == text;
+    Ok(is_word && word.into_string(alloc)?.as_str() == text)
 }
 
-/// Whether a shared text and its copy are the text, and either can be had as a string of its own.
-fn expect_shared(rt: &impl Abort, alloc: Global, text: &str) -> Result<(), Memory> {
+/// Whether a text whose copies share its bytes can be had as a string of its own, and so can a copy.
+fn is_shared(alloc: Global, text: &str) -> Result<bool, Memory> {
     let shared = Text::from_str(alloc, text)?.shared(alloc)?;
     let copy = shared.copy(alloc)?;
-    assert!(rt; shared.same(&copy) && shared.as_str() == text);
-    assert_eq!(rt; shared.into_string(alloc)?.as_str(), text);
-    assert_eq!(rt; copy.into_string(alloc)?.as_str(), text);
+    let is_same = shared.same(&copy) && shared.as_str() == text;
+    Ok(
+        is_same
+            && shared.into_string(alloc)?.as_str() == text
+            && copy.into_string(alloc)?.as_str() == text,
+    )
+}
+
+#[test]
+fn texts_are_strings(rt: HostRuntime) {
+    assert!(rt; is_string(rt.alloc(), "né") == Ok(true));
+    for text in ["short", "a text of more than sixteen bytes"] {
+        assert!(rt; is_shared(rt.alloc(), text) == Ok(true), "{text}");
+    }
+}
+
+/// Whether bytes that are no text can be had again as they were.
+fn are_bytes(alloc: Global, bytes: &[u8]) -> Result<bool, Memory> {
+    let held = Bytes::from_vec(bytes.to_vec(alloc)?);
+    let are_held = held.len() == bytes.len() && held.as_slice() == bytes;
+    Ok(are_held && held.into_vec().as_slice() == bytes)
+}
+
+#[test]
+fn bytes_need_not_be_text(rt: HostRuntime) {
+    assert!(rt; are_bytes(rt.alloc(), &[255, 0]) == Ok(true));
+}
+
+fn is_none_marked(alloc: Global) -> Result<bool, Memory> {
+    Ok(no_marks(alloc, 2)?.as_slice() == [false, false].as_slice())
+}
+
+#[test]
+fn no_number_is_marked_at_first(rt: HostRuntime) {
+    assert!(rt; is_none_marked(rt.alloc()) == Ok(true));
+}
+
+#[test]
+fn modes_end_at_07777(rt: HostRuntime) {
+    assert!(rt; Mode::new(0o7777).map_or(0, |mode| mode.bits()) == 4095);
+    assert!(rt; Mode::new(0o10000).is_none() && Mode::new(0o7777) != Some(Mode::file()));
+    assert!(rt; Mode::directory().bits() == 0o755);
+}
+
+/// Adds to two lists at once, or to neither.
+fn add_to_both(these: &mut Vec<u8>, those: &mut Vec<u8>) -> Result<(), Memory> {
+    growth::room(these, 1)?;
+    growth::room(those, 1)?;
+    growth::add(these, 1);
+    growth::add(those, 2);
     Ok(())
 }
 
 #[test]
-fn shared_texts_are_the_same_texts(rt: HostRuntime) -> Result<(), Fail> {
-    expect_shared(&rt, rt.alloc(), "short")?;
-    expect_shared(&rt, rt.alloc(), "a text of more than sixteen bytes")?;
-    Ok(())
-}
-
-#[test]
-fn no_number_is_marked_at_first(rt: HostRuntime) -> Result<(), Fail> {
-    assert_eq!(rt;
-        no_marks(rt.alloc(), 2)?.as_slice(),
-        [false, false].as_slice()
-    );
-    Ok(())
-}
-
-#[test]
-fn bytes_need_not_be_text(rt: HostRuntime) -> Result<(), Fail> {
-    let bytes = Bytes::from_slice(rt.alloc(), &[255, 0])?;
-    expect_copied(&rt, rt.alloc(), &bytes)?;
-    assert_eq!(rt; bytes.len(), 2);
-    let longer = Bytes::from_vec([255u8, 0, 0].to_vec(rt.alloc())?);
-    assert!(rt; !bytes.same(&longer));
-    assert_eq!(rt; longer.as_slice(), [255u8, 0, 0].as_slice());
-    assert_eq!(rt; bytes.into_vec().as_slice(), [255u8, 0].as_slice());
-    Ok(())
-}
-
-#[test]
-fn small_values_are_copied(rt: HostRuntime) -> Result<(), Fail> {
-    let alloc: Global = rt.alloc();
-    expect_copied(&rt, alloc, &7u8)?;
-    expect_copied(&rt, alloc, &7u16)?;
-    expect_copied(&rt, alloc, &7u32)?;
-    expect_copied(&rt, alloc, &true)?;
-    expect_copied(&rt, alloc, &Sharing::Locked)?;
-    expect_copied(&rt, alloc, &Owner { user: 1, group: 2 })?;
-    let fine: Result<u8, Sharing> = Ok(7);
-    expect_copied(&rt, alloc, &fine)?;
-    assert!(rt; !fine.same(&Err(Sharing::Shared)));
-    Ok(())
-}
-
-#[test]
-fn texts_in_values_are_copied(rt: HostRuntime) -> Result<(), Fail> {
-    let some: Option<Text> = Some(Text::from_str(rt.alloc(), "a")?);
-    assert!(rt; !some.same(&None));
-    expect_copied(&rt, rt.alloc(), &some)?;
-    let variable = path_variable(rt.alloc())?;
-    expect_copied(&rt, rt.alloc(), &variable)?;
-    Ok(())
-}
-
-fn path_variable(alloc: Global) -> Result<Variable, Memory> {
-    let name = Text::from_str(alloc, "PATH")?;
-    let value = Text::from_str(alloc, "/bin")?;
-    Ok(Variable { name, value })
-}
-
-#[test]
-fn modes_end_at_07777(rt: HostRuntime) -> Result<(), Fail> {
-    let Some(mode) = Mode::new(0o7777) else {
-        assert!(rt; false, "07777 is a mode");
-        return Ok(());
-    };
-    assert_eq!(rt; mode.bits(), 4095);
-    assert!(rt; mode.same(&mode.copy(rt.alloc())?) && mode != Mode::file());
-    assert!(rt; Mode::new(0o10000).is_none());
-    assert_eq!(rt; Mode::directory().bits(), 0o755);
-    Ok(())
+fn lists_grow_together(rt: HostRuntime) {
+    let mut these = Vec::new(rt.alloc());
+    let mut those = Vec::new(rt.alloc());
+    assert!(rt; add_to_both(&mut these, &mut those).is_ok());
+    assert!(rt; these.len() == 1 && those.len() == 1);
 }
 
 /// A fault of a call that finds no memory.
@@ -142,34 +118,22 @@ fn refused(memory: Memory) -> Result<u8, Fault<Sharing>> {
     Ok(0)
 }
 
-#[test]
-fn want_of_memory_is_a_fault(rt: HostRuntime) {
-    assert_eq!(rt; refused(Memory), Err(Fault::Memory));
-    assert!(rt; Fault::Because(Sharing::Shared) != Fault::Memory);
+fn is_printed(alloc: Global, code: Code, name: &str) -> Result<bool, Memory> {
+    Ok(code.to_string(alloc)?.as_str() == name)
+}
+
+fn is_want_printed(alloc: Global) -> Result<bool, Memory> {
+    Ok(Memory.to_string(alloc)?.as_str() == "out of memory")
 }
 
 #[test]
-fn lists_grow_together(rt: HostRuntime) -> Result<(), Fail> {
-    let mut these = Vec::new(rt.alloc());
-    let mut those = Vec::new(rt.alloc());
-    growth::room(&mut these, 1)?;
-    growth::room(&mut those, 1)?;
-    growth::add(&mut these, 1u8);
-    growth::add(&mut those, 2u8);
-    assert!(rt; these.len() == 1 && those.len() == 1);
-    Ok(())
-}
-
-#[test]
-fn codes_are_numbered_as_they_are_named(rt: HostRuntime) -> Result<(), Fail> {
-    for (code, name) in [(Code::R01, "R01"), (Code::R09, "R09"), (Code::R20, "R20")] {
-        assert_eq!(rt; code.to_string(rt.alloc())?.as_str(), name);
-    }
+fn faults_are_compared_and_printed(rt: HostRuntime) {
     let refusal = Refusal {
         code: Code::R05,
         line: 1,
     };
-    assert!(rt; refusal == refusal);
-    assert_eq!(rt; Memory.to_string(rt.alloc())?.as_str(), "out of memory");
-    Ok(())
+    assert!(rt; refusal == refusal && refused(Memory) == Err(Fault::Memory));
+    assert!(rt; Fault::Because(Sharing::Shared) != Fault::Memory);
+    assert!(rt; is_printed(rt.alloc(), Code::R20, "R20") == Ok(true));
+    assert!(rt; is_want_printed(rt.alloc()) == Ok(true));
 }

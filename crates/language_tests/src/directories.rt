@@ -1,34 +1,20 @@
 use paths::*;
 use plain::{Exact, Fault, Memory, Text};
 use std::alloc::Global;
-use std::process::Abort;
-use std::test::Fail;
 
 /// The path of a text that is read from the root.
 fn at(alloc: Global, text: &str) -> Result<Path, PathFault> {
     Path::read(alloc, text, &Path::root(alloc))
 }
 
-/// The text of the path that a text leads to from another one's path.
-fn cleaned(alloc: Global, base: &str, text: &str) -> Result<Text, PathFault> {
+/// Whether a text leads from another one's path to a third one's.
+fn leads(alloc: Global, base: &str, text: &str, want: &str) -> Result<bool, PathFault> {
     let path = at(alloc, base)?.join(alloc, text)?;
-    Ok(path.text(alloc)?)
-}
-
-/// How deep the path is that a text leads to from the root.
-fn depth_of(alloc: Global, text: &str) -> Result<usize, PathFault> {
-    Ok(at(alloc, text)?.depth())
-}
-
-/// `times` copies of a piece, and then an end.
-fn repeated(alloc: Global, piece: &str, times: usize, end: &str) -> Result<Text, Fail> {
-    let mut text = piece.repeat(alloc, times)?;
-    text.push_str(end)?;
-    Ok(Text::from_string(text))
+    Ok(path.text(alloc)?.as_str() == want)
 }
 
 #[test]
-fn texts_are_read_and_cleaned(rt: HostRuntime) -> Result<(), Fail> {
+fn texts_are_read_and_cleaned(rt: HostRuntime) {
     for (base, text, want) in [
         ("/", "", "/"),
         ("/", "//", "/"),
@@ -45,14 +31,29 @@ fn texts_are_read_and_cleaned(rt: HostRuntime) -> Result<(), Fail> {
         ("/w/x", "../../../y", "/y"),
         ("/w/x", "//y/", "/y"),
     ] {
-        let text = cleaned(rt.alloc(), base, text)?;
-        assert_eq!(rt; text.as_str(), want);
+        assert!(rt;
+            leads(rt.alloc(), base, text, want) == Ok(true),
+            "{base} {text}"
+        );
     }
-    Ok(())
+}
+
+/// `times` copies of a piece, and then an end.
+fn repeated(alloc: Global, piece: &str, times: usize, end: &str) -> Result<Text, Memory> {
+    let mut text = piece.repeat(alloc, times)?;
+    text.push_str(end)?;
+    Ok(Text::from_string(text))
+}
+
+/// How deep the path is that begins with so many `a/`, and then has so many `b` and an end.
+fn depth_of(alloc: Global, deep: usize, long: usize, end: &str) -> Result<usize, PathFault> {
+    let name = repeated(alloc, "b", long, end)?;
+    let text = repeated(alloc, "a/", deep, name.as_str())?;
+    Ok(at(alloc, text.as_str())?.depth())
 }
 
 #[test]
-fn limits_count_for_the_cleaned_path(rt: HostRuntime) -> Result<(), Fail> {
+fn limits_count_for_the_cleaned_path(rt: HostRuntime) {
     for (deep, long, end, want) in [
         (64, 0, "", Ok(64)),
         (65, 0, "", Err(Fault::Because(PathLimit::TooDeep))),
@@ -67,97 +68,90 @@ fn limits_count_for_the_cleaned_path(rt: HostRuntime) -> Result<(), Fail> {
         (63, 256, "/c", Err(Fault::Because(PathLimit::TooDeep))),
         (63, 256, "/c/..", Err(Fault::Because(PathLimit::TooLong))),
     ] {
-        let name = repeated(rt.alloc(), "b", long, end)?;
-        let text = repeated(rt.alloc(), "a/", deep, name.as_str())?;
-        let depth = depth_of(rt.alloc(), text.as_str());
-        assert_eq!(rt; depth, want, "{deep} {long} {end}");
+        assert!(rt;
+            depth_of(rt.alloc(), deep, long, end) == want,
+            "{deep} {long} {end}"
+        );
     }
-    Ok(())
 }
 
-#[test]
-fn a_path_shows_its_parts(rt: HostRuntime) -> Result<(), Fail> {
-    let path = at(rt.alloc(), "usr/bin")?;
-    let done = expect_parts(&rt, rt.alloc(), &path);
-    drop(path);
-    Ok(done?)
-}
-
-/// Compares what `/usr/bin` shows.
-fn expect_parts(rt: &impl Abort, alloc: Global, path: &Path) -> Result<(), Memory> {
-    assert!(rt; !path.is_root() && is_copied(alloc, path)?);
-    assert_eq!(rt; path.components().len(), 2);
-    assert_eq!(rt; path.name().map_or("", |name| name.as_str()), "bin");
+/// Whether the path that a text leads to from the root is `/usr/bin`, as far as its parts show it.
+fn has_parts(alloc: Global, path: &Path) -> Result<bool, Memory> {
+    let is_named = path.name().map_or("", |name| name.as_str()) == "bin";
+    let is_deep = !path.is_root() && path.components().len() == 2;
     match path.parent(alloc)? {
-        Some(parent) => expect_parent(rt, alloc, path, &parent),
-        None => Err(Memory),
+        Some(parent) => Ok(is_named && is_deep && is_below(alloc, path, &parent)?),
+        None => Ok(false),
     }
 }
 
-fn expect_parent(rt: &impl Abort, alloc: Global, path: &Path, parent: &Path) -> Result<(), Memory> {
-    assert!(rt; !path.same(parent) && path.is_at_or_under(parent) && !parent.is_at_or_under(path));
-    assert_eq!(rt; parent.text(alloc)?.as_str(), "/usr");
-    Ok(())
-}
-
-/// Whether a path is the same as its copy.
-fn is_copied(alloc: Global, path: &Path) -> Result<bool, Memory> {
-    let copy = path.copy(alloc)?;
-    let same = path.same(&copy);
-    drop(copy);
-    Ok(same)
+/// Whether a path is below another one, which is `/usr`.
+fn is_below(alloc: Global, path: &Path, parent: &Path) -> Result<bool, Memory> {
+    let is_under = path.is_at_or_under(parent) && !parent.is_at_or_under(path);
+    Ok(is_under && !path.same(parent) && parent.text(alloc)?.as_str() == "/usr")
 }
 
 #[test]
-fn the_root_has_no_name(rt: HostRuntime) -> Result<(), Fail> {
-    let root = Path::root(rt.alloc());
-    assert!(rt; root.is_root() && root.name().is_none() && root.parent(rt.alloc())?.is_none());
-    Ok(())
-}
-
-/// Whether a text is a name.
-fn is_name(alloc: Global, text: &str) -> Result<bool, Memory> {
-    Ok(Name::new(Text::from_str(alloc, text)?).is_some())
-}
-
-#[test]
-fn names_are_components(rt: HostRuntime) -> Result<(), Fail> {
-    for text in ["", ".", "..", "a/b", "/"] {
-        assert!(rt; !is_name(rt.alloc(), text)?, "{text}");
-    }
-    let long = repeated(rt.alloc(), "b", 256, "")?;
-    assert!(rt; !is_name(rt.alloc(), long.as_str())?);
-    let longest = repeated(rt.alloc(), "b", 255, "")?;
-    let Some(name) = Name::new(longest) else {
-        return Err(Fail::from("255 bytes are a name"));
+fn a_path_shows_its_parts(rt: HostRuntime) {
+    let has_parts = match at(rt.alloc(), "usr/bin") {
+        Ok(path) => has_parts(rt.alloc(), &path) == Ok(true),
+        Err(_) => false,
     };
-    let done = expect_child(&rt, rt.alloc(), &name);
-    drop(name);
-    Ok(done?)
+    assert!(rt; has_parts);
 }
 
-/// Compares the paths below the root that a name makes.
-fn expect_child(rt: &impl Abort, alloc: Global, name: &Name) -> Result<(), Memory> {
-    assert!(rt; name.same(&name.copy(alloc)?));
-    let top = Path::root(alloc).child(alloc, name.as_text())?;
-    assert_eq!(rt; top.depth(), 1);
-    match LongPath::of(alloc, &top)?.child(alloc, name.as_text()) {
-        Ok(long) => expect_long(rt, alloc, long),
-        Err(memory) => Err(memory),
-    }
-}
-
-fn expect_long(rt: &impl Abort, alloc: Global, long: LongPath) -> Result<(), Memory> {
-    let copy = long.copy(alloc)?;
-    assert!(rt; long.same(&copy));
-    assert_eq!(rt; copy.components().len(), 2);
-    drop(copy);
-    assert!(rt; long.into_path().is_some());
-    Ok(())
+fn is_bare(alloc: Global, root: &Path) -> Result<bool, Memory> {
+    Ok(root.is_root() && root.name().is_none() && root.parent(alloc)?.is_none())
 }
 
 #[test]
-fn paths_are_ordered_by_components(rt: HostRuntime) -> Result<(), Fail> {
+fn the_root_has_no_name(rt: HostRuntime) {
+    let root = Path::root(rt.alloc());
+    assert!(rt; is_bare(rt.alloc(), &root) == Ok(true));
+}
+
+/// Whether a text, so often behind itself, is a name.
+fn is_name(alloc: Global, text: &str, times: usize) -> Result<bool, Memory> {
+    Ok(Name::new(repeated(alloc, text, times, "")?).is_some())
+}
+
+#[test]
+fn names_are_components(rt: HostRuntime) {
+    for text in ["", ".", "..", "a/b", "/"] {
+        assert!(rt; is_name(rt.alloc(), text, 1) == Ok(false), "{text}");
+    }
+    assert!(rt; is_name(rt.alloc(), "b", 255) == Ok(true));
+    assert!(rt; is_name(rt.alloc(), "b", 256) == Ok(false));
+}
+
+/// Whether a text, which is a name, names a path below the root, and twice a long one that is a path.
+fn names_paths(alloc: Global, text: &str) -> Result<bool, Memory> {
+    match Name::new(Text::from_str(alloc, text)?) {
+        Some(name) => is_path(alloc, &name),
+        None => Ok(false),
+    }
+}
+
+fn is_path(alloc: Global, name: &Name) -> Result<bool, Memory> {
+    let top = Path::root(alloc).child(alloc, name.as_text())?;
+    let long = LongPath::of(alloc, &top)?.child(alloc, name.as_text())?;
+    Ok(top.depth() == 1 && long.components().len() == 2 && long.into_path().is_some())
+}
+
+#[test]
+fn long_paths_are_paths(rt: HostRuntime) {
+    assert!(rt; names_paths(rt.alloc(), "usr") == Ok(true));
+}
+
+/// Whether a path comes before another one.
+fn is_before(alloc: Global, low: &str, high: &str) -> Result<bool, PathFault> {
+    let low = at(alloc, low)?;
+    let high = at(alloc, high)?;
+    Ok(low < high && low != high)
+}
+
+#[test]
+fn paths_are_ordered_by_components(rt: HostRuntime) {
     // By the bytes of the whole text `/a-b` would come before `/a/b`.
     for (low, high) in [
         ("/", "/a"),
@@ -166,9 +160,9 @@ fn paths_are_ordered_by_components(rt: HostRuntime) -> Result<(), Fail> {
         ("/a/z", "/aa"),
         ("/z", "/é"),
     ] {
-        let low = at(rt.alloc(), low)?;
-        let high = at(rt.alloc(), high)?;
-        assert!(rt; low < high && low != high);
+        assert!(rt;
+            is_before(rt.alloc(), low, high) == Ok(true),
+            "{low} {high}"
+        );
     }
-    Ok(())
 }

@@ -8,10 +8,10 @@
 #[cfg(test)]
 mod characters;
 #[cfg(test)]
+mod copies;
+#[cfg(test)]
 mod data;
 #[cfg(test)]
 mod devices;
 #[cfg(test)]
 mod directories;
-#[cfg(test)]
-mod files;
