@@ -15,6 +15,7 @@ mod files;
 mod language;
 mod limits;
 mod lookup;
+mod memos;
 mod patterns;
 mod programs;
 mod reading;
@@ -49,6 +50,7 @@ enum Table {
     FailingDevices,
     Limits,
     Stores,
+    Memos,
     /// No heading stands before the case, or one of another name.
     Unknown,
 }
@@ -96,6 +98,7 @@ fn table_of(name: &str) -> Table {
         "failing devices" => Table::FailingDevices,
         "limits" => Table::Limits,
         "stores" => Table::Stores,
+        "memos" => Table::Memos,
         _ => Table::Unknown,
     }
 }
@@ -121,6 +124,7 @@ fn answer<F: Files + AllocGlobal + Clone + Drop>(
         Table::FailingDevices => failing::answer(alloc, rt, files, case),
         Table::Limits => limits::answer(alloc, rt, files, case),
         Table::Stores => stores::answer(alloc, rt, case),
+        Table::Memos => memos::answer(alloc, rt, case),
         Table::Unknown => Err(Memory),
     }
 }
