@@ -6,6 +6,7 @@
 // `diff -U0 -F '^== ' stdout out/stdout` shows it with its table.
 #![tactic(auto)]
 
+mod buildkit;
 mod changing;
 mod commands;
 mod definitions;
@@ -46,6 +47,7 @@ enum Table {
     IgnoreFiles,
     Trees,
     Definitions,
+    Llb,
     Programs,
     FailingDevices,
     Limits,
@@ -94,6 +96,7 @@ fn table_of(name: &str) -> Table {
         "ignore files" => Table::IgnoreFiles,
         "trees" => Table::Trees,
         "definitions" => Table::Definitions,
+        "llb" => Table::Llb,
         "programs" => Table::Programs,
         "failing devices" => Table::FailingDevices,
         "limits" => Table::Limits,
@@ -120,6 +123,7 @@ fn answer<F: Files + AllocGlobal + Clone + Drop>(
         Table::IgnoreFiles => patterns::answer_of_ignore_file(alloc, case),
         Table::Trees => steps::answer(alloc, case),
         Table::Definitions => definitions::answer(alloc, case),
+        Table::Llb => buildkit::answer(alloc, case),
         Table::Programs => programs::answer(alloc, rt, files, case),
         Table::FailingDevices => failing::answer(alloc, rt, files, case),
         Table::Limits => limits::answer(alloc, rt, files, case),

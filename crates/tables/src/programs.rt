@@ -4,9 +4,9 @@
 //
 // Names that begin with `example_` are the bundles and the packed folder of `examples/`, those that begin with `bundle_` are about the bundle
 // itself, those with `pack_` pack the folders of `data/`, those with `why_` tell of paths, those with `llb_` BuildKit, those with `config_` of
-// configurations, and those with `check_` of faults. What BuildKit is told of the empty tree was made by protoc, as the row `empty-plan` of `llb_rows`, and the other definitions by a
-// program in another language. Those that begin with `several_failures_` are
-// random bundles in which several instructions fail; their answers are those of another program, which goes line by line.
+// configurations, and those with `check_` of faults. What BuildKit is told of the empty tree was made by protoc, as the row `empty-plan` of the
+// table `llb`, and the other definitions by a program in another language. Those that begin with `several_failures_` are random bundles in which
+// several instructions fail; their answers are those of another program, which goes line by line.
 
 use crate::devices::{Devices, Ended, run};
 use plain::Memory;

@@ -1,6 +1,6 @@
 // The definitions of plans.
 
-use crate::rows::{platform, text};
+use crate::buildkit::{platform, text};
 use exported::{Merging, Options, context_op, export, follow_list};
 use llbmessages::{Network, Op, Platform};
 use named::NamedRows;

@@ -1,6 +1,6 @@
 // What vertices of a graph are.
 
-use crate::rows::{A, platform, text, texts};
+use crate::buildkit::{A, platform, text, texts};
 use exported::{chain_op, context_op, copy_op, exclude_list, image_op, make_dir_op};
 use llb::{CopyFiles, FileSource};
 use llbmessages::Op;
@@ -65,6 +65,7 @@ fn sources(alloc: Global) -> Result<Items<FileSource>, Memory> {
     Ok(sources)
 }
 
+/// What a COPY brings into a folder, all of it with another owner.
 fn files(alloc: Global) -> Result<CopyFiles, Memory> {
     let dest = path(alloc, "/dst")?;
     match sources(alloc) {

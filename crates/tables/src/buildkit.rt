@@ -1,6 +1,17 @@
-// What each row is: an operation on its inputs, or a definition.
+// `llb`: a name of what BuildKit is told: an operation of its LLB, a definition, what a vertex of a graph is, the definition of a plan, a merge as an
+// operation of files, or the context of which a graph names parts. The answer is the name and the bytes as hexadecimal digits.
+//
+// The answers were made by another program: `protoc --deterministic_output --encode=pb.Op ops.proto` of Debian's protobuf-compiler 3.21.12 in the
+// folder `protoc` of this crate, from the texts there, in their order (`definition` is a `pb.Definition`); `xxd -p` made the digits. `plans.sh` there
+// made the definitions of plans, with digests by `sha256sum` and what is said of each operation as the `.ops` files have it. So a field's number or
+// type that isn't that of `ops.proto`, a default that is written, an empty message that isn't, or a map out of order, shows here. Whether `ops.proto`
+// is BuildKit's own schema doesn't.
 
-use crate::{commands, files, vertices, whole};
+mod commands;
+mod files;
+mod vertices;
+mod whole;
+
 use llbmessages::{
     Constraints, Definition, Input, MergeInput, MergeOp, Op, OpKind, OpMetadata, Platform, SourceOp,
 };
@@ -8,9 +19,9 @@ use plain::{Bytes, Fault, Items, Memory, Text};
 use std::alloc::Global;
 use wire::{Map, Unordered};
 
-/// A row.
+/// A row: an operation on its inputs, or a definition.
 #[derive(Clone, Copy)]
-pub(crate) enum Row {
+enum Row {
     Image,
     Context,
     MakeDir,
@@ -33,56 +44,7 @@ pub(crate) enum Row {
     FollowedContext,
 }
 
-/// The rows, in the order in which they are printed.
-pub(crate) const ROWS: [Row; 20] = [
-    Row::Image,
-    Row::Context,
-    Row::MakeDir,
-    Row::Copy,
-    Row::CopyTwice,
-    Row::Heredoc,
-    Row::Command,
-    Row::SharedCache,
-    Row::Merge,
-    Row::End,
-    Row::Definition,
-    Row::VertexImage,
-    Row::VertexMakeDir,
-    Row::VertexCopy,
-    Row::Plan,
-    Row::EmptyPlan,
-    Row::VertexContext,
-    Row::ChainOfTwo,
-    Row::ChainOfThree,
-    Row::FollowedContext,
-];
-
 impl Row {
-    fn name(self) -> &'static str {
-        match self {
-            Row::Image => "image",
-            Row::Context => "context",
-            Row::MakeDir => "mkdir",
-            Row::Copy => "copy",
-            Row::CopyTwice => "copy-twice",
-            Row::Heredoc => "heredoc",
-            Row::Command => "command",
-            Row::SharedCache => "shared-cache",
-            Row::Merge => "merge",
-            Row::End => "end",
-            Row::Definition => "definition",
-            Row::VertexImage => "vertex-image",
-            Row::VertexMakeDir => "vertex-mkdir",
-            Row::VertexCopy => "vertex-copy",
-            Row::Plan => "plan",
-            Row::EmptyPlan => "empty-plan",
-            Row::VertexContext => "vertex-context",
-            Row::ChainOfTwo => "chain-of-two",
-            Row::ChainOfThree => "chain-of-three",
-            Row::FollowedContext => "followed-context",
-        }
-    }
-
     /// The digests of the inputs.
     fn inputs(self) -> &'static [&'static str] {
         match self {
@@ -106,23 +68,58 @@ const B: &str = "sha256:bbbbbbbbbbbbbbbbbbbbbbbbbbbbbbbbbbbbbbbbbbbbbbbbbbbbbbbb
 
 const C: &str = "sha256:cccccccccccccccccccccccccccccccccccccccccccccccccccccccccccccccc";
 
-/// A row's line.
-pub(crate) fn line(alloc: Global, row: Row) -> Result<String, Memory> {
-    let bytes = match row {
-        Row::Definition => definition(alloc)?,
-        Row::VertexImage => bytes(alloc, vertices::image(alloc))?,
-        Row::VertexMakeDir => bytes(alloc, vertices::make_dir(alloc))?,
-        Row::VertexCopy => bytes(alloc, vertices::copy(alloc))?,
-        Row::Plan => whole::plan(alloc)?,
-        Row::EmptyPlan => whole::empty_plan(alloc)?,
-        Row::VertexContext => bytes(alloc, vertices::context(alloc))?,
-        Row::ChainOfTwo => bytes(alloc, vertices::chain(alloc, &[A, B]))?,
-        Row::ChainOfThree => bytes(alloc, vertices::chain(alloc, &[B, C, A]))?,
-        Row::FollowedContext => bytes(alloc, whole::followed_context(alloc))?,
-        row => operation(alloc, row)?,
-    };
-    let digits = hex::encode(alloc, bytes.as_slice())?;
-    Ok(format!(in alloc; "{} {digits}", row.name())?)
+pub fn answer(alloc: Global, case: &str) -> Result<String, Memory> {
+    match row_of(case) {
+        Some(row) => {
+            let bytes = row_bytes(alloc, row)?;
+            let digits = hex::encode(alloc, bytes.as_slice())?;
+            Ok(format!(in alloc; "{case} {digits}")?)
+        }
+        None => Err(Memory),
+    }
+}
+
+/// The row of this name.
+fn row_of(name: &str) -> Option<Row> {
+    match name {
+        "image" => Some(Row::Image),
+        "context" => Some(Row::Context),
+        "mkdir" => Some(Row::MakeDir),
+        "copy" => Some(Row::Copy),
+        "copy-twice" => Some(Row::CopyTwice),
+        "heredoc" => Some(Row::Heredoc),
+        "command" => Some(Row::Command),
+        "shared-cache" => Some(Row::SharedCache),
+        "merge" => Some(Row::Merge),
+        "end" => Some(Row::End),
+        "definition" => Some(Row::Definition),
+        "vertex-image" => Some(Row::VertexImage),
+        "vertex-mkdir" => Some(Row::VertexMakeDir),
+        "vertex-copy" => Some(Row::VertexCopy),
+        "plan" => Some(Row::Plan),
+        "empty-plan" => Some(Row::EmptyPlan),
+        "vertex-context" => Some(Row::VertexContext),
+        "chain-of-two" => Some(Row::ChainOfTwo),
+        "chain-of-three" => Some(Row::ChainOfThree),
+        "followed-context" => Some(Row::FollowedContext),
+        _ => None,
+    }
+}
+
+fn row_bytes(alloc: Global, row: Row) -> Result<Bytes, Memory> {
+    match row {
+        Row::Definition => definition(alloc),
+        Row::VertexImage => bytes(alloc, vertices::image(alloc)),
+        Row::VertexMakeDir => bytes(alloc, vertices::make_dir(alloc)),
+        Row::VertexCopy => bytes(alloc, vertices::copy(alloc)),
+        Row::Plan => whole::plan(alloc),
+        Row::EmptyPlan => whole::empty_plan(alloc),
+        Row::VertexContext => bytes(alloc, vertices::context(alloc)),
+        Row::ChainOfTwo => bytes(alloc, vertices::chain(alloc, &[A, B])),
+        Row::ChainOfThree => bytes(alloc, vertices::chain(alloc, &[B, C, A])),
+        Row::FollowedContext => bytes(alloc, whole::followed_context(alloc)),
+        row => operation(alloc, row),
+    }
 }
 
 /// A text.

@@ -1,6 +1,6 @@
 // Changes of files.
 
-use crate::rows::text;
+use crate::buildkit::text;
 use llbmessages::{
     ChownOpt, CopyAction, FileAction, FileActionKind, FileOp, MakeDirAction, MakeFileAction, OpKind,
 };

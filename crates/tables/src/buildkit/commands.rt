@@ -1,6 +1,6 @@
 // Commands with their mounts.
 
-use crate::rows::{text, texts};
+use crate::buildkit::{text, texts};
 use llbmessages::{CacheOpt, ExecOp, Meta, Mount, MountKind, Network, OpKind};
 use plain::{Items, Memory, Sharing};
 use std::alloc::Global;
