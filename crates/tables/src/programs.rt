@@ -10,12 +10,13 @@
 
 use crate::devices::{Devices, Ended, run};
 use plain::Memory;
+use sha2::{Digest, Sha256};
 use std::alloc::Global;
 use std::rt::Files;
 use std::sync::Wait;
 use std::thread::Threads;
 
-/// The longest output that other tables show.
+/// The longest output that other tables show as it is.
 pub const LONGEST: usize = 1_000;
 
 pub fn answer<F: Files + AllocGlobal + Clone + Drop>(
@@ -42,7 +43,7 @@ pub fn answer<F: Files + AllocGlobal + Clone + Drop>(
     Ok(format!(in alloc; "{name}\n{text}")?)
 }
 
-/// What the program did, in three lines. An output of more bytes than these is told by its length.
+/// What the program did, in three lines. An output of more bytes than these is told by its length and its digest.
 pub fn shown(alloc: Global, ended: &Ended, most: usize) -> Result<String, Memory> {
     let status = ended.status;
     let output = one_line(alloc, &ended.output, most)?;
@@ -50,10 +51,12 @@ pub fn shown(alloc: Global, ended: &Ended, most: usize) -> Result<String, Memory
     Ok(format!(in alloc; "    {status}\n    out {output}\n    err {errors}")?)
 }
 
-/// Bytes as one line: of a text, in which a LF is `¶`, or else of hexadecimal digits; or how many they are, if they are more than these.
+/// Bytes as one line: of a text, in which a LF is `¶`, or else of hexadecimal digits; or how many they are and their digest, if they are more than these.
 fn one_line(alloc: Global, bytes: &[u8], most: usize) -> Result<String, Memory> {
     if bytes.len() > most {
-        return Ok(format!(in alloc; "{} bytes", bytes.len())?);
+        let digest = Sha256::digest(bytes);
+        let digest = hex::encode(alloc, digest.as_slice())?;
+        return Ok(format!(in alloc; "{} bytes, sha256 {digest}", bytes.len())?);
     }
     match str::from_utf8(bytes) {
         Ok(text) if !has_controls(bytes) => text_line(alloc, text),
