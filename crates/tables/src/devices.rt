@@ -2,7 +2,8 @@
 
 use counted::Counted;
 use executor::Fixture;
-use program::run_program;
+use plain::Fault;
+use program::{NotText, WordsFault, run_program};
 use std::alloc::Global;
 use std::io;
 use std::io::{ErrorKind, Read, Write};
@@ -126,12 +127,37 @@ impl Write for Taker {
     }
 }
 
-/// Runs the program of these words with such devices, the first of which gives these bytes.
+/// The words of a command line, with a blank between each two. If `ÿ` is in it, a word is no text; if it is empty, there was no memory for them.
+fn words_of<'a>(alloc: Global, line: &'a str) -> Result<Vec<&'a str>, WordsFault> {
+    if line.is_empty() {
+        return Err(Fault::Memory);
+    }
+    if line.contains('ÿ') {
+        return Err(Fault::Because(NotText));
+    }
+    Ok(line.split(' ').collect(alloc)?)
+}
+
+/// Runs the program of this command line with such devices, the first of which gives these bytes.
 pub fn run<F: Files + AllocGlobal + Clone + Drop>(
     alloc: Global,
     rt: &(impl Threads + Wait + Sync),
     files: &F,
-    words: &[&str],
+    line: &str,
+    bytes: &[u8],
+    devices: Devices,
+) -> Ended {
+    match words_of(alloc, line) {
+        Ok(words) => run_words(alloc, rt, files, Ok(words.as_slice()), bytes, devices),
+        Err(fault) => run_words(alloc, rt, files, Err(fault), bytes, devices),
+    }
+}
+
+fn run_words<'a, F: Files + AllocGlobal + Clone + Drop>(
+    alloc: Global,
+    rt: &(impl Threads + Wait + Sync),
+    files: &F,
+    words: Result<&'a [&'a str], WordsFault>,
     bytes: &[u8],
     devices: Devices,
 ) -> Ended {
@@ -153,7 +179,7 @@ pub fn run<F: Files + AllocGlobal + Clone + Drop>(
         alloc,
         rt,
         files,
-        Ok(words),
+        words,
         &mut input,
         &mut output,
         &mut errors,

@@ -1,7 +1,7 @@
 // `failing devices`: a name, ` | `, how many bytes a call moves at most, ` | `, the words of a command line, ` | `, and what stands on standard input, as
-// `repeating` has it. The answer is the name, and on a line of its own each the exit status, what the program writes on standard output and what
-// on standard error if no device fails, and of how many failures each ended as it has to. In each run one call fails, after none, one, two of
-// these pieces and so on:
+// `repeating` has it. Words with `ÿ` in them are no text, and where none stand, there was no memory for them. The answer is the name, and on a line of
+// its own each the exit status, what the program writes on standard output and what on standard error if no device fails, and of how many failures
+// each ended as it has to. In each run one call fails, after none, one, two of these pieces and so on:
 //
 // - a read, also the one that finds the end: then the status is 3, standard output is empty, standard error has `device failed`, and no more is read;
 // - a write on standard output: then the same is said, and a beginning of the output was written;
@@ -20,7 +20,7 @@ use std::thread::Threads;
 #[derive(Clone, Copy)]
 struct Run<'a> {
     most: usize,
-    words: &'a [&'a str],
+    line: &'a str,
     bytes: &'a [u8],
 }
 
@@ -86,12 +86,10 @@ pub fn answer<F: Files + AllocGlobal + Clone + Drop>(
     let (name, rest) = case.split_once(" | ").unwrap_or((case, ""));
     let (most, rest) = rest.split_once(" | ").unwrap_or((rest, ""));
     let (line, bundle) = rest.split_once(" | ").unwrap_or((rest, ""));
-    let words: Vec<&str> = line.split(' ').collect(alloc)?;
     let bytes = spread(alloc, bundle)?;
     let most = most.parse::<usize>().unwrap_or(1);
-    let words = words.as_slice();
     let bytes = bytes.as_slice();
-    let ended = ended_text(alloc, rt, files, Run { most, words, bytes })?;
+    let ended = ended_text(alloc, rt, files, Run { most, line, bytes })?;
     Ok(format!(in alloc; "{name}\n{ended}")?)
 }
 
@@ -103,7 +101,7 @@ fn ended_text<F: Files + AllocGlobal + Clone + Drop>(
     case: Run,
 ) -> Result<String, Memory> {
     let devices = Devices::whole(case.most);
-    let whole = run(alloc, rt, files, case.words, case.bytes, devices);
+    let whole = run(alloc, rt, files, case.line, case.bytes, devices);
     let text = shown(alloc, &whole, LONGEST);
     let reads = tried_text(alloc, rt, files, case, Failing::Input, &whole);
     let writes = tried_text(alloc, rt, files, case, Failing::Output, &whole);
@@ -127,7 +125,7 @@ fn tried_text<F: Files + AllocGlobal + Clone + Drop>(
     for number in 0..count {
         let place = number.saturating_mul(case.most).min(failing.moved(whole));
         let devices = failing.devices(case.most, place);
-        let ended = run(alloc, rt, files, case.words, case.bytes, devices);
+        let ended = run(alloc, rt, files, case.line, case.bytes, devices);
         if failing.is_right(&ended, whole, place) {
             right = right.saturating_add(1);
         }

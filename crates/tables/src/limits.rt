@@ -19,10 +19,9 @@ pub fn answer<F: Files + AllocGlobal + Clone + Drop>(
 ) -> Result<String, Memory> {
     let (name, rest) = case.split_once(" | ").unwrap_or((case, ""));
     let (line, bundle) = rest.split_once(" | ").unwrap_or((rest, ""));
-    let words: Vec<&str> = line.split(' ').collect(alloc)?;
     let bytes = spread(alloc, bundle)?;
     let devices = Devices::whole(usize::MAX);
-    let ended = run(alloc, rt, files, words.as_slice(), &bytes, devices);
+    let ended = run(alloc, rt, files, line, &bytes, devices);
     let text = ended_text(alloc, &ended);
     drop(ended);
     let text = text?;

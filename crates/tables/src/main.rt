@@ -13,6 +13,7 @@ mod definitions;
 mod devices;
 mod failing;
 mod files;
+mod handing;
 mod language;
 mod limits;
 mod lookup;
@@ -53,6 +54,7 @@ enum Table {
     Limits,
     Stores,
     Memos,
+    Handing,
     /// No heading stands before the case, or one of another name.
     Unknown,
 }
@@ -102,6 +104,7 @@ fn table_of(name: &str) -> Table {
         "limits" => Table::Limits,
         "stores" => Table::Stores,
         "memos" => Table::Memos,
+        "handing" => Table::Handing,
         _ => Table::Unknown,
     }
 }
@@ -129,6 +132,7 @@ fn answer<F: Files + AllocGlobal + Clone + Drop>(
         Table::Limits => limits::answer(alloc, rt, files, case),
         Table::Stores => stores::answer(alloc, rt, case),
         Table::Memos => memos::answer(alloc, rt, case),
+        Table::Handing => handing::answer(alloc, rt, case),
         Table::Unknown => Err(Memory),
     }
 }

@@ -27,16 +27,8 @@ pub fn answer<F: Files + AllocGlobal + Clone + Drop>(
 ) -> Result<String, Memory> {
     let (name, rest) = case.split_once(" | ").unwrap_or((case, ""));
     let (line, bundle) = rest.split_once(" | ").unwrap_or((rest, ""));
-    let words: Vec<&str> = line.split(' ').collect(alloc)?;
     let devices = Devices::whole(usize::MAX);
-    let ended = run(
-        alloc,
-        rt,
-        files,
-        words.as_slice(),
-        bundle.as_bytes(),
-        devices,
-    );
+    let ended = run(alloc, rt, files, line, bundle.as_bytes(), devices);
     let text = shown(alloc, &ended, usize::MAX);
     drop(ended);
     let text = text?;

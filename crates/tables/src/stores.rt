@@ -60,16 +60,23 @@ pub fn answer(
     let (name, rest) = case.split_once(" | ").unwrap_or((case, ""));
     let (numbers, bundle) = rest.split_once(" | ").unwrap_or((rest, ""));
     let (workers, from) = numbers.split_once(" from ").unwrap_or((numbers, ""));
-    let workers = match workers.parse::<u32>() {
-        Ok(workers) if 0 < workers && workers <= 64 => workers,
-        _ => 1,
-    };
+    let workers = workers_of(workers);
     let from = from.parse::<u64>().unwrap_or(u64::MAX);
     let text = match ask(alloc, rt, bundle.as_bytes()) {
         Ok(asked) => asked_text(alloc, rt, asked, workers, from)?,
         Err(_) => return Err(Memory),
     };
     Ok(format!(in alloc; "{name}: {text}")?)
+}
+
+/// A number of workers.
+pub fn workers_of(text: &str) -> u32
+    ensures { (0 < result) × (result ≤ 64) }
+{
+    match text.parse::<u32>() {
+        Ok(workers) if 0 < workers && workers <= 64 => workers,
+        _ => 1,
+    }
 }
 
 /// What a bundle comes to, twice over one store.
