@@ -47,7 +47,7 @@ fn shown_in_pieces(alloc: Global, reader: &mut Reader, text: &str) -> Result<Str
 }
 
 /// The bytes of a piece that a case shows.
-fn piece_bytes(alloc: Global, piece: &str) -> Result<Vec<u8>, Memory> {
+pub fn piece_bytes(alloc: Global, piece: &str) -> Result<Vec<u8>, Memory> {
     let mut bytes = Vec::new(alloc);
     for part in piece.split('⟩') {
         let (text, byte) = part.split_once('⟨').unwrap_or((part, ""));

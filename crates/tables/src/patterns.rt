@@ -1,12 +1,14 @@
 // `patterns`: a pattern, the paths that it relates to, and paths that it doesn't, or `!` where it is malformed; between tabs. A line that begins
-// with `#` is a heading.
+// with `#` is a heading. A part of a pattern may be repeated, as `repeating` has it.
 //
 // `ignore files`: the lines of an ignore file, with `|` between them, the paths that it keeps, and those that it doesn't, or `!` and the number of its
-// first bad line; between tabs.
+// first bad line; between tabs. Carriage returns, tabs, byte order marks and bytes are shown as in the table `pieces`.
 //
 // Both were written by hand from the rules. A case has its answer in it: of all its paths the answer says anew where each belongs, so the case and its answer
 // are the same text.
 
+use crate::files::piece_bytes;
+use crate::repeating::spread;
 use ascii::split_at_blanks;
 use globs::Glob;
 use ignorefile::Ignore;
@@ -67,7 +69,8 @@ pub fn answer_of_pattern(alloc: Global, case: &str) -> Result<String, Memory> {
         return Ok(String::from_str(alloc, case)?);
     }
     let (pattern, rest) = fields(case);
-    match Glob::read(alloc, pattern) {
+    let bytes = spread(alloc, pattern)?;
+    match Glob::read(alloc, str::from_utf8(&bytes).unwrap_or("")) {
         Ok(glob) => {
             let mut sorted = Sorted::new(alloc);
             let done = sort_by_pattern(alloc, &mut sorted, &glob, rest);
@@ -98,8 +101,8 @@ fn is_related(alloc: Global, glob: &Glob, path: &str) -> Result<bool, Memory> {
 
 pub fn answer_of_ignore_file(alloc: Global, case: &str) -> Result<String, Memory> {
     let (lines, rest) = fields(case);
-    let file = lines.replace(alloc, "|", "\n")?;
-    match Ignore::read(alloc, file.as_bytes()) {
+    let file = piece_bytes(alloc, lines.replace(alloc, "|", "\n")?.as_str())?;
+    match Ignore::read(alloc, &file) {
         Ok(ignore) => {
             let mut sorted = Sorted::new(alloc);
             let done = sort_by_ignore_file(alloc, &mut sorted, &ignore, rest);
