@@ -1,4 +1,4 @@
-// Tests of what makes a plan: `dockerfile`, `stages`, `imageconfig`, `lowering`, `rewrite` and `cachemounts`.
+// Tests of what makes a plan: `dockerfile`, `stages`, `imageconfig` and `cachemounts`.
 // They stand in a crate of their own, since a library with tests in it is proved twice; what solves a plan is tested in `solution_tests`.
 //
 // Each shows what no clause says: an example from the rules, that a call succeeds if there is memory, and large inputs. Whole builds, the
@@ -9,9 +9,5 @@
 mod caches;
 #[cfg(test)]
 mod configurations;
-#[cfg(test)]
-mod files;
-#[cfg(test)]
-mod links;
 #[cfg(test)]
 mod names;

@@ -13,6 +13,7 @@ mod definitions;
 mod devices;
 mod failing;
 mod files;
+mod flattening;
 mod handing;
 mod language;
 mod limits;
@@ -46,6 +47,7 @@ enum Table {
     Language,
     Patterns,
     IgnoreFiles,
+    Plans,
     Trees,
     Definitions,
     Llb,
@@ -96,6 +98,7 @@ fn table_of(name: &str) -> Table {
         "language" => Table::Language,
         "patterns" => Table::Patterns,
         "ignore files" => Table::IgnoreFiles,
+        "plans" => Table::Plans,
         "trees" => Table::Trees,
         "definitions" => Table::Definitions,
         "llb" => Table::Llb,
@@ -124,6 +127,7 @@ fn answer<F: Files + AllocGlobal + Clone + Drop>(
         Table::Language => language::answer(alloc, case),
         Table::Patterns => patterns::answer_of_pattern(alloc, case),
         Table::IgnoreFiles => patterns::answer_of_ignore_file(alloc, case),
+        Table::Plans => flattening::answer(alloc, case),
         Table::Trees => steps::answer(alloc, case),
         Table::Definitions => definitions::answer(alloc, case),
         Table::Llb => buildkit::answer(alloc, case),

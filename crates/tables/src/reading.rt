@@ -9,6 +9,11 @@ pub fn cut(text: &str) -> (&str, &str) {
     text.split_once(' ').unwrap_or((text, ""))
 }
 
+/// A number in decimal digits.
+pub fn number(text: &str) -> Result<u32, Memory> {
+    text.parse::<u32>().ok().ok_or(Memory)
+}
+
 pub fn path_of(alloc: Global, text: &str) -> Result<Path, Memory> {
     match Path::read(alloc, text, &Path::root(alloc)) {
         Ok(path) => Ok(path),

@@ -159,7 +159,8 @@ fn solved<E: Executor>(
     }
 }
 
-fn solution_text(alloc: Global, solution: Solution) -> Result<String, Memory> {
+/// What a solution is, in a line.
+pub fn solution_text(alloc: Global, solution: Solution) -> Result<String, Memory> {
     match solution {
         Solution::Built(tree) => {
             let list = listing(alloc, &tree);
