@@ -16,6 +16,7 @@ mod files;
 mod flattening;
 mod handing;
 mod language;
+mod leases;
 mod limits;
 mod lookup;
 mod memos;
@@ -48,6 +49,7 @@ enum Table {
     Patterns,
     IgnoreFiles,
     Plans,
+    Leases,
     Trees,
     Definitions,
     Llb,
@@ -99,6 +101,7 @@ fn table_of(name: &str) -> Table {
         "patterns" => Table::Patterns,
         "ignore files" => Table::IgnoreFiles,
         "plans" => Table::Plans,
+        "leases" => Table::Leases,
         "trees" => Table::Trees,
         "definitions" => Table::Definitions,
         "llb" => Table::Llb,
@@ -128,6 +131,7 @@ fn answer<F: Files + AllocGlobal + Clone + Drop>(
         Table::Patterns => patterns::answer_of_pattern(alloc, case),
         Table::IgnoreFiles => patterns::answer_of_ignore_file(alloc, case),
         Table::Plans => flattening::answer(alloc, case),
+        Table::Leases => leases::answer(alloc, case),
         Table::Trees => steps::answer(alloc, case),
         Table::Definitions => definitions::answer(alloc, case),
         Table::Llb => buildkit::answer(alloc, case),
