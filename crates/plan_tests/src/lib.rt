@@ -1,11 +1,7 @@
-// Tests of what makes a plan: `dockerfile`, `stages` and `imageconfig`.
-// They stand in a crate of their own, since a library with tests in it is proved twice; what solves a plan is tested in `solution_tests`.
+// A test of `imageconfig`: that its call which no row of `tables` reaches gives an answer if there is memory.
 //
-// Each shows what no clause says: an example from the rules, that a call succeeds if there is memory, and large inputs. Whole builds, the
-// table `programs` of `tables`, go through the rest of what these crates do.
+// All else of what makes a plan is said by rows: the tables `patterns`, `ignore files`, `plans`, `leases` and `programs`.
 #![tactic(auto)]
 
 #[cfg(test)]
 mod configurations;
-#[cfg(test)]
-mod names;
