@@ -1,5 +1,4 @@
-// Tests of a graph and of its solution in one thread: `llb`, `board`, `solver` and `replay`. They stand apart from `plan_tests`, so that both are
-// proved side by side.
+// Tests of a graph and of its solution in one thread: `llb`, `board`, `solver` and `replay`.
 //
 // Each shows what no clause says: an example from the rules, that a call succeeds if there is memory, and large inputs.
 #![tactic(auto)]

@@ -82,13 +82,6 @@ const LATER_LINE_FIRST: [Row; 4] = [
     ("copy /a /a", &[2, 1], 6),
 ];
 
-/// Commands that fail, and their answers.
-const COMMANDS: [([Row; 2], &str); 3] = [
-    ([SCRATCH, ("run nope", &[0], 2)], "failed 2: exit 127"),
-    ([SCRATCH, ("run put", &[0], 2)], "failed 2: exit 2"),
-    ([SCRATCH, ("run put /", &[0], 2)], "failed 2: exit 1"),
-];
-
 /// Plans, their targets, and their answers.
 const ANSWERS: [(&[Row], u32, &str); 8] = [
     (&THREE_LINES, 1, "failed 4: exit 1"),
@@ -101,26 +94,6 @@ const ANSWERS: [(&[Row], u32, &str); 8] = [
     (&TWO_FAILURES, 5, "failed 4: exit 3"),
     (&LATER_LINE_FIRST, 3, "failed 3: exit 2"),
 ];
-
-#[test]
-fn first_run_prints_hi(rt: HostRuntime) -> Result<(), Fail> {
-    let rows = [SCRATCH, ("run put /a hi", &[0], 2)];
-    expect(&rt, rt.alloc(), &rows, 1, "built 7: /a=hi")
-}
-
-#[test]
-fn failed_run_tells_status(rt: HostRuntime) -> Result<(), Fail> {
-    let rows = [SCRATCH, ("run fail 7", &[0], 2)];
-    expect(&rt, rt.alloc(), &rows, 1, "failed 2: exit 7")
-}
-
-#[test]
-fn unknown_and_bad_commands(rt: HostRuntime) -> Result<(), Fail> {
-    for (rows, expected) in COMMANDS {
-        expect(&rt, rt.alloc(), &rows, 1, expected)?;
-    }
-    Ok(())
-}
 
 #[test]
 fn failure_stops_the_board(rt: HostRuntime) -> Result<(), Fail> {
