@@ -53,20 +53,63 @@ fn texts_in_values_are_copied(rt: HostRuntime) {
     assert!(rt; is_variable_copied(rt.alloc()) == Ok(true));
 }
 
-/// Whether a name, the path of it and the long path of it twice are copied.
-fn are_paths_copied(alloc: Global, name: &Name) -> Result<bool, Memory> {
-    let top = Path::root(alloc).child(alloc, name.as_text())?;
-    let long = LongPath::of(alloc, &top)?.child(alloc, name.as_text())?;
-    Ok(is_copied(alloc, name) && is_copied(alloc, &top) && is_copied(alloc, &long))
+/// The path of a name below the root.
+fn path_of(alloc: Global, name: &Name) -> Result<Path, Memory> {
+    let root = Path::root(alloc);
+    let child = root.child(alloc, name.as_text());
+    drop(root);
+    child
+}
+
+/// The long path of a name in the directory at a path.
+fn long_of(alloc: Global, path: &Path, name: &Name) -> Result<LongPath, Memory> {
+    let long = LongPath::of(alloc, path)?;
+    let child = long.child(alloc, name.as_text());
+    drop(long);
+    child
+}
+
+/// Whether the long path of a name in a directory below the root is copied, and is a path.
+fn is_long_copied(alloc: Global, path: &Path, name: &Name) -> bool {
+    match long_of(alloc, path, name) {
+        Ok(long) => {
+            let is_same = is_copied(alloc, &long) && long.components().len() == 2;
+            let path = long.into_path();
+            is_same && path.is_some()
+        }
+        Err(Memory) => false,
+    }
+}
+
+/// Whether a name, its path below the root and the long path of it twice are copied.
+fn are_paths_copied(alloc: Global, name: &Name) -> bool {
+    match path_of(alloc, name) {
+        Ok(path) => {
+            let is_same = path.depth() == 1 && is_copied(alloc, name) && is_copied(alloc, &path);
+            let is_long_same = is_long_copied(alloc, &path, name);
+            drop(path);
+            is_same && is_long_same
+        }
+        Err(Memory) => false,
+    }
+}
+
+/// Whether a text is a name, and its paths are copied.
+fn has_copied_paths(alloc: Global, text: Text) -> bool {
+    match Name::new(text) {
+        Some(name) => {
+            let are_copied = are_paths_copied(alloc, &name);
+            drop(name);
+            are_copied
+        }
+        None => false,
+    }
 }
 
 #[test]
 fn paths_are_copied(rt: HostRuntime) {
     let are_copied = match Text::from_str(rt.alloc(), "usr") {
-        Ok(text) => match Name::new(text) {
-            Some(name) => are_paths_copied(rt.alloc(), &name) == Ok(true),
-            None => false,
-        },
+        Ok(text) => has_copied_paths(rt.alloc(), text),
         Err(Memory) => false,
     };
     assert!(rt; are_copied);

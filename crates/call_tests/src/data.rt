@@ -40,11 +40,20 @@ fn texts_are_ordered_by_their_bytes(rt: HostRuntime) {
     }
 }
 
+/// Whether a text can be had as this string.
+fn is_string_of(alloc: Global, text: Text, string: &str) -> bool {
+    match text.into_string(alloc) {
+        Ok(had) => had.as_str() == string,
+        Err(Memory) => false,
+    }
+}
+
 /// Whether a text that is a string can be had as one.
 fn is_string(alloc: Global, text: &str) -> Result<bool, Memory> {
     let word = Text::from_string(String::from_str(alloc, text)?);
     let is_word = word.len() == text.len() && word.as_str() == text;
-    Ok(is_word && word.into_string(alloc)?.as_str() == text)
+    let is_had = is_string_of(alloc, word, text);
+    Ok(is_word && is_had)
 }
 
 /// Whether a text whose copies share its bytes can be had as a string of its own, and so can a copy.
@@ -52,11 +61,9 @@ fn is_shared(alloc: Global, text: &str) -> Result<bool, Memory> {
     let shared = Text::from_str(alloc, text)?.shared(alloc)?;
     let copy = shared.copy(alloc)?;
     let is_same = shared.same(&copy) && shared.as_str() == text;
-    Ok(
-        is_same
-            && shared.into_string(alloc)?.as_str() == text
-            && copy.into_string(alloc)?.as_str() == text,
-    )
+    let is_had = is_string_of(alloc, shared, text);
+    let is_copy_had = is_string_of(alloc, copy, text);
+    Ok(is_same && is_had && is_copy_had)
 }
 
 #[test]

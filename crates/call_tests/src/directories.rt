@@ -7,35 +7,33 @@ fn at(alloc: Global, text: &str) -> Result<Path, PathFault> {
     Path::read(alloc, text, &Path::root(alloc))
 }
 
-/// Whether a text leads from another one's path to a third one's.
-fn leads(alloc: Global, base: &str, text: &str, want: &str) -> Result<bool, PathFault> {
-    let path = at(alloc, base)?.join(alloc, text)?;
-    Ok(path.text(alloc)?.as_str() == want)
+/// Whether the empty text leads from a text's path to that path.
+fn is_left_alone(alloc: Global, text: &str) -> bool {
+    match at(alloc, text) {
+        Ok(path) => {
+            let is_same = is_joined(alloc, &path);
+            drop(path);
+            is_same
+        }
+        Err(_) => false,
+    }
 }
 
-#[test]
-fn texts_are_read_and_cleaned(rt: HostRuntime) {
-    for (base, text, want) in [
-        ("/", "", "/"),
-        ("/", "//", "/"),
-        ("/", ".", "/"),
-        ("/", "a//b/./c", "/a/b/c"),
-        ("/", "../..", "/"),
-        ("/", "/a/../../b/./c/", "/b/c"),
-        ("/", "..a/b../...", "/..a/b../..."),
-        ("/", "a b/\u{0}\n/~", "/a b/\u{0}\n/~"),
-        ("/", "é/日本/..", "/é"),
-        ("/w/x", "", "/w/x"),
-        ("/w/x", "y", "/w/x/y"),
-        ("/w/x", "../y", "/w/y"),
-        ("/w/x", "../../../y", "/y"),
-        ("/w/x", "//y/", "/y"),
-    ] {
-        assert!(rt;
-            leads(rt.alloc(), base, text, want) == Ok(true),
-            "{base} {text}"
-        );
+fn is_joined(alloc: Global, path: &Path) -> bool {
+    match path.join(alloc, "") {
+        Ok(joined) => {
+            let is_same = joined.same(path);
+            drop(joined);
+            is_same
+        }
+        Err(_) => false,
     }
+}
+
+// No WORKDIR is empty; what other texts lead to is a row.
+#[test]
+fn empty_texts_lead_nowhere(rt: HostRuntime) {
+    assert!(rt; is_left_alone(rt.alloc(), "/") && is_left_alone(rt.alloc(), "/w/x"));
 }
 
 /// `times` copies of a piece, and then an end.
@@ -52,27 +50,46 @@ fn depth_of(alloc: Global, deep: usize, long: usize, end: &str) -> Result<usize,
     Ok(at(alloc, text.as_str())?.depth())
 }
 
+/// Whether such a path is so deep, or breaks that limit.
+fn is_as_deep(alloc: Global, case: &(usize, usize, &str, Result<usize, PathLimit>)) -> bool {
+    let (deep, long, end, want) = *case;
+    match depth_of(alloc, deep, long, end) {
+        Ok(depth) => want == Ok(depth),
+        Err(Fault::Because(limit)) => want == Err(limit),
+        Err(Fault::Memory) => false,
+    }
+}
+
+/// The number of the first case that isn't so.
+fn first_wrong(
+    alloc: Global,
+    cases: &[(usize, usize, &str, Result<usize, PathLimit>)],
+) -> Option<usize> {
+    for (number, case) in cases.iter().enumerate() {
+        if !is_as_deep(alloc, case) {
+            return Some(number);
+        }
+    }
+    None
+}
+
 #[test]
 fn limits_count_for_the_cleaned_path(rt: HostRuntime) {
-    for (deep, long, end, want) in [
+    let cases = [
         (64, 0, "", Ok(64)),
-        (65, 0, "", Err(Fault::Because(PathLimit::TooDeep))),
+        (65, 0, "", Err(PathLimit::TooDeep)),
         (65, 0, "/..", Ok(64)),
-        (70, 0, "/../../..", Err(Fault::Because(PathLimit::TooDeep))),
+        (70, 0, "/../../..", Err(PathLimit::TooDeep)),
         (63, 255, "", Ok(64)),
-        (63, 256, "", Err(Fault::Because(PathLimit::TooLong))),
+        (63, 256, "", Err(PathLimit::TooLong)),
         (63, 256, "/..", Ok(63)),
         (63, 253, "é", Ok(64)),
-        (63, 254, "é", Err(Fault::Because(PathLimit::TooLong))),
-        (64, 256, "", Err(Fault::Because(PathLimit::TooDeep))),
-        (63, 256, "/c", Err(Fault::Because(PathLimit::TooDeep))),
-        (63, 256, "/c/..", Err(Fault::Because(PathLimit::TooLong))),
-    ] {
-        assert!(rt;
-            depth_of(rt.alloc(), deep, long, end) == want,
-            "{deep} {long} {end}"
-        );
-    }
+        (63, 254, "é", Err(PathLimit::TooLong)),
+        (64, 256, "", Err(PathLimit::TooDeep)),
+        (63, 256, "/c", Err(PathLimit::TooDeep)),
+        (63, 256, "/c/..", Err(PathLimit::TooLong)),
+    ];
+    assert_eq!(rt; first_wrong(rt.alloc(), cases.as_slice()), None);
 }
 
 /// Whether the path that a text leads to from the root is `/usr/bin`, as far as its parts show it.
@@ -122,25 +139,6 @@ fn names_are_components(rt: HostRuntime) {
     }
     assert!(rt; is_name(rt.alloc(), "b", 255) == Ok(true));
     assert!(rt; is_name(rt.alloc(), "b", 256) == Ok(false));
-}
-
-/// Whether a text, which is a name, names a path below the root, and twice a long one that is a path.
-fn names_paths(alloc: Global, text: &str) -> Result<bool, Memory> {
-    match Name::new(Text::from_str(alloc, text)?) {
-        Some(name) => is_path(alloc, &name),
-        None => Ok(false),
-    }
-}
-
-fn is_path(alloc: Global, name: &Name) -> Result<bool, Memory> {
-    let top = Path::root(alloc).child(alloc, name.as_text())?;
-    let long = LongPath::of(alloc, &top)?.child(alloc, name.as_text())?;
-    Ok(top.depth() == 1 && long.components().len() == 2 && long.into_path().is_some())
-}
-
-#[test]
-fn long_paths_are_paths(rt: HostRuntime) {
-    assert!(rt; names_paths(rt.alloc(), "usr") == Ok(true));
 }
 
 /// Whether a path comes before another one.
