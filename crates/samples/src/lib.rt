@@ -1,7 +1,7 @@
 // Samples of what a build works on, for tests: trees of a few files, operations of one line each, and plans of a few vertices.
 //
-// It is a library of its own since a test crate can't be used by another one: the tests of graphs, of the solver and of lowering take
-// their plans from here. No library and no program uses it.
+// It is a library of its own since a test crate can't be used by another one: the tests of graphs and of the solver take their plans from
+// here, as the tables of `tables` do. What is no test doesn't use it.
 //
 // ```
 // let rows: [Row; 2] = [("scratch", &[], 1), ("run put /a hi", &[0], 2)];
