@@ -41,8 +41,8 @@ use Rattle.ignorefile.specs.declared.line.Line.{Line}
 use Rattle.cachemounts.specs.StoreValue.{StoreValue}
 use Rattle.scopes.specs.Args.{BuildArguments}
 use Rattle.plain.specs.declared.refusal.Code.TheVariants.{R19}
-use Rattle.build.specs.declared.status.Status.{Status}
-use Rattle.build.specs.declared.status.Status.TheVariants as status
+use Rattle.answering.specs.declared.status.Status.{Status}
+use Rattle.answering.specs.declared.status.Status.TheVariants as status
 use Rattle.build.specs.Graph.{Shows, GraphAnswers}
 use Rattle.build.specs.Meaning.{StagesAsk, TableAsks, FileAsks, Asks, Tells, Answers}
 use Rattle.build.proofs.OneDrawingFacts.{one_drawing}

@@ -17,16 +17,17 @@ use Rattle.bundle.specs.Parts.{parts_within, parts_of}
 use Rattle.bundle.specs.Reading.{ReadsBundle}
 use Rattle.bundle.specs.declared.parts.Parts.{Parts}
 use Rattle.plans.specs.Value.{Out}
-use Rattle.build.specs.declared.status.Status.{Status}
-use Rattle.build.specs.declared.told.Told.{Told}
-use Rattle.build.specs.declared.status.BuildFault.{BuildFault}
-use Rattle.build.specs.declared.status.BuildFault.TheVariants.{Memory, Device as FailedDevice, Clash, Unspeakable}
-use Rattle.build.specs.Faults.{of_edge}
+use Rattle.answering.specs.declared.status.Status.{Status}
+use Rattle.answering.specs.declared.told.Told.{Told}
+use Rattle.answering.specs.declared.status.BuildFault.{BuildFault}
+use Rattle.answering.specs.declared.status.BuildFault.TheVariants.{Memory, Device as FailedDevice, Clash, Unspeakable}
+use Rattle.answering.specs.Faults.{of_edge}
 use Rattle.evaluation.specs.declared.evaluated.Evaluated.{Evaluated}
 use Rattle.build.specs.Meaning.{Asks, Answers}
 use Rattle.build.specs.Graph.{GraphAnswers, GraphClashes}
 use Rattle.build.specs.PrivateShowing.{IsShown}
-use Rattle.build.specs.PrivateTelling.{TellsBundle, IsTold}
+use Rattle.answering.specs.Told.{IsTold}
+use Rattle.build.specs.PrivateTelling.{TellsBundle}
 use Rattle.build.specs.Ends.{Devices, IsAllLeft, Answering, AnswersUnder, HasAnswered, EndsBy, Ends, GraphEnds}
 
 -- what bytes hold

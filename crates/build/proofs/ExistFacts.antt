@@ -37,8 +37,8 @@ use Rattle.lowering.specs.Outcome.{IsOutcome}
 use Rattle.bundle.specs.Answer.{built_text, failed_text, refused_text}
 use Rattle.bundle.specs.Reading.{ReadsBundle}
 use Rattle.bundle.specs.declared.whole.Bundle.{Bundle}
-use Rattle.build.specs.declared.status.Status.{Status}
-use Rattle.build.specs.declared.status.Status.TheVariants.{Built, Failed, Refused}
+use Rattle.answering.specs.declared.status.Status.{Status}
+use Rattle.answering.specs.declared.status.Status.TheVariants.{Built, Failed, Refused}
 use Rattle.build.specs.Meaning.{TableAsks, FileAsks, Tells, Answers}
 
 -- the laws of the crates below, as premises: what each phase gives

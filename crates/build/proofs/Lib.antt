@@ -9,5 +9,4 @@ mod OnePlanFacts
 mod PlanFacts
 mod ShowFacts
 mod TellFacts
-mod TextFacts
 mod TitledFacts

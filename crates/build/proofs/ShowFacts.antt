@@ -12,11 +12,11 @@ use Rattle.lowering.specs.Means.{Means, StandsFor, world}
 use Rattle.drawing.specs.declared.fault.Clash.{Clash as Clashing}
 use Rattle.drawing.specs.Drawn.{Draws, IsDrawn}
 use Rattle.bundle.specs.Answer.{refused_text}
-use Rattle.build.specs.declared.status.Status.{Status}
-use Rattle.build.specs.declared.status.Status.TheVariants.{Built, Refused}
-use Rattle.build.specs.declared.status.BuildFault.{BuildFault}
-use Rattle.build.specs.declared.status.BuildFault.TheVariants.{Memory, Device, Clash, Unspeakable}
-use Rattle.build.specs.declared.told.Told.{Told}
+use Rattle.answering.specs.declared.status.Status.{Status}
+use Rattle.answering.specs.declared.status.Status.TheVariants.{Built, Refused}
+use Rattle.answering.specs.declared.status.BuildFault.{BuildFault}
+use Rattle.answering.specs.declared.status.BuildFault.TheVariants.{Memory, Device, Clash, Unspeakable}
+use Rattle.answering.specs.declared.told.Told.{Told}
 use Rattle.counted.specs.Edges.{line_of}
 use Rattle.build.specs.Meaning.{Asks}
 use Rattle.build.specs.Graph.{IsGraphOf, Shows}

@@ -3,9 +3,9 @@ use Rattle.std.specs.Prelude.{◌≡◌, ◌⊎◌, ℕ, ◌+◌, List, Option, 
 use Rattle.std.specs.Io.KnownBytes.{Appends}
 use Rattle.counted.specs.Edges.{AppendsBeginning, IsUnwritten, line_of}
 use Rattle.plans.specs.Value.{Out}
-use Rattle.build.specs.declared.status.Status.{Status}
-use Rattle.build.specs.declared.status.BuildFault.{BuildFault}
-use Rattle.build.specs.declared.status.BuildFault.TheVariants.{Memory, Device, Clash, Unspeakable}
+use Rattle.answering.specs.declared.status.Status.{Status}
+use Rattle.answering.specs.declared.status.BuildFault.{BuildFault}
+use Rattle.answering.specs.declared.status.BuildFault.TheVariants.{Memory, Device, Clash, Unspeakable}
 use Rattle.build.specs.Meaning.{Answers}
 use Rattle.build.specs.Graph.{GraphAnswers, GraphClashes}
 

@@ -9,8 +9,8 @@ use Rattle.lowering.specs.Means.{world, Means, StandsFor}
 use Rattle.lowering.specs.Meaning.{tree_of_stage}
 use Rattle.drawing.specs.Drawn.{Draws, Clashes}
 use Rattle.bundle.specs.Answer.{refused_text}
-use Rattle.build.specs.declared.status.Status.{Status}
-use Rattle.build.specs.declared.status.Status.TheVariants.{Built, Failed, Refused}
+use Rattle.answering.specs.declared.status.Status.{Status}
+use Rattle.answering.specs.declared.status.Status.TheVariants.{Built, Failed, Refused}
 use Rattle.build.specs.Meaning.{Asks}
 
 -- A text is the graph of what a file's stages give: it draws the plan that stands for the file, in which no vertex stands twice, so it is the

@@ -1,10 +1,8 @@
 pub mod Ends
-pub mod Faults
 pub mod Graph
 pub mod Interleaving
 pub mod Lowerable
 pub mod Meaning
-pub mod Messages
 pub mod PrivateAsking
 pub mod PrivateShowing
 pub mod PrivateTelling

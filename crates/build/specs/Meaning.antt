@@ -26,8 +26,8 @@ use Rattle.lowering.specs.Outcome.{IsOutcome}
 use Rattle.bundle.specs.declared.whole.Bundle.{Bundle}
 use Rattle.bundle.specs.Reading.{ReadsBundle}
 use Rattle.bundle.specs.Answer.{built_text, failed_text, refused_text}
-use Rattle.build.specs.declared.status.Status.{Status}
-use Rattle.build.specs.declared.status.Status.TheVariants.{Built, Failed, Refused}
+use Rattle.answering.specs.declared.status.Status.{Status}
+use Rattle.answering.specs.declared.status.Status.TheVariants.{Built, Failed, Refused}
 
 -- what a table of stages asks for, of which those with these marks are needed: what they are evaluated to, or the refusal of the first
 -- line of them that is refused

@@ -6,9 +6,9 @@ use Rattle.imageconfig.specs.declared.config.Config.{Config}
 use Rattle.evaluation.specs.declared.evaluated.Evaluated.{Evaluated}
 use Rattle.lowering.specs.Means.{Means, StandsFor}
 use Rattle.drawing.specs.Drawn.{Clashes}
-use Rattle.build.specs.declared.status.BuildFault.{BuildFault}
-use Rattle.build.specs.declared.status.BuildFault.TheVariants.{Memory, Device, Clash, Unspeakable}
-use Rattle.build.specs.declared.told.Told.{Told}
+use Rattle.answering.specs.declared.status.BuildFault.{BuildFault}
+use Rattle.answering.specs.declared.status.BuildFault.TheVariants.{Memory, Device, Clash, Unspeakable}
+use Rattle.answering.specs.declared.told.Told.{Told}
 use Rattle.counted.specs.Edges.{line_of}
 use Rattle.build.specs.Graph.{Shows, GraphAnswers, GraphClashes}
 

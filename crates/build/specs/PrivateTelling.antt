@@ -1,24 +1,17 @@
--- What is told of a bundle, of what it asks for, and of a plan; and how the telling of it ends.
-use Rattle.std.specs.Prelude.{◌≡◌, ℕ, ◌+◌, List, Option, Result, Ok, Err}
-use Rattle.std.specs.Io.KnownBytes.{Appends}
+-- What is told of a bundle, of what it asks for, and of a plan.
+use Rattle.std.specs.Prelude.{◌≡◌, ℕ, List, Result}
 use Rattle.expand.specs.declared.reason.Rejection.{Rejection}
-use Rattle.counted.specs.Edges.{AppendsBeginning, line_of}
+use Rattle.counted.specs.Edges.{line_of}
 use Rattle.plans.specs.Plan.{PlanValue, problem_of}
 use Rattle.plans.specs.Value.{Out}
 use Rattle.imageconfig.specs.declared.config.Config.{Config}
 use Rattle.evaluation.specs.declared.evaluated.Evaluated.{Evaluated}
 use Rattle.solver.specs.Solution.{IsSolution}
 use Rattle.solver.specs.declared.solution.Solution.{Solution}
-use Rattle.build.specs.declared.status.Status.{Status}
-use Rattle.build.specs.declared.status.BuildFault.{BuildFault}
-use Rattle.build.specs.declared.status.BuildFault.TheVariants.{Memory, Device, Clash, Unspeakable}
-use Rattle.build.specs.declared.told.Told.{Told}
+use Rattle.answering.specs.Told.{TellsText}
+use Rattle.answering.specs.declared.told.Told.{Told}
 use Rattle.build.specs.Meaning.{Tells, Answers}
 use Rattle.build.specs.Telling.{status_of, text_of}
-
--- a line of this status and this text
-abbrev pub TellsText : Status → List ℕ → Told → Type 0
-TellsText status text told = (told.status ≡ status) × (told.line ≡ line_of text)
 
 -- a line tells a solution, with this configuration
 abbrev pub TellsSolution : Config → Solution → Told → Type 0
@@ -36,12 +29,3 @@ TellsAsked out asked told = (text : List ℕ) × Tells out asked told.status tex
 -- a line is an answer to a bundle of these bytes, and LF
 abbrev pub TellsBundle : List ℕ → Out → Told → Type 0
 TellsBundle bytes out told = (text : List ℕ) × Answers bytes out told.status text × (told.line ≡ line_of text)
-
--- How telling ends, by its result, of a writer whose bytes and count of failed calls these were and are: such a line was written; there was no
--- memory, and nothing was written; or a write failed, and a beginning of such a line was written.
-abbrev pub IsTold : (Told → Type 0) → Option (List ℕ) → ℕ → Option (List ℕ) → ℕ → Result Status BuildFault → Type 0
-IsTold Says old before new after (Ok status) = (told : Told) × Says told × (told.status ≡ status) × Appends old new told.line × (after ≡ before)
-IsTold Says old before new after (Err Memory) = (new ≡ old) × (after ≡ before)
-IsTold Says old before new after (Err Device) = (told : Told) × Says told × AppendsBeginning old new told.line × (after ≡ before + 1)
-IsTold Says old before new after (Err Clash) = ⊥
-IsTold Says old before new after (Err Unspeakable) = ⊥

@@ -13,8 +13,8 @@ use Rattle.bundle.specs.Reading.{ReadsBundle}
 use Rattle.cachemounts.specs.StoreValue.{StoreValue}
 use Rattle.solver.specs.declared.solution.Solution.{Solution}
 use Rattle.solver.specs.declared.solution.Solution.TheVariants as solution
-use Rattle.build.specs.declared.status.Status.{Status}
-use Rattle.build.specs.declared.status.Status.TheVariants.{Built, Failed}
+use Rattle.answering.specs.declared.status.Status.{Status}
+use Rattle.answering.specs.declared.status.Status.TheVariants.{Built, Failed}
 use Rattle.build.specs.declared.asking.Asked.{Asked}
 use Rattle.build.specs.Meaning.{Asks}
 

@@ -12,7 +12,7 @@ ghost use Rattle.build.specs.Graph.{GraphAnswers};
 ghost use Rattle.build.specs.Interleaving.{FindsFirst};
 ghost use Rattle.build.specs.Lowerable.{IsLowerable};
 ghost use Rattle.build.specs.Meaning.{Asks, Answers};
-ghost use Rattle.build.specs.declared.status.Status.{Status};
+ghost use Rattle.answering.specs.declared.status.Status.{Status};
 
 use imageconfig::Config;
 

@@ -16,26 +16,20 @@
 // ```
 #![tactic(auto)]
 
-mod answering;
 mod asking;
 mod building;
-mod code;
 mod graphing;
 pub mod laws;
 mod planning;
 mod remains;
 mod showing;
-mod status;
 mod telling;
 mod titled;
-mod told;
 
-pub use answering::put_built;
+pub use answering::{BuildFault, Status, put_built, status_code};
 pub use asking::{Asked, ask};
 pub use building::{run_build, run_build_keeping};
-pub use code::status_code;
 pub use graphing::run_graph;
 pub use planning::plan_of;
 pub use remains::Remains;
-pub use status::{BuildFault, Status};
 pub use titled::{Titled, ask_titled};

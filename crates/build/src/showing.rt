@@ -2,9 +2,8 @@ ghost use Rattle.build.specs.Lowerable.{IsLowerable};
 ghost use Rattle.build.specs.PrivateShowing.{IsFileShown, IsShown};
 
 use crate::asking::{Asked, ask};
-use crate::telling::line_of;
-use crate::told::Told;
 use crate::{BuildFault, Status};
+use answering::{Told, line_of};
 use bundle::refused_answer;
 use drawing::{Clash, draw};
 use evaluation::Evaluated;

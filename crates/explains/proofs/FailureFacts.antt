@@ -27,7 +27,7 @@ use Rattle.checks.specs.declared.checked.Checked.{Checked}
 use Rattle.checks.specs.declared.form.Form.TheVariants.{Plain}
 use Rattle.build.specs.Meaning.{Asks, Tells}
 use Rattle.build.specs.Telling.{IsAsked, status_of, text_of}
-use Rattle.build.specs.declared.status.Status.TheVariants.{Refused}
+use Rattle.answering.specs.declared.status.Status.TheVariants.{Refused}
 use Rattle.explains.specs.Explained.{Explains, IsLeftOutBy, ShowsFailure, ShowsMissed, shown_missed}
 use Rattle.explains.specs.PrivateFailure.{failure_in, IsAccepted, IsDockerfileOf, IsFailureOf, IsMissedOf}
 use Rattle.explains.specs.declared.explaining.Explained.{Explained}

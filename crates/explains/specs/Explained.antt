@@ -19,8 +19,8 @@ use Rattle.checks.specs.Shown.{readable_lines}
 use Rattle.checks.specs.declared.checked.Checked.{Checked}
 use Rattle.checks.specs.declared.form.Form.TheVariants.{Plain}
 use Rattle.build.specs.Meaning.{Answers, Asks}
-use Rattle.build.specs.declared.status.Status.{Status}
-use Rattle.build.specs.declared.status.Status.TheVariants.{Built, Failed, Refused}
+use Rattle.answering.specs.declared.status.Status.{Status}
+use Rattle.answering.specs.declared.status.Status.TheVariants.{Built, Failed, Refused}
 
 -- the line of the ignore file of the bundle that these bytes are which leaves a source out, if it is a path of the context and one does
 abbrev pub IsLeftOutBy : List ℕ → List ℕ → Bool → Option LeavingLine → Type 0

@@ -13,7 +13,7 @@ use Rattle.evaluation.specs.declared.evaluated.Evaluated.{Evaluated}
 use Rattle.solver.specs.declared.solution.Solution.{Solution}
 use Rattle.solver.specs.declared.solution.Solution.TheVariants as solution
 use Rattle.build.specs.Meaning.{Asks, Tells}
-use Rattle.build.specs.declared.status.Status.TheVariants.{Built, Failed}
+use Rattle.answering.specs.declared.status.Status.TheVariants.{Built, Failed}
 
 -- the line and the cause of a solution, if it is a failure
 abbrev pub failure_in : Solution → Option (ℕ × Cause)

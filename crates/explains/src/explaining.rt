@@ -5,7 +5,7 @@ ghost use Rattle.checks.specs.Shown.{readable_lines};
 ghost use Rattle.checks.specs.declared.form.Form.TheVariants.{Plain};
 ghost use Rattle.build.specs.Lowerable.{IsLowerable};
 ghost use Rattle.build.specs.Meaning.{Asks};
-ghost use Rattle.build.specs.declared.status.Status.TheVariants.{Built, Failed, Refused};
+ghost use Rattle.answering.specs.declared.status.Status.TheVariants.{Built, Failed, Refused};
 ghost use Rattle.checks.specs.declared.checked.Checked.{Checked};
 ghost use Rattle.explains.specs.Explained.{Explains, IsLeftOutBy, ShowsFailure, ShowsMissed, shown_missed};
 ghost use Rattle.explains.specs.PrivateFailure.{IsAccepted, IsDockerfileOf, IsMissedOf};

@@ -9,7 +9,7 @@ use Rattle.serde_json.specs.Written.{compact_text}
 use Rattle.imageconfig.specs.Writing.{config_data}
 use Rattle.evaluation.specs.declared.evaluated.Evaluated.{Evaluated}
 use Rattle.bundle.specs.Answer.{refused_text}
-use Rattle.build.specs.declared.status.Status.TheVariants.{Built, Refused}
+use Rattle.answering.specs.declared.status.Status.TheVariants.{Built, Refused}
 use Rattle.build.specs.Meaning.{Asks}
 use Rattle.build.specs.Telling.{IsAsked}
 use Rattle.program.specs.declared.told.Told.{Told}

@@ -7,7 +7,7 @@ use Rattle.plain.specs.declared.fault.Fault.TheVariants.{Because}
 use Rattle.counted.specs.Edges.{line_of}
 use Rattle.evaluation.specs.declared.evaluated.Evaluated.{Evaluated}
 use Rattle.bundle.specs.Answer.{refused_text}
-use Rattle.build.specs.declared.status.Status.TheVariants.{Built, Refused}
+use Rattle.answering.specs.declared.status.Status.TheVariants.{Built, Refused}
 use Rattle.build.specs.Meaning.{Asks}
 use Rattle.build.specs.Telling.{IsAsked}
 use Rattle.build.specs.Titled.{HasTitlesOf}

@@ -19,9 +19,9 @@ use Rattle.drawing.specs.Drawn.{IsSimplified}
 use Rattle.exported.specs.declared.fault.Obstacle.{Obstacle}
 use Rattle.exported.specs.declared.fault.Obstacle.TheVariants as way
 use Rattle.bundle.specs.Answer.{refused_text}
-use Rattle.build.specs.declared.status.Status.TheVariants.{Refused}
-use Rattle.build.specs.declared.status.BuildFault.{BuildFault}
-use Rattle.build.specs.declared.status.BuildFault.TheVariants.{Memory, Device, Clash, Unspeakable}
+use Rattle.answering.specs.declared.status.Status.TheVariants.{Refused}
+use Rattle.answering.specs.declared.status.BuildFault.{BuildFault}
+use Rattle.answering.specs.declared.status.BuildFault.TheVariants.{Memory, Device, Clash, Unspeakable}
 use Rattle.build.specs.Meaning.{Asks}
 use Rattle.build.specs.Telling.{IsAsked}
 use Rattle.program.specs.declared.exporting.Beside.{Beside}

@@ -15,10 +15,10 @@ use Rattle.flaws.specs.Flaws.{flaw_in}
 use Rattle.flaws.specs.declared.flaw.Flaw.TheVariants.{TooLong}
 use Rattle.flaws.proofs.WholeFacts.{flaw-long}
 use Rattle.checks.specs.Images.{image_names, image_names_within}
-use Rattle.build.specs.declared.status.Status.{Status}
-use Rattle.build.specs.declared.status.BuildFault.{BuildFault}
-use Rattle.build.specs.declared.status.BuildFault.TheVariants as end
-use Rattle.build.specs.Faults.{of_edge}
+use Rattle.answering.specs.declared.status.Status.{Status}
+use Rattle.answering.specs.declared.status.BuildFault.{BuildFault}
+use Rattle.answering.specs.declared.status.BuildFault.TheVariants as end
+use Rattle.answering.specs.Faults.{of_edge}
 use Rattle.build.specs.Ends.{Answering, Devices, IsAllLeft}
 use Rattle.program.specs.Telling.{HasStopped, HasTold, Stops, TellingEnds}
 use Rattle.program.specs.PrivateTelling.{held, HoldsSame, IsToldBy, Moves, MovesStops}

@@ -9,7 +9,7 @@ use Rattle.counted.specs.Edges.{line_of}
 use Rattle.imageconfig.specs.Reading.{config_in}
 use Rattle.bundle.specs.Answer.{refused_text}
 use Rattle.reasons.specs.Reasons.{TellsReasons}
-use Rattle.build.specs.declared.status.Status.TheVariants.{Refused}
+use Rattle.answering.specs.declared.status.Status.TheVariants.{Refused}
 use Rattle.program.specs.declared.told.Told.{Told}
 use Rattle.program.specs.Why.{TellsWhy}
 

@@ -4,9 +4,9 @@ use Rattle.checks.specs.Checked.{IsCheckOf}
 use Rattle.checks.specs.declared.checked.Checked.{Checked}
 use Rattle.checks.specs.declared.form.Form.{Form}
 use Rattle.checks.specs.declared.form.Form.TheVariants.{Plain, Json}
-use Rattle.build.specs.declared.status.Status.{Status}
-use Rattle.build.specs.declared.status.Status.TheVariants.{Built, Failed, Refused}
-use Rattle.build.specs.declared.status.BuildFault.{BuildFault}
+use Rattle.answering.specs.declared.status.Status.{Status}
+use Rattle.answering.specs.declared.status.Status.TheVariants.{Built, Failed, Refused}
+use Rattle.answering.specs.declared.status.BuildFault.{BuildFault}
 use Rattle.build.specs.Ends.{Devices}
 use Rattle.program.specs.Telling.{TellingEnds, never}
 

@@ -1,8 +1,8 @@
 -- How a call ends that writes which instruction of a bundle fails (own).
 use Rattle.std.specs.Prelude.{Result}
 use Rattle.plans.specs.Value.{Out}
-use Rattle.build.specs.declared.status.Status.{Status}
-use Rattle.build.specs.declared.status.BuildFault.{BuildFault}
+use Rattle.answering.specs.declared.status.Status.{Status}
+use Rattle.answering.specs.declared.status.BuildFault.{BuildFault}
 use Rattle.build.specs.Ends.{Devices}
 use Rattle.explains.specs.Explained.{Explains}
 use Rattle.program.specs.Telling.{TellingEnds, never}

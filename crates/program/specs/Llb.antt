@@ -27,10 +27,10 @@ use Rattle.exported.specs.Excluding.{exclude_list}
 use Rattle.exported.specs.Following.{follow_list}
 use Rattle.exported.specs.Exporting.{exported, IsExported}
 use Rattle.bundle.specs.Answer.{refused_text}
-use Rattle.build.specs.declared.status.Status.{Status}
-use Rattle.build.specs.declared.status.Status.TheVariants.{Built, Failed, Refused}
-use Rattle.build.specs.declared.status.BuildFault.{BuildFault}
-use Rattle.build.specs.declared.status.BuildFault.TheVariants.{Clash, Unspeakable}
+use Rattle.answering.specs.declared.status.Status.{Status}
+use Rattle.answering.specs.declared.status.Status.TheVariants.{Built, Failed, Refused}
+use Rattle.answering.specs.declared.status.BuildFault.{BuildFault}
+use Rattle.answering.specs.declared.status.BuildFault.TheVariants.{Clash, Unspeakable}
 use Rattle.build.specs.Meaning.{Asks}
 use Rattle.build.specs.Titled.{HasTitlesOf, HasLeftOut, HasDigests}
 use Rattle.build.specs.Ends.{Devices}

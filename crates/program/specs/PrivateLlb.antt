@@ -6,9 +6,9 @@ use Rattle.plans.specs.Plan.{PlanValue}
 use Rattle.evaluation.specs.declared.evaluated.Evaluated.{Evaluated}
 use Rattle.exported.specs.declared.fault.Obstacle.{Obstacle}
 use Rattle.plain.specs.declared.fault.Fault.{Fault}
-use Rattle.build.specs.declared.status.Status.TheVariants.{Built}
-use Rattle.build.specs.declared.status.BuildFault.{BuildFault}
-use Rattle.build.specs.declared.status.BuildFault.TheVariants.{Memory, Device, Clash, Unspeakable}
+use Rattle.answering.specs.declared.status.Status.TheVariants.{Built}
+use Rattle.answering.specs.declared.status.BuildFault.{BuildFault}
+use Rattle.answering.specs.declared.status.BuildFault.TheVariants.{Memory, Device, Clash, Unspeakable}
 use Rattle.exported.specs.Exporting.{exported, IsExported}
 use Rattle.program.specs.declared.exporting.Beside.{Beside}
 use Rattle.program.specs.declared.told.Told.{Told}

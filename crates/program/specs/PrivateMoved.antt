@@ -20,8 +20,8 @@ use Rattle.checks.specs.Shown.{readable_lines, shown_check}
 use Rattle.checks.specs.declared.checked.Checked.{Checked}
 use Rattle.checks.specs.declared.form.Form.{Form}
 use Rattle.checks.specs.declared.form.Form.TheVariants.{Plain}
-use Rattle.build.specs.declared.status.Status.{Status}
-use Rattle.build.specs.declared.status.Status.TheVariants.{Built, Failed, Refused}
+use Rattle.answering.specs.declared.status.Status.{Status}
+use Rattle.answering.specs.declared.status.Status.TheVariants.{Built, Failed, Refused}
 use Rattle.build.specs.Meaning.{Answers, Asks}
 use Rattle.build.specs.Titled.{HasTitlesOf, HasLeftOut, HasDigests}
 use Rattle.explains.specs.Explained.{Explains, IsLeftOutBy, ShowsMissed}

@@ -6,9 +6,9 @@ use Rattle.bundle.specs.Parts.{parts_of}
 use Rattle.bundle.specs.declared.parts.Parts.{Parts}
 use Rattle.flaws.specs.Flaws.{flaw_in}
 use Rattle.checks.specs.Images.{image_names}
-use Rattle.build.specs.declared.status.Status.{Status}
-use Rattle.build.specs.declared.status.BuildFault.{BuildFault}
-use Rattle.build.specs.declared.status.BuildFault.TheVariants.{Memory, Device, Clash, Unspeakable}
+use Rattle.answering.specs.declared.status.Status.{Status}
+use Rattle.answering.specs.declared.status.BuildFault.{BuildFault}
+use Rattle.answering.specs.declared.status.BuildFault.TheVariants.{Memory, Device, Clash, Unspeakable}
 use Rattle.build.specs.Ends.{Answering}
 use Rattle.program.specs.declared.told.Told.{Told}
 use Rattle.program.specs.Telling.{Stops}

@@ -13,12 +13,12 @@ use Rattle.command.specs.declared.task.PackOptions.{PackOptions}
 use Rattle.command.specs.declared.task.Task.{Task}
 use Rattle.command.specs.declared.task.Task.TheVariants.{Build, Graph, Pack, Why, Llb, Config, Check, Explain}
 use Rattle.plans.specs.Value.{Out}
-use Rattle.build.specs.declared.status.Status.{Status}
-use Rattle.build.specs.declared.status.BuildFault.{BuildFault}
-use Rattle.build.specs.declared.status.BuildFault.TheVariants.{Clash, Device, Memory as NoMemory, Unspeakable}
+use Rattle.answering.specs.declared.status.Status.{Status}
+use Rattle.answering.specs.declared.status.BuildFault.{BuildFault}
+use Rattle.answering.specs.declared.status.BuildFault.TheVariants.{Clash, Device, Memory as NoMemory, Unspeakable}
 use Rattle.build.specs.Ends.{Devices, Ends, devices}
-use Rattle.build.specs.Faults.{exit_status}
-use Rattle.build.specs.Messages.{fault_text}
+use Rattle.answering.specs.Faults.{exit_status}
+use Rattle.answering.specs.Messages.{fault_text}
 use Rattle.packing.specs.Ends.{PacksFolder, fault_text as pack_fault_text}
 use Rattle.packing.specs.Packed.{Asked}
 use Rattle.packing.specs.declared.fault.PackFault.{PackFault}

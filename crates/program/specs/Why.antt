@@ -7,9 +7,9 @@ use Rattle.counted.specs.Edges.{line_of}
 use Rattle.imageconfig.specs.Reading.{config_in}
 use Rattle.bundle.specs.Answer.{refused_text}
 use Rattle.reasons.specs.Reasons.{TellsReasons}
-use Rattle.build.specs.declared.status.Status.{Status}
-use Rattle.build.specs.declared.status.Status.TheVariants.{Built, Failed, Refused}
-use Rattle.build.specs.declared.status.BuildFault.{BuildFault}
+use Rattle.answering.specs.declared.status.Status.{Status}
+use Rattle.answering.specs.declared.status.Status.TheVariants.{Built, Failed, Refused}
+use Rattle.answering.specs.declared.status.BuildFault.{BuildFault}
 use Rattle.build.specs.Ends.{Devices}
 use Rattle.program.specs.Telling.{TellingEnds, never}
 

@@ -4,9 +4,9 @@ ghost use Rattle.std.specs.Prelude.{◌≡◌, ◌<◌, ◌≤◌, ◌+◌, ◌+
 ghost use Rattle.counted.specs.Edges.{LosesBeginning, line_of};
 ghost use Rattle.plain.specs.Limits.{most_bundle_bytes, most_workers};
 ghost use Rattle.build.specs.Ends.{Ends, GraphEnds, devices};
-ghost use Rattle.build.specs.Faults.{exit_status};
-ghost use Rattle.build.specs.Messages.{fault_text};
-ghost use Rattle.build.specs.declared.status.BuildFault.TheVariants.{Device};
+ghost use Rattle.answering.specs.Faults.{exit_status};
+ghost use Rattle.answering.specs.Messages.{fault_text};
+ghost use Rattle.answering.specs.declared.status.BuildFault.TheVariants.{Device};
 ghost use Rattle.program.specs.Check.{CheckEnds, form_by};
 ghost use Rattle.program.specs.Config.{ConfigEnds};
 ghost use Rattle.program.specs.Dot.{DrawingEnds};

@@ -4,7 +4,7 @@ ghost use Rattle.std.specs.String.{string_bytes};
 ghost use Rattle.counted.specs.Edges.{line_of};
 ghost use Rattle.serde_json.specs.Written.{compact_text};
 ghost use Rattle.imageconfig.specs.Writing.{config_data};
-ghost use Rattle.build.specs.declared.status.Status.TheVariants.{Built};
+ghost use Rattle.answering.specs.declared.status.Status.TheVariants.{Built};
 ghost use Rattle.program.specs.Config.{TellsConfig};
 
 use crate::telling::Teller;

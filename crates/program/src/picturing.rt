@@ -1,7 +1,7 @@
 // A bundle's graph as Graphviz reads it.
 ghost use Rattle.std.specs.Prelude.{◌≡◌, IfOk};
 ghost use Rattle.build.specs.Lowerable.{IsLowerable};
-ghost use Rattle.build.specs.declared.status.Status.TheVariants.{Built};
+ghost use Rattle.answering.specs.declared.status.Status.TheVariants.{Built};
 ghost use Rattle.dot.specs.Drawn.{drawing};
 ghost use Rattle.program.specs.Dot.{IsPictureOf, TellsDot};
 

@@ -1,7 +1,7 @@
 ghost use Rattle.std.specs.Prelude.{◌≡◌, IfOk};
 ghost use Rattle.counted.specs.Edges.{line_of};
 ghost use Rattle.bundle.specs.Answer.{refused_text};
-ghost use Rattle.build.specs.declared.status.Status.TheVariants.{Refused};
+ghost use Rattle.answering.specs.declared.status.Status.TheVariants.{Refused};
 
 use build::Status;
 use bundle::refused_answer;

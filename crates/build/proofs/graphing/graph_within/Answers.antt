@@ -1,5 +1,5 @@
 use Rattle.std.proofs.Common.{◌≡◌, ◌+◌, refl, sym, ap, ◌∙◌, subst}
-use Rattle.build.specs.Faults.{of_edge}
+use Rattle.answering.specs.Faults.{of_edge}
 use Rattle.build.specs.Ends.{Devices, devices, GraphEnds}
 use Rattle.build.proofs.BuildingFacts.{read_of, loses_at_most, graph_answered, graph_begun, graph_faulted, err_and}
 use Rattle.build.proofs.graphing.graph_within.Goals as goal

@@ -1,7 +1,8 @@
 use Rattle.std.proofs.Common.{Ok}
 use Rattle.memo.proofs.GrowLemmas.{grows-same}
 use Rattle.build.specs.PrivateTelling.{TellsPlan, TellsAsked}
-use Rattle.build.proofs.TellFacts.{told_of, asked_told}
+use Rattle.answering.proofs.TellFacts.{told_of}
+use Rattle.build.proofs.TellFacts.{asked_told}
 use Rattle.build.proofs.telling.tell_asked.Goals as goal
 
 pub returns-in-Ok-clause-told : goal.returns-in-Ok-clause-told

@@ -1,9 +1,11 @@
 use Rattle.std.proofs.Common.{Ok}
 use Rattle.bundle.specs.Answer.{refused_text}
 use Rattle.memo.proofs.GrowLemmas.{grows-same}
-use Rattle.build.specs.declared.status.Status.TheVariants.{Refused}
-use Rattle.build.specs.PrivateTelling.{TellsText, TellsAsked, TellsBundle}
-use Rattle.build.proofs.TellFacts.{told_of, bundle_told, refusal_told}
+use Rattle.answering.specs.declared.status.Status.TheVariants.{Refused}
+use Rattle.answering.specs.Told.{TellsText}
+use Rattle.build.specs.PrivateTelling.{TellsAsked, TellsBundle}
+use Rattle.answering.proofs.TellFacts.{told_of}
+use Rattle.build.proofs.TellFacts.{bundle_told, refusal_told}
 use Rattle.build.proofs.telling.tell_bundle.Goals as goal
 
 pub returns-in-Ok-clause-told : goal.returns-in-Ok-clause-told

@@ -1,5 +1,6 @@
 use Rattle.build.specs.PrivateTelling.{TellsSolution, TellsPlan}
-use Rattle.build.proofs.TellFacts.{told_of, plan_told}
+use Rattle.answering.proofs.TellFacts.{told_of}
+use Rattle.build.proofs.TellFacts.{plan_told}
 use Rattle.build.proofs.telling.tell_plan.Goals as goal
 
 pub returns-in-Ok-clause-told : goal.returns-in-Ok-clause-told

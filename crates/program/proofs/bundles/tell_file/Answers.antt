@@ -1,7 +1,7 @@
 use Rattle.std.proofs.Common.{◌≡◌, ℕ, List, Option, Result, refl, Err, inl, inr, subst}
 use Rattle.build.specs.Ends.{Devices, devices}
-use Rattle.build.specs.declared.status.Status.{Status}
-use Rattle.build.specs.declared.status.BuildFault.{BuildFault}
+use Rattle.answering.specs.declared.status.Status.{Status}
+use Rattle.answering.specs.declared.status.BuildFault.{BuildFault}
 use Rattle.program.specs.Runs.{HasOpened}
 use Rattle.program.specs.Saying.{Stream}
 use Rattle.program.specs.Telling.{TellingEnds}

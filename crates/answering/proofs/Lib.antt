@@ -1,0 +1,2 @@
+pub mod TellFacts
+mod TextFacts
