@@ -2,7 +2,7 @@ ghost use Rattle.std.specs.Prelude.{◌≡◌, [], Ok as OkOf, IfOk};
 ghost use Rattle.std.specs.List.{All};
 ghost use Rattle.std.specs.FinMap.{get as arg_value};
 ghost use Rattle.stages.specs.Naming.{names_in};
-ghost use Rattle.stages.specs.Resolved.{resolved};
+ghost use Rattle.stages.specs.Resolved.{resolved, Returns};
 ghost use Rattle.stages.specs.Table.{NamesKnown};
 ghost use Rattle.build.specs.Lowerable.{IsLowerable};
 ghost use Rattle.build.specs.PrivateAsking.{rejection_fault, IsFileAsked, IsTableAsked};
@@ -81,7 +81,10 @@ fn ask_file(alloc: Global, bundle: Bundle<BoxedConfig>) -> Result<Asked, Rejecti
 {
     match Dockerfile::read(alloc, bundle.dockerfile.as_slice()) {
         Ok(file) => ask_stages(alloc, bundle, file),
-        Err(fault) => Err(rejection_fault(fault)),
+        Err(fault) => {
+            drop(bundle);
+            Err(rejection_fault(fault))
+        }
     }
 }
 
@@ -97,16 +100,31 @@ fn ask_stages(
     ensures store { IfOk result (λ asked. asked.caches ≡ bundle.caches) }
     ensures caches { IfOk result (λ asked. asked.caches.holds ≡ []) }
 {
-    match StageTable::resolve(
+    match table_of(alloc, &bundle, file) {
+        Ok(table) => ask_table(alloc, bundle, table),
+        Err(fault) => {
+            drop(bundle);
+            Err(fault)
+        }
+    }
+}
+
+/// What the names in a bundle's Dockerfile lead to.
+pub(crate) fn table_of(
+    alloc: Global,
+    bundle: &Bundle<BoxedConfig>,
+    file: Dockerfile,
+) -> Result<StageTable, RejectionFault>
+    ensures table { Returns (resolved (names_in bundle.now.images) (arg_value bundle.now.args) bundle.now.target file) result }
+    ensures known { IfOk result (λ table. All (NamesKnown (names_in bundle.now.images)) table.stages) }
+{
+    StageTable::resolve(
         alloc,
         file,
         &bundle.images,
         &bundle.args,
         bundle.target.as_ref(),
-    ) {
-        Ok(table) => ask_table(alloc, bundle, table),
-        Err(fault) => Err(fault),
-    }
+    )
 }
 
 /// What the stages in a table ask for.
@@ -123,14 +141,24 @@ pub(crate) fn ask_table(
     ensures caches { IfOk result (λ asked. asked.caches.holds ≡ []) }
 {
     let Bundle {
-        images,
+        dockerfile,
         context,
+        images,
+        digests,
         args,
         caches,
-        ..
+        target,
     } = bundle;
-    match evaluate(alloc, table, images, context, &args) {
+    drop(dockerfile);
+    drop(digests);
+    drop(target);
+    let evaluated = evaluate(alloc, table, images, context, &args);
+    drop(args);
+    match evaluated {
         Ok(evaluated) => Ok(Asked { evaluated, caches }),
-        Err(fault) => Err(fault),
+        Err(fault) => {
+            drop(caches);
+            Err(fault)
+        }
     }
 }

@@ -21,11 +21,15 @@ pub struct Remains {
 impl Drop for Remains {
     fn drop(self) {
         let Remains {
-            plan: _,
-            caches: _,
-            solution: _,
-            leftover: _,
+            plan,
+            caches,
+            solution,
+            leftover,
         } = self;
+        drop(plan);
+        drop(caches);
+        drop(solution);
+        drop(leftover);
     }
 }
 

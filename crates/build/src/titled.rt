@@ -14,7 +14,7 @@ ghost use Rattle.build.specs.Telling.{IsAsked};
 ghost use Rattle.build.specs.PrivateTitled.{asked_of};
 ghost use Rattle.build.specs.Titled.{asked_in, AreTitlesOf, HasTitlesOf, HasLeftOut, HasDigests};
 
-use crate::asking::{Asked, ask_table, rejection_fault};
+use crate::asking::{Asked, ask_table, rejection_fault, table_of};
 use bundle::{Bundle, read_with_left_out};
 use dockerfile::Dockerfile;
 use expand::RejectionFault;
@@ -108,8 +108,15 @@ fn titled_file(
     ensures titles { IfOk result (λ titled. AreTitlesOf bundle titled.1) }
 {
     match Dockerfile::read_with_lines(alloc, bundle.dockerfile.as_slice()) {
-        Ok((file, lines)) => titled_stages(alloc, bundle, file, lines.as_slice()),
-        Err(fault) => Err(rejection_fault(fault)),
+        Ok((file, lines)) => {
+            let titled = titled_stages(alloc, bundle, file, lines.as_slice());
+            drop(lines);
+            titled
+        }
+        Err(fault) => {
+            drop(bundle);
+            Err(rejection_fault(fault))
+        }
     }
 }
 
@@ -135,15 +142,17 @@ fn titled_stages(
             return Err(Fault::Memory);
         }
     };
-    match StageTable::resolve(
-        alloc,
-        file,
-        &bundle.images,
-        &bundle.args,
-        bundle.target.as_ref(),
-    ) {
-        Ok(table) => titled_table(alloc, bundle, table, lines, names.as_slice()),
-        Err(fault) => Err(fault),
+    match table_of(alloc, &bundle, file) {
+        Ok(table) => {
+            let titled = titled_table(alloc, bundle, table, lines, names.as_slice());
+            drop(names);
+            titled
+        }
+        Err(fault) => {
+            drop(bundle);
+            drop(names);
+            Err(fault)
+        }
     }
 }
 
