@@ -1,12 +1,12 @@
 -- Words in which clap's parse finds no fault ask for a task.
-use Rattle.std.proofs.Common.{◌≡◌, ◌≤◌, ℕ, Bool, true, false, cond, List, [], ◌∷◌, Option, Some, None, refl, sym, ap, subst, codes, is_some, pos, true≢false, ◌∙◌, arith, inl, inr}
+use Rattle.std.proofs.Common.{◌≡◌, ◌≤◌, ℕ, Bool, true, false, cond, List, [], ◌∷◌, Option, Some, None, Result, IfOk, refl, sym, ap, subst, codes, is_some, pos, true≢false, ◌∙◌, arith, inl, inr}
 use Rattle.std.proofs.lemmas.Slice.Eq.{bytes_eq-Decides}
 use Rattle.std.proofs.lemmas.Int.{ints}
 use Rattle.std.specs.Str.Parse.{IsNumeral, digits_value, starts_with_minus, without_leading_plus}
 use Rattle.clap.specs.Words.{App, Row, Shape, Text, fault_of, first_of, is_simple, is_simple_and_free, subcommand_of}
 use Rattle.clap.proofs.OnLiterals.{clap_on_literals}
 use Rattle.clap.specs.Simple.{argument_words, entered, label_of, new_shape, rows_at}
-use Rattle.clap.specs.Kinds.{HasKind, Kinds, or_else}
+use Rattle.clap.specs.Kinds.{FailsBy, HasKind, Kinds, or_else}
 use Rattle.clap.specs.declared.error.Error.{Error}
 use Rattle.clap.specs.Faults.{check_fault, defaults_fault, entered_fault, level_fault, settle_fault, walk_fault}
 use Rattle.std.specs.Option.{option_map_or}
@@ -230,26 +230,27 @@ clap_fault a words error is parsed =
     (subst (λ x. HasKind (fault_of x words) error) is (parsed (ap is_simple_and_free is ∙ simple_and_free)))
 
 -- the task that it found is that of the words
-pub asked_task : (a : App) (words : List Text) (found : Option (Text × List Row)) (rows : Type 0) (task : Task) → a ≡ whole_command
-    → (is_simple a ≡ true → rows × (found ≡ subcommand_of a words)) → IsTaskOf found task → IsTaskOf (subcommand_of whole_command words) task
-asked_task a words found rows task is matched asked =
-    subst (λ f. IsTaskOf f task) ((matched (ap is_simple is ∙ simple)).1 ∙ ap (λ x. subcommand_of x words) is) asked
+pub asked_task : (a : App) (words : List Text) (found : Option (Text × List Row)) (rows : Type 0) (result : Result Task Error) → a ≡ whole_command
+    → (is_simple a ≡ true → rows × (found ≡ subcommand_of a words)) → IfOk result (IsTaskOf found) → IfOk result (IsTaskOf (subcommand_of whole_command words))
+asked_task a words found rows result is matched asked =
+    subst (λ f. IfOk result (IsTaskOf f)) ((matched (ap is_simple is ∙ simple)).1 ∙ ap (λ x. subcommand_of x words) is) asked
 
--- no fault at all, where it found a task
-pub no_faults : (a : App) (words : List Text) (found : Option (Text × List Row)) (rows : Type 0) (task : Task) → a ≡ whole_command
+-- no fault at all, if it found a task, and else that of an argument
+pub asked_faults : (a : App) (words : List Text) (found : Option (Text × List Row)) (rows : Type 0) (result : Result Task Error) → a ≡ whole_command
     → (is_simple_and_free a ≡ true → fault_of a words ≡ []) → (is_simple a ≡ true → rows × (found ≡ subcommand_of a words))
-    → IsTaskOf found task → faults_of words ≡ []
-no_faults a words found rows task is parsed matched asked =
-    let none = no_fault a words is parsed in
-    let same : found ≡ subcommand_of whole_command words = (matched (ap is_simple is ∙ simple)).1 ∙ ap (λ x. subcommand_of x words) is in
-    ap (λ first. or_else first (argument_faults (subcommand_of whole_command words))) none ∙ task_args (subcommand_of whole_command words) task (subst (λ f. IsTaskOf f task) same asked)
-
--- and that of a build argument, where it found none
-pub bare_argument : (a : App) (words : List Text) (found : Option (Text × List Row)) (rows : Type 0) → a ≡ whole_command
-    → (is_simple_and_free a ≡ true → fault_of a words ≡ []) → (is_simple a ≡ true → rows × (found ≡ subcommand_of a words))
-    → ((task : Task) → IsTaskOf found task → ⊥) → faults_of words ≡ ValueValidation ∷ []
-bare_argument a words found rows is parsed matched none =
+    → ((task : Task) → IsTaskOf found task → FailsBy [] result) → (((task : Task) → IsTaskOf found task → ⊥) → FailsBy (ValueValidation ∷ []) result)
+    → FailsBy (faults_of words) result
+asked_faults a words found rows result is parsed matched memory none =
     let clear = no_fault a words is parsed in
     let same : found ≡ subcommand_of whole_command words = (matched (ap is_simple is ∙ simple)).1 ∙ ap (λ x. subcommand_of x words) is in
-    ap (λ first. or_else first (argument_faults (subcommand_of whole_command words))) clear
-    ∙ one_fault (subcommand_of whole_command words) (λ args. let task = accepted words clear args in none task.0 (subst (λ f. IsTaskOf f task.0) (sym same) task.1))
+    let all : faults_of words ≡ argument_faults (subcommand_of whole_command words)
+    = ap (λ first. or_else first (argument_faults (subcommand_of whole_command words))) clear in
+    subst (λ kinds. FailsBy kinds result) (sym all) (go clear same (argument_faults (subcommand_of whole_command words)) refl)
+  where
+    go : fault_of whole_command words ≡ [] → found ≡ subcommand_of whole_command words → (kinds : Kinds)
+        → argument_faults (subcommand_of whole_command words) ≡ kinds → FailsBy kinds result
+    go clear same [] args = let task = accepted words clear args in memory task.0 (subst (λ f. IsTaskOf f task.0) (sym same) task.1)
+    go clear same (kind ∷ kinds) args =
+        let some : argument_faults (subcommand_of whole_command words) ≡ [] → ⊥ = λ no. some_kind _ _ (sym args ∙ no) in
+        subst (λ kinds. FailsBy kinds result) (sym (one_fault (subcommand_of whole_command words) some) ∙ args)
+        (none (λ task asked. some (task_args (subcommand_of whole_command words) task (subst (λ f. IsTaskOf f task) same asked))))

@@ -7,5 +7,4 @@ pub mod LeafWalk
 pub mod Matched
 pub mod PackWalk
 pub mod Rows
-pub mod Subcommands
 pub mod TopWalk

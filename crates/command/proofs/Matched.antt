@@ -1,6 +1,6 @@
 -- From what clap's getters answer to the task that the matches hold.
 use Rattle.std.proofs.Common.{◌≡◌, ◌≤◌, ℕ, List, Option, Some, None, Result, Ok, Err, refl, sym, ap, ◌∙◌, subst, codes, arith, bytes_eq, true≢false}
-use Rattle.std.specs.Prelude.{IfNone, Box, option_map}
+use Rattle.std.specs.Prelude.{IfNone, IfOk, IfSome, Box, option_map}
 use Rattle.std.specs.Box.{box_value}
 use Rattle.std.specs.Str.Parse.{ParsesUnsigned}
 use Rattle.clap.specs.Words.{ReadsOne, Row, Text, one_of, subcommand_rows}
@@ -8,8 +8,8 @@ use Rattle.clap.specs.declared.parser.matches.ArgMatches.TheViews.{out-SubComman
 use Rattle.clap.specs.declared.parser.matches.SubCommand.{SubCommand}
 use Rattle.plain.specs.Limits.{most_workers}
 use Rattle.command.specs.CommandLine.{least_workers}
-use Rattle.command.specs.Tasks.{IsBuild, IsTaskOf, IsWorkers}
-use Rattle.command.specs.declared.task.BuildOptions.{BuildOptions}
+use Rattle.command.specs.PrivateTasks.{IsAnswer}
+use Rattle.command.specs.Tasks.{IsTaskOf, IsWorkers}
 use Rattle.command.specs.declared.task.Task.{Task}
 use Rattle.command.specs.declared.task.Task.TheVariants.{Build, Graph, Pack, Why, Llb, Config, Check, Explain}
 
@@ -51,14 +51,26 @@ read_out E G only rows one w is value out n h =
     let same : n ≡ w = h.is ∙ sym parsed.1 in
     out (subst (λ k. least_workers ≤ k) same h.least) (subst (λ k. k ≤ most_workers) same h.most)
 
--- without what `build` is asked for there is no task
-pub no_task : (o : Option (Text × List Row)) (name : Text) (rows : List Row) → o ≡ Some (name, rows) → name ≡ codes "build"
-    → ((options : BuildOptions) → IsBuild rows options → ⊥) → (task : Task) → IsTaskOf o task → ⊥
-no_task o name rows is build none (Build options) h = none options (subst (λ found. IsTaskOf found (Build options)) is h).1
-no_task o name rows is build none (Graph options) h = let graph : name ≡ codes "graph" = (subst (λ found. IsTaskOf found (Graph options)) is h).0 in absurd (true≢false (ap (λ t. bytes_eq t (codes "build")) (sym build ∙ graph)))
-no_task o name rows is build none (Pack words) h = let pack : name ≡ codes "pack" = (subst (λ found. IsTaskOf found (Pack words)) is h).0 in absurd (true≢false (ap (λ t. bytes_eq t (codes "build")) (sym build ∙ pack)))
-no_task o name rows is build none (Why options) h = let why : name ≡ codes "why" = (subst (λ found. IsTaskOf found (Why options)) is h).0 in absurd (true≢false (ap (λ t. bytes_eq t (codes "build")) (sym build ∙ why)))
-no_task o name rows is build none (Llb options) h = let llb : name ≡ codes "llb" = (subst (λ found. IsTaskOf found (Llb options)) is h).0 in absurd (true≢false (ap (λ t. bytes_eq t (codes "build")) (sym build ∙ llb)))
-no_task o name rows is build none (Config file) h = let config : name ≡ codes "config" = (subst (λ found. IsTaskOf found (Config file)) is h).0 in absurd (true≢false (ap (λ t. bytes_eq t (codes "build")) (sym build ∙ config)))
-no_task o name rows is build none (Check options) h = let check : name ≡ codes "check" = (subst (λ found. IsTaskOf found (Check options)) is h).0 in absurd (true≢false (ap (λ t. bytes_eq t (codes "build")) (sym build ∙ check)))
-no_task o name rows is build none (Explain file) h = let explain : name ≡ codes "explain" = (subst (λ found. IsTaskOf found (Explain file)) is h).0 in absurd (true≢false (ap (λ t. bytes_eq t (codes "build")) (sym build ∙ explain)))
+-- without a number of workers `build` asks for no task
+pub no_build : (rows : List Row) → ((workers : ℕ) → IsWorkers rows workers → ⊥) → (task : Task) → IsTaskOf (Some (codes "build", rows)) task → ⊥
+no_build rows none (Build options) h = none options.workers h.1.workers
+no_build rows none (Graph options) h = absurd (true≢false (ap (λ t. bytes_eq t (codes "build")) h.0))
+no_build rows none (Pack options) h = absurd (true≢false (ap (λ t. bytes_eq t (codes "build")) h.0))
+no_build rows none (Why options) h = absurd (true≢false (ap (λ t. bytes_eq t (codes "build")) h.0))
+no_build rows none (Llb options) h = absurd (true≢false (ap (λ t. bytes_eq t (codes "build")) h.0))
+no_build rows none (Config options) h = absurd (true≢false (ap (λ t. bytes_eq t (codes "build")) h.0))
+no_build rows none (Check options) h = absurd (true≢false (ap (λ t. bytes_eq t (codes "build")) h.0))
+no_build rows none (Explain options) h = absurd (true≢false (ap (λ t. bytes_eq t (codes "build")) h.0))
+
+-- the answer to a subcommand is that to a parse which found it
+pub some_answer : {E : Type 0} (made : Result (Option Task) E) (o : Option (Text × List Row)) (found : Text × List Row) → o ≡ Some found
+    → IfOk made (IsAnswer found) → IfOk made (λ answer. IfSome answer (IsTaskOf o))
+some_answer (Ok (Some task)) o found is answers = subst (λ o. IsTaskOf o task) (sym is) answers
+some_answer (Ok None) o found is answers = tt
+some_answer (Err e) o found is answers = tt
+
+pub none_answer : {E : Type 0} (made : Result (Option Task) E) (o : Option (Text × List Row)) (found : Text × List Row) → o ≡ Some found
+    → IfOk made (IsAnswer found) → IfOk made (λ answer. IfNone answer ((task : Task) → IsTaskOf o task → ⊥))
+none_answer (Ok (Some task)) o found is answers = tt
+none_answer (Ok None) o found is answers = subst (λ o. (task : Task) → IsTaskOf o task → ⊥) (sym is) answers
+none_answer (Err e) o found is answers = tt

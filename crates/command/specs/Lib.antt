@@ -1,4 +1,5 @@
 pub mod CommandLine
 pub mod Flags
 pub mod Llb
+pub mod PrivateTasks
 pub mod Tasks

@@ -1,5 +1,5 @@
 ghost use Rattle.std.specs.Prelude.{◌≡◌, IfOk, IsOkAnd, false};
-ghost use Rattle.clap.specs.Words.{app_of, rule_of, with_subcommand};
+ghost use Rattle.clap.specs.Words.{App, Rule, app_of, new_app, rule_of, with_rule, with_subcommand};
 ghost use Rattle.clap.specs.declared.builder.command.Command.TheViews.{out-Command};
 ghost use Rattle.command.specs.CommandLine.{argument_option, asking_command, bare_command, build_command, bundle_argument, bundle_command, check_command, config_command, explain_command, flag, folder_argument, graph_command, image_option, llb_choices, llb_command, llb_options, pack_command, pack_from, pack_to, pack_with, paths_argument, text_option, whole_command, why_command, workers_option};
 
@@ -98,10 +98,9 @@ const VERSION: &str = "0.1.0";
 pub fn whole_command<'a>(alloc: Global) -> Result<Command<'a>, AllocError>
     ensures { IfOk result (λ command. app_of command ≡ whole_command) }
 {
-    let command = asking_command(alloc)?;
-    let command = with_command(command, llb_command(alloc))?;
-    let command = with_command(command, config_command(alloc))?;
-    let command = with_command(command, check_command(alloc))?;
+    let command = with_command(asking_command(alloc), llb_command(alloc));
+    let command = with_command(command, config_command(alloc));
+    let command = with_command(command, check_command(alloc));
     with_command(command, explain_command(alloc))
 }
 
@@ -109,8 +108,7 @@ pub fn whole_command<'a>(alloc: Global) -> Result<Command<'a>, AllocError>
 fn asking_command<'a>(alloc: Global) -> Result<Command<'a>, AllocError>
     ensures { IfOk result (λ command. app_of command ≡ asking_command) }
 {
-    let command = bundle_command(alloc)?;
-    let command = with_command(command, pack_command(alloc))?;
+    let command = with_command(bundle_command(alloc), pack_command(alloc));
     with_command(command, why_command(alloc))
 }
 
@@ -118,7 +116,7 @@ fn asking_command<'a>(alloc: Global) -> Result<Command<'a>, AllocError>
 fn bundle_command<'a>(alloc: Global) -> Result<Command<'a>, AllocError>
     ensures { IfOk result (λ command. app_of command ≡ bundle_command) }
 {
-    let command = with_command(bare_command(alloc), build_command(alloc))?;
+    let command = with_command(Ok(bare_command(alloc)), build_command(alloc));
     with_command(command, graph_command(alloc))
 }
 
@@ -132,8 +130,27 @@ fn bare_command<'a>(alloc: Global) -> Command<'a>
         .subcommand_required(true)
 }
 
-/// The command with a subcommand, where that was made.
+/// The command with a subcommand, where both were made.
 fn with_command<'a>(
+    command: Result<Command<'a>, AllocError>,
+    made: Result<Command<'a>, AllocError>,
+) -> Result<Command<'a>, AllocError>
+    requires local { IfOk made (λ made. (out-Command made).has_globals ≡ false) }
+    ensures { (app sub : App) → IfOk command.entry (λ command. app_of command ≡ app) → IfOk made.entry (λ made. app_of made ≡ sub)
+        → IfOk result (λ whole. app_of whole ≡ with_subcommand app sub.top) }
+{
+    match command {
+        Ok(command) => with_made(command, made),
+        Err(memory) => {
+            // It goes by a call, so that no proof goes by its parts.
+            drop(made);
+            Err(memory)
+        }
+    }
+}
+
+/// The command with a subcommand, where that was made.
+fn with_made<'a>(
     command: Command<'a>,
     made: Result<Command<'a>, AllocError>,
 ) -> Result<Command<'a>, AllocError>
@@ -150,16 +167,44 @@ fn with_command<'a>(
     }
 }
 
+/// A command of this name with what its help says before and after its arguments, of which it has none yet.
+fn described<'a>(alloc: Global, name: &'a str, about: &'a str, after: &'a str) -> Command<'a>
+    ensures app { app_of result ≡ new_app name.now }
+    ensures local { (out-Command result).has_globals ≡ false }
+{
+    Command::new(alloc, name).about(about).after_help(after)
+}
+
+/// The command with an argument, where it was made.
+fn with_argument<'a>(
+    command: Result<Command<'a>, AllocError>,
+    argument: Arg<'a>,
+) -> Result<Command<'a>, AllocError>
+    requires local { argument.global ≡ false }
+    ensures app { (app : App) (rule : Rule) → IfOk command.entry (λ command. app_of command ≡ app) → rule_of argument.entry ≡ rule
+        → IfOk result (λ whole. app_of whole ≡ with_rule app rule) }
+    ensures local { IfOk command.entry (λ command. (out-Command command).has_globals ≡ false)
+        → IfOk result (λ whole. (out-Command whole).has_globals ≡ false) }
+{
+    match command {
+        Ok(command) => command.arg(argument),
+        Err(memory) => {
+            // It goes by a call, so that no proof goes by its parts.
+            drop(argument);
+            Err(memory)
+        }
+    }
+}
+
 /// `build [--workers N] [FILE]`.
 fn build_command<'a>(alloc: Global) -> Result<Command<'a>, AllocError>
     ensures app { IfOk result (λ command. app_of command ≡ build_command) }
     ensures local { IfOk result (λ command. (out-Command command).has_globals ≡ false) }
 {
-    Command::new(alloc, "build")
-        .about("Solves the bundle of a file, or on standard input, and prints the answer")
-        .after_help(BUILD_HELP)
-        .arg(workers_option(alloc))?
-        .arg(bundle_argument(alloc))
+    let about = "Solves the bundle of a file, or on standard input, and prints the answer";
+    let command = described(alloc, "build", about, BUILD_HELP);
+    let command = with_argument(Ok(command), workers_option(alloc));
+    with_argument(command, bundle_argument(alloc))
 }
 
 /// `graph [--dot] [FILE]`.
@@ -167,17 +212,12 @@ fn graph_command<'a>(alloc: Global) -> Result<Command<'a>, AllocError>
     ensures app { IfOk result (λ command. app_of command ≡ graph_command) }
     ensures local { IfOk result (λ command. (out-Command command).has_globals ≡ false) }
 {
-    Command::new(alloc, "graph")
-        .about(
-            "Prints the graph of the bundle of a file, or on standard input, by content addresses",
-        )
-        .after_help(GRAPH_HELP)
-        .arg(flag(
-            alloc,
-            DOT,
-            "Print it in the DOT language of Graphviz, with the instructions and their lines",
-        ))?
-        .arg(bundle_argument(alloc))
+    let about =
+        "Prints the graph of the bundle of a file, or on standard input, by content addresses";
+    let command = described(alloc, "graph", about, GRAPH_HELP);
+    let dot = "Print it in the DOT language of Graphviz, with the instructions and their lines";
+    let command = with_argument(Ok(command), flag(alloc, DOT, dot));
+    with_argument(command, bundle_argument(alloc))
 }
 
 /// `pack DIR [--file F] [--target T] [--build-arg N=V].. [--image NAME=FILE].. [--output FILE] [--apply-ignore] [--names]`.
@@ -185,18 +225,18 @@ fn pack_command<'a>(alloc: Global) -> Result<Command<'a>, AllocError>
     ensures app { IfOk result (λ command. app_of command ≡ pack_command) }
     ensures local { IfOk result (λ command. (out-Command command).has_globals ≡ false) }
 {
-    let command = pack_to(alloc)?;
-    command
-        .arg(flag(
-            alloc,
-            APPLY_IGNORE,
-            "Leave out what the ignore file leaves out",
-        ))?
-        .arg(flag(
-            alloc,
-            NAMES,
-            "Leave out the bytes of files: llb, graph, config, check and why don't need them",
-        ))
+    let ignore = flag(
+        alloc,
+        APPLY_IGNORE,
+        "Leave out what the ignore file leaves out",
+    );
+    let names = flag(
+        alloc,
+        NAMES,
+        "Leave out the bytes of files: llb, graph, config, check and why don't need them",
+    );
+    let command = with_argument(pack_to(alloc), ignore);
+    with_argument(command, names)
 }
 
 /// `pack DIR [--file F] [--target T] [--build-arg N=V].. [--image NAME=FILE].. [--output FILE]`.
@@ -204,8 +244,8 @@ fn pack_to<'a>(alloc: Global) -> Result<Command<'a>, AllocError>
     ensures app { IfOk result (λ command. app_of command ≡ pack_to) }
     ensures local { IfOk result (λ command. (out-Command command).has_globals ≡ false) }
 {
-    let command = pack_with(alloc)?;
-    command.arg(text_option(alloc, OUTPUT, "FILE", "Write the bundle to this file"))
+    let output = text_option(alloc, OUTPUT, "FILE", "Write the bundle to this file");
+    with_argument(pack_with(alloc), output)
 }
 
 /// `pack DIR [--file F] [--target T] [--build-arg N=V].. [--image NAME=FILE]..`.
@@ -213,10 +253,8 @@ fn pack_with<'a>(alloc: Global) -> Result<Command<'a>, AllocError>
     ensures app { IfOk result (λ command. app_of command ≡ pack_with) }
     ensures local { IfOk result (λ command. (out-Command command).has_globals ≡ false) }
 {
-    let command = pack_from(alloc)?;
-    command
-        .arg(argument_option(alloc))?
-        .arg(image_option(alloc))
+    let command = with_argument(pack_from(alloc), argument_option(alloc));
+    with_argument(command, image_option(alloc))
 }
 
 /// `pack DIR [--file F] [--target T]`.
@@ -224,17 +262,17 @@ fn pack_from<'a>(alloc: Global) -> Result<Command<'a>, AllocError>
     ensures app { IfOk result (λ command. app_of command ≡ pack_from) }
     ensures local { IfOk result (λ command. (out-Command command).has_globals ≡ false) }
 {
-    Command::new(alloc, "pack")
-        .about("Prints the bundle of a folder")
-        .after_help(PACK_HELP)
-        .arg(folder_argument(alloc))?
-        .arg(text_option(
-            alloc,
-            FILE,
-            "FILE",
-            "The Dockerfile, in place of DIR/Dockerfile",
-        ))?
-        .arg(text_option(alloc, TARGET, "STAGE", "The stage to build"))
+    let command = described(alloc, "pack", "Prints the bundle of a folder", PACK_HELP);
+    let file = text_option(
+        alloc,
+        FILE,
+        "FILE",
+        "The Dockerfile, in place of DIR/Dockerfile",
+    );
+    let target = text_option(alloc, TARGET, "STAGE", "The stage to build");
+    let command = with_argument(Ok(command), folder_argument(alloc));
+    let command = with_argument(command, file);
+    with_argument(command, target)
 }
 
 /// `why [--bundle FILE] PATH..`.
@@ -242,16 +280,16 @@ fn why_command<'a>(alloc: Global) -> Result<Command<'a>, AllocError>
     ensures app { IfOk result (λ command. app_of command ≡ why_command) }
     ensures local { IfOk result (λ command. (out-Command command).has_globals ≡ false) }
 {
-    Command::new(alloc, "why")
-        .about("Tells which paths of the context the ignore file keeps, and by which of its lines")
-        .after_help(WHY_HELP)
-        .arg(text_option(
-            alloc,
-            BUNDLE_FILE,
-            "FILE",
-            "The bundle, in place of standard input",
-        ))?
-        .arg(paths_argument(alloc))
+    let about = "Tells which paths of the context the ignore file keeps, and by which of its lines";
+    let command = described(alloc, "why", about, WHY_HELP);
+    let file = text_option(
+        alloc,
+        BUNDLE_FILE,
+        "FILE",
+        "The bundle, in place of standard input",
+    );
+    let command = with_argument(Ok(command), file);
+    with_argument(command, paths_argument(alloc))
 }
 
 /// `llb [--platform P] [--network N] --unique TEXT [--merge M] [--follow] [FILE]`.
@@ -259,8 +297,7 @@ fn llb_command<'a>(alloc: Global) -> Result<Command<'a>, AllocError>
     ensures app { IfOk result (λ command. app_of command ≡ llb_command) }
     ensures local { IfOk result (λ command. (out-Command command).has_globals ≡ false) }
 {
-    let command = llb_choices(alloc)?;
-    command.arg(bundle_argument(alloc))
+    with_argument(llb_choices(alloc), bundle_argument(alloc))
 }
 
 /// `llb [--platform P] [--network N] --unique TEXT [--merge M] [--follow]`.
@@ -268,19 +305,19 @@ fn llb_choices<'a>(alloc: Global) -> Result<Command<'a>, AllocError>
     ensures app { IfOk result (λ command. app_of command ≡ llb_choices) }
     ensures local { IfOk result (λ command. (out-Command command).has_globals ≡ false) }
 {
-    let command = llb_options(alloc)?;
-    command
-        .arg(text_option(
-            alloc,
-            MERGE,
-            "HOW",
-            "What a merge of trees is: native, or chain, copies that any BuildKit can make [default: native]",
-        ))?
-        .arg(flag(
-            alloc,
-            FOLLOW,
-            "Ask for only the paths of the context that the graph names",
-        ))
+    let merge = text_option(
+        alloc,
+        MERGE,
+        "HOW",
+        "What a merge of trees is: native, or chain, copies that any BuildKit can make [default: native]",
+    );
+    let follow = flag(
+        alloc,
+        FOLLOW,
+        "Ask for only the paths of the context that the graph names",
+    );
+    let command = with_argument(llb_options(alloc), merge);
+    with_argument(command, follow)
 }
 
 /// `llb [--platform P] [--network N] --unique TEXT`.
@@ -288,27 +325,29 @@ fn llb_options<'a>(alloc: Global) -> Result<Command<'a>, AllocError>
     ensures app { IfOk result (λ command. app_of command ≡ llb_options) }
     ensures local { IfOk result (λ command. (out-Command command).has_globals ≡ false) }
 {
-    Command::new(alloc, "llb")
-        .about("Writes the graph of a bundle as a definition of BuildKit's LLB")
-        .after_help(LLB_HELP)
-        .arg(text_option(
-            alloc,
-            PLATFORM,
-            "OS/ARCH",
-            "What images are taken of and commands run on [default: linux/amd64]",
-        ))?
-        .arg(text_option(
-            alloc,
-            NETWORK,
-            "NAME",
-            "The network of all commands: default, none or host [default: default]",
-        ))?
-        .arg(text_option(
-            alloc,
-            UNIQUE,
-            "TEXT",
-            "A text that no other build with other files has which runs at the same time",
-        ))
+    let about = "Writes the graph of a bundle as a definition of BuildKit's LLB";
+    let command = described(alloc, "llb", about, LLB_HELP);
+    let platform = text_option(
+        alloc,
+        PLATFORM,
+        "OS/ARCH",
+        "What images are taken of and commands run on [default: linux/amd64]",
+    );
+    let network = text_option(
+        alloc,
+        NETWORK,
+        "NAME",
+        "The network of all commands: default, none or host [default: default]",
+    );
+    let unique = text_option(
+        alloc,
+        UNIQUE,
+        "TEXT",
+        "A text that no other build with other files has which runs at the same time",
+    );
+    let command = with_argument(Ok(command), platform);
+    let command = with_argument(command, network);
+    with_argument(command, unique)
 }
 
 /// `config [FILE]`.
@@ -316,10 +355,9 @@ fn config_command<'a>(alloc: Global) -> Result<Command<'a>, AllocError>
     ensures app { IfOk result (λ command. app_of command ≡ config_command) }
     ensures local { IfOk result (λ command. (out-Command command).has_globals ≡ false) }
 {
-    Command::new(alloc, "config")
-        .about("Prints the configuration of the target of a bundle, without a build")
-        .after_help(CONFIG_HELP)
-        .arg(bundle_argument(alloc))
+    let about = "Prints the configuration of the target of a bundle, without a build";
+    let command = described(alloc, "config", about, CONFIG_HELP);
+    with_argument(Ok(command), bundle_argument(alloc))
 }
 
 /// `check [--json] [FILE]`.
@@ -327,11 +365,11 @@ fn check_command<'a>(alloc: Global) -> Result<Command<'a>, AllocError>
     ensures app { IfOk result (λ command. app_of command ≡ check_command) }
     ensures local { IfOk result (λ command. (out-Command command).has_globals ≡ false) }
 {
-    Command::new(alloc, "check")
-        .about("Prints all faults of a bundle, with what helps, and builds nothing")
-        .after_help(CHECK_HELP)
-        .arg(flag(alloc, JSON, "Print each fault as a line of JSON"))?
-        .arg(bundle_argument(alloc))
+    let about = "Prints all faults of a bundle, with what helps, and builds nothing";
+    let command = described(alloc, "check", about, CHECK_HELP);
+    let json = flag(alloc, JSON, "Print each fault as a line of JSON");
+    let command = with_argument(Ok(command), json);
+    with_argument(command, bundle_argument(alloc))
 }
 
 /// `explain [FILE]`.
@@ -339,10 +377,9 @@ fn explain_command<'a>(alloc: Global) -> Result<Command<'a>, AllocError>
     ensures app { IfOk result (λ command. app_of command ≡ explain_command) }
     ensures local { IfOk result (λ command. (out-Command command).has_globals ≡ false) }
 {
-    Command::new(alloc, "explain")
-        .about("Builds a bundle, and prints which instruction fails and why, or all its faults")
-        .after_help(EXPLAIN_HELP)
-        .arg(bundle_argument(alloc))
+    let about = "Builds a bundle, and prints which instruction fails and why, or all its faults";
+    let command = described(alloc, "explain", about, EXPLAIN_HELP);
+    with_argument(Ok(command), bundle_argument(alloc))
 }
 
 /// `FILE`.

@@ -18,16 +18,16 @@ use std::alloc::{AllocError, Global};
 pub(crate) fn llb_of(alloc: Global, matches: &ArgMatches) -> Result<Option<LlbOptions>, AllocError>
     ensures { IfOk result (λ options. options ≡ llb_of (rows_of (found_of matches.now))) }
 {
-    let Some(unique) = unique_of(alloc, matches)? else {
-        return Ok(None);
-    };
-    let Some(platform) = platform_of(alloc, matches)? else {
-        return Ok(None);
-    };
     let Some(network) = network_of(matches) else {
         return Ok(None);
     };
     let Some(merging) = merge_of(matches) else {
+        return Ok(None);
+    };
+    let Some(unique) = unique_of(alloc, matches)? else {
+        return Ok(None);
+    };
+    let Some(platform) = platform_of(alloc, matches)? else {
         return Ok(None);
     };
     Ok(Some(LlbOptions {

@@ -1,12 +1,12 @@
 ghost use Rattle.std.specs.Prelude.{◌≡◌, [], ◌∷◌, ℕ, IfOk, IfSome, IfNone, codes, map, option_map};
 ghost use Rattle.std.specs.List.{list_all};
 ghost use Rattle.clap.specs.Walk.{all_of};
-ghost use Rattle.clap.specs.Words.{FailsBy, first_of, found_of, rows_of, subcommand_of, subcommand_rows_of};
+ghost use Rattle.clap.specs.Words.{FailsBy, HasKind, first_of, found_of, rows_of, subcommand_of, subcommand_rows_of};
 ghost use Rattle.clap.specs.declared.error.kind.ErrorKind.TheVariants.{ValueValidation};
 ghost use Rattle.command.specs.CommandLine.{whole_command};
 ghost use Rattle.command.specs.Flags.{is_set};
-ghost use Rattle.command.specs.Tasks.{IsBuild, IsTaskOf, IsWorkers, bundle_file, check_of, faults_of, graph_of, halves_of, has_equals, pack_of, pairs_of, paths_of, why_of};
-ghost use Rattle.command.specs.declared.task.BuildOptions.{BuildOptions};
+ghost use Rattle.command.specs.PrivateTasks.{IsAnswer};
+ghost use Rattle.command.specs.Tasks.{IsTaskOf, IsWorkers, faults_of, halves_of, has_equals, pack_of, pairs_of, paths_of};
 ghost use Rattle.command.specs.declared.task.Task.{Task};
 
 use crate::commands::{
@@ -47,11 +47,25 @@ pub fn read_command<'a>(alloc: Global, words: &'a [&'a str]) -> Result<Task, Err
 {
     let command = whole_command(alloc)?;
     match command.try_get_matches_from(words) {
-        Ok(matches) => match task_of(alloc, &matches)? {
-            Some(task) => Ok(task),
-            None => refuse_arguments(alloc, &matches),
-        },
+        Ok(matches) => {
+            let task = asked_task(alloc, &matches);
+            drop(matches);
+            task
+        }
         Err(error) => Err(error),
+    }
+}
+
+/// The task that a parse asks for, or a refusal.
+fn asked_task(alloc: Global, matches: &ArgMatches) -> Result<Task, Error>
+    ensures task { IfOk result (IsTaskOf (subcommand_rows_of matches.now)) }
+    // An error is want of memory or, of matches that ask for no task, a fault of the words.
+    ensures memory { (task : Task) → IsTaskOf (subcommand_rows_of matches.now) task → FailsBy [] result }
+    ensures none { ((task : Task) → ¬ IsTaskOf (subcommand_rows_of matches.now) task) → FailsBy (ValueValidation ∷ []) result }
+{
+    match task_of(alloc, matches)? {
+        Some(task) => Ok(task),
+        None => refuse_arguments(alloc, matches),
     }
 }
 
@@ -59,10 +73,18 @@ pub fn read_command<'a>(alloc: Global, words: &'a [&'a str]) -> Result<Task, Err
 fn refuse_arguments(alloc: Global, matches: &ArgMatches) -> Result<Task, Error>
     ensures { FailsBy (ValueValidation ∷ []) result }
 {
-    let mut command = whole_command(alloc)?;
     let text = wrong_argument(alloc, matches)?;
-    let error = command.error(ErrorKind::ValueValidation, text.as_str())?;
-    Err(error)
+    Err(refusal(alloc, text.as_str())?)
+}
+
+/// An error that says this of the words.
+fn refusal(alloc: Global, text: &str) -> Result<Error, AllocError>
+    ensures { IfOk result (HasKind (ValueValidation ∷ [])) }
+{
+    let mut command = whole_command(alloc)?;
+    let error = command.error(ErrorKind::ValueValidation, text);
+    drop(command);
+    error
 }
 
 /// What is said of matches that ask for no task.
@@ -107,74 +129,102 @@ fn task_of(alloc: Global, matches: &ArgMatches) -> Result<Option<Task>, AllocErr
     ensures some { IfOk result (λ found. IfSome found (IsTaskOf (subcommand_rows_of matches.now))) }
     ensures none { IfOk result (λ found. IfNone found ((task : Task) → ¬ IsTaskOf (subcommand_rows_of matches.now) task)) }
 {
-    let Some((name, found)) = matches.subcommand() else {
-        return Ok(None);
-    };
-    if name == "build" {
-        let Some(options) = build_of(alloc, found)? else {
-            return Ok(None);
-        };
-        return Ok(Some(Task::Build(options)));
+    match matches.subcommand() {
+        Some((name, found)) => named_task(alloc, name, found),
+        None => Ok(None),
     }
-    if name == "graph" {
-        let options = graph_of(alloc, found)?;
-        return Ok(Some(Task::Graph(options)));
+}
+
+/// The task of a subcommand of this name that has these matches.
+fn named_task(alloc: Global, name: &str, matches: &ArgMatches) -> Result<Option<Task>, AllocError>
+    ensures { IfOk result (IsAnswer (name.now, rows_of (found_of matches.now))) }
+{
+    match name {
+        "build" => build_task(alloc, matches),
+        "graph" => graph_task(alloc, matches),
+        "pack" => pack_task(alloc, matches),
+        "why" => why_task(alloc, matches),
+        "llb" => llb_task(alloc, matches),
+        "config" => config_task(alloc, matches),
+        "check" => check_task(alloc, matches),
+        "explain" => explain_task(alloc, matches),
+        _ => Ok(None),
     }
-    if name == "pack" {
-        let Some(options) = pack_of(alloc, found)? else {
-            return Ok(None);
-        };
-        return Ok(Some(Task::Pack(options)));
-    }
-    if name == "why" {
-        let options = why_of(alloc, found)?;
-        return Ok(Some(Task::Why(options)));
-    }
-    if name == "llb" {
-        let Some(options) = llb_of(alloc, found)? else {
-            return Ok(None);
-        };
-        return Ok(Some(Task::Llb(options)));
-    }
-    if name == "config" {
-        let file = text_of(alloc, found, BUNDLE)?;
-        return Ok(Some(Task::Config(file)));
-    }
-    if name == "check" {
-        let options = check_of(alloc, found)?;
-        return Ok(Some(Task::Check(options)));
-    }
-    if name == "explain" {
-        let file = text_of(alloc, found, BUNDLE)?;
-        return Ok(Some(Task::Explain(file)));
-    }
-    Ok(None)
 }
 
 /// What the matches of `build` ask for; `None` where they hold no number of workers.
-fn build_of(alloc: Global, matches: &ArgMatches) -> Result<Option<BuildOptions>, AllocError>
-    ensures some { IfOk result (λ found. IfSome found (IsBuild (rows_of (found_of matches.now)))) }
-    ensures none { IfOk result (λ found. IfNone found ((options : BuildOptions)
-        → ¬ IsBuild (rows_of (found_of matches.now)) options)) }
+fn build_task(alloc: Global, matches: &ArgMatches) -> Result<Option<Task>, AllocError>
+    ensures { IfOk result (IsAnswer (codes "build", rows_of (found_of matches.now))) }
 {
     let Some(workers) = workers_of(matches) else {
         return Ok(None);
     };
     let file = text_of(alloc, matches, BUNDLE)?;
-    Ok(Some(BuildOptions { workers, file }))
+    Ok(Some(Task::Build(BuildOptions { workers, file })))
 }
 
 /// What the matches of `graph` ask for.
-fn graph_of(alloc: Global, matches: &ArgMatches) -> Result<GraphOptions, AllocError>
-    ensures { IfOk result (λ options. options ≡ graph_of (rows_of (found_of matches.now))) }
+fn graph_task(alloc: Global, matches: &ArgMatches) -> Result<Option<Task>, AllocError>
+    ensures { IfOk result (IsAnswer (codes "graph", rows_of (found_of matches.now))) }
 {
-    Ok(GraphOptions {
-        file: text_of(alloc, matches, BUNDLE)?,
-        dot: is_set(matches, DOT),
-    })
+    let file = text_of(alloc, matches, BUNDLE)?;
+    let dot = is_set(matches, DOT);
+    Ok(Some(Task::Graph(GraphOptions { file, dot })))
 }
 
 /// What the matches of `pack` ask for; `None` where they hold no folder, or a build argument or an image without a `=`.
+fn pack_task(alloc: Global, matches: &ArgMatches) -> Result<Option<Task>, AllocError>
+    ensures { IfOk result (IsAnswer (codes "pack", rows_of (found_of matches.now))) }
+{
+    match pack_of(alloc, matches)? {
+        Some(options) => Ok(Some(Task::Pack(options))),
+        None => Ok(None),
+    }
+}
+
+/// What the matches of `why` ask for.
+fn why_task(alloc: Global, matches: &ArgMatches) -> Result<Option<Task>, AllocError>
+    ensures { IfOk result (IsAnswer (codes "why", rows_of (found_of matches.now))) }
+{
+    let file = text_of(alloc, matches, BUNDLE_FILE)?;
+    let paths = paths_of(alloc, matches)?;
+    Ok(Some(Task::Why(WhyOptions { file, paths })))
+}
+
+/// What the matches of `llb` ask for; `None` where they lack what `llb` needs.
+fn llb_task(alloc: Global, matches: &ArgMatches) -> Result<Option<Task>, AllocError>
+    ensures { IfOk result (IsAnswer (codes "llb", rows_of (found_of matches.now))) }
+{
+    match llb_of(alloc, matches)? {
+        Some(options) => Ok(Some(Task::Llb(options))),
+        None => Ok(None),
+    }
+}
+
+/// What the matches of `config` ask for.
+fn config_task(alloc: Global, matches: &ArgMatches) -> Result<Option<Task>, AllocError>
+    ensures { IfOk result (IsAnswer (codes "config", rows_of (found_of matches.now))) }
+{
+    Ok(Some(Task::Config(text_of(alloc, matches, BUNDLE)?)))
+}
+
+/// What the matches of `check` ask for.
+fn check_task(alloc: Global, matches: &ArgMatches) -> Result<Option<Task>, AllocError>
+    ensures { IfOk result (IsAnswer (codes "check", rows_of (found_of matches.now))) }
+{
+    let file = text_of(alloc, matches, BUNDLE)?;
+    let json = is_set(matches, JSON);
+    Ok(Some(Task::Check(CheckOptions { file, json })))
+}
+
+/// What the matches of `explain` ask for.
+fn explain_task(alloc: Global, matches: &ArgMatches) -> Result<Option<Task>, AllocError>
+    ensures { IfOk result (IsAnswer (codes "explain", rows_of (found_of matches.now))) }
+{
+    Ok(Some(Task::Explain(text_of(alloc, matches, BUNDLE)?)))
+}
+
+/// The options of `pack` by its matches; `None` where they hold no folder, or a build argument or an image without a `=`.
 fn pack_of(alloc: Global, matches: &ArgMatches) -> Result<Option<PackOptions>, AllocError>
     ensures { IfOk result (λ options. options ≡ pack_of (rows_of (found_of matches.now))) }
 {
@@ -197,26 +247,6 @@ fn pack_of(alloc: Global, matches: &ArgMatches) -> Result<Option<PackOptions>, A
         apply_ignore: is_set(matches, APPLY_IGNORE),
         names: is_set(matches, NAMES),
     }))
-}
-
-/// What the matches of `why` ask for.
-fn why_of(alloc: Global, matches: &ArgMatches) -> Result<WhyOptions, AllocError>
-    ensures { IfOk result (λ options. options ≡ why_of (rows_of (found_of matches.now))) }
-{
-    let file = text_of(alloc, matches, BUNDLE_FILE)?;
-    let paths = paths_of(alloc, matches)?;
-    Ok(WhyOptions { file, paths })
-}
-
-/// What the matches of `check` ask for.
-fn check_of(alloc: Global, matches: &ArgMatches) -> Result<CheckOptions, AllocError>
-    ensures { IfOk result (λ options. options ≡ check_of (rows_of (found_of matches.now))) }
-{
-    let file = text_of(alloc, matches, BUNDLE)?;
-    Ok(CheckOptions {
-        file,
-        json: is_set(matches, JSON),
-    })
 }
 
 /// The text that the matches hold for an id.

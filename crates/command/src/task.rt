@@ -1,7 +1,7 @@
 use plain::{Items, Text};
 
 /// What the program is asked to do.
-#[derive(Debug, Drop)]
+#[derive(Drop)]
 pub enum Task {
     /// `build`: solve a bundle.
     Build(BuildOptions),
@@ -22,7 +22,6 @@ pub enum Task {
 }
 
 /// What `build` is asked for.
-#[derive(Debug)]
 pub struct BuildOptions {
     /// How many workers solve the bundle.
     pub workers: u8,
@@ -41,7 +40,6 @@ impl Drop for BuildOptions {
 }
 
 /// What `graph` is asked for.
-#[derive(Debug)]
 pub struct GraphOptions {
     /// The bundle's file, if one is named; else it is on standard input.
     pub file: Option<Text>,
@@ -57,7 +55,6 @@ impl Drop for GraphOptions {
 }
 
 /// What `pack` is asked for.
-#[derive(Debug)]
 pub struct PackOptions {
     /// The folder.
     pub folder: Text,
@@ -94,7 +91,6 @@ impl Drop for PackOptions {
 }
 
 /// What `why` is asked for.
-#[derive(Debug)]
 pub struct WhyOptions {
     /// The bundle's file, if one is named; else it is on standard input.
     pub file: Option<Text>,
@@ -110,7 +106,6 @@ impl Drop for WhyOptions {
 }
 
 /// What `check` is asked for.
-#[derive(Debug)]
 pub struct CheckOptions {
     /// The bundle's file, if one is named; else it is on standard input.
     pub file: Option<Text>,
@@ -126,7 +121,6 @@ impl Drop for CheckOptions {
 }
 
 /// What `llb` is asked for.
-#[derive(Debug)]
 pub struct LlbOptions {
     /// The bundle's file, if one is named; else it is on standard input.
     pub file: Option<Text>,
@@ -157,7 +151,6 @@ impl Drop for LlbOptions {
 }
 
 /// A platform by its names.
-#[derive(Debug)]
 pub struct PlatformName {
     pub os: Text,
     pub architecture: Text,
@@ -177,7 +170,7 @@ impl Drop for PlatformName {
 }
 
 /// A network, by the name that the words give it.
-#[derive(Clone, Copy, Debug, PartialEq, Eq)]
+#[derive(Clone, Copy)]
 pub enum NetworkName {
     /// `default`: what the engine chooses.
     Usual,
@@ -188,7 +181,7 @@ pub enum NetworkName {
 }
 
 /// What a merge of trees is, by the name that the words give it.
-#[derive(Clone, Copy, Debug, PartialEq, Eq)]
+#[derive(Clone, Copy)]
 pub enum MergeName {
     /// `native`: the engine's own merge.
     Native,
