@@ -1,6 +1,6 @@
 // `limits`: a name, ` | `, the words of a command line, ` | `, and what stands on standard input, as `repeating` has it. The answer is the name, and
 // on a line of its own each the exit status, what the program wrote on standard output and what on standard error, and how many bytes it
-// read. What is longer than a line of a table should be is told by its length and its SHA-256, which another program made of the text that is due.
+// read. What is longer than a line of a table should be is shown by its length and its SHA-256, which another program made of the text that is due.
 
 use crate::devices::{Devices, Ended, run};
 use crate::programs::{LONGEST, shown};

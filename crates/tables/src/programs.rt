@@ -35,7 +35,7 @@ pub fn answer<F: Files + AllocGlobal + Clone + Drop>(
     Ok(format!(in alloc; "{name}\n{text}")?)
 }
 
-/// What the program did, in three lines. An output of more bytes than these is told by its length and its digest.
+/// What the program did, in three lines. An output of more bytes than these is shown by its length and its digest.
 pub fn shown(alloc: Global, ended: &Ended, most: usize) -> Result<String, Memory> {
     let status = ended.status;
     let output = one_line(alloc, &ended.output, most)?;
