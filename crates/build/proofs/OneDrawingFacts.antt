@@ -13,11 +13,12 @@ use Rattle.llb.specs.declared.op.Op.{Op}
 use Rattle.llb.specs.declared.vertex.Vertex.{Vertex}
 use Rattle.plans.specs.Plan.{PlanValue, IsPlan}
 use Rattle.plans.specs.Value.{Out}
-use Rattle.rewrite.specs.Flat.{flat_vertex, flat_vertices, IsFlattened}
+use Rattle.reached.proofs.FlatFacts.{flat_there, flat_back, flat_after}
+use Rattle.reached.proofs.SpellingFacts.{there_is}
+use Rattle.reached.specs.Spelled.{flat_vertex, flat_vertices}
+use Rattle.rewrite.specs.Flat.{IsFlattened}
 use Rattle.rewrite.specs.Pruned.{Names, AreNames, IsPruned}
-use Rattle.rewrite.proofs.FlatFacts.{flat_there, flat_back, flat_after}
 use Rattle.rewrite.proofs.FlattenedFacts.{flat_needs}
-use Rattle.rewrite.proofs.JoinFacts.{there_is}
 use Rattle.lowering.specs.Meaning.{Rows}
 use Rattle.lowering.specs.Means.{StandsFor, lines_at}
 use Rattle.lowering.specs.Vertices.{Places, HasPlace}

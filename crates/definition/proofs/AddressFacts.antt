@@ -5,7 +5,7 @@ use Rattle.std.proofs.lemmas.List.{get_or_append_left, get_or-append-add}
 use Rattle.llb.specs.declared.vertex.Vertex.{Vertex}
 use Rattle.llb.specs.Graph.{IsAfterInputs}
 use Rattle.operations.specs.Texts.{op_data}
-use Rattle.definition.specs.Address.{address_of, addresses_at, vertex_address, addresses_after, addresses_of}
+use Rattle.addresses.specs.Address.{address_of, addresses_at, vertex_address, addresses_after, addresses_of}
 
 -- two lists of addresses agree below n
 abbrev pub Agree : List (List ℕ) → List (List ℕ) → ℕ → Type 0

@@ -6,11 +6,10 @@ use Rattle.std.proofs.lemmas.Option.{slice_get-get_or, slice_get_within}
 use Rattle.std.proofs.lemmas.List.{get_or-append-add, length_push}
 use Rattle.llb.specs.declared.vertex.Vertex.{Vertex}
 use Rattle.llb.specs.Graph.{AreVertices}
-use Rattle.definition.specs.Address.{addresses_of, addresses_after, vertex_address, clash_after, place_of}
-use Rattle.definition.specs.PrivateAddresses.{AreOnce}
+use Rattle.addresses.specs.Address.{addresses_of, addresses_after, vertex_address, clash_after, place_of, AreOnce}
 use Rattle.definition.specs.Definition.{AreAlike}
 use Rattle.definition.proofs.AddressFacts.{addresses_after-kept, address_of-is, length-addresses_after}
-use Rattle.definition.proofs.PlaceFacts.{none_once, once-after}
+use Rattle.addresses.proofs.PlaceFacts.{none_once, once-after}
 use Rattle.definition.proofs.ReadingFacts.{at-place, addresses-count}
 use Rattle.definition.proofs.ShapeFacts.{place-below}
 

@@ -1,10 +1,8 @@
 mod AddressFacts
 mod ClashLaws
-mod FormFacts
 mod KeyFacts
 mod LinesFacts
 mod OneReadingLaws
-mod PlaceFacts
 mod ReadingFacts
 mod RoundTrip
 mod ShapeFacts

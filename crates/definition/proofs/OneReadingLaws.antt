@@ -10,7 +10,7 @@ use Rattle.plain.specs.declared.fault.Fault.TheVariants.{Because, Memory}
 use Rattle.definition.specs.declared.fault.Defect.{Defect}
 use Rattle.definition.specs.declared.fault.Defect.TheVariants.{Malformed, Unknown, Repeated, Clash}
 use Rattle.operations.specs.declared.spelled.Spelled.{Spelled}
-use Rattle.definition.specs.Address.{addresses_of, place_of}
+use Rattle.addresses.specs.Address.{addresses_of, place_of}
 use Rattle.operations.specs.Spelled.{spelled_in}
 use Rattle.definition.specs.Reading.{Operations, IsReason, IsConclusive, named_in, address_place, Spells, IsNext, IsReadAfter, grown, no_graph, IsEnd, parts_of, IsFault, IsReadAs}
 

@@ -17,13 +17,12 @@ use Rattle.definition.specs.declared.fault.Defect.{Defect}
 use Rattle.definition.specs.declared.fault.Defect.TheVariants.{Malformed, Unknown, Repeated, Clash}
 use Rattle.operations.specs.declared.spelled.Spelled.{Spelled}
 use Rattle.operations.specs.Texts.{op_data}
-use Rattle.definition.specs.Address.{address_of, addresses_at, addresses_of, vertex_address, place_of}
-use Rattle.definition.specs.PrivateAddresses.{AreOnce}
+use Rattle.addresses.specs.Address.{address_of, addresses_at, addresses_of, vertex_address, place_of, places_of, AreOnce}
 use Rattle.definition.proofs.AddressFacts.{address_of-is, length-addresses_after, addresses_after-append}
 use Rattle.strict.specs.Strict.{with_first}
-use Rattle.definition.specs.Reading.{Operations, places_of, named_in, address_place, IsNext, IsReadAfter, grown, no_graph}
+use Rattle.definition.specs.Reading.{Operations, named_in, address_place, IsNext, IsReadAfter, grown, no_graph}
 use Rattle.definition.specs.PrivateReading.{IsPlaced, IsAllRead, IsOneRead}
-use Rattle.definition.proofs.PlaceFacts.{same_bytes}
+use Rattle.addresses.proofs.PlaceFacts.{same_bytes}
 
 none_some : {A : Type 0} (x : A) → None ≡ Some x → ⊥
 none_some x e = true≢false (sym (ap is_some e))

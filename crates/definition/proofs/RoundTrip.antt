@@ -5,7 +5,7 @@ use Rattle.std.specs.Option.{option_map, option_and_then}
 use Rattle.std.specs.List.{list_any, list_all, All}
 use Rattle.std.proofs.lemmas.Option.{slice_get-get_or, slice_get_within}
 use Rattle.std.proofs.lemmas.Bool.{le-leb}
-use Rattle.std.proofs.lemmas.List.{length_push, take_more, take_all, length-map}
+use Rattle.std.proofs.lemmas.List.{length_push, take_more, length-map}
 use Rattle.serde_json.specs.Data.{Data, depth, items_depth}
 use Rattle.serde_json.specs.View.{items_of}
 use Rattle.serde_json.specs.Read.{read}
@@ -23,14 +23,14 @@ use Rattle.operations.specs.Proper.{IsProper}
 use Rattle.operations.proofs.OperationLaws.{op-back}
 use Rattle.operations.proofs.DepthFacts.{op-depth}
 use Rattle.strict.specs.Strict.{list_in}
-use Rattle.definition.specs.Address.{addresses_at, addresses_of, addresses_after, vertex_data, vertex_address, data_after, clash_after, place_of}
-use Rattle.definition.specs.PrivateAddresses.{AreOnce}
+use Rattle.addresses.specs.Address.{addresses_at, addresses_of, addresses_after, vertex_data, vertex_address, data_after, clash_after, place_of, places_of, AreOnce}
 use Rattle.definition.specs.Definition.{end_data, end_of, whole_data, definition_data, first_definition_data, AreProper}
 use Rattle.definition.specs.Lines.{lined, lined_all, operation_in}
-use Rattle.definition.specs.Reading.{Operations, places_of, address_place, IsNext, IsReadAfter, grown, no_graph, graph_of, end_in, is_end, list_of, parted_few, parts_in, parts_of, IsReadAs}
-use Rattle.definition.proofs.FormFacts.{address-is}
+use Rattle.definition.specs.PrivateWriting.{IsTextOf}
+use Rattle.definition.specs.Reading.{Operations, address_place, IsNext, IsReadAfter, grown, no_graph, graph_of, end_in, is_end, list_of, parted_few, parts_in, parts_of, IsReadAs}
+use Rattle.addresses.proofs.FormFacts.{address-is}
 use Rattle.definition.proofs.LinesFacts.{operation-back, lined-depth, lined_all-length}
-use Rattle.definition.proofs.PlaceFacts.{once-push, none_once, no_clash, once-after}
+use Rattle.addresses.proofs.PlaceFacts.{once-push, none_once, no_clash, once-after}
 use Rattle.definition.proofs.ReadingFacts.{addresses-with, addresses-count}
 use Rattle.definition.proofs.ShapeFacts.{list-items, parted-last}
 
@@ -291,9 +291,10 @@ pub proper-more : (vs : List Vertex) (n : ℕ) (item : Vertex) → n < length vs
 proper-more vs n item inside is all here =
     subst AreProper (sym (take_more vs n item inside ∙ (λ i. take n vs ++ sym is i ∷ []))) (proper-push (take n vs) item all here)
 
--- a text that was written, by what the code's calls tell
-pub text-back : (text text' : List ℕ) (graph : GraphValue) (n wanted : ℕ) (whole : Data) → IsGraph graph → AreProper (take n graph.vertices) → length graph.vertices ≤ n → wanted < length graph.vertices → clash_after [] graph.vertices ≡ None → whole ≡ definition_data graph wanted → (depth whole ≤ 127 → read text ≡ Some whole) → text' ≡ text
-    → IsReadAs text' (Ok (graph, wanted))
-text-back text text' graph n wanted whole are proper past inside none is reads same =
-    let low : depth whole ≤ 127 = subst (λ (d : Data). depth d ≤ 127) (sym is) (whole-depth graph wanted) in
-    round-trip text' graph wanted are (subst AreProper (take_all n graph.vertices past) proper) inside none (ap read same ∙ reads low ∙ ap Some is)
+-- a text that was written is read as what it was written of
+pub text-back : (graph : GraphValue) (wanted : ℕ) (ds : List Data) (text : List ℕ) → IsGraph graph → wanted < length graph.vertices
+    → (clash_after [] graph.vertices ≡ None) × ((ds ≡ lined_all graph.places (data_after [] graph.vertices) ++ end_of graph.vertices wanted ∷ []) × AreProper graph.vertices)
+    → IsTextOf (whole_data 2 ds) text → IsReadAs text (Ok (graph, wanted))
+text-back graph wanted ds text are inside put is =
+    let low : depth (whole_data 2 ds) ≤ 127 = subst (λ (xs : List Data). depth (whole_data 2 xs) ≤ 127) (sym put.1.0) (whole-depth graph wanted) in
+    round-trip text graph wanted are put.1.1 inside put.0 (is.back low ∙ ap (λ xs. Some (whole_data 2 xs)) put.1.0)

@@ -25,11 +25,11 @@ use Rattle.definition.specs.declared.fault.Defect.{Defect}
 use Rattle.definition.specs.declared.fault.Defect.TheVariants.{Malformed, Unknown, Repeated, Clash}
 use Rattle.llb.specs.WellFormed.{is_well_formed, is_well_formed_on}
 use Rattle.operations.specs.declared.spelled.Spelled.{Spelled}
-use Rattle.definition.specs.Address.{addresses_of, place_of}
+use Rattle.addresses.specs.Address.{addresses_of, place_of, places_of}
 use Rattle.strict.specs.Strict.{with_first, strict}
 use Rattle.operations.specs.Spelled.{spelled_in, op_of, inputs_in}
 use Rattle.definition.specs.Lines.{operation_in}
-use Rattle.definition.specs.Reading.{Operations, parted, parted_few, parts_in, version_in, is_end, as_list, few_of, list_of, places_of, Spells, parts_of, no_graph, IsReadAfter, IsEnd, IsReadAs}
+use Rattle.definition.specs.Reading.{Operations, parted, parted_few, parts_in, version_in, is_end, as_list, few_of, list_of, Spells, parts_of, no_graph, IsReadAfter, IsEnd, IsReadAs}
 use Rattle.definition.proofs.KeyFacts.{any-map}
 use Rattle.definition.proofs.ReadingFacts.{addresses-count}
 

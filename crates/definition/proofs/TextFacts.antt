@@ -1,15 +1,20 @@
 -- A definition's data holds no float, so that its compact text is the one that is written; and what a definition's writing comes to.
-use Rattle.std.specs.Prelude.{◌≡◌, ℕ, Bool, false, List, [], ◌∷◌, ◌++◌, length, drop, Some, None, Option, is_some, true, cond, ◌+◌, ◌<◌, ◌≤◌, slice_index_or, get_or}
+use Rattle.std.specs.Prelude.{◌≡◌, ℕ, false, List, [], ◌∷◌, ◌++◌, length, take, drop, Some, None, Ok, Err, is_some, true, cond, ◌+◌, ◌<◌, ◌≤◌, slice_index_or, get_or}
 use Rattle.std.proofs.Common.{refl, ap, sym, ◌∙◌, subst, append_assoc, append-nil}
-use Rattle.std.proofs.lemmas.List.{drop_more, drop_all, length_push}
+use Rattle.std.proofs.lemmas.List.{drop_more, drop_all, take_all, length_push}
 use Rattle.serde_json.specs.Data.{Data}
 use Rattle.serde_json.specs.View.{items_of}
 use Rattle.serde_json.specs.Written.{has_float, items_have_float, compact_text}
 use Rattle.llb.specs.declared.vertex.Vertex.{Vertex}
 use Rattle.llb.specs.Graph.{GraphValue}
 use Rattle.operations.proofs.PlainFacts.{op_plain}
-use Rattle.definition.specs.Address.{address_of, vertex_data, vertex_address, place_of, data_after, addresses_after, addresses_of, clash_after}
-use Rattle.definition.specs.Definition.{end_data, whole_data, end_of, definition_data, definition_text}
+use Rattle.plain.specs.declared.fault.Fault.{Fault}
+use Rattle.plain.specs.declared.fault.Fault.TheVariants.{Because, Memory}
+use Rattle.addresses.specs.Address.{vertex_data, vertex_address, place_of, data_after, addresses_after, addresses_of, clash_after}
+use Rattle.definition.specs.declared.fault.Defect.{Defect}
+use Rattle.definition.specs.declared.fault.Defect.TheVariants.{Malformed, Unknown, Repeated, Clash}
+use Rattle.definition.specs.Definition.{AreProper, IsWritten, end_data, whole_data, end_of, definition_data}
+use Rattle.definition.specs.PrivateWriting.{IsAdded, IsNamed, AreAllPut, IsClash, IsTextOf}
 use Rattle.definition.specs.Lines.{lined, lined_all}
 use Rattle.definition.proofs.LinesFacts.{lined-plain, lined_all-next}
 
@@ -57,49 +62,65 @@ writing-clash known ds rest rest' all v left places so_far next found =
 pub rest-at : (all : List Vertex) (n : ℕ) (item : Vertex) → n < length all → item ≡ get_or all n item → drop n all ≡ item ∷ drop (n + 1) all
 rest-at all n item inside is = drop_more all n item inside ∙ (λ i. sym is i ∷ drop (n + 1) all)
 
--- the loop's step, by what its calls tell
-pub writing-next : (all : List Vertex) (places : List (List ℕ)) (n : ℕ) (item : Vertex) (known new : List (List ℕ)) (ds ds' : List Data) (d beside : Data) (lines address : List ℕ) (place : Option ℕ) (found : Bool)
-    → IsWriting known ds (drop n all) all (drop n places) places → length known ≡ n → n < length all → item ≡ get_or all n item
-    → d ≡ vertex_data known item → address ≡ address_of d → place ≡ place_of known address → found ≡ is_some place → found ≡ false → lines ≡ slice_index_or places n [] → beside ≡ lined lines d
-    → new ≡ known ++ address ∷ [] → ds' ≡ ds ++ beside ∷ [] → IsWriting new ds' (drop (n + 1) all) all (drop (n + 1) places) places × (length new ≡ n + 1)
-writing-next all places n item known new ds ds' d beside lines address place found so_far count inside is data-is address-is place-is found-is held lines-is beside-is new-is ds-is =
-    let same : address ≡ vertex_address known item = address-is ∙ ap address_of data-is in
-    let fresh : is_some (place_of known (vertex_address known item)) ≡ false = (λ i. is_some (place_of known (sym same i))) ∙ ap is_some (sym place-is) ∙ sym found-is ∙ held in
-    let next = writing-step known ds (drop n all) (drop (n + 1) all) all item places n so_far (rest-at all n item inside is) fresh in
-    let new_is : new ≡ known ++ vertex_address known item ∷ [] = new-is ∙ (λ i. known ++ same i ∷ []) in
-    let ds_is : ds' ≡ ds ++ lined (slice_index_or places n []) (vertex_data known item) ∷ [] = ds-is ∙ (λ i. ds ++ (beside-is ∙ (λ j. lined (lines-is j) (data-is j))) i ∷ []) in (
-      subst (λ (k : List (List ℕ)). IsWriting k ds' (drop (n + 1) all) all (drop (n + 1) places) places) (sym new_is)
-          (subst (λ (k : List Data). IsWriting (known ++ vertex_address known item ∷ []) k (drop (n + 1) all) all (drop (n + 1) places) places) (sym ds_is) next),
-      ap length new-is ∙ length_push known address ∙ ap (λ k. k + 1) count,
+-- what is there once one vertex more is put
+pub writing-put : (all : List Vertex) (places : List (List ℕ)) (n : ℕ) (item : Vertex) (lines : List ℕ) (known new : List (List ℕ)) (ds put : List Data)
+    → IsWriting known ds (drop n all) all (drop n places) places → length known ≡ n → n < length all → item ≡ get_or all n item → lines ≡ slice_index_or places n []
+    → IsAdded (vertex_data known item) known new → put ≡ ds ++ lined lines (vertex_data known item) ∷ []
+    → IsWriting new put (drop (n + 1) all) all (drop (n + 1) places) places × (length new ≡ n + 1)
+writing-put all places n item lines known new ds put so_far count inside is lines-is added put-is =
+    let next = writing-step known ds (drop n all) (drop (n + 1) all) all item places n so_far (rest-at all n item inside is) (ap is_some added.0) in
+    let same : put ≡ ds ++ lined (slice_index_or places n []) (vertex_data known item) ∷ [] = put-is ∙ (λ i. ds ++ lined (lines-is i) (vertex_data known item) ∷ []) in (
+      subst (λ (k : List (List ℕ)). IsWriting k put (drop (n + 1) all) all (drop (n + 1) places) places) (sym added.1)
+          (subst (λ (k : List Data). IsWriting (known ++ vertex_address known item ∷ []) k (drop (n + 1) all) all (drop (n + 1) places) places) (sym same) next),
+      ap length added.1 ∙ length_push known (vertex_address known item) ∙ ap (λ k. k + 1) count,
     )
 
--- a clash, by what the loop's calls tell
-pub clash-at : (all : List Vertex) (places : List (List ℕ)) (n : ℕ) (item : Vertex) (known : List (List ℕ)) (ds : List Data) (d : Data) (address : List ℕ) (place : Option ℕ) (found : Bool) → IsWriting known ds (drop n all) all (drop n places) places → length known ≡ n → n < length all → item ≡ get_or all n item
-    → d ≡ vertex_data known item → address ≡ address_of d → place ≡ place_of known address → found ≡ is_some place → found ≡ true → clash_after [] all ≡ Some n
-clash-at all places n item known ds d address place found so_far count inside is data-is address-is place-is found-is held =
-    let same : address ≡ vertex_address known item = address-is ∙ ap address_of data-is in
-    let there : is_some (place_of known (vertex_address known item)) ≡ true = (λ i. is_some (place_of known (sym same i))) ∙ ap is_some (sym place-is) ∙ sym found-is ∙ held in
-    writing-clash known ds (drop n all) (drop (n + 1) all) all item (drop n places) places so_far (rest-at all n item inside is) there ∙ ap Some count
+-- the fault of one vertex is the graph's
+pub fault-put : (graph : GraphValue) (n : ℕ) (item : Vertex) (known new : List (List ℕ)) (ds : List Data) (fault : Fault Defect)
+    → IsWriting known ds (drop n graph.vertices) graph.vertices (drop n graph.places) graph.places → n < length graph.vertices → item ≡ get_or graph.vertices n item
+    → IsNamed (vertex_data known item) known new (Err fault) → IsClash graph fault
+fault-put graph n item known new ds (Because (Clash place)) so_far inside is named =
+    writing-clash known ds (drop n graph.vertices) (drop (n + 1) graph.vertices) graph.vertices item (drop n graph.places) graph.places so_far
+    (rest-at graph.vertices n item inside is) (ap is_some named.1.1) ∙ ap Some (sym named.0)
+fault-put graph n item known new ds (Because (Malformed place)) so_far inside is none = none
+fault-put graph n item known new ds (Because (Unknown place)) so_far inside is none = none
+fault-put graph n item known new ds (Because (Repeated place)) so_far inside is none = none
+fault-put graph n item known new ds Memory so_far inside is said = said
 
--- the loop's end: what was made is the definition
-module _ (graph : GraphValue) (n wanted : ℕ) (known : List (List ℕ)) (ds ds' : List Data) (last whole : Data) (name : List ℕ) (so_far : IsWriting known ds (drop n graph.vertices) graph.vertices (drop n graph.places) graph.places) (past : length graph.vertices ≤ n)
-    (name-is : name ≡ slice_index_or known wanted []) (last-is : last ≡ end_data name) (ds-is : ds' ≡ ds ++ last ∷ []) (whole-is : whole ≡ whole_data 2 ds') where
-  none : drop n graph.vertices ≡ []
-  none = drop_all n graph.vertices past
+-- past the last vertex all are put
+pub all-put : (graph : GraphValue) (n : ℕ) (known : List (List ℕ)) (ds : List Data)
+    → IsWriting known ds (drop n graph.vertices) graph.vertices (drop n graph.places) graph.places → length graph.vertices ≤ n → AreProper (take n graph.vertices)
+    → AreAllPut graph known ds
+all-put graph n known ds so_far past proper = record {
+  clear = sym so_far.clash ∙ (λ i. clash_after known (none i));
+  addresses = (λ i. addresses_after known (sym none i)) ∙ so_far.addresses;
+  operations = sym (append-nil ds) ∙ (λ i. ds ++ lined_all (drop n graph.places) (data_after known (sym none i))) ∙ so_far.operations;
+  proper = subst AreProper (take_all n graph.vertices past) proper;
+}
+  where
+    none : drop n graph.vertices ≡ []
+    none = drop_all n graph.vertices past
 
-  operations : ds ≡ lined_all graph.places (data_after [] graph.vertices)
-  operations = sym (append-nil ds) ∙ (λ i. ds ++ lined_all (drop n graph.places) (data_after known (sym none i))) ∙ so_far.operations
+-- with the end it is the definition
+pub whole-put : (graph : GraphValue) (wanted : ℕ) (known : List (List ℕ)) (ds put : List Data) (last : Data) (name : List ℕ) → AreAllPut graph known ds
+    → name ≡ slice_index_or known wanted [] → last ≡ end_data name → put ≡ ds ++ last ∷ []
+    → (clash_after [] graph.vertices ≡ None) × ((put ≡ lined_all graph.places (data_after [] graph.vertices) ++ end_of graph.vertices wanted ∷ []) × AreProper graph.vertices)
+whole-put graph wanted known ds put last name all name-is last-is put-is = (
+  all.clear,
+  (put-is ∙ (λ i. all.operations i ++ (last-is ∙ ap end_data (name-is ∙ (λ j. slice_index_or (all.addresses j) wanted []))) i ∷ []), all.proper),
+)
 
-  addresses : known ≡ addresses_of graph.vertices
-  addresses = (λ i. addresses_after known (sym none i)) ∙ so_far.addresses
+-- what is written is the definition's text
+pub text-written : (graph : GraphValue) (wanted : ℕ) (ds : List Data) (text : List ℕ)
+    → (clash_after [] graph.vertices ≡ None) × ((ds ≡ lined_all graph.places (data_after [] graph.vertices) ++ end_of graph.vertices wanted ∷ []) × AreProper graph.vertices)
+    → IsTextOf (whole_data 2 ds) text → IsWritten graph wanted (Ok text)
+text-written graph wanted ds text put is =
+    let plain : has_float (definition_data graph wanted) ≡ false = whole_plain _ (data_plain graph.places [] graph.vertices (end_of graph.vertices wanted) (end_plain _)) in
+    (put.0, is.compact (ap (λ xs. has_float (whole_data 2 xs)) put.1.0 ∙ plain) ∙ ap (λ xs. compact_text (whole_data 2 xs)) put.1.0)
 
-  pub writing-data : whole ≡ definition_data graph wanted
-  writing-data = whole-is ∙ ap (whole_data 2) (ds-is ∙ (λ i. operations i ++ (last-is ∙ ap end_data (name-is ∙ (λ j. slice_index_or (addresses j) wanted []))) i ∷ []))
-
-  pub writing-clear : clash_after [] graph.vertices ≡ None
-  writing-clear = sym so_far.clash ∙ (λ i. clash_after known (none i))
-
-  pub writing-end : (text text' : List ℕ) → (has_float whole ≡ false → text ≡ compact_text whole) → text' ≡ text → (clash_after [] graph.vertices ≡ None) × (text' ≡ definition_text graph wanted)
-  writing-end text text' written text-is =
-      let plain : has_float (definition_data graph wanted) ≡ false = whole_plain _ (data_plain graph.places [] graph.vertices (end_of graph.vertices wanted) (end_plain _)) in
-      (writing-clear, text-is ∙ written (ap has_float writing-data ∙ plain) ∙ ap compact_text writing-data)
+pub clash-written : (graph : GraphValue) (wanted : ℕ) (fault : Fault Defect) → IsClash graph fault → IsWritten graph wanted (Err fault)
+clash-written graph wanted (Because (Clash place)) is = is
+clash-written graph wanted (Because (Malformed place)) none = none
+clash-written graph wanted (Because (Unknown place)) none = none
+clash-written graph wanted (Because (Repeated place)) none = none
+clash-written graph wanted Memory said = said

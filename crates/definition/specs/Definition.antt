@@ -13,7 +13,7 @@ use Rattle.plain.specs.declared.fault.Fault.TheVariants.{Because, Memory}
 use Rattle.definition.specs.declared.fault.Defect.{Defect}
 use Rattle.definition.specs.declared.fault.Defect.TheVariants.{Malformed, Unknown, Repeated, Clash}
 use Rattle.strict.specs.Written.{list_data}
-use Rattle.definition.specs.Address.{addresses_of, data_after, clash_after}
+use Rattle.addresses.specs.Address.{addresses_of, data_after, clash_after}
 use Rattle.definition.specs.Lines.{lined_all}
 
 -- the end of a definition, which points to the result

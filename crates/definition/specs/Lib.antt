@@ -1,6 +1,5 @@
-pub mod Address
 pub mod Definition
 pub mod Lines
-pub mod PrivateAddresses
 pub mod PrivateReading
+pub mod PrivateWriting
 pub mod Reading

@@ -8,7 +8,7 @@ use Rattle.plain.specs.declared.fault.Fault.TheVariants.{Because, Memory}
 use Rattle.definition.specs.declared.fault.Defect.{Defect}
 use Rattle.definition.specs.declared.fault.Defect.TheVariants.{Malformed, Unknown, Repeated, Clash}
 use Rattle.operations.specs.declared.spelled.Spelled.{Spelled}
-use Rattle.definition.specs.Address.{addresses_of}
+use Rattle.addresses.specs.Address.{addresses_of}
 use Rattle.definition.specs.Reading.{Operations, named_in, address_place, IsNext, IsReadAfter, grown, no_graph}
 
 -- what the next operation tells, of what was spelled: its vertex, which is new and has a new address, or its first fault, with its place

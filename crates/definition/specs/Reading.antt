@@ -14,15 +14,10 @@ use Rattle.plain.specs.Limits.{most_vertices}
 use Rattle.definition.specs.declared.fault.Defect.{Defect}
 use Rattle.definition.specs.declared.fault.Defect.TheVariants.{Malformed, Unknown, Repeated, Clash}
 use Rattle.operations.specs.declared.spelled.Spelled.{Spelled}
-use Rattle.definition.specs.Address.{addresses_of, vertex_address, place_of}
+use Rattle.addresses.specs.Address.{addresses_of, vertex_address, place_of, places_of}
 use Rattle.definition.specs.Lines.{operation_in}
-use Rattle.strict.specs.Strict.{strict, with_first}
+use Rattle.strict.specs.Strict.{strict}
 use Rattle.operations.specs.Spelled.{spelled_in, inputs_in}
-
--- the places of some addresses, where each has one
-abbrev pub places_of : List (List ℕ) → List (List ℕ) → Option (List ℕ)
-places_of known [] = Some []
-places_of known (address ∷ addresses) = with_first (place_of known address) (places_of known addresses)
 
 -- the vertex that was spelled, in a graph whose vertices have these addresses; none where an input names none of them
 abbrev pub named_in : List (List ℕ) → Spelled → Option Vertex

@@ -5,13 +5,12 @@ ghost use Rattle.llb.specs.Places.{AreLines};
 ghost use Rattle.plain.specs.Limits.{most_vertices};
 ghost use Rattle.llb.specs.WellFormed.{is_well_formed};
 ghost use Rattle.operations.specs.Texts.{op_data};
-ghost use Rattle.definition.specs.Address.{address_of, addresses_of, vertex_address, place_of};
+ghost use Rattle.addresses.specs.Address.{address_of, addresses_of, vertex_address, place_of};
 ghost use Rattle.definition.specs.Reading.{no_graph, grown, address_place, IsNext};
 ghost use Rattle.definition.specs.PrivateReading.{told_next, IsPlaced};
 
-use crate::address::address_of;
-use crate::addresses::Addresses;
 use crate::{DefFault, Defect};
+use addresses::{Addresses, address_of};
 use llb::{Graph, Op, Vertex, VertexId};
 use operations::{Spelled, op_value, read_spelled};
 use plain::{Exact, Fault, Memory, Text};
@@ -30,7 +29,7 @@ impl Model for Known {
     ghost use Rattle.std.specs.Prelude.{◌≡◌};
     ghost use Rattle.llb.specs.Graph.{GraphValue};
     ghost use Rattle.definition.specs.Reading.{graph_code};
-    ghost use Rattle.definition.specs.Address.{addresses_of};
+    ghost use Rattle.addresses.specs.Address.{addresses_of};
 
     ghost Value = { GraphValue };
 

@@ -5,7 +5,7 @@ ghost use Rattle.serde_json.specs.Read.{read};
 ghost use Rattle.plain.specs.declared.fault.Fault.{Fault};
 ghost use Rattle.llb.specs.Graph.{GraphValue, IsGraph, AreVertices};
 ghost use Rattle.llb.specs.declared.vertex.Vertex.{Vertex};
-ghost use Rattle.definition.specs.Address.{addresses_of, vertex_address, clash_after};
+ghost use Rattle.addresses.specs.Address.{addresses_of, vertex_address, clash_after};
 ghost use Rattle.definition.specs.Definition.{AreAlike, AreProper, definition_data, first_definition_data};
 ghost use Rattle.definition.specs.Reading.{IsReadAs, IsConclusive, graph_of};
 ghost use Rattle.definition.specs.declared.fault.Defect.{Defect};

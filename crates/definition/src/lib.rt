@@ -13,8 +13,6 @@
 // ```
 #![tactic(auto)]
 
-mod address;
-mod addresses;
 mod fault;
 mod known;
 pub mod laws;

@@ -201,13 +201,25 @@ fn read_operation(
     requires { length known.vertices < most_vertices }
     ensures { IsOneRead known (operation_in says_lines (view value)) result }
 {
-    let (operation, lines) = operation_in(alloc, says_lines, value)?;
-    match known.next(alloc, &operation) {
+    let (operation, lines) = match operation_in(alloc, says_lines, value) {
+        Ok(both) => both,
+        Err(_) => {
+            // Let go by name, here and below: at each end of the function the proof would walk all that a value has.
+            drop(known);
+            return Err(Fault::Memory);
+        }
+    };
+    let next = known.next(alloc, &operation);
+    drop(operation);
+    match next {
         Ok((vertex, address)) => {
             let more = known.with(alloc, vertex, address, lines.as_slice())?;
             Ok(more)
         }
-        Err(fault) => Err(fault),
+        Err(fault) => {
+            drop(known);
+            Err(fault)
+        }
     }
 }
 

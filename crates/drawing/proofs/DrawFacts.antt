@@ -10,7 +10,7 @@ use Rattle.plans.specs.Plan.{PlanValue, IsPlan, problem_of, vertex_value, NeedsA
 use Rattle.plans.specs.Value.{Out, value_of}
 use Rattle.rewrite.specs.Flat.{MergesAreFlat}
 use Rattle.rewrite.specs.Pruned.{KeepsMeaning}
-use Rattle.definition.specs.Address.{addresses_of, clash_after}
+use Rattle.addresses.specs.Address.{addresses_of, clash_after}
 use Rattle.definition.specs.Definition.{AreAlike, IsWritten}
 use Rattle.definition.specs.Reading.{IsReadAs}
 use Rattle.definition.specs.declared.fault.Defect.{Defect}

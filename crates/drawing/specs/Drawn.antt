@@ -10,7 +10,7 @@ use Rattle.plans.specs.Plan.{PlanValue}
 use Rattle.plans.specs.Value.{Out, value_of}
 use Rattle.rewrite.specs.Flat.{IsFlattened, MergesAreFlat}
 use Rattle.rewrite.specs.Pruned.{IsPruned}
-use Rattle.definition.specs.Address.{addresses_of, clash_after}
+use Rattle.addresses.specs.Address.{addresses_of, clash_after}
 use Rattle.definition.specs.Definition.{AreAlike, IsWritten}
 use Rattle.definition.specs.Reading.{IsReadAs}
 use Rattle.drawing.specs.declared.fault.Clash.{Clash}

@@ -6,7 +6,8 @@ use Rattle.std.proofs.lemmas.Option.{slice_get_within}
 use Rattle.llb.specs.declared.op.Op.TheVariants.{Merge as MergeOp}
 use Rattle.llb.specs.declared.vertex.Vertex.{Vertex}
 use Rattle.plain.specs.Marks.{is_marked}
-use Rattle.rewrite.specs.PrivateFlat.{is_merge, last_of, MergesDiffer, MarksLast}
+use Rattle.reached.specs.Spelled.{is_merge}
+use Rattle.rewrite.specs.PrivateFlat.{last_of, MergesDiffer, MarksLast}
 
 -- the merges before a number differ, and the last input of each is marked
 pub record DifferSoFar (vertices : List Vertex) (marks lasts : List Bool) (at : ℕ) : Type 0 where

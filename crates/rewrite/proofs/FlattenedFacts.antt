@@ -20,16 +20,16 @@ use Rattle.plans.specs.PrivateValue.{tree_at}
 use Rattle.lowering.specs.Meaning.{Trees, value_with}
 use Rattle.lowering.specs.Means.{world}
 use Rattle.lowering.proofs.ValueFacts.{vertex_is}
-use Rattle.rewrite.specs.Flat.{IsFlattened, with_first, spelled_out, flat_inputs, flat_vertex, flat_vertices, MergesAreFlat}
-use Rattle.rewrite.specs.PrivateFlat.{is_merge, AreOnFlat, AreFlattened}
+use Rattle.reached.proofs.FlatFacts.{flat_there, flat_back, as_many}
+use Rattle.reached.proofs.SpellingFacts.{there_is, merge_is, flat_other, spelled_merge, spelled_itself, flat_low, spelled_first, spelled_reached, starts_in, spelled_long}
+use Rattle.reached.specs.Reached.{AreOnFlat, AreFlattened, AreReached}
+use Rattle.reached.specs.Spelled.{with_first, spelled_out, flat_inputs, flat_vertex, flat_vertices, is_merge}
+use Rattle.rewrite.proofs.SpelledValues.{flat_value, failing_is_no_merge}
+use Rattle.rewrite.specs.Flat.{IsFlattened, MergesAreFlat}
 use Rattle.rewrite.specs.PrivateJoined.{HasName, AreJoinable, AreJoined}
-use Rattle.rewrite.specs.PrivateMarks.{AreReached}
 use Rattle.rewrite.specs.Pruned.{Names, AreNames, KeepsMeaning}
-use Rattle.rewrite.proofs.FlatFacts.{flat_graph, flat_there, flat_back, as_many, flat_joinable, joined_flat}
-use Rattle.rewrite.proofs.JoinFacts.{there_is}
+use Rattle.rewrite.proofs.FlatFacts.{flat_graph, flat_joinable, joined_flat}
 use Rattle.rewrite.proofs.PrunedFacts.{names_first, reached_marked, marked_within, names_among, same_name, names_trees, failed_within}
-use Rattle.rewrite.proofs.SpellingFacts.{merge_is, flat_other, spelled_merge, spelled_itself, flat_low, spelled_first, flat_value, spelled_reached}
-use Rattle.rewrite.proofs.SpellingFacts.{failing_is_no_merge, starts_in, spelled_long}
 
 -- ---- which plan it is
 

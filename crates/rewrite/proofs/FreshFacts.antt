@@ -8,12 +8,12 @@ use Rattle.llb.specs.declared.op.Op.{Op}
 use Rattle.llb.specs.declared.vertex.Vertex.{Vertex}
 use Rattle.llb.specs.Graph.{GraphValue, AreVertices, IsGraph}
 use Rattle.plain.specs.Marks.{is_marked}
-use Rattle.rewrite.specs.Flat.{flat_vertex}
-use Rattle.rewrite.specs.PrivateFlat.{is_merge, AreOnFlat, AreFlattened, MergesDiffer}
+use Rattle.reached.proofs.SpellingFacts.{there_is, merge_is, flat_other}
+use Rattle.reached.specs.Reached.{AreOnFlat, AreFlattened}
+use Rattle.reached.specs.Spelled.{flat_vertex, is_merge}
+use Rattle.rewrite.specs.PrivateFlat.{MergesDiffer}
 use Rattle.rewrite.specs.PrivateJoined.{AreJoinable, AreDistinct, ComesNew, AreJoined}
 use Rattle.rewrite.specs.Pruned.{Names, AreNames, IsRenamed}
-use Rattle.rewrite.proofs.JoinFacts.{there_is}
-use Rattle.rewrite.proofs.SpellingFacts.{merge_is, flat_other}
 
 abbrev vertex_of : Op → List ℕ → Vertex
 vertex_of op inputs = record { op = op; inputs = inputs }

@@ -20,12 +20,6 @@ use Rattle.plain.specs.Marks.{is_marked}
 use Rattle.rewrite.specs.PrivateJoined.{HasName, AreInside, AreJoinable, IsJoined, IsNamedJoined, AreJoined}
 use Rattle.rewrite.specs.Pruned.{Names, AreNames, IsRenamed}
 
--- what stands in a list at a number
-pub there_is : {X : Type 0} (xs : List X) (k : ℕ) → k < length xs → (x : X) × (slice_get xs k ≡ Some x)
-there_is [] k lt = absurd (omega (arith, lt))
-there_is (x ∷ xs) zero lt = (x, refl)
-there_is (x ∷ xs) (suc k) lt = there_is xs k (omega (arith, lt))
-
 -- ---- names
 
 pub names_more : (names more : Names) (olds news : List ℕ) → AreNames names olds news → AreNames (names ++ more) olds news

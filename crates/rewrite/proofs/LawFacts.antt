@@ -14,9 +14,9 @@ use Rattle.lowering.specs.Means.{world, lines_at, AreLined, Means}
 use Rattle.lowering.specs.Outcome.{IsOutcome}
 use Rattle.llb.specs.declared.op.Op.TheVariants.{Merge as MergeOp}
 use Rattle.llb.specs.declared.vertex.Vertex.{Vertex}
+use Rattle.reached.proofs.SpellingFacts.{there_is}
 use Rattle.rewrite.specs.Flat.{IsFlattened, MergesAreFlat}
 use Rattle.rewrite.specs.Pruned.{AreNames, HasReachedFailure, IsPruned, KeepsMeaning}
-use Rattle.rewrite.proofs.JoinFacts.{there_is}
 use Rattle.rewrite.proofs.PrunedFacts.{failed_within, names_first}
 
 pub built_is : {C : Type 0} (out : Out) (plan pruned : PlanValue C) (rows : Rows) (target : ℕ) (tree : TreeMap) → Means plan rows target

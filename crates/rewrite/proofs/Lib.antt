@@ -5,10 +5,8 @@ pub mod FreshFacts
 pub mod JoinFacts
 pub mod LawFacts
 pub mod LinkFacts
-pub mod MarkFacts
 pub mod OnceFacts
 pub mod OrderFacts
 pub mod PrunedFacts
 mod RenameFacts
-pub mod SpellSteps
-pub mod SpellingFacts
+pub mod SpelledValues

@@ -8,9 +8,10 @@ use Rattle.std.proofs.lemmas.Option.{slice_get-get_or, get_or_from_slice_get, sl
 use Rattle.llb.specs.declared.op.Op.{Op}
 use Rattle.llb.specs.declared.op.Op.TheVariants.{Source as SourceOp, Exec as ExecOp, Copy as CopyOp, MakeDirs as MakeDirsOp, Merge as MergeOp}
 use Rattle.llb.specs.declared.vertex.Vertex.{Vertex}
+use Rattle.reached.proofs.SpellingFacts.{merge_is}
+use Rattle.reached.specs.Spelled.{is_merge}
 use Rattle.rewrite.specs.Flat.{MergesAreFlat}
-use Rattle.rewrite.specs.PrivateFlat.{is_merge, merge_at, first_merge, link_below, stands_flat}
-use Rattle.rewrite.proofs.SpellingFacts.{merge_is}
+use Rattle.rewrite.specs.PrivateFlat.{merge_at, first_merge, link_below, stands_flat}
 
 is_other : (op : Op) → op ≢ MergeOp → is_merge op ≡ false
 is_other (SourceOp source) other = refl

@@ -9,7 +9,7 @@ use Rattle.llb.specs.Places.{AscendFrom}
 use Rattle.llb.proofs.LineFacts.{contains_nil, contains_here, contains_there, contains_cases}
 use Rattle.lowering.specs.Means.{lines_at}
 use Rattle.rewrite.specs.PrivateJoined.{AreJoinable, AreJoined}
-use Rattle.rewrite.specs.PrivateMarks.{AreReached}
+use Rattle.reached.specs.Reached.{AreReached}
 use Rattle.rewrite.specs.Pruned.{Names}
 use Rattle.rewrite.proofs.FreshFacts.{one_below, once_distinct}
 use Rattle.rewrite.proofs.JoinFacts.{lines_at_are}

@@ -20,9 +20,10 @@ use Rattle.lowering.specs.Outcome.{IsOutcome}
 use Rattle.llb.proofs.LineFacts.{least_below}
 use Rattle.lowering.proofs.OrderFacts.{in_order_least, least_in_order}
 use Rattle.lowering.proofs.SerialFacts.{serial_least, serial_fails}
-use Rattle.rewrite.specs.Flat.{with_first, spelled_as, spelled_at, spelled_to, spelled_out, flat_inputs, IsFlattened}
+use Rattle.reached.proofs.SpellingFacts.{there_is}
+use Rattle.reached.specs.Spelled.{with_first, spelled_as, spelled_at, spelled_to, spelled_out, flat_inputs}
+use Rattle.rewrite.specs.Flat.{IsFlattened}
 use Rattle.rewrite.specs.Pruned.{HasReachedFailure, IsPruned, KeepsMeaning}
-use Rattle.rewrite.proofs.JoinFacts.{there_is}
 use Rattle.rewrite.proofs.PrunedFacts.{failed_within}
 use Rattle.rewrite.proofs.LawFacts.{lined, flat_lined, failure_lined}
 

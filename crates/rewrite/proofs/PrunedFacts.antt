@@ -25,9 +25,9 @@ use Rattle.lowering.proofs.ValueFacts.{vertex_is}
 use Rattle.rewrite.specs.PrivateJoined.{HasName, AreJoinable, AreJoined}
 use Rattle.plain.specs.Marks.{is_marked, IsPath}
 use Rattle.plain.proofs.MarkFacts.{path_within}
-use Rattle.rewrite.specs.PrivateMarks.{AreReached}
+use Rattle.reached.proofs.SpellingFacts.{there_is}
+use Rattle.reached.specs.Reached.{AreReached}
 use Rattle.rewrite.specs.Pruned.{Names, AreNames, IsRenamed, IsPruned, KeepsMeaning}
-use Rattle.rewrite.proofs.JoinFacts.{there_is}
 use Rattle.rewrite.proofs.OnceFacts.{graph_joinable, in_order, own_lines}
 
 -- what is reached is marked

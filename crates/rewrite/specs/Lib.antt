@@ -1,5 +1,4 @@
 pub mod Flat
 pub mod PrivateFlat
 pub mod PrivateJoined
-pub mod PrivateMarks
 pub mod Pruned

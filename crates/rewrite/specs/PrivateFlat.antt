@@ -1,20 +1,10 @@
--- How vertices come on their flat inputs.
+-- Which merges stand on merges, and which of them differ.
 use Rattle.std.specs.Prelude.{◌≡◌, ℕ, Bool, true, false, List, [], ◌∷◌, not, Option, Some, None, if◌then◌else◌, ◌-◌, get_or, length, slice_get}
 use Rattle.std.specs.Option.{is_some}
-use Rattle.llb.specs.declared.op.Op.{Op}
-use Rattle.llb.specs.declared.op.Op.TheVariants.{Source as SourceOp, Exec as ExecOp, Copy as CopyOp, MakeDirs as MakeDirsOp, Merge as MergeOp}
+use Rattle.llb.specs.declared.op.Op.TheVariants.{Merge as MergeOp}
 use Rattle.llb.specs.declared.vertex.Vertex.{Vertex}
 use Rattle.plain.specs.Marks.{is_marked}
-use Rattle.rewrite.specs.Flat.{flat_vertex, flat_vertices}
-use Rattle.rewrite.specs.PrivateMarks.{AreReached}
-
--- whether an operation is a merge
-abbrev pub is_merge : Op → Bool
-is_merge (SourceOp source) = false
-is_merge (ExecOp exec) = false
-is_merge (CopyOp files) = false
-is_merge (MakeDirsOp path) = false
-is_merge MergeOp = true
+use Rattle.reached.specs.Spelled.{is_merge}
 
 -- what stands at a number, if it is a merge
 abbrev pub merge_at : ℕ → Option Vertex → Option ℕ
@@ -34,11 +24,6 @@ link_below vertices vertex = if is_merge vertex.op then first_merge vertices ver
 abbrev pub stands_flat : List Vertex → Vertex → Bool
 stands_flat vertices vertex = not (is_some (link_below vertices vertex))
 
--- the vertices that are marked are on their flat inputs; what the others are on isn't said
-pub record AreOnFlat (old : List Vertex) (marks : List Bool) (new : List Vertex) : Type 0 where
-  pub long : length new ≡ length old
-  pub there : (k : ℕ) (v : Vertex) → is_marked marks k ≡ true → slice_get old k ≡ Some v → slice_get new k ≡ Some (flat_vertex old v)
-
 -- no two of the merges that are marked have the same inputs
 abbrev pub MergesDiffer : List Vertex → List Bool → Type 0
 MergesDiffer vertices marks = (j k : ℕ) (v : Vertex) → is_marked marks j ≡ true → is_marked marks k ≡ true → slice_get vertices j ≡ Some v
@@ -53,7 +38,3 @@ pub record MarksLast (old new : List Bool) (ids : List ℕ) : Type 0 where
   pub before : is_marked old (last_of ids) ≡ false
   pub now : is_marked new (last_of ids) ≡ true
   pub kept : (k : ℕ) → is_marked old k ≡ true → is_marked new k ≡ true
-
--- what the target reaches over flat inputs is marked, and is on its flat inputs
-abbrev pub AreFlattened : List Vertex → ℕ → List Bool → List Vertex → Type 0
-AreFlattened old target marks new = AreReached (flat_vertices old) target marks × AreOnFlat old marks new

@@ -13,10 +13,8 @@
 mod joining;
 pub mod laws;
 mod links;
-mod marks;
 mod pruning;
 mod shrinking;
-mod spelling;
 
 pub use links::{flatten_links, is_flat};
 pub use pruning::prune;

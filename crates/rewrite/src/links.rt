@@ -7,10 +7,10 @@ ghost use Rattle.rewrite.specs.PrivateFlat.{link_below, MergesDiffer, MarksLast}
 ghost use Rattle.rewrite.specs.Pruned.{KeepsMeaning};
 
 use crate::joining::{Joined, find_name, join_all};
-use crate::spelling::{Flattened, flatten_reached, is_merge};
 use llb::{Vertex, VertexId};
 use plain::{Memory, no_marks};
 use plans::Plan;
+use reached::{Flattened, flatten_reached, is_merge};
 use std::alloc::Global;
 use std::mem;
 

@@ -5,9 +5,9 @@ ghost use Rattle.plans.specs.Value.{Out};
 ghost use Rattle.rewrite.specs.Pruned.{IsPruned, KeepsMeaning};
 
 use crate::joining::{Joined, find_name, join_all};
-use crate::marks::mark_reached;
 use plain::Memory;
 use plans::Plan;
+use reached::mark_reached;
 use std::alloc::Global;
 
 /// The plan without what its target doesn't reach.

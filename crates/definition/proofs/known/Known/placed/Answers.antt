@@ -1,6 +1,6 @@
 use Rattle.std.proofs.Common.{ap, ◌∙◌, refl, sym, subst, length, true≢false, Some}
 use Rattle.llb.specs.Graph.{GraphValue, AreVertices}
-use Rattle.definition.specs.Address.{addresses_of}
+use Rattle.addresses.specs.Address.{addresses_of}
 use Rattle.definition.proofs.ReadingFacts.{placed-new, placed-again, placed-clash, address-vertex}
 use Rattle.definition.proofs.known.Known.placed.Goals as goal
 

@@ -1,0 +1,2 @@
+pub mod FormFacts
+pub mod PlaceFacts

@@ -1,0 +1,4 @@
+pub mod FlatFacts
+pub mod MarkFacts
+pub mod SpellSteps
+pub mod SpellingFacts
