@@ -129,13 +129,6 @@ read-one : (now : GraphValue) (o : Data × List ℕ) (rest : Operations) (vertex
 read-one now o rest vertex (Ok after) next h = (vertex, (next, h))
 read-one now o rest vertex (Err fault) next h = inr (vertex, (next, h))
 
--- one operation, by what its steps tell
-pub one-read : (before after : GraphValue) (d : Data) (lines : List ℕ) (o : Data × List ℕ) (vertex : Vertex) → (d, lines) ≡ o → IsNext before.vertices d (Ok vertex) → after ≡ grown before vertex lines → IsOneRead before o (Ok after)
-one-read before after d lines o vertex same next is = subst (λ (p : Data × List ℕ). IsOneRead before p (Ok after)) same (vertex, (next, is))
-
-pub one-fault : (before : GraphValue) (d : Data) (lines : List ℕ) (o : Data × List ℕ) (fault : Fault Defect) → (d, lines) ≡ o → IsNext before.vertices d (Err fault) → IsOneRead before o (Err fault)
-one-fault before d lines o fault same next = subst (λ (p : Data × List ℕ). IsNext before.vertices p.0 (Err fault)) same next
-
 -- one operation more is read
 pub reading-step : (now next : GraphValue) (o : Data × List ℕ) (rest rest' all : Operations) (vertex : Vertex) → IsReading now rest all → rest ≡ o ∷ rest' → IsNext now.vertices o.0 (Ok vertex) → next ≡ grown now vertex o.1 → IsReading next rest' all
 reading-step now next o rest rest' all vertex so_far is spelled more = record {

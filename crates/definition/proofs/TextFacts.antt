@@ -10,7 +10,7 @@ use Rattle.llb.specs.Graph.{GraphValue}
 use Rattle.operations.proofs.PlainFacts.{op_plain}
 use Rattle.plain.specs.declared.fault.Fault.{Fault}
 use Rattle.plain.specs.declared.fault.Fault.TheVariants.{Because, Memory}
-use Rattle.addresses.specs.Address.{vertex_data, vertex_address, place_of, data_after, addresses_after, addresses_of, clash_after}
+use Rattle.addresses.specs.Address.{vertex_data, vertex_address, place_of, data_after, addresses_after, clash_after}
 use Rattle.definition.specs.declared.fault.Defect.{Defect}
 use Rattle.definition.specs.declared.fault.Defect.TheVariants.{Malformed, Unknown, Repeated, Clash}
 use Rattle.definition.specs.Definition.{AreProper, IsWritten, end_data, whole_data, end_of, definition_data}

@@ -1,4 +1,4 @@
-use Rattle.std.proofs.Common.{◌≡◌, ap, sym, subst}
+use Rattle.std.proofs.Common.{◌≡◌, ap, subst}
 use Rattle.llb.specs.Graph.{GraphValue}
 use Rattle.definition.specs.PrivateWriting.{IsClash}
 use Rattle.definition.proofs.TextFacts.{fault-put}
