@@ -3,8 +3,8 @@
 
 use clap::Error;
 use command::{
-    BuildOptions, CheckOptions, GraphOptions, LlbOptions, MergeName, PackOptions, Task, WhyOptions,
-    read_command,
+    BuildOptions, CheckOptions, GraphOptions, LlbOptions, MergeName, NetworkName, PackOptions,
+    Task, WhyOptions, read_command,
 };
 use plain::{Memory, Text};
 use std::alloc::Global;
@@ -129,10 +129,10 @@ fn llb_text(alloc: Global, options: &LlbOptions) -> Result<String, Memory> {
     let os = options.platform.os.as_str();
     let architecture = options.platform.architecture.as_str();
     let variant = options.platform.variant.as_str();
-    let network = options.network;
+    let network = network_text(options.network);
     let unique = options.unique.as_str();
     let mut told = format!(in alloc;
-        "llb for [{os}] [{architecture}] [{variant}] with {network:?} unique [{unique}]"
+        "llb for [{os}] [{architecture}] [{variant}] with {network} unique [{unique}]"
     )?;
     match options.merging {
         MergeName::Native => {}
@@ -143,6 +143,14 @@ fn llb_text(alloc: Global, options: &LlbOptions) -> Result<String, Memory> {
     }
     add_text(alloc, &mut told, "of", &options.file)?;
     Ok(told)
+}
+
+fn network_text(network: NetworkName) -> &'static str {
+    match network {
+        NetworkName::Usual => "Usual",
+        NetworkName::Absent => "Absent",
+        NetworkName::Host => "Host",
+    }
 }
 
 /// What `config` is asked for.
