@@ -1,11 +1,10 @@
-ghost use Rattle.std.specs.Prelude.{◌≡◌, ◌↔◌, ◌<◌, [], Some, None, ℕ, false, map, IsTrue, IsFalse, IfOk, IfSome, IfNone, IfErr, OnOk, OnErr, slice_get};
+ghost use Rattle.std.specs.Prelude.{◌≡◌, ◌↔◌, ◌<◌, [], Some, ℕ, map, IsTrue, IsFalse, IfOk, IfSome, IfNone, IfErr, OnOk, OnErr, slice_get};
 ghost use Rattle.std.specs.Option.{option_map};
 ghost use Rattle.cachemounts.specs.Holds.{new_holds};
 ghost use Rattle.cachemounts.specs.Content.{tree_held};
 ghost use Rattle.plans.specs.Plan.{uses_at};
 ghost use Rattle.board.specs.Board.{board_problem, IsStep, AreContents, AreLeft};
 ghost use Rattle.board.specs.Job.{job_problem};
-ghost use Rattle.board.specs.Readiness.{has_cause};
 ghost use Rattle.board.specs.Problem.{IsProblem};
 ghost use Rattle.board.specs.Play.{begun, claim_of, claimable, value_at, unsettled_count, IsReplay};
 ghost use Rattle.board.specs.Play.{Claim as Claiming, Settle as Settling, Abandon as Abandoning};
@@ -16,10 +15,11 @@ ghost use Rattle.board.specs.Leaving.{IsLent, IsLeftFor, GivesBackWhatIsLeft, Ar
 ghost use Rattle.board.specs.Legal.{IsAvailable, IsReady, IsNextClaim};
 
 use crate::frontier::Frontier;
-use crate::shelf::{Keeping, Shelf};
+use crate::shelf::Shelf;
 use crate::state::{self, NextClaim};
-use crate::{Claim, ClaimOut, Happened, Job, Refused, Task};
+use crate::{Claim, ClaimOut, Happened, Job, Refused};
 use cachemounts::{CacheStore, Content};
+use cells::Place;
 use executor::Executor;
 use llb::VertexId;
 use plain::{Items, Memory, copied_items, growth};
@@ -29,12 +29,12 @@ use trees::{Tree, TreeOrCause};
 
 /// Which vertices of a job are settled and with what, which claims are out, and what the job's caches hold. The type keeps that all of it is
 /// the replay of the history, and that each settle of it gave back what a run left: so whatever calls were made, the history is legal, each vertex that is settled
-/// has its value, and each cache holds what it held at the start, or what the run of the last settle that gave it back left in it.
+/// has its value, and each content is as it was at the start, or what the last settle that gave it back brought, which its vertex's run left of what it was lent.
 #[derive(Drop)]
-pub struct Board<'a, E: Executor> {
+pub struct Board<'a, E: Executor, P: Place<TreeOrCause> = TreeOrCause> {
     job: Job<'a, E>,
-    /// For each vertex its value, once it is settled; its tree may be gone.
-    settled: Shelf,
+    /// For each vertex its value, once it is settled.
+    settled: Shelf<P>,
     /// The claims that are out, the oldest first: no worker twice, no vertex twice.
     claims: Vec<ClaimOut>,
     /// All that happened, in order. It has room for the end of each claim that is out, so that an abandon takes no memory.
@@ -47,8 +47,8 @@ pub struct Board<'a, E: Executor> {
     frontier: Frontier,
 }
 
-impl<'a, E: Executor> Model for Board<'a, E> {
-    ghost use Rattle.std.specs.Prelude.{◌≡◌, ◌+◌, ◌≤◌, vec_len, vec_capacity};
+impl<'a, E: Executor, P: Place<TreeOrCause>> Model for Board<'a, E, P> {
+    ghost use Rattle.std.specs.Prelude.{◌+◌, ◌≤◌, vec_len, vec_capacity};
     ghost use Rattle.board.specs.Board.{BoardValue, board_code, IsBoard};
     ghost use Rattle.board.specs.Job.{job_problem};
     ghost use Rattle.board.specs.Leaving.{GivesBackWhatIsLeft};
@@ -62,7 +62,7 @@ impl<'a, E: Executor> Model for Board<'a, E> {
       job = b.job;
       first = b.first.items;
       contents = b.caches.contents;
-      run = record { history = b.history.items; state = record { settled = b.settled.values; claims = b.claims.items; holds = b.caches.holds } };
+      run = record { history = b.history.items; state = record { settled = b.settled; claims = b.claims.items; holds = b.caches.holds } };
     } };
 
     ghost invariant = { λ b.
@@ -70,34 +70,30 @@ impl<'a, E: Executor> Model for Board<'a, E> {
           job = b.job;
           first = b.first.items;
           contents = b.caches.contents;
-          run = record { history = b.history.items; state = record { settled = b.settled.values; claims = b.claims.items; holds = b.caches.holds } };
+          run = record { history = b.history.items; state = record { settled = b.settled; claims = b.claims.items; holds = b.caches.holds } };
         })
         × (vec_len b.history + vec_len b.claims ≤ vec_capacity b.history)
-        × IsFrontier b.job.graph.vertices b.job.graph.places b.settled.values b.claims.items b.frontier
-        × GivesBackWhatIsLeft (E.leaves b.job.executor) (job_problem E.out b.job) b.first.items b.history.items
-        × (b.settled.kept ≡ b.job.target) };
+        × IsFrontier b.job.graph.vertices b.job.graph.places b.settled b.claims.items b.frontier
+        × GivesBackWhatIsLeft (E.leaves b.job.executor) (job_problem E.out b.job) b.first.items b.history.items };
 }
 
-/// The store, given back since there was no memory for its board.
+/// The store, given back where there was no memory for its board.
 pub struct NoBoard {
     pub caches: CacheStore,
 }
 
-impl<'a, E: Executor> Board<'a, E> {
-    /// A board on which nothing has happened, with a store of which nobody holds anything: `CacheStore::is_idle` tests that. `keeping` says which
-    /// trees stay on it. If there is no memory, the store comes back as it was.
+impl<'a, E: Executor, P: Place<TreeOrCause>> Board<'a, E, P> {
+    /// A board on which nothing has happened, with a store of which nobody holds anything. `CacheStore::is_idle` tests that.
     pub fn new(
         alloc: Global,
         job: Job<'a, E>,
         caches: CacheStore,
-        keeping: Keeping,
-    ) -> Result<Board<'a, E>, NoBoard>
+    ) -> Result<Board<'a, E, P>, NoBoard>
         requires idle { caches.holds ≡ [] }
         ensures ok { IfOk result (λ board. board ≡ record { job = job.entry; first = caches.contents; contents = caches.contents; run = begun (job_problem E.out job.entry) }) }
         ensures back { IfErr result (λ refused. refused.caches ≡ caches) }
     {
-        let vertices = job.graph().vertices();
-        let Ok(settled) = Shelf::new(alloc, vertices, job.target(), keeping) else {
+        let Ok(settled) = Shelf::new(alloc, job.graph().len()) else {
             return Err(NoBoard { caches });
         };
         let Ok(first) = caches.contents(alloc) else {
@@ -117,10 +113,9 @@ impl<'a, E: Executor> Board<'a, E> {
         })
     }
 
-    /// Claims the ready vertex of least id for a worker, with the trees of its inputs and the lease of its caches. It claims nothing if no
-    /// vertex is ready, or if the worker has a claim out. After `Memory` the board is as it was. It also answers `Memory` if the tree of an
-    /// input went to a claim that was given up.
-    pub fn claim(&mut self, alloc: Global, worker: u32) -> Result<Option<Task>, Memory>
+    /// Claims the ready vertex of least id for a worker, with the places of its inputs' trees and the lease of its caches. It claims nothing where
+    /// no vertex is ready, or where the worker has a claim out. After `Memory` the board is as it was.
+    pub fn claim(&mut self, alloc: Global, worker: u32) -> Result<Option<Claim<P>>, Memory>
         ensures next { IfOk result (λ claim. IsNextClaim (board_problem E.out self.old) self.old.run.history worker
             (option_map (λ c. c.vertex) claim)) }
         ensures worker { IfOk result (λ claim. IfSome claim (λ c. c.worker ≡ worker)) }
@@ -143,8 +138,8 @@ impl<'a, E: Executor> Board<'a, E> {
         );
         match next {
             Some(next) => {
-                let task = self.claim_vertex(alloc, worker, next)?;
-                Ok(Some(task))
+                let claim = self.claim_vertex(alloc, worker, next)?;
+                Ok(Some(claim))
             }
             None => Ok(None),
         }
@@ -157,18 +152,18 @@ impl<'a, E: Executor> Board<'a, E> {
     pub fn settle(
         &mut self,
         alloc: Global,
-        claim: Claim,
-        value: TreeOrCause,
+        claim: Claim<P>,
+        value: P,
         given: Vec<Tree>,
-    ) -> Result<(), Refused>
+    ) -> Result<(), Refused<P>>
         requires out { IsOut self.old.run.state claim }
         requires of { IsClaim (board_problem E.out self.old) claim }
-        requires value { IsResult (board_problem E.out self.old) claim value }
+        requires value { IsResult (board_problem E.out self.old) claim (P.stands value) }
         requires given { IsGivenBack (board_problem E.out self.old) claim given.items }
         requires lent { IsLent (board_problem E.out self.old) self.old.first self.old.run.history claim }
         requires left { IsLeftFor (E.leaves self.old.job.executor) (board_problem E.out self.old) claim given.items }
         ensures run { OnOk result (IsStep E.out (Settling claim.worker given.items) self.old self.new) }
-        ensures value { OnOk result (slice_get self.new.run.state.settled claim.vertex ≡ Some (Some value)) }
+        ensures value { OnOk result (slice_get self.new.run.state.settled claim.vertex ≡ Some (Some (P.stands value))) }
         ensures nearer { OnOk result (unsettled_count self.new.run.state.settled < unsettled_count self.old.run.state.settled) }
         ensures err { OnErr result (self.new ≡ self.old) }
         ensures back { IfErr result (λ refused. (refused.claim ≡ claim) × (refused.value ≡ value) × (refused.given.items ≡ given.items)) }
@@ -185,7 +180,7 @@ impl<'a, E: Executor> Board<'a, E> {
         let lease = claim.into_lease();
         state::drop_claim(&mut self.claims, worker);
         let line = self.job.graph().least_place(vertex);
-        self.frontier.settle(vertex, line, &value);
+        self.frontier.settle(vertex, line, value.value());
         self.settled.put(vertex, value);
         self.caches.give(lease, given);
         growth::add(
@@ -199,10 +194,9 @@ impl<'a, E: Executor> Board<'a, E> {
         Ok(())
     }
 
-    /// Gives a claim up: its vertex is available again, and the contents of its caches stay as they are. If the claim had the only pointer to
-    /// the tree of an input, that tree is gone, and each later claim of the vertex answers `Memory`. A claim that is no longer out is dropped,
-    /// and the board doesn't change. It takes no memory.
-    pub fn abandon(&mut self, claim: Claim)
+    /// Gives a claim up: its vertex may be claimed again, and the contents of its caches stay as they are. A claim that isn't out any more is
+    /// spent, and nothing else changes. It takes no memory.
+    pub fn abandon(&mut self, claim: Claim<P>)
         ensures out { IsOut self.old.run.state claim → IsStep E.out (Abandoning claim.worker) self.old self.new }
         ensures ended { ¬ IsOut self.old.run.state claim → self.new ≡ self.old }
     {
@@ -228,12 +222,9 @@ impl<'a, E: Executor> Board<'a, E> {
         }
     }
 
-    /// The value of a vertex that is settled, unless its tree went to the last claim that asked for it (`Keeping`). A cause stays, and so does
-    /// what the target has.
+    /// The value of a vertex, once it is settled.
     pub fn value(&self, vertex: VertexId) -> Option<&TreeOrCause>
-        ensures value { IfSome result (λ value. value_at self.now.run.state.settled vertex ≡ Some value.now) }
-        ensures none { IfNone result (has_cause (value_at self.now.run.state.settled vertex) ≡ false) }
-        ensures target { IfNone result (vertex ≡ self.now.job.target → value_at self.now.run.state.settled vertex ≡ None) }
+        ensures { option_map (λ value. value.now) result ≡ value_at self.now.run.state.settled vertex }
     {
         self.settled.get(vertex)
     }
@@ -251,7 +242,7 @@ impl<'a, E: Executor> Board<'a, E> {
     }
 
     /// Whether a claim is out.
-    pub fn is_out(&self, claim: &Claim) -> bool
+    pub fn is_out(&self, claim: &Claim<P>) -> bool
         ensures { IsTrue result ↔ IsOut self.now.run.state claim.now }
     {
         state::is_out(
@@ -269,8 +260,8 @@ impl<'a, E: Executor> Board<'a, E> {
         self.claims.is_empty()
     }
 
-    /// Whether a vertex is available. If so, it may still not be ready: a cache may be held, a failure may stop it, or the target may be settled.
-    /// If not, no vertex is ready. It looks at no cache, so that it takes no longer if many vertices wait for one.
+    /// Whether a vertex may be left to claim: no vertex is ready if not. If so, a vertex is available, and a cache that is held or a failure may still keep
+    /// it from being ready. It looks at no cache, so that it takes no longer where many vertices wait for one.
     pub fn has_more(&self) -> bool
         ensures more { IsTrue result → (vertex : ℕ) × IsAvailable (board_problem E.out self.now) self.now.run.history vertex }
         ensures none { IsFalse result → (vertex : ℕ) → ¬ IsReady (board_problem E.out self.now) self.now.run.history vertex }
@@ -323,8 +314,41 @@ impl<'a, E: Executor> Board<'a, E> {
         caches
     }
 
+    /// The same board with each value in a place of its own. If there is no memory for that, it comes back as it was.
+    pub fn at_home(self, alloc: Global) -> Result<Board<'a, E>, Board<'a, E, P>>
+        ensures ok { IfOk result (λ board. board ≡ self.entry) }
+        ensures back { IfErr result (λ board. board ≡ self.entry) }
+    {
+        let Ok(values) = self.settled.copied(alloc) else {
+            return Err(self);
+        };
+        let Board {
+            job,
+            settled: _,
+            claims,
+            history,
+            first,
+            caches,
+            frontier,
+        } = self;
+        Ok(Board {
+            job,
+            settled: values,
+            claims,
+            history,
+            first,
+            caches,
+            frontier,
+        })
+    }
+
     /// Claims a vertex for the worker that may claim it next. After `Memory` the board is as it was.
-    fn claim_vertex(&mut self, alloc: Global, worker: u32, next: NextClaim) -> Result<Task, Memory>
+    fn claim_vertex(
+        &mut self,
+        alloc: Global,
+        worker: u32,
+        next: NextClaim,
+    ) -> Result<Claim<P>, Memory>
         requires next { claimable (board_problem E.out self.old) self.old.run.state worker ≡ Some next.vertex }
         requires inputs { AreInputIds self.old.job.graph.vertices self.old.run.state.settled next.vertex next.inputs.now }
         ensures vertex { IfOk result (λ claim. claim.vertex ≡ next.entry.vertex) }
@@ -337,11 +361,8 @@ impl<'a, E: Executor> Board<'a, E> {
         ensures run { OnOk result (IsStep E.out (Claiming worker) self.old self.new) }
         ensures err { OnErr result (self.new ≡ self.old) }
     {
-        let NextClaim {
-            vertex,
-            inputs: ids,
-        } = next;
-        let inputs = self.settled.copies(alloc, ids)?;
+        let NextClaim { vertex, inputs } = next;
+        let inputs = self.settled.again(alloc, inputs)?;
         growth::room(&mut self.claims, 1)?;
         // One event for this claim, one for its end, and one for the end of each that is out already.
         growth::room(&mut self.history, self.claims.len() + 2)?;
@@ -350,11 +371,10 @@ impl<'a, E: Executor> Board<'a, E> {
             .caches
             .take(alloc, worker, state::uses_of(vertices, vertex))?;
         let at = self.history.len();
-        self.settled.pass_on(ids);
         self.frontier.withdraw(vertex);
         growth::add(&mut self.claims, ClaimOut { worker, vertex, at });
         growth::add(&mut self.history, Happened::Claimed { worker, vertex });
-        Ok(Task::new(worker, vertex, at, inputs, lease))
+        Ok(Claim::new(worker, vertex, at, inputs, lease))
     }
 
     /// Gives up a claim that is out.
@@ -368,8 +388,6 @@ impl<'a, E: Executor> Board<'a, E> {
             at: _,
         } = claim;
         state::drop_claim(&mut self.claims, worker);
-        let vertices = self.job.graph().vertices();
-        self.settled.want_again(state::inputs_of(vertices, vertex));
         self.frontier.restore(vertex);
         self.caches.leave(worker);
         growth::add(&mut self.history, Happened::Abandoned { worker, vertex });

@@ -1,29 +1,24 @@
-ghost use Rattle.std.specs.Prelude.{◌≡◌};
+ghost use Rattle.std.specs.Prelude.{◌≡◌, ◌<◌, Ok, Some, length, slice_get};
+ghost use Rattle.std.specs.Option.{option_map};
 
+use crate::inputs::Inputs;
 use cachemounts::Lease;
+use cells::Place;
 use llb::VertexId;
 use std::marker::Model;
-use std::snapshot::Snapshot;
 use trees::{Tree, TreeOrCause};
 
-/// The claim of a vertex by a worker, with the lease of its caches. It ends by `Board::settle` or `Board::abandon`. Contracts also see the trees
-/// of its vertex's inputs, which come beside it, in a [`Task`], for the vertex to be run on them.
-pub struct Claim {
+/// The claim of a vertex by a worker, with the trees of the vertex's inputs and the lease of its caches. It ends by `Board::settle` or
+/// `Board::abandon`.
+pub struct Claim<P: Place<TreeOrCause> = TreeOrCause> {
     worker: u32,
     vertex: VertexId,
     at: usize,
-    inputs: Snapshot<Vec<Tree>>,
+    inputs: Inputs<P>,
     lease: Lease,
 }
 
-/// A claim as a board gives it, with the trees of its vertex's inputs, in their order. The board no longer has those that no other claim
-/// will ask for, unless it keeps them (`Keeping`). Contracts see the claim.
-pub struct Task {
-    claim: Claim,
-    inputs: Vec<Tree>,
-}
-
-impl Model for Task {
+impl<P: Place<TreeOrCause>> Model for Claim<P> {
     ghost use Rattle.std.specs.Prelude.{◌≡◌};
     ghost use Rattle.board.specs.Claim.{ClaimValue, claim_code};
 
@@ -31,64 +26,32 @@ impl Model for Task {
 
     ghost coded = { claim_code };
 
-    ghost view = { λ t. t.claim };
+    ghost view = { λ c. record { worker = c.worker; vertex = c.vertex; at = c.at; inputs = c.inputs; caches = c.lease.trees } };
 
-    ghost invariant = { λ t. t.inputs.items ≡ t.claim.inputs };
+    ghost invariant = { λ c. c.lease.holder ≡ c.worker };
 }
 
-impl Task {
+impl<P: Place<TreeOrCause>> Claim<P> {
     /// A claim of a worker, made by the board alone.
     pub(crate) fn new(
         worker: u32,
         vertex: VertexId,
         at: usize,
-        inputs: Vec<Tree>,
+        inputs: Inputs<P>,
         lease: Lease,
-    ) -> Task
+    ) -> Claim<P>
         requires { lease.holder ≡ worker }
-        ensures { result ≡ record { worker = worker; vertex = vertex; at = at; inputs = inputs.items; caches = lease.trees } }
+        ensures { result ≡ record { worker = worker; vertex = vertex; at = at; inputs = inputs; caches = lease.trees } }
     {
-        let claim = Claim {
+        Claim {
             worker,
             vertex,
             at,
-            inputs: Snapshot::of(&inputs),
+            inputs,
             lease,
-        };
-        Task { claim, inputs }
+        }
     }
 
-    /// The claim, lent.
-    pub fn claim(&self) -> &Claim
-        ensures { result.now ≡ self.now }
-    {
-        &self.claim
-    }
-
-    /// The claim, and the trees of its vertex's inputs.
-    pub fn into_parts(self) -> (Claim, Vec<Tree>)
-        ensures claim { result.0 ≡ self }
-        ensures inputs { result.1.items ≡ self.inputs }
-    {
-        let Task { claim, inputs } = self;
-        (claim, inputs)
-    }
-}
-
-impl Model for Claim {
-    ghost use Rattle.std.specs.Prelude.{◌≡◌};
-    ghost use Rattle.board.specs.Claim.{ClaimValue, claim_code};
-
-    ghost Value = { ClaimValue };
-
-    ghost coded = { claim_code };
-
-    ghost view = { λ c. record { worker = c.worker; vertex = c.vertex; at = c.at; inputs = c.inputs.value.items; caches = c.lease.trees } };
-
-    ghost invariant = { λ c. c.lease.holder ≡ c.worker };
-}
-
-impl Claim {
     /// The worker that has claimed it.
     pub fn worker(&self) -> u32
         ensures { result ≡ self.now.worker }
@@ -108,6 +71,29 @@ impl Claim {
         ensures { result ≡ self.now.at }
     {
         self.at
+    }
+
+    /// How many inputs its vertex has.
+    pub fn input_count(&self) -> usize
+        ensures { result ≡ length self.now.inputs }
+    {
+        self.inputs.len()
+    }
+
+    /// The tree of an input of its vertex, by the input's position.
+    pub fn input(&self, at: usize) -> &Tree
+        requires { at < length self.now.inputs }
+        ensures { slice_get self.now.inputs at ≡ Some result.now }
+    {
+        self.inputs.tree(at)
+    }
+
+    /// The place in which the tree of an input of its vertex stands, by the input's position.
+    pub fn place(&self, at: usize) -> &P
+        requires { at < length self.now.inputs }
+        ensures { option_map Ok (slice_get self.now.inputs at) ≡ Some (P.stands result.now) }
+    {
+        self.inputs.place(at)
     }
 
     /// Copies of the trees that were in the caches of its vertex, in the order of the vertex's uses.
@@ -137,10 +123,10 @@ impl Claim {
     }
 }
 
-/// What a settle took, given back since there was no memory for it.
-pub struct Refused {
-    pub claim: Claim,
-    pub value: TreeOrCause,
+/// All that a settle took for which there was no memory, given back.
+pub struct Refused<P: Place<TreeOrCause> = TreeOrCause> {
+    pub claim: Claim<P>,
+    pub value: P,
     pub given: Vec<Tree>,
 }
 

@@ -1,6 +1,6 @@
 // The board of a job: which vertices are settled, and which workers have which claims out.
 //
-// Workers take turns on it, each under its number. `claim` gives the ready vertex of least id, with the trees of its inputs and the lease of its caches;
+// Workers take turns on it, each under its number. `claim` gives the ready vertex of least id, with the places of its inputs' trees and the lease of its caches;
 // `settle` brings the vertex's value and the trees that go back to its caches; `abandon` gives the vertex up. It runs nothing itself, starts no
 // thread and waits for nobody: who has a claim runs its vertex (`solver::run`), and locks the board as it likes.
 //
@@ -12,10 +12,9 @@
 // cache is as it was at the start, or what the last settle that gave it back brought, which its vertex's run left of what it was lent.
 //
 // ```
-// let mut board = Board::new(alloc, Job::new(&plan, &executor), CacheStore::new(alloc), Keeping::Target)?;
-// while let Some(task) = board.claim(alloc, worker)? {
-//     let (claim, inputs) = task.into_parts();
-//     let Ran { value, given } = run(alloc, board.job(), &claim, inputs)?;
+// let mut board = Board::new(alloc, Job::new(&plan, &executor), CacheStore::new(alloc))?;
+// while let Some(claim) = board.claim(alloc, worker)? {
+//     let Ran { value, given } = run(alloc, board.job(), &claim)?;
 //     board.settle(alloc, claim, value, given)?;
 // }
 // ```
@@ -25,6 +24,7 @@ mod board;
 mod claim;
 mod event;
 mod frontier;
+mod inputs;
 mod job;
 pub mod laws;
 mod number_set;
@@ -32,7 +32,6 @@ mod shelf;
 mod state;
 
 pub use board::{Board, NoBoard};
-pub use claim::{Claim, ClaimOut, Refused, Task};
+pub use claim::{Claim, ClaimOut, Refused};
 pub use event::{Event, Happened};
 pub use job::Job;
-pub use shelf::Keeping;

@@ -1,7 +1,7 @@
-// Tests and look-ups on what a board holds, as functions over its parts, so that each is proved by itself.
-ghost use Rattle.std.specs.Prelude.{◌≡◌, ◌↔◌, ℕ, IsTrue, ◌<◌, true, false, length, map, IfSome, IfNone, [], vec_len};
+// What a board knows at a moment, as functions over its job and slices: the methods of `Board` only call them.
+ghost use Rattle.std.specs.Prelude.{◌≡◌, ◌↔◌, ℕ, IsTrue, ◌<◌, true, false, is_some, length, map, IfSome, IfNone, [], vec_len};
 ghost use Rattle.board.specs.Job.{job_problem};
-ghost use Rattle.board.specs.Play.{claim_of, without, claimable};
+ghost use Rattle.board.specs.Play.{value_at, claim_of, without, claimable};
 ghost use Rattle.board.specs.PrivateShelf.{AreInputIds};
 ghost use Rattle.board.specs.Clearing.{IsLeastWorker};
 ghost use Rattle.board.specs.PrivateFrontier.{IsFrontier};
@@ -13,9 +13,11 @@ use crate::frontier::Frontier;
 use crate::shelf::Shelf;
 use crate::{ClaimOut, Job};
 use cachemounts::CacheStore;
+use cells::Place;
 use executor::Executor;
 use llb::{Op, Vertex, VertexId};
 use runs::CacheUse;
+use trees::TreeOrCause;
 
 /// The claim that a worker has out.
 pub(crate) fn claim_of(claims: &[ClaimOut], worker: u32) -> Option<ClaimOut>
@@ -35,6 +37,13 @@ pub(crate) fn drop_claim(claims: &mut Vec<ClaimOut>, worker: u32)
     ensures fewer { (claim : ClaimOut) → claim_of worker claims.old.items ≡ Some claim → vec_len claims.new < vec_len claims.old }
 {
     claims.retain(|claim| claim.worker != worker);
+}
+
+/// Whether a vertex is settled.
+fn is_settled<P: Place<TreeOrCause>>(settled: &Shelf<P>, vertex: VertexId) -> bool
+    ensures { result ≡ is_some (value_at settled.now vertex) }
+{
+    settled.get(vertex).is_some()
 }
 
 /// The caches that an operation uses.
@@ -57,14 +66,6 @@ pub(crate) fn uses_of(vertices: &[Vertex], vertex: VertexId) -> &[CacheUse]
     }
 }
 
-/// The inputs of a vertex; none where there is no such vertex.
-pub(crate) fn inputs_of(vertices: &[Vertex], vertex: VertexId) -> &[VertexId] {
-    match vertices.get(vertex.index()) {
-        Some(vertex) => vertex.inputs.as_slice(),
-        None => &[],
-    }
-}
-
 /// A vertex that a worker may claim, with the ids of its inputs.
 pub(crate) struct NextClaim<'a> {
     pub vertex: VertexId,
@@ -73,25 +74,25 @@ pub(crate) struct NextClaim<'a> {
 
 /// What a worker's claim is given: the least vertex that is ready, and nothing if the worker has a claim out. Vertices that failures stop may be
 /// taken out of the frontier.
-pub(crate) fn next_claim<'a, E: Executor>(
+pub(crate) fn next_claim<'a, E: Executor, P: Place<TreeOrCause>>(
     job: &Job<'a, E>,
-    settled: &Shelf,
+    settled: &Shelf<P>,
     claims: &[ClaimOut],
     caches: &CacheStore,
     frontier: &mut Frontier,
     worker: u32,
 ) -> Option<NextClaim<'a>>
-    requires long { length settled.now.values ≡ length job.now.graph.vertices }
-    requires frontier { IsFrontier job.now.graph.vertices job.now.graph.places settled.now.values claims.now frontier.old }
+    requires long { length settled.now ≡ length job.now.graph.vertices }
+    requires frontier { IsFrontier job.now.graph.vertices job.now.graph.places settled.now claims.now frontier.old }
     ensures which { option_map (λ n. n.vertex) result
-        ≡ claimable (job_problem E.out job.now) (record { settled = settled.now.values; claims = claims.now; holds = caches.now.holds }) worker }
-    ensures inputs { IfSome result (λ n. AreInputIds job.now.graph.vertices settled.now.values n.vertex n.inputs.now) }
-    ensures frontier { IsFrontier job.now.graph.vertices job.now.graph.places settled.now.values claims.now frontier.new }
+        ≡ claimable (job_problem E.out job.now) (record { settled = settled.now; claims = claims.now; holds = caches.now.holds }) worker }
+    ensures inputs { IfSome result (λ n. AreInputIds job.now.graph.vertices settled.now n.vertex n.inputs.now) }
+    ensures frontier { IsFrontier job.now.graph.vertices job.now.graph.places settled.now claims.now frontier.new }
 {
     if claim_of(claims, worker).is_some() {
         return None;
     }
-    if settled.is_settled(job.target()) {
+    if is_settled(settled, job.target()) {
         return None;
     }
     let graph = job.graph();

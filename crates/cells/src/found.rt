@@ -1,4 +1,4 @@
-ghost use Rattle.std.specs.Prelude.{◌≡◌, IfSome};
+ghost use Rattle.std.specs.Prelude.{◌≡◌};
 
 use crate::Meaning;
 use std::marker::{Model, PhantomData};
@@ -49,17 +49,5 @@ impl<T, M: Meaning<T>> Found<T, M> {
         ensures means { M.means self.now.number self.now.value }
     {
         &self.value
-    }
-
-    /// The value, if it is that of the thing of this number.
-    pub(crate) fn value_for(&self, number: u32) -> Option<&T>
-        ensures { IfSome result (λ value. M.means number value.now) }
-    {
-        let value = self.value();
-        if self.number == number {
-            Some(value)
-        } else {
-            None
-        }
     }
 }

@@ -1,6 +1,6 @@
 ghost use Rattle.std.specs.Prelude.{◌≡◌, ◌<◌, IfOk, IfSome};
 
-use crate::{Found, Meaning};
+use crate::{Found, KnownCell, Meaning};
 use once_cell::race::OnceBox;
 use plain::Memory;
 use std::alloc::Global;
@@ -42,17 +42,28 @@ impl<T: Drop, M: Meaning<T>> Row<T, M> {
         self.cells.len()
     }
 
-    /// Puts the value of a thing into the cell of its number, unless one stands there already, and answers what stands there then. None if
-    /// that has another number. Nothing in this crate puts it there; that nobody does can't be said of a cell, of which only the type is known.
-    pub fn keep(&self, alloc: Global, number: u32, value: T) -> Result<Option<&T>, Memory>
+    /// Puts the value of a thing into the cell of its number, unless one stands there already, and answers the cell with what stands there then.
+    /// None if that has another number. Nothing in this crate puts it there; that nobody does can't be said of a cell, of which only the type is known.
+    pub fn keep<'a>(
+        &'a self,
+        alloc: Global,
+        number: u32,
+        value: T,
+    ) -> Result<Option<KnownCell<'a, T, M>>, Memory>
         requires within { number < self.now }
         requires means { M.means number value }
-        ensures { IfOk result (λ kept. IfSome kept (λ value. M.means number value.now)) }
+        ensures number { IfOk result (λ known. IfSome known (λ k. k.number ≡ number)) }
+        ensures means { IfOk result (λ known. IfSome known (λ k. M.means number k.value)) }
     {
         let cell = &self.cells[number as usize];
         let mine = Box::new(alloc, Found::new(number, value))?;
-        let found = cell.get_or_init(move || mine);
-        Ok(found.value_for(number))
+        let mut note = cell.note();
+        let found = cell.get_or_init_as(move || mine, &mut note);
+        let _known = found.value();
+        if found.number() != number {
+            return Ok(None);
+        }
+        Ok(Some(KnownCell::new(cell, note, found)))
     }
 
     /// What stands in the cell of a number, if anything does that is of this number.
@@ -65,6 +76,11 @@ impl<T: Drop, M: Meaning<T>> Row<T, M> {
         let Some(found) = cell.get() else {
             return None;
         };
-        found.value_for(number)
+        let value = found.value();
+        if found.number() == number {
+            Some(value)
+        } else {
+            None
+        }
     }
 }

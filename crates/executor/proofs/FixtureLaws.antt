@@ -5,7 +5,6 @@ use Rattle.std.proofs.lemmas.List.{length-set}
 use Rattle.trees.specs.TreeMap.{TreeMap}
 use Rattle.trees.specs.Cause.{TreeOrCause}
 use Rattle.runs.specs.declared.run.CacheUse.{CacheUse}
-use Rattle.runs.specs.declared.run.RunBind.{RunBind}
 use Rattle.runs.specs.declared.run.RunRequest.{RunRequest}
 use Rattle.executor.specs.declared.command.Command.{Command}
 use Rattle.executor.specs.declared.command.Command.TheVariants.{Put, Cat, Show, Remove, Bump, True, Fail}
@@ -25,10 +24,6 @@ and_then-assoc (Err status) next last = refl
 and_then-same : (o : SightOrStatus) (next other : SightValue → SightOrStatus) → ((sight : SightValue) → next sight ≡ other sight) → and_then o next ≡ and_then o other
 and_then-same (Ok sight) next other e = e sight
 and_then-same (Err status) next other e = refl
-
-and_hold-same : (o : SightOrStatus) (caches : List TreeMap) (next other : SightValue → List TreeMap → List TreeMap) → ((sight : SightValue) (held : List TreeMap) → next sight held ≡ other sight held) → and_hold o caches next ≡ and_hold o caches other
-and_hold-same (Ok sight) caches next other e = e sight caches
-and_hold-same (Err status) caches next other e = refl
 
 -- commands after others go on from what those left
 pub after_commands-append : (request : RunRequest) (first second : List (List (List ℕ))) (sight : SightValue) → after_commands request (first ++ second) sight ≡ and_then (after_commands request first sight) (after_commands request second)
@@ -109,40 +104,6 @@ module _ (request : RunRequest) (root : TreeMap) (words : List (List ℕ)) where
   commands-other (command ∷ commands) sight =
       ap (λ o. and_then o (after_commands (record request { root = root; words = words }) commands)) (command-other command sight)
       ∙ and_then-same (after_command request command sight) _ _ (commands-other commands)
-
-  held_then-other : (caches : List TreeMap) (edit : Result (Option Edit) ℕ) → held_then (record request { root = root; words = words }) caches edit ≡ held_then request caches edit
-  held_then-other caches (Ok None) = refl
-  held_then-other caches (Ok (Some edit)) = refl
-  held_then-other caches (Err status) = refl
-
-  held_by_command-other : (command : List (List ℕ)) (sight : SightValue) (caches : List TreeMap) → held_by_command (record request { root = root; words = words }) command sight caches ≡ held_by_command request command sight caches
-  held_by_command-other command sight caches =
-      ap (held_then (record request { root = root; words = words }) caches) (edit-other sight command) ∙ held_then-other caches (command_edit request sight command)
-
-  held_by_commands-other : (commands : List (List (List ℕ))) (sight : SightValue) (caches : List TreeMap) → held_by_commands (record request { root = root; words = words }) commands sight caches ≡ held_by_commands request commands sight caches
-  held_by_commands-other [] sight caches = refl
-  held_by_commands-other (command ∷ commands) sight caches =
-      ap (λ o. and_hold o (held_by_command (record request { root = root; words = words }) command sight caches) (held_by_commands (record request { root = root; words = words }) commands)) (command-other command sight)
-      ∙ ap (λ held. and_hold (after_command request command sight) held (held_by_commands (record request { root = root; words = words }) commands)) (held_by_command-other command sight caches)
-      ∙ and_hold-same (after_command request command sight) (held_by_command request command sight caches) _ _ (held_by_commands-other commands)
-
--- what commands make of the request's root and binds, whatever root stands in the request by then
-pub after_commands-elsewhere : (request : RunRequest) (root : TreeMap) (sight : SightValue) → sight ≡ first_sight request → after_commands (record request { root = root }) (commands_of request.words) sight ≡ after_commands request (commands_of request.words) (first_sight request)
-after_commands-elsewhere request root sight first =
-    commands-other request root request.words (commands_of request.words) sight ∙ ap (after_commands request (commands_of request.words)) first
-
--- and what they leave in caches
-pub held_by_commands-elsewhere : (request : RunRequest) (root : TreeMap) (sight : SightValue) (caches : List TreeMap) → sight ≡ first_sight request → held_by_commands (record request { root = root }) (commands_of request.words) sight caches ≡ held_by_commands request (commands_of request.words) (first_sight request) caches
-held_by_commands-elsewhere request root sight caches first =
-    held_by_commands-other request root request.words (commands_of request.words) sight caches
-    ∙ ap (λ seen. held_by_commands request (commands_of request.words) seen caches) first
-
--- what is seen first in a root and with binds
-abbrev sight_in : TreeMap → List RunBind → SightValue
-sight_in root binds = record { root = root; own = none_own binds }
-
-pub first_sight-parts : (request : RunRequest) (root : TreeMap) (binds : List RunBind) (sight : SightValue) → sight ≡ record { root = root; own = none_own binds } → root ≡ request.root → binds ≡ request.binds → sight ≡ first_sight request
-first_sight-parts request root binds sight is same shown = is ∙ ap (λ it. sight_in it binds) same ∙ ap (sight_in request.root) shown
 
 -- what the fixture answers to a shell that is handed a script
 fixture_out-script : (request : RunRequest) (root : TreeMap) (front : List (List ℕ)) (script : List ℕ) → fixture_out (with_script (record request { root = root }) front script) ≡ outcome_of (after_commands request (commands script) (first_sight (record request { root = root })))

@@ -24,24 +24,24 @@ pub trait Executor: Sync {
     // What a run of a request may leave in its caches, by what they held before. Unless an executor says more, anything.
     ghost leaves: { Self → RunRequest → List TreeMap → List TreeMap → Type 0 } = { λ _ _ _ _. Unit {0} };
 
-    /// Runs the command of a request, which is handed over: where nobody else has the request's root, an executor can change it in its
-    /// place, and no part of it is copied. The tree of each cache that the request uses is lent beside it, in the same order. On `Ok` as
-    /// many trees come back as were lent; what they hold is what the executor may leave (`leaves`), and nothing else is said of it.
-    /// `Memory` says only that a growth was refused; the lent trees may then be any, and any number of them.
+    /// Runs the command of a request. The tree of each cache that the request uses is lent beside it, in the same order. On
+    /// `Ok` as many trees come back as were lent; what they hold is what the executor may leave (`leaves`), and nothing else is said of
+    /// it. `Memory` says only that a growth was
+    /// refused; the lent trees may then be any, and any number of them.
     ///
     /// The mounts of the request have to fit (`fits_request`), as those of each RUN that isn't refused do: no target is the root or lies
     /// at or under another one, and no cache is used twice.
     fn run(
         &self,
         alloc: Global,
-        request: Request,
+        request: &Request,
         caches: &mut Vec<Tree>,
     ) -> Result<Outcome, Memory>
-        requires lent { vec_len caches.old ≡ length request.caches }
-        requires mounts { IsTrue (fits_request request) }
-        ensures ok { IfOk result (λ outcome. outcome ≡ out self.now request) }
+        requires lent { vec_len caches.old ≡ length request.now.caches }
+        requires mounts { IsTrue (fits_request request.now) }
+        ensures ok { IfOk result (λ outcome. outcome ≡ out self.now request.now) }
         ensures lent { OnOk result (vec_len caches.new ≡ vec_len caches.old) }
-        ensures left { OnOk result (leaves self.now request caches.old.items caches.new.items) };
+        ensures left { OnOk result (leaves self.now request.now caches.old.items caches.new.items) };
 
     // A status is one that a process can end with, and not that of success.
     ghost exits: { (executor : Self) (request : RunRequest) (status : ℕ) → out executor request ≡ Exit status → (0 < status) × (status < 256) };

@@ -12,7 +12,6 @@ use crate::{Executor, Outcome, Request};
 use ascii::split_at_blanks;
 use plain::{Exact, Fault, Memory, Text};
 use std::alloc::Global;
-use std::mem;
 use trees::Tree;
 
 /// The executor of this program and of its tests: a few commands that work on the request's trees alone (own).
@@ -57,13 +56,11 @@ impl Executor for Fixture {
     fn run(
         &self,
         alloc: Global,
-        request: Request,
+        request: &Request,
         caches: &mut Vec<Tree>,
     ) -> Result<Outcome, Memory> {
-        let mut request = request;
-        let root = mem::replace(&mut request.root, Tree::empty(alloc));
-        let mut sight = Sight::first(alloc, root, request.binds.as_slice())?;
-        match run_words(alloc, &request, &mut sight, caches) {
+        let mut sight = Sight::first(alloc, request)?;
+        match run_words(alloc, request, &mut sight, caches) {
             Ok(()) => Ok(Outcome::Done(sight.into_root())),
             Err(Fault::Because(status)) => Ok(Outcome::Exit(status)),
             Err(Fault::Memory) => Err(Memory),

@@ -6,7 +6,7 @@
 // (specs/Fixture.antt): the commands of the request's words, one after another, each on the tree that the last one left.
 //
 // ```
-// let outcome = Fixture.run(alloc, request, &mut caches)?;   // Done(tree) or Exit(status)
+// let outcome = Fixture.run(alloc, &request, &mut caches)?;   // Done(tree) or Exit(status)
 // ```
 #![tactic(auto)]
 

@@ -3,7 +3,7 @@ ghost use Rattle.std.specs.FinMap.{get};
 ghost use Rattle.trees.specs.TreeMap.{TreeMap};
 ghost use Rattle.executor.specs.PrivateOutcome.{Gives, SeesNext, SeesTree, RunsTo};
 ghost use Rattle.executor.specs.Places.{bind_from, path_from, place_in, place_of};
-ghost use Rattle.executor.specs.Edits.{bind_tree, bytes_of, none_own, seen_after, seen_with, held_with, with_bind_if, changed, with_change};
+ghost use Rattle.executor.specs.Edits.{first_sight, bind_tree, bytes_of, seen_after, seen_with, held_with, with_bind_if, changed, with_change};
 ghost use Rattle.executor.specs.Fixture.{bytes_in, bytes_or_refused};
 
 use crate::Request;
@@ -36,12 +36,13 @@ impl Model for Sight {
 }
 
 impl Sight {
-    /// What the first command of a run sees in this root, with these binds.
-    pub(crate) fn first(alloc: Global, root: Tree, binds: &[RunBind]) -> Result<Sight, Memory>
-        ensures { IfOk result (λ sight. sight ≡ record { root = root; own = none_own binds.now }) }
+    /// What the first command of a run sees.
+    pub(crate) fn first(alloc: Global, request: &Request) -> Result<Sight, Memory>
+        ensures { IfOk result (λ sight. sight ≡ first_sight request.now) }
     {
+        let root = request.root.copy(alloc)?;
         let mut own = Vec::new(alloc);
-        for _bind in binds {
+        for _bind in request.binds.as_slice() {
             own.push(None)?;
         }
         Ok(Sight { root, own })

@@ -68,10 +68,8 @@ fn lacks(alloc: Global, tree: &Tree, text: &Text) -> Result<bool, Memory>
     ensures { IfOk result (λ answer. answer ≡ lacks tree.now (Pattern text.now)) }
 {
     let files = alone(alloc, text)?;
-    let mut inputs = Vec::with_capacity(alloc, 2)?;
-    inputs.push(Tree::empty(alloc))?;
-    inputs.push(tree.copy(alloc)?)?;
-    let value = settle_file(alloc, &Op::Copy(files), inputs)?;
+    let empty = Tree::empty(alloc);
+    let value = settle_file(alloc, &Op::Copy(files), &[&empty, tree])?;
     Ok(fails_for_source(&value))
 }
 

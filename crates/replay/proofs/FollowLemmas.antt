@@ -139,10 +139,6 @@ taken-at worker index before after claim placed e left =
     let same : placed.claim ≡ claim = sym (get_or_from_slice_get before index placed.claim claim placed.there) ∙ sym e in
     record { at = index; there = placed.there ∙ ap Some same; by = sym (ap (λ c. c.worker) same) ∙ placed.by; left = left }
 
--- the claim of what was taken from a list
-pub taken-claim : (worker : ℕ) (before after : List ClaimValue) (task claim : ClaimValue) → claim ≡ task → IsTaken worker before after task → IsTaken worker before after claim
-taken-claim worker before after task claim e taken = subst (IsTaken worker before after) (sym e) taken
-
 pub taken-out : (problem : Problem) (claims : List ClaimOut) (worker : ℕ) (before after : List ClaimValue) (claim : ClaimValue) → AreOut problem claims before → IsTaken worker before after claim → claim_of claim.worker claims ≡ Some (claim_out claim)
 taken-out problem claims worker before after claim is taken = ap (λ w. claim_of w claims) taken.by ∙ kept-out problem claims before worker taken.at claim is taken.there taken.by
 

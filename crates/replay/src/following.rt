@@ -8,7 +8,7 @@ ghost use Rattle.board.specs.Play.{claim_of};
 ghost use Rattle.board.specs.declared.event.Event.TheVariants.{Claim as Claiming, Settle as Settling, Abandon as Abandoning};
 ghost use Rattle.replay.specs.PrivateFollowing.{AreOut, AreLent, IsAt, IsTaken, Applies};
 
-use board::{Board, Event, Happened, Job, Keeping, NoBoard, Refused, Task};
+use board::{Board, Claim, Event, Happened, Job, NoBoard, Refused};
 use cachemounts::CacheStore;
 use executor::Executor;
 use plain::{Items, Memory, growth};
@@ -29,7 +29,7 @@ pub fn follow<C, E: Executor>(
     ensures given { IfOk result (GivesBackWhatIsLeft (E.leaves executor.now) (problem_of (E.out executor.now) plan.now) []) }
 {
     let job = Job::new(plan, executor);
-    let mut board = match Board::new(alloc, job, CacheStore::new(alloc), Keeping::All) {
+    let mut board = match Board::new(alloc, job, CacheStore::new(alloc)) {
         Ok(board) => board,
         Err(refused) => {
             let NoBoard { caches: _ } = refused;
@@ -51,7 +51,7 @@ pub fn follow<C, E: Executor>(
 fn apply<E: Executor>(
     alloc: Global,
     board: &mut Board<E>,
-    out: &mut Vec<Task>,
+    out: &mut Vec<Claim>,
     event: Event,
 ) -> Result<(), Memory>
     requires out { AreOut (board_problem E.out board.old) board.old.run.state.claims out.old.items }
@@ -76,7 +76,7 @@ fn apply<E: Executor>(
 fn claim_next<E: Executor>(
     alloc: Global,
     board: &mut Board<E>,
-    out: &mut Vec<Task>,
+    out: &mut Vec<Claim>,
     worker: u32,
 ) -> Result<(), Memory>
     requires out { AreOut (board_problem E.out board.old) board.old.run.state.claims out.old.items }
@@ -101,7 +101,7 @@ fn claim_next<E: Executor>(
 fn settle_claim<E: Executor>(
     alloc: Global,
     board: &mut Board<E>,
-    out: &mut Vec<Task>,
+    out: &mut Vec<Claim>,
     worker: u32,
 ) -> Result<(), Memory>
     requires out { AreOut (board_problem E.out board.old) board.old.run.state.claims out.old.items }
@@ -113,11 +113,10 @@ fn settle_claim<E: Executor>(
     ensures lent { OnOk result (AreLent (board_problem E.out board.old) board.new.first board.new.run.history out.new.items) }
 {
     let _known = board.history();
-    let Some(task) = take_claim(out, worker) else {
+    let Some(claim) = take_claim(out, worker) else {
         return Ok(());
     };
-    let (claim, inputs) = task.into_parts();
-    let Ran { value, given } = match run(alloc, board.job(), &claim, inputs) {
+    let Ran { value, given } = match run(alloc, board.job(), &claim) {
         Ok(ran) => ran,
         Err(memory) => {
             claim.discard();
@@ -139,7 +138,7 @@ fn settle_claim<E: Executor>(
 }
 
 /// An abandon by a worker, where it is possible.
-fn abandon_claim<E: Executor>(board: &mut Board<E>, out: &mut Vec<Task>, worker: u32)
+fn abandon_claim<E: Executor>(board: &mut Board<E>, out: &mut Vec<Claim>, worker: u32)
     requires out { AreOut (board_problem E.out board.old) board.old.run.state.claims out.old.items }
     requires lent { AreLent (board_problem E.out board.old) board.old.first board.old.run.history out.old.items }
     ensures job { board.new.job ≡ board.old.job }
@@ -149,15 +148,14 @@ fn abandon_claim<E: Executor>(board: &mut Board<E>, out: &mut Vec<Task>, worker:
     ensures lent { AreLent (board_problem E.out board.old) board.new.first board.new.run.history out.new.items }
 {
     let _known = board.history();
-    let Some(task) = take_claim(out, worker) else {
+    let Some(claim) = take_claim(out, worker) else {
         return;
     };
-    let (claim, _inputs) = task.into_parts();
     board.abandon(claim);
 }
 
 /// Takes a worker's claim from those that are out.
-fn take_claim(out: &mut Vec<Task>, worker: u32) -> Option<Task>
+fn take_claim(out: &mut Vec<Claim>, worker: u32) -> Option<Claim>
     ensures found { IfSome result (IsTaken worker out.old.items out.new.items) }
     ensures none { IfNone result (claim_of worker (map claim_out out.old.items) ≡ None) }
     ensures same { IfNone result (out.new.items ≡ out.old.items) }
@@ -167,12 +165,12 @@ fn take_claim(out: &mut Vec<Task>, worker: u32) -> Option<Task>
 }
 
 /// Where a worker's claim is among those that are out.
-fn position_of(out: &[Task], worker: u32) -> Option<usize>
+fn position_of(out: &[Claim], worker: u32) -> Option<usize>
     ensures found { IfSome result (IsAt out.now worker) }
     ensures none { IfNone result (claim_of worker (map claim_out out.now) ≡ None) }
 {
-    for (at, task) in out.iter().enumerate() {
-        if task.claim().worker() == worker {
+    for (at, claim) in out.iter().enumerate() {
+        if claim.worker() == worker {
             return Some(at);
         }
     }
@@ -180,10 +178,9 @@ fn position_of(out: &[Task], worker: u32) -> Option<usize>
 }
 
 /// Drops claims of a board that has ended.
-fn discard_all(mut tasks: Vec<Task>) {
-    while let Some(task) = tasks.pop() {
-        let (claim, _inputs) = task.into_parts();
+fn discard_all(mut claims: Vec<Claim>) {
+    while let Some(claim) = claims.pop() {
         claim.discard();
     }
-    tasks.destroy_empty();
+    claims.destroy_empty();
 }

@@ -18,9 +18,11 @@ use Rattle.llb.proofs.graph.Graph.TheSendSync as graph
 use Rattle.llb.proofs.vertex.VertexId.TheSendSync as id
 use Rattle.plans.specs.contracts.sources.Sources as Sources
 use Rattle.executor.specs.declared.executor.Executor.{Ghosts}
-use Rattle.board.specs.contracts.shelf.Settled as Settled
+use Rattle.cells.specs.declared.place.Place.{Ghosts as PlaceGhosts}
+use Rattle.cells.proofs.known.KnownCell.TheSendSync as known
+use Rattle.cells.proofs.row.Row.TheSendSync as row
 use Rattle.board.specs.contracts.shelf.Shelf as Shelf
-use Rattle.board.specs.contracts.shelf.Shelf.TheInside as ShelfInside
+use Rattle.board.proofs.shelf.Shelf.TheSendSync as shelf
 use Rattle.cachemounts.proofs.holds.Hold.TheSendSync as hold
 use Rattle.cachemounts.specs.contracts.content.Content as Content
 use Rattle.cachemounts.specs.contracts.contents.Contents as Contents
@@ -53,6 +55,9 @@ sources_sync = search (tree_sync, sendable, any.crosses, maps.crosses, text.the_
 pub value_send : IsSend (result.the_row Tree.the_row cause_row.the_row)
 value_send = search (tree_send, cause.the_send, sendable) depth 20
 
+pub value_sync : IsSync (result.the_row Tree.the_row cause_row.the_row)
+value_sync = search (tree_sync, cause.the_sync, sendable) depth 20
+
 pub happened_send : IsSend Happened.the_field.row
 happened_send = search (tree_send, sendable, any.crosses, id.the_send, items.the_send) depth 20
 
@@ -84,29 +89,24 @@ job_sync κ E g e =
     (search (e, sendable) depth 20, (search (graph.the_sync, sendable) depth 20, (search (sources_sync, sendable) depth 20, (search (id.the_sync, sendable) depth 20, tt)))) in
     search (all, sendable) depth 20
 
-pub settled_send : IsSend Settled.the_field.row
-settled_send = search (value_send, sendable, any.crosses) depth 20
+pub shelf_send : (P : RattleType) (p : PlaceGhosts P.Denot (result.the_row Tree.the_row cause_row.the_row).Denot) → IsSend P → IsSend (Shelf.the_row P p)
+shelf_send P p s = search (s, shelf.the_send, sendable, any.crosses) depth 20
 
-pub shelf_send : IsSend Shelf.the_row
-shelf_send =
-    let all : AllSend (fields ShelfInside.the_type) =
-    (search (settled_send, sendable, any.crosses) depth 20, (search (sendable, any.crosses) depth 20, (search (id.the_send, sendable) depth 20, tt))) in
-    search (all, sendable) depth 20
-
-pub board_send : (κ : NamedLft) (E : RattleType) (g : Ghosts E.Denot) → IsSync E → IsSend (Board.the_row κ E g)
-board_send κ E g e =
-    let all : AllSend (fields (BoardInside.the_type κ E g)) =
-    (search (job_send κ E g e, sendable) depth 20, (search (shelf_send, sendable) depth 20, (search (claim.the_field_send, sendable, any.crosses) depth 20, (search (happened_send, sendable, any.crosses) depth 20, (search (content_send, sendable, any.crosses) depth 20, (search (caches_send, sendable) depth 20, (search (frontier.the_field_send, sendable, any.crosses) depth 20, tt))))))) in
+pub board_send : (κ : NamedLft) (E P : RattleType) (g : Ghosts E.Denot) (p : PlaceGhosts P.Denot (result.the_row Tree.the_row cause_row.the_row).Denot) → IsSync E → IsSend P → IsSend (Board.the_row κ E P g p)
+board_send κ E P g p e s =
+    let all : AllSend (fields (BoardInside.the_type κ E P g p)) =
+    (search (job_send κ E g e, sendable) depth 20, (search (shelf_send P p s, sendable) depth 20, (search (claim.the_field_send, sendable, any.crosses) depth 20, (search (happened_send, sendable, any.crosses) depth 20, (search (content_send, sendable, any.crosses) depth 20, (search (caches_send, sendable) depth 20, (search (frontier.the_field_send, sendable, any.crosses) depth 20, tt))))))) in
     search (all, sendable) depth 20
 
 pub held_send : (κ : NamedLft) (E J : RattleType) (g : Ghosts E.Denot) (j : CaseGhosts J.Denot) (r : RoomGhosts J.Denot) → IsSync E → IsSend J → IsSync J → IsSend (Held.the_row κ E J g j r)
 held_send κ E J g j r e s t =
+    let board : (P : RattleType) (p : PlaceGhosts P.Denot (result.the_row Tree.the_row cause_row.the_row).Denot) → IsSend P → IsSend (Board.the_row κ E P g p) = λ P p. board_send κ E P g p e in
     let all : AllSend (fields (HeldInside.the_type κ E J g j r)) =
-    (search (board_send κ E g e, sendable) depth 20, (search (roll.the_send, sendable) depth 20, (search sendable depth 20, tt))) in
+    (search (board, value_send, value_sync, known.the_send, sendable, any.crosses) depth 30, (search (roll.the_send, sendable) depth 20, (search sendable depth 20, tt))) in
     search (all, sendable) depth 20
 
 -- so workers may share a desk
 pub desk_sync : (κ : NamedLft) (E J : RattleType) (g : Ghosts E.Denot) (j : CaseGhosts J.Denot) (r : RoomGhosts J.Denot) → IsSync E → IsSend J → IsSync J → IsSync (Desk.the_row κ E J g j r)
 desk_sync κ E J g j r e s t =
     let held : (κ : NamedLft) → IsSend (Held.the_row κ E J g j r) = λ κ. held_send κ E J g j r e s t in
-    search (held, sendable, any.crosses) depth 30
+    search (held, value_send, value_sync, row.the_sync, sendable, any.crosses) depth 30

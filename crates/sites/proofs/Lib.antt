@@ -1,3 +1,4 @@
 mod BookLemmas
 mod TallyLemmas
 pub mod Crosses
+mod KeepLemmas

@@ -13,19 +13,19 @@ ghost use Rattle.board.specs.Problem.{IsProblem};
 ghost use Rattle.sites.specs.Seats.{SeatValue, IsMine, IsLentTo, IsSeatOf, tally_of};
 ghost use Rattle.sites.specs.PrivateSeats.{AreSeatsOf};
 
-use crate::{Case, Seat};
-use board::{Board, Claim, ClaimOut, Happened, Refused, Task};
+use crate::{Case, Known, Seat};
+use board::{Board, Claim, ClaimOut, Happened, Refused};
 use executor::Executor;
 use plain::{Memory, growth};
 use rolls::{Giver, Note, Roll, Room, Slip};
 use std::alloc::Global;
 use std::marker::{Model, PhantomData};
-use trees::{Tree, TreeOrCause};
+use trees::Tree;
 
 /// What lies under a site's lock: the board of the site's problem, with the roll that ties it to the seats. Contracts see the board.
 #[derive(Drop)]
 pub struct Held<'a, E: Executor, J: Case + Room> {
-    pub(crate) board: Board<'a, E>,
+    pub(crate) board: Board<'a, E, Known<'a, J>>,
     pub(crate) roll: Roll<J>,
     pub(crate) of: PhantomData<J>,
 }
@@ -47,10 +47,13 @@ impl<'a, E: Executor, J: Case + Room> Model for Held<'a, E, J> {
 }
 
 impl<'a, E: Executor, J: Case + Room> Held<'a, E, J> {
-    /// Claims the ready vertex of least id for the seat's worker, with the trees of its inputs and the lease of its caches. It claims nothing
-    /// where no vertex is ready, or where the seat has a claim out. After `Memory` board and seat are as they were. It also answers `Memory`
-    /// where the tree of an input went to a claim that was given up.
-    pub fn claim(&mut self, alloc: Global, seat: &mut Seat<J>) -> Result<Option<Task>, Memory>
+    /// Claims the ready vertex of least id for the seat's worker, with the places of its inputs' trees and the lease of its caches. It claims
+    /// nothing where no vertex is ready, or where the seat has a claim out. After `Memory` board and seat are as they were.
+    pub fn claim(
+        &mut self,
+        alloc: Global,
+        seat: &mut Seat<J>,
+    ) -> Result<Option<Claim<Known<'a, J>>>, Memory>
         ensures agrees { IsSeatOf self.old.run seat.old }
         ensures next { IfOk result (λ claim. IsNextClaim J.problem self.old.run.history seat.old.worker
             (option_map (λ c. c.vertex) claim)) }
@@ -66,10 +69,9 @@ impl<'a, E: Executor, J: Case + Room> Held<'a, E, J> {
     {
         self.agree(seat);
         let claimed = self.board.claim(alloc, seat.worker())?;
-        let Some(task) = claimed else {
+        let Some(claim) = claimed else {
             return Ok(None);
         };
-        let claim = task.claim();
         let worker = claim.worker();
         let vertex = claim.vertex();
         let at = claim.at();
@@ -79,7 +81,7 @@ impl<'a, E: Executor, J: Case + Room> Held<'a, E, J> {
         };
         self.roll.write(&mut seat.slip, note, claim.caches());
         seat.out = Some(ClaimOut { worker, vertex, at });
-        Ok(Some(task))
+        Ok(Some(claim))
     }
 
     /// Settles the vertex of the claim that the seat has out (`Seat::out` tells which), gives trees back to the caches that the vertex
@@ -91,22 +93,22 @@ impl<'a, E: Executor, J: Case + Room> Held<'a, E, J> {
         &mut self,
         alloc: Global,
         seat: &mut Seat<J>,
-        claim: Claim,
-        value: TreeOrCause,
+        claim: Claim<Known<'a, J>>,
+        value: Known<'a, J>,
         given: Vec<Tree>,
-    ) -> Result<(), Refused>
+    ) -> Result<(), Refused<Known<'a, J>>>
         requires mine { IsMine seat.old claim }
         requires of { IsClaim J.problem claim }
-        requires value { IsResult J.problem claim value }
+        requires value { IsResult J.problem claim value.value }
         requires given { IsGivenBack J.problem claim given.items }
         requires lent { IsLentTo seat.old claim }
         requires left { IsLeftFor J.leaves J.problem claim given.items }
         ensures agrees { IsSeatOf self.old.run seat.old }
         ensures run { OnOk result (IsStep E.out (Settling seat.old.worker given.items) self.old self.new) }
-        ensures value { OnOk result (slice_get self.new.run.state.settled claim.vertex ≡ Some (Some value)) }
-        ensures seat { OnOk result (seat.new ≡ record { worker = seat.old.worker; out = None; tally = seat.old.tally ++ claim.vertex ∷ []; lent = seat.old.lent }) }
+        ensures value { OnOk result (slice_get self.new.run.state.settled claim.entry.vertex ≡ Some (Some value.entry.value)) }
+        ensures seat { OnOk result (seat.new ≡ record { worker = seat.old.worker; out = None; tally = seat.old.tally ++ claim.entry.vertex ∷ []; lent = seat.old.lent }) }
         ensures err { OnErr result ((self.new ≡ self.old) × (seat.new ≡ seat.old)) }
-        ensures back { IfErr result (λ refused. (refused.claim ≡ claim) × (refused.value ≡ value) × (refused.given.items ≡ given.items)) }
+        ensures back { IfErr result (λ refused. (refused.claim ≡ claim.entry) × (refused.value ≡ value.entry) × (refused.given.items ≡ given.items)) }
     {
         self.agree(seat);
         if growth::room(&mut seat.tally, 1).is_err() {
@@ -127,7 +129,7 @@ impl<'a, E: Executor, J: Case + Room> Held<'a, E, J> {
 
     /// Gives up the claim that the seat has out (`Seat::out` tells which): its vertex may be claimed again, and the contents of its caches
     /// stay as they are. It takes no memory.
-    pub fn abandon(&mut self, seat: &mut Seat<J>, claim: Claim)
+    pub fn abandon(&mut self, seat: &mut Seat<J>, claim: Claim<Known<'a, J>>)
         requires mine { IsMine seat.old claim }
         ensures agrees { IsSeatOf self.old.run seat.old }
         ensures run { IsStep E.out (Abandoning seat.old.worker) self.old self.new }
@@ -214,7 +216,7 @@ impl<'a, E: Executor, J: Case + Room> Held<'a, E, J> {
     }
 
     /// The board, for the site alone.
-    pub(crate) fn into_board(self) -> Board<'a, E>
+    pub(crate) fn into_board(self) -> Board<'a, E, Known<'a, J>>
         ensures board { result ≡ self.entry }
         ensures problem { board_problem E.out result ≡ J.problem }
         ensures first { result.first ≡ J.first }

@@ -1,27 +1,63 @@
-ghost use Rattle.std.specs.Prelude.{◌≡◌, ◌<◌, ◌+◌, [], None};
+ghost use Rattle.std.specs.Prelude.{◌≡◌, ◌<◌, ◌+◌, [], None, Some, IfOk, IfSome, length, slice_get};
 ghost use Rattle.plain.specs.Limits.{most_workers};
 ghost use Rattle.board.specs.Board.{board_problem};
+ghost use Rattle.board.specs.Claim.{IsClaim, IsResult};
+ghost use Rattle.board.specs.Job.{job_problem};
 ghost use Rattle.board.specs.Leaving.{LeaveTheSame};
 ghost use Rattle.sites.specs.Seats.{SeatValue, AreAll, AreSettled, AreTallies};
 
-use crate::{Case, Held, Seat};
-use board::Board;
+use crate::{Case, Held, Known, Results, Seat};
+use board::{Board, Claim, Job};
 use executor::Executor;
+use plain::Memory;
 use rolls::{Giver, Opened, Room};
 use std::alloc::Global;
 use std::marker::{Model, PhantomData};
 use std::sync::{Mutex, MutexGuard, Wait};
+use trees::{Tree, TreeOrCause};
 
-/// What the workers of a site share: the lock. A `Site` itself can't be lent to several threads, since it gives seats.
+/// What the workers of a site share: the lock, and beside it the cells with the results. A `Site` itself can't be lent to several threads, since it gives seats.
 #[derive(Drop)]
 pub struct Desk<'a, E: Executor, J: Case + Room> {
     held: Mutex<Held<'a, E, J>>,
+    results: &'a Results<J>,
+    ghost long: { results.now ≡ length J.problem.vertices },
 }
 
 impl<'a, E: Executor, J: Case + Room> Desk<'a, E, J> {
     /// Waits for the lock. What is then known of the board is what its type says.
     pub fn lock<R: Wait>(&self, rt: &R) -> MutexGuard<'_, Held<'a, E, J>> {
         self.held.lock(rt)
+    }
+
+    /// Puts the result of a claim into the cell of its vertex, unless one stands there already, and answers what stands there then: the vertex's
+    /// value, whoever put it there. None if what stands there is another vertex's. It waits for nobody.
+    pub fn keep(
+        &self,
+        alloc: Global,
+        job: &Job<E>,
+        claim: &Claim<Known<'a, J>>,
+        value: TreeOrCause,
+    ) -> Result<Option<Known<'a, J>>, Memory>
+        requires job { job_problem E.out job.now ≡ J.problem }
+        requires of { IsClaim J.problem claim.now }
+        requires value { IsResult J.problem claim.now value }
+        ensures { IfOk result (λ known. IfSome known (λ k. (k.number ≡ claim.now.vertex) × IsResult J.problem claim.now k.value)) }
+    {
+        let _known = job.graph();
+        self.results.keep(alloc, claim.vertex().number(), value)
+    }
+
+    /// The tree of an input of a claim's vertex, by the input's position. It stands in the input's cell, which the claim knows. It waits for nobody,
+    /// and the tree outlives the claim.
+    pub fn input(&self, claim: &Claim<Known<'a, J>>, at: usize) -> &'a Tree
+        requires { at < length claim.now.inputs }
+        ensures { slice_get claim.now.inputs at ≡ Some result.now }
+    {
+        match claim.place(at).value() {
+            Ok(tree) => tree,
+            Err(_) => unreachable!(),
+        }
     }
 }
 
@@ -46,8 +82,13 @@ impl<'a, E: Executor, J: Case + Room> Model for Site<'a, E, J> {
 impl<'a, E: Executor, J: Case + Room> Site<'a, E, J> {
     /// The site of a board on which nothing has happened, with a roll on which nothing stands, which gave no seat yet. Board, its executor and roll have to be
     /// those that the site's type names.
-    pub fn new(board: Board<'a, E>, opened: Opened) -> Site<'a, E, J>
+    pub fn new(
+        board: Board<'a, E, Known<'a, J>>,
+        results: &'a Results<J>,
+        opened: Opened,
+    ) -> Site<'a, E, J>
         requires problem { board_problem E.out board ≡ J.problem }
+        requires long { results.now ≡ length J.problem.vertices }
         requires first { board.first ≡ J.first }
         requires leaves { LeaveTheSame (E.leaves board.job.executor) J.leaves }
         requires room { opened.table.shared.table_id ≡ J.table }
@@ -64,6 +105,7 @@ impl<'a, E: Executor, J: Case + Room> Site<'a, E, J> {
         Site {
             desk: Desk {
                 held: Mutex::new(held),
+                results,
             },
             giver,
         }
@@ -91,9 +133,17 @@ impl<'a, E: Executor, J: Case + Room> Site<'a, E, J> {
         self.desk.lock(rt)
     }
 
+    /// The tree of an input of a claim's vertex, by the input's position, as `Desk::input` gives it.
+    pub fn input(&self, claim: &Claim<Known<'a, J>>, at: usize) -> &'a Tree
+        requires { at < length claim.now.inputs }
+        ensures { slice_get claim.now.inputs at ≡ Some result.now }
+    {
+        self.desk.input(claim, at)
+    }
+
     /// Ends the site and gives its board, on which every claim that was still out is abandoned. What is in these seats' tallies is settled; where they are all
     /// seats that were given, their tallies are the settled vertices, each once. The seats stay as they are. It takes no memory.
-    pub fn close(self, seats: &mut [Seat<J>]) -> Board<'a, E>
+    pub fn close(self, seats: &mut [Seat<J>]) -> Board<'a, E, Known<'a, J>>
         ensures problem { board_problem E.out result ≡ J.problem }
         ensures first { result.first ≡ J.first }
         ensures leaves { LeaveTheSame (E.leaves result.job.executor) J.leaves }
@@ -103,7 +153,7 @@ impl<'a, E: Executor, J: Case + Room> Site<'a, E, J> {
         ensures seats { seats.new ≡ seats.old }
     {
         let Site { desk, mut giver } = self;
-        let Desk { held } = desk;
+        let Desk { held, results: _ } = desk;
         let mut held = held.into_inner();
         held.agree_all(seats);
         held.complete(&mut giver);

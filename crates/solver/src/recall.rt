@@ -13,13 +13,14 @@ use crate::Numbering;
 use crate::finding::{Finding, Findings};
 use crate::running::{is_command, vertex_at};
 use board::{Claim, Job};
+use cells::Place;
 use executor::Executor;
 use llb::{Op, Vertex, VertexId};
 use memo::{Age, Memo};
 use plain::Memory;
 use std::alloc::Global;
 use std::marker::Model;
-use trees::Tree;
+use trees::{Tree, TreeOrCause};
 
 /// A memo that is asked while a problem is solved, and what was found in it: the numbers that it has for the trees of the problem's vertices. So a tree that
 /// was found is known by its number to whoever asks next, and is walked by nobody.
@@ -82,23 +83,21 @@ impl<'m, 'k, E: Executor, N: Numbering> Recall<'m, 'k, E, N> {
 
     /// The tree that the memo has as a claim's result, if what is known of the inputs tells of one. Then it knows the request of the claim's vertex, if that is
     /// a command. The job may have another executor than the memo, with the same answers.
-    pub(crate) fn tree<X: Executor>(
+    pub(crate) fn tree<X: Executor, P: Place<TreeOrCause>>(
         &self,
         alloc: Global,
         job: &Job<X>,
-        claim: &Claim,
-        inputs: &[Tree],
+        claim: &Claim<P>,
     ) -> Result<Option<&'m Tree>, Memory>
         requires named { AreOf (job_problem X.out job.now) N.out N.values }
         requires of { IsClaim (job_problem X.out job.now) claim.now }
-        requires inputs { inputs.now ≡ claim.now.inputs }
         ensures value { IfOk result (λ found. IfSome found (λ tree. IsResult (job_problem X.out job.now) claim.now (OkOf tree.now))) }
         ensures known { IfOk result (λ found. IfSome found (λ tree. IsLeftFor (stays N.knows) (job_problem X.out job.now) claim.now claim.now.caches)) }
     {
         let memo = self.memo;
         let _known = job.graph();
-        let recent = self.result_number(alloc, job, claim, inputs, Age::Recent)?;
-        let earlier = self.result_number(alloc, job, claim, inputs, Age::Earlier)?;
+        let recent = self.result_number(alloc, job, claim, Age::Recent)?;
+        let earlier = self.result_number(alloc, job, claim, Age::Earlier)?;
         let finding = Finding {
             recent,
             earlier,
@@ -118,47 +117,43 @@ impl<'m, 'k, E: Executor, N: Numbering> Recall<'m, 'k, E, N> {
     }
 
     /// The number in a generation of the tree that it has as a claim's result.
-    fn result_number<X: Executor>(
+    fn result_number<X: Executor, P: Place<TreeOrCause>>(
         &self,
         alloc: Global,
         job: &Job<X>,
-        claim: &Claim,
-        inputs: &[Tree],
+        claim: &Claim<P>,
         age: Age,
     ) -> Result<Option<usize>, Memory>
         requires named { AreOf (job_problem X.out job.now) N.out N.values }
         requires of { IsClaim (job_problem X.out job.now) claim.now }
-        requires inputs { inputs.now ≡ claim.now.inputs }
         ensures value { IfOk result (λ found. IfSome found (IsKept N.values (generation_of self.now age).trees claim.now.vertex)) }
         ensures known { IfOk result (λ found. IfSome found (λ number. IsLeftFor (stays N.knows) (job_problem X.out job.now) claim.now claim.now.caches)) }
     {
         let vertex = vertex_at(job, claim.vertex());
-        let Some(numbers) = self.numbers_of(alloc, job, vertex, claim, inputs, age)? else {
+        let Some(inputs) = self.numbers_of(alloc, job, vertex, claim, age)? else {
             return Ok(None);
         };
-        Ok(self.memo.find_kept(age, &vertex.op, numbers.as_slice()))
+        Ok(self.memo.find_kept(age, &vertex.op, inputs.as_slice()))
     }
 
     /// The numbers in a generation of the trees of a claim's inputs; none if one isn't known, and then no further one is sought.
-    fn numbers_of<X: Executor>(
+    fn numbers_of<X: Executor, P: Place<TreeOrCause>>(
         &self,
         alloc: Global,
         job: &Job<X>,
         vertex: &Vertex,
-        claim: &Claim,
-        inputs: &[Tree],
+        claim: &Claim<P>,
         age: Age,
     ) -> Result<Option<Vec<usize>>, Memory>
         requires named { AreOf (job_problem X.out job.now) N.out N.values }
         requires of { IsClaim (job_problem X.out job.now) claim.now }
-        requires inputs { inputs.now ≡ claim.now.inputs }
         requires vertex { slice_get job.now.graph.vertices claim.now.vertex ≡ Some vertex.now }
         ensures { IfOk result (λ found. IfSome found (λ numbers. trees_at N.values vertex.now.inputs ≡ Some (kept_trees (generation_of self.now age) numbers.items))) }
     {
         let count = vertex.inputs.len();
         let mut numbers = Vec::with_capacity(alloc, count)?;
         for at in 0..count {
-            let Some(number) = self.number_at(alloc, job, vertex, claim, inputs, at, age) else {
+            let Some(number) = self.number_at(alloc, job, vertex, claim, at, age) else {
                 return Ok(None);
             };
             numbers.push(number)?;
@@ -167,19 +162,17 @@ impl<'m, 'k, E: Executor, N: Numbering> Recall<'m, 'k, E, N> {
     }
 
     /// The number in a generation of the tree of an input of a claim, by the input's position, if it is known or the memo finds it.
-    fn number_at<X: Executor>(
+    fn number_at<X: Executor, P: Place<TreeOrCause>>(
         &self,
         alloc: Global,
         job: &Job<X>,
         vertex: &Vertex,
-        claim: &Claim,
-        inputs: &[Tree],
+        claim: &Claim<P>,
         at: usize,
         age: Age,
     ) -> Option<usize>
         requires named { AreOf (job_problem X.out job.now) N.out N.values }
         requires of { IsClaim (job_problem X.out job.now) claim.now }
-        requires inputs { inputs.now ≡ claim.now.inputs }
         requires vertex { slice_get job.now.graph.vertices claim.now.vertex ≡ Some vertex.now }
         ensures { IfSome result (IsKept N.values (generation_of self.now age).trees (slice_index_or vertex.now.inputs at 0)) }
     {
@@ -189,10 +182,10 @@ impl<'m, 'k, E: Executor, N: Numbering> Recall<'m, 'k, E, N> {
         if let Some(finding) = self.findings.get(input.number()) {
             return finding.number(age);
         }
-        let Some(tree) = inputs.get(at) else {
+        if at >= claim.input_count() {
             return None;
-        };
-        match self.sought(alloc, job, &vertex.op, *input, at, tree) {
+        }
+        match self.sought(alloc, job, &vertex.op, *input, at, claim.input(at)) {
             Some(finding) => {
                 self.write(alloc, *input, finding);
                 finding.number(age)

@@ -7,11 +7,12 @@ ghost use Rattle.solver.specs.Recall.{AreOf, MayStay};
 use crate::running::run_gated;
 use crate::{Gate, Numbering, Recall};
 use board::{Claim, Job};
+use cells::Place;
 use executor::{Executor, Outcome, Request};
 use plain::{Exact, Memory, copied_items};
 use std::alloc::Global;
 use std::marker::{Model, PhantomData, Sync};
-use trees::Tree;
+use trees::{Tree, TreeOrCause};
 use vertexrun::Ran;
 
 /// An executor in a solve that asks a memo first: in the caches of a request that the memo knew, the trees may also stay as they were. It runs what its executor
@@ -54,7 +55,7 @@ impl<'e, E: Executor, N: Numbering + Sync> Executor for Recalling<'e, E, N> {
     fn run(
         &self,
         alloc: Global,
-        request: Request,
+        request: &Request,
         caches: &mut Vec<Tree>,
     ) -> Result<Outcome, Memory> {
         self.executor.run(alloc, request, caches)
@@ -63,16 +64,14 @@ impl<'e, E: Executor, N: Numbering + Sync> Executor for Recalling<'e, E, N> {
 
 /// The result of a claim: the tree that a memo has for its vertex's operation on its inputs, if what is known of these tells of one, and then the claim's
 /// caches get back the trees as they were taken; else what `run_gated` gives. Where the memo has it, neither the executor nor the gate is asked.
-pub fn run_recalled<E: Executor, M: Executor, G: Gate, N: Numbering>(
+pub fn run_recalled<E: Executor, M: Executor, G: Gate, N: Numbering, P: Place<TreeOrCause>>(
     alloc: Global,
     job: &Job<E>,
     recall: Option<&Recall<M, N>>,
     gate: &G,
-    claim: &Claim,
-    inputs: Vec<Tree>,
+    claim: &Claim<P>,
 ) -> Result<Ran, Memory>
     requires of { IsClaim (job_problem E.out job.now) claim.now }
-    requires inputs { inputs.items ≡ claim.now.inputs }
     requires named { AreOf (job_problem E.out job.now) N.out N.values }
     requires stays { MayStay N.knows (E.leaves job.now.executor) }
     ensures value { IfOk result (λ ran. IsResult (job_problem E.out job.now) claim.now ran.value) }
@@ -80,16 +79,20 @@ pub fn run_recalled<E: Executor, M: Executor, G: Gate, N: Numbering>(
     ensures left { IfOk result (λ ran. IsLeftFor (E.leaves job.now.executor) (job_problem E.out job.now) claim.now ran.given.items) }
 {
     let Some(recall) = recall else {
-        return run_gated(alloc, job, gate, claim, inputs);
+        return run_gated(alloc, job, gate, claim);
     };
-    match recall.tree(alloc, job, claim, inputs.as_slice())? {
+    match recall.tree(alloc, job, claim)? {
         Some(tree) => recalled(alloc, claim, tree),
-        None => run_gated(alloc, job, gate, claim, inputs),
+        None => run_gated(alloc, job, gate, claim),
     }
 }
 
 /// A tree as the result of a claim, with the trees that are in the claim's caches.
-fn recalled(alloc: Global, claim: &Claim, tree: &Tree) -> Result<Ran, Memory>
+fn recalled<P: Place<TreeOrCause>>(
+    alloc: Global,
+    claim: &Claim<P>,
+    tree: &Tree,
+) -> Result<Ran, Memory>
     ensures value { IfOk result (λ ran. ran.value ≡ OkOf tree.now) }
     ensures given { IfOk result (λ ran. ran.given.items ≡ claim.now.caches) }
 {

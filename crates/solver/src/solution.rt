@@ -1,9 +1,9 @@
-ghost use Rattle.std.specs.Prelude.{◌≡◌, ◌+◌, ℕ, [], None, Some, Ok, Err, false, length, IfOk, IfSome, IfNone};
+ghost use Rattle.std.specs.Prelude.{◌≡◌, ◌+◌, ℕ, [], None, Some, Ok, false, length, IfOk, IfSome, IfNone};
 ghost use Rattle.trees.specs.TreeMap.{TreeMap};
 ghost use Rattle.board.specs.Board.{board_problem};
 ghost use Rattle.board.specs.Legal.{IsReady};
 ghost use Rattle.board.specs.Play.{value_at};
-ghost use Rattle.board.specs.Readiness.{has_tree, has_cause};
+ghost use Rattle.board.specs.Readiness.{has_tree};
 ghost use Rattle.solver.specs.PrivateSolution.{IsLeastFailure};
 ghost use Rattle.solver.specs.Solution.{IsSolution, IsBuilt};
 
@@ -38,7 +38,7 @@ pub(crate) fn solution_of<E: Executor>(alloc: Global, board: &Board<E>) -> Resul
         → IfOk result (IsBuilt tree) }
 {
     let _known = board.history();
-    if let Some(tree) = target_tree(board) {
+    if let Some(tree) = tree_of(board, board.job().target()) {
         return Ok(Solution::Built(tree.copy(alloc)?));
     }
     let Some(failure) = least_failure(board) else {
@@ -84,14 +84,14 @@ fn lesser_failure<E: Executor>(
     requires { IsLeastFailure (board_problem E.out board.now) board.now.run.state.settled vertex least }
     ensures { IsLeastFailure (board_problem E.out board.now) board.now.run.state.settled (vertex + 1) result }
 {
-    let Some(cause) = cause_of(board, vertex) else {
+    let Some(Err(cause)) = board.value(vertex) else {
         return least;
     };
     let place = board.job().graph().least_place(vertex);
     let here = Failure {
         vertex,
         place,
-        cause,
+        cause: *cause,
     };
     match least {
         Some(failure) => {
@@ -105,26 +105,13 @@ fn lesser_failure<E: Executor>(
     }
 }
 
-/// The cause with which a vertex is settled.
-fn cause_of<E: Executor>(board: &Board<E>, vertex: VertexId) -> Option<Cause>
-    ensures found { IfSome result (λ cause. value_at board.now.run.state.settled vertex ≡ Some (Err cause)) }
-    ensures none { IfNone result (has_cause (value_at board.now.run.state.settled vertex) ≡ false) }
+/// The tree with which a vertex is settled.
+fn tree_of<'a, E: Executor>(board: &'a Board<E>, vertex: VertexId) -> Option<&'a Tree>
+    ensures found { IfSome result (λ tree. value_at board.now.run.state.settled vertex ≡ Some (Ok tree.now)) }
+    ensures none { IfNone result (has_tree (value_at board.now.run.state.settled vertex) ≡ false) }
 {
     match board.value(vertex) {
-        Some(Err(cause)) => Some(*cause),
-        Some(Ok(_)) => None,
-        None => None,
-    }
-}
-
-/// The tree with which the target is settled.
-fn target_tree<'a, E: Executor>(board: &'a Board<E>) -> Option<&'a Tree>
-    ensures found { IfSome result (λ tree. value_at board.now.run.state.settled board.now.job.target ≡ Some (Ok tree.now)) }
-    ensures none { IfNone result (has_tree (value_at board.now.run.state.settled board.now.job.target) ≡ false) }
-{
-    match board.value(board.job().target()) {
         Some(Ok(tree)) => Some(tree),
-        Some(Err(_)) => None,
-        None => None,
+        _ => None,
     }
 }

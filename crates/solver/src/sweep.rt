@@ -15,7 +15,7 @@ ghost use Rattle.solver.specs.Solution.{IsSolution, IsBuilt};
 use crate::recalling::run_recalled;
 use crate::solution::solution_of;
 use crate::{Answer, Gate, Numbering, OpenGate, Recall, Solution};
-use board::{Board, Job, Keeping, NoBoard, Refused};
+use board::{Board, Job, NoBoard, Refused};
 use cachemounts::CacheStore;
 use executor::Executor;
 use plain::{Exact, Memory};
@@ -64,7 +64,7 @@ pub fn solve_problem<C, E: Executor>(
     ensures ended { OnOk result (AreLeftAtEnd (E.leaves executor.now) (problem_of (E.out executor.now) plan.now) caches.old.contents caches.new.contents) }
 {
     let lent = mem::replace(caches, CacheStore::new(alloc));
-    let mut board = match Board::new(alloc, Job::new(plan, executor), lent, Keeping::Target) {
+    let mut board = match Board::new(alloc, Job::new(plan, executor), lent) {
         Ok(board) => board,
         Err(refused) => {
             let NoBoard { caches: back } = refused;
@@ -179,18 +179,10 @@ fn turn<E: Executor, M: Executor, G: Gate, N: Numbering>(
 {
     let _known = board.history();
     let claimed = board.claim(alloc, SWEEPER)?;
-    let Some(task) = claimed else {
+    let Some(claim) = claimed else {
         return Ok(false);
     };
-    let (claim, inputs) = task.into_parts();
-    let Ran { value, given } = match run_recalled(
-        alloc,
-        board.job(),
-        recall,
-        gate,
-        &claim,
-        inputs,
-    ) {
+    let Ran { value, given } = match run_recalled(alloc, board.job(), recall, gate, &claim) {
         Ok(ran) => ran,
         Err(memory) => {
             board.abandon(claim);

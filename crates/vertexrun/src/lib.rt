@@ -8,12 +8,11 @@
 // bind has what is under its source in the tree of its own input, and what an operation gives (`result_of`).
 //
 // ```
-// let ran = vertex_result(alloc, plan.sources(), &executor, &vertex.op, inputs, &[])?;   // ran.value is Ok(tree), or Err(F1)
+// let ran = vertex_result(alloc, plan.sources(), &executor, &vertex.op, &[&root], &[])?;   // ran.value is Ok(tree), or Err(F1)
 // ```
 #![tactic(auto)]
 
 mod files;
-mod inputs;
 mod patterns;
 mod requests;
 mod results;

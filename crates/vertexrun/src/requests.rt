@@ -1,4 +1,4 @@
-ghost use Rattle.std.specs.Prelude.{◌≡◌, IfOk, length};
+ghost use Rattle.std.specs.Prelude.{◌≡◌, IfOk, map, length};
 ghost use Rattle.std.specs.List.{zip};
 ghost use Rattle.trees.specs.Subtree.{subtree};
 ghost use Rattle.plans.specs.Request.{binds_of, request_with, request_of};
@@ -11,19 +11,19 @@ use runs::RunBind;
 use std::alloc::Global;
 use trees::{Cause, Tree, TreeOrCause};
 
-/// The request of a command on the tree that it runs in, which is handed over, and those of its binds: each bind has what is under
-/// its source in its own tree, in their order (Dockerfile reference, `RUN --mount=type=bind`).
+/// The request of a command on the tree that it runs in and those of its binds: each bind has what is under its source in its own
+/// tree, in their order (Dockerfile reference, `RUN --mount=type=bind`).
 ///
 /// There is no request where a bind's source isn't a directory, and the first such bind decides: `F1` where nothing is at its
 /// source, `F2` where a file is.
 pub fn request_of(
     alloc: Global,
     exec: &Exec,
-    root: Tree,
-    trees: &[Tree],
+    root: &Tree,
+    trees: &[&Tree],
 ) -> Result<Result<Request, Cause>, Memory>
     requires { length trees.now ≡ length exec.now.binds }
-    ensures { IfOk result (λ request. request ≡ request_of exec.now root trees.now) }
+    ensures { IfOk result (λ request. request ≡ request_of exec.now root.now (map (λ tree. tree.now) trees.now)) }
 {
     match run_binds(alloc, exec.binds.as_slice(), trees)? {
         Ok(binds) => Ok(Ok(request_with(alloc, exec, root, binds)?)),
@@ -35,11 +35,12 @@ pub fn request_of(
 fn request_with(
     alloc: Global,
     exec: &Exec,
-    root: Tree,
+    root: &Tree,
     binds: Items<RunBind>,
 ) -> Result<Request, Memory>
-    ensures { IfOk result (λ request. Ok request ≡ request_with exec.now root (Ok binds)) }
+    ensures { IfOk result (λ request. Ok request ≡ request_with exec.now root.now (Ok binds)) }
 {
+    let root = root.copy(alloc)?;
     let caches = exec.caches.copy(alloc)?;
     let env = exec.env.copy(alloc)?;
     let dir = exec.dir.copy(alloc)?;
@@ -60,14 +61,14 @@ fn request_with(
 fn run_binds(
     alloc: Global,
     binds: &[Bind],
-    trees: &[Tree],
+    trees: &[&Tree],
 ) -> Result<Result<Items<RunBind>, Cause>, Memory>
     requires { length trees.now ≡ length binds.now }
-    ensures { IfOk result (λ bound. bound ≡ binds_of (zip binds.now trees.now)) }
+    ensures { IfOk result (λ bound. bound ≡ binds_of (zip binds.now (map (λ tree. tree.now) trees.now))) }
 {
     let mut bound = Items::new(alloc);
     for (index, bind) in binds.iter().enumerate() {
-        let tree = match subtree(alloc, &trees[index], bind)? {
+        let tree = match subtree(alloc, trees[index], bind)? {
             Ok(tree) => tree,
             Err(cause) => return Ok(Err(cause)),
         };

@@ -8,7 +8,6 @@ ghost use Rattle.plans.specs.Sources.{source_tree, HasSource};
 ghost use Rattle.plans.specs.Value.{ended, run_value, result_of};
 
 use crate::files::{settle_file, settle_merge};
-use crate::inputs::take_first;
 use crate::requests::request_of;
 use executor::{Executor, Outcome, Request};
 use llb::{Exec, Op, Source};
@@ -24,9 +23,9 @@ pub struct Ran {
     pub given: Vec<Tree>,
 }
 
-/// The value of an operation on the trees of its inputs, which are handed over: one that nobody else has is changed in its place. And
-/// what it leaves in the caches that it uses, of which `copies` is what they hold, in their order. The operation is well formed on as
-/// many inputs (`Op::is_well_formed`), and a source has its tree (`Sources::suffices`).
+/// The value of an operation on the trees of its inputs, which are lent one by one; and what it leaves in the caches that it uses, of
+/// which `copies` is what they hold, in their order. The operation is well formed on as many inputs (`Op::is_well_formed`), and a
+/// source has its tree (`Sources::suffices`).
 ///
 /// A command is lent copies of `copies`, which change no value, since an executor's answer never depends on its caches; what the
 /// executor leaves in them is given. A command that isn't run (see [`request_of`]) leaves them as they were.
@@ -35,15 +34,15 @@ pub fn vertex_result<E: Executor>(
     sources: &Sources,
     executor: &E,
     op: &Op,
-    inputs: Vec<Tree>,
+    inputs: &[&Tree],
     copies: &[Tree],
 ) -> Result<Ran, Memory>
-    requires well_formed { IsTrue (is_well_formed_on op.now (length inputs.items)) }
+    requires well_formed { IsTrue (is_well_formed_on op.now (length inputs.now)) }
     requires source { HasSource sources.now op.now }
     requires copies { length copies.now ≡ length (caches_of op.now) }
-    ensures value { IfOk result (λ ran. result_of (E.out executor.now) sources.now op.now inputs.items ≡ Some ran.value) }
+    ensures value { IfOk result (λ ran. result_of (E.out executor.now) sources.now op.now (map (λ tree. tree.now) inputs.now) ≡ Some ran.value) }
     ensures given { IfOk result (λ ran. length ran.given.items ≡ length (caches_of op.now)) }
-    ensures left { IfOk result (λ ran. IsLeftBy (E.leaves executor.now) op.now inputs.items copies.now ran.given.items) }
+    ensures left { IfOk result (λ ran. IsLeftBy (E.leaves executor.now) op.now (map (λ tree. tree.now) inputs.now) copies.now ran.given.items) }
 {
     if let Op::Exec(exec) = op {
         return exec_result(alloc, executor, exec, inputs, copies);
@@ -75,22 +74,22 @@ fn exec_result<E: Executor>(
     alloc: Global,
     executor: &E,
     exec: &Exec,
-    inputs: Vec<Tree>,
+    inputs: &[&Tree],
     copies: &[Tree],
 ) -> Result<Ran, Memory>
-    requires inputs { length inputs.items ≡ length exec.now.binds + 1 }
+    requires inputs { length inputs.now ≡ length exec.now.binds + 1 }
     requires well_formed { IsTrue (is_well_formed_exec exec.now) }
     requires copies { length copies.now ≡ length exec.now.caches }
-    ensures value { IfOk result (λ ran. run_value (E.out executor.now) exec.now inputs.items ≡ Some ran.value) }
+    ensures value { IfOk result (λ ran. run_value (E.out executor.now) exec.now (map (λ tree. tree.now) inputs.now) ≡ Some ran.value) }
     ensures given { IfOk result (λ ran. length ran.given.items ≡ length exec.now.caches) }
-    ensures left { IfOk result (λ ran. IsLeftBy (E.leaves executor.now) (ExecOp exec.now) inputs.items copies.now ran.given.items) }
+    ensures left { IfOk result (λ ran. IsLeftBy (E.leaves executor.now) (ExecOp exec.now) (map (λ tree. tree.now) inputs.now) copies.now ran.given.items) }
 {
-    let given = copied_items(alloc, copies)?;
-    let Some((root, trees)) = take_first(inputs) else {
+    let [root, trees @ ..] = inputs else {
         unreachable!()
     };
-    match request_of(alloc, exec, root, trees.as_slice())? {
-        Ok(request) => run_result(alloc, executor, request, given),
+    let given = copied_items(alloc, copies)?;
+    match request_of(alloc, exec, root, trees)? {
+        Ok(request) => run_result(alloc, executor, &request, given),
         Err(cause) => Ok(Ran {
             value: Err(cause),
             given,
@@ -102,14 +101,14 @@ fn exec_result<E: Executor>(
 fn run_result<E: Executor>(
     alloc: Global,
     executor: &E,
-    request: Request,
+    request: &Request,
     mut caches: Vec<Tree>,
 ) -> Result<Ran, Memory>
-    requires mounts { IsTrue (fits_request request) }
-    requires lent { length caches.items ≡ length request.caches }
-    ensures value { IfOk result (λ ran. ran.value ≡ ended (E.out executor.now request)) }
-    ensures given { IfOk result (λ ran. length ran.given.items ≡ length request.caches) }
-    ensures left { IfOk result (λ ran. E.leaves executor.now request caches.items ran.given.items) }
+    requires mounts { IsTrue (fits_request request.now) }
+    requires lent { length caches.items ≡ length request.now.caches }
+    ensures value { IfOk result (λ ran. ran.value ≡ ended (E.out executor.now request.now)) }
+    ensures given { IfOk result (λ ran. length ran.given.items ≡ length request.now.caches) }
+    ensures left { IfOk result (λ ran. E.leaves executor.now request.now caches.items ran.given.items) }
 {
     let value = match executor.run(alloc, request, &mut caches)? {
         Outcome::Done(tree) => Ok(tree),

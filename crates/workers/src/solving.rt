@@ -12,20 +12,22 @@ ghost use Rattle.solver.specs.Solution.{IsSolution};
 
 use crate::leftover::Leftover;
 use crate::working::{Tools, work_all};
-use board::{Board, Job, Keeping, NoBoard};
+use board::{Board, Job, NoBoard};
 use cachemounts::CacheStore;
+use cells::Place;
 use executor::Executor;
 use memo::Memo;
 use plain::{Memory, growth};
 use plans::Plan;
 use rolls::{Opened, Room};
-use sites::{Case, Site};
+use sites::{Case, Known, Results, Site};
 use solver::{Gate, Numbering, Recall, Recalling, Solution, finish_recalled, remember};
 use std::alloc::Global;
 use std::marker::Brand;
 use std::mem;
 use std::sync::{Condvar, Wait};
 use std::thread::Threads;
+use trees::TreeOrCause;
 
 /// The solution of a plan's problem under an executor, by this many workers, with a store of caches of which nobody holds anything
 /// (`CacheStore::is_idle` tests that). The gate is asked around the run of each command: by the workers from 0 on, and by the caller's thread, which
@@ -164,14 +166,17 @@ fn solved<
 {
     let recalling = Recalling::<E, J>::new(executor);
     let job = Job::new(plan, &recalling);
-    let Ok(recall) = Recall::<E, J>::new(alloc, &*memo, job.graph().len()) else {
+    let count = job.graph().len();
+    let Ok(results) = Results::<J>::new(alloc, count) else {
+        return unsolved(caches);
+    };
+    let Ok(recall) = Recall::<E, J>::new(alloc, &*memo, count) else {
         return unsolved(caches);
     };
     let own = Job::new(plan, &recalling);
-    let keeping = keeping_for(&*memo);
     let asked = recall.as_ref();
     let outcome = closed(
-        alloc, rt, workers, gate, &job, asked, own, caches, keeping, opened,
+        alloc, rt, workers, gate, &job, asked, own, caches, &results, opened,
     );
     match outcome {
         Ok(Home { solution, board }) => {
@@ -191,15 +196,6 @@ fn solved<
     }
 }
 
-/// Which trees stay on the board of a solve: all, if the memo will remember them.
-fn keeping_for<E: Executor>(memo: &Memo<E>) -> Keeping {
-    if memo.is_for_one_build() {
-        Keeping::Target
-    } else {
-        Keeping::All
-    }
-}
-
 /// What becomes of a board if there is no memory.
 fn unsolved(caches: CacheStore) -> Ended
     ensures solution { OnOk result.solution ⊥ }
@@ -211,15 +207,15 @@ fn unsolved(caches: CacheStore) -> Ended
     }
 }
 
-/// A board on which no claim is out, and its solution.
+/// A board with each value in a place of its own, on which no claim is out, and its solution.
 #[derive(Drop)]
 struct Home<'a, E: Executor> {
     solution: Solution,
     board: Board<'a, E>,
 }
 
-/// The board of a job after the work of so many workers, and then of the caller's thread. If there is no memory for the board, nobody works, and if
-/// there is none for the solution, what comes is the store.
+/// The board of a job after the work of so many workers, whose results stand in cells, and then of the caller's thread. If there is no memory for the
+/// board, nobody works, and if there is none for the solution, what comes is the store.
 fn closed<
     'a,
     E: Executor,
@@ -236,7 +232,7 @@ fn closed<
     recall: Option<&Recall<M, J>>,
     own: Job<'a, E>,
     caches: CacheStore,
-    keeping: Keeping,
+    results: &'a Results<J>,
     opened: Opened,
 ) -> Result<Home<'a, E>, CacheStore>
     requires job { job_problem E.out job.now ≡ J.problem }
@@ -245,6 +241,7 @@ fn closed<
     requires stays { MayStay J.knows J.leaves }
     requires own { job_problem E.out own ≡ J.problem }
     requires leaves { LeaveTheSame (E.leaves own.executor) J.leaves }
+    requires long { results.now ≡ length J.problem.vertices }
     requires first { caches.contents ≡ J.first }
     requires idle { caches.holds ≡ [] }
     requires room { opened.table.shared.table_id ≡ J.table }
@@ -259,7 +256,7 @@ fn closed<
     ensures left { IfErr result (λ caches. AreLeft J.problem J.first caches.contents) }
     ensures runs { IfErr result (λ caches. AreLeftByRuns J.leaves J.problem J.first caches.contents) }
 {
-    let board = match Board::new(alloc, own, caches, keeping) {
+    let board = match Board::new(alloc, own, caches) {
         Ok(board) => board,
         Err(refused) => {
             let NoBoard { caches } = refused;
@@ -273,14 +270,15 @@ fn closed<
         gate,
         bell: Condvar::new(),
     };
-    let board = worked(rt, &tools, workers, board, opened);
+    let board = worked(rt, &tools, workers, board, results, opened);
     finished(&tools, board)
 }
 
-/// What becomes of a board on which no claim is out: the caller's thread does what is left.
-fn finished<'a, E: Executor, M: Executor, G: Gate, J: Numbering>(
+/// What becomes of a board on which no claim is out: the caller's thread does what is left, on the same board with each result in a place of its own.
+/// If there is no memory for these, it does nothing.
+fn finished<'a, E: Executor, M: Executor, G: Gate, J: Numbering, P: Place<TreeOrCause>>(
     tools: &Tools<E, M, G, J>,
-    board: Board<'a, E>,
+    board: Board<'a, E, P>,
 ) -> Result<Home<'a, E>, CacheStore>
     requires claims { board.run.state.claims ≡ [] }
     requires named { AreOf (board_problem E.out board) J.out J.values }
@@ -294,10 +292,12 @@ fn finished<'a, E: Executor, M: Executor, G: Gate, J: Numbering>(
     ensures left { IfErr result (λ caches. AreLeft (board_problem E.out board.entry) board.entry.first caches.contents) }
     ensures runs { IfErr result (λ caches. AreLeftByRuns (E.leaves board.entry.job.executor) (board_problem E.out board.entry) board.entry.first caches.contents) }
 {
-    let mut board = board;
-    match finish_recalled(tools.alloc, tools.recall, tools.gate, &mut board) {
-        Ok(solution) => Ok(Home { solution, board }),
-        Err(_) => Err(board.into_caches()),
+    match board.at_home(tools.alloc) {
+        Ok(mut board) => match finish_recalled(tools.alloc, tools.recall, tools.gate, &mut board) {
+            Ok(solution) => Ok(Home { solution, board }),
+            Err(_) => Err(board.into_caches()),
+        },
+        Err(board) => Err(board.into_caches()),
     }
 }
 
@@ -313,14 +313,16 @@ fn worked<
     rt: &R,
     tools: &Tools<E, M, G, J>,
     workers: u32,
-    board: Board<'a, E>,
+    board: Board<'a, E, Known<'a, J>>,
+    results: &'a Results<J>,
     opened: Opened,
-) -> Board<'a, E>
+) -> Board<'a, E, Known<'a, J>>
     requires job { job_problem E.out tools.now.job.now ≡ J.problem }
     requires same { LeaveTheSame (E.leaves tools.now.job.now.executor) J.leaves }
     requires named { AreOf J.problem J.out J.values }
     requires stays { MayStay J.knows J.leaves }
     requires problem { board_problem E.out board ≡ J.problem }
+    requires long { results.now ≡ length J.problem.vertices }
     requires first { board.first ≡ J.first }
     requires leaves { LeaveTheSame (E.leaves board.job.executor) J.leaves }
     requires room { opened.table.shared.table_id ≡ J.table }
@@ -335,7 +337,7 @@ fn worked<
     let Ok(mut seats) = Vec::with_capacity(tools.alloc, workers as usize) else {
         return board;
     };
-    let mut site = Site::<E, J>::new(board, opened);
+    let mut site = Site::<E, J>::new(board, results, opened);
     for _ in 0..workers {
         growth::add(&mut seats, site.seat(tools.alloc));
     }

@@ -6,13 +6,14 @@ ghost use Rattle.board.specs.Leaving.{LeaveTheSame, IsLeftFor};
 ghost use Rattle.sites.specs.Seats.{IsMine, IsLentTo};
 ghost use Rattle.solver.specs.Recall.{AreOf, MayStay};
 
-use board::{Claim, Job, Refused, Task};
+use board::{Claim, Job, Refused};
+use cells::Place;
 use executor::Executor;
 use llb::Op;
 use plain::Memory;
 use plain::limits::MOST_WORKERS;
 use rolls::Room;
-use sites::{Case, Desk, Held, Seat};
+use sites::{Case, Desk, Held, Known, Seat};
 use solver::{Gate, Numbering, Recall, run_recalled};
 use std::alloc::Global;
 use std::ops::ControlFlow;
@@ -60,9 +61,9 @@ pub(crate) fn work_all<
     );
 }
 
-/// The work of one seat: claim, run, settle, until nothing is left to claim or memory is wanting. A tree that nobody else asks for comes with the claim, and what
-/// wasn't settled is let go after the lock, so that no tree is changed or let go under it. The lock is taken once for a vertex: whoever ends a claim looks for the
-/// next under the same one. A source is run under it too: to share a tree that is there takes less than to let go of a lock for which others wait.
+/// The work of one seat: claim, run, settle, until nothing is left to claim or memory is wanting. What a run gave stands in the vertex's cell before the lock is
+/// taken, and what wasn't settled is let go after the lock, so that no tree is changed or let go under it. The lock is taken once for a vertex: whoever ends a claim
+/// looks for the next under the same one. A source is run under it too: to share a tree that is there takes less than to let go of a lock for which others wait.
 ///
 /// A vertex is ready from the start, or gets so by the end of a claim: its last input gets its tree, a cache that it waits for comes back, or its own claim is
 /// given up. Each worker looks at the board first of all, and whoever ends a claim looks again, or leaves. A look claims a vertex, and wakes one sleeper if
@@ -96,22 +97,15 @@ fn work<E: Executor, M: Executor, G: Gate, J: Case + Room + Numbering, R: Wait>(
         let Some((drawn, lock)) = draw(rt, tools, held, seat) else {
             break;
         };
-        let Drawn { task, is_more } = drawn;
-        let (claim, inputs) = task.into_parts();
+        let Drawn { claim, is_more } = drawn;
         let lock = let_go(tools, &claim, is_more, lock);
-        let ran = run_recalled(
-            tools.alloc,
-            tools.job,
-            tools.recall,
-            tools.gate,
-            &claim,
-            inputs,
-        );
+        let ran = run_recalled(tools.alloc, tools.job, tools.recall, tools.gate, &claim);
+        let kept = keep(tools, desk, &claim, ran);
         held = match lock {
             Some(lock) => lock,
             None => desk.lock(rt),
         };
-        let ended = end(tools.alloc, &mut *held, seat, claim, ran);
+        let ended = end(tools.alloc, &mut *held, seat, claim, kept);
         if ended.is_err() {
             drop(held);
             break;
@@ -124,7 +118,7 @@ fn work<E: Executor, M: Executor, G: Gate, J: Case + Room + Numbering, R: Wait>(
 /// looks again at once.
 fn let_go<'a, 'h, E: Executor, M: Executor, G, J: Case + Room + Numbering>(
     tools: &Tools<E, M, G, J>,
-    claim: &Claim,
+    claim: &Claim<Known<'a, J>>,
     is_more: bool,
     held: MutexGuard<'h, Held<'a, E, J>>,
 ) -> Option<MutexGuard<'h, Held<'a, E, J>>> {
@@ -139,16 +133,16 @@ fn let_go<'a, 'h, E: Executor, M: Executor, G, J: Case + Room + Numbering>(
 }
 
 /// Whether the vertex of a claim is a source, whose run only shares a tree that is there.
-fn is_source<E: Executor>(job: &Job<E>, claim: &Claim) -> bool {
+fn is_source<E: Executor, P: Place<TreeOrCause>>(job: &Job<E>, claim: &Claim<P>) -> bool {
     match job.graph().vertex(claim.vertex()) {
         Some(vertex) => matches!(vertex.op, Op::Source(_)),
         None => false,
     }
 }
 
-/// A claim with the trees of its inputs, and whether there may be more: if not, the claim left no vertex ready.
-struct Drawn {
-    task: Task,
+/// A claim, and whether there may be more: if not, the claim left no vertex ready.
+struct Drawn<'a, J: Case> {
+    claim: Claim<Known<'a, J>>,
     is_more: bool,
 }
 
@@ -159,10 +153,10 @@ fn draw<'a, 'h, E: Executor, M: Executor, G, J: Case + Room + Numbering, R: Wait
     tools: &Tools<E, M, G, J>,
     held: MutexGuard<'h, Held<'a, E, J>>,
     seat: &mut Seat<J>,
-) -> Option<(Drawn, MutexGuard<'h, Held<'a, E, J>>)>
-    ensures mine { IfSome result (λ drawn. IsMine seat.new drawn.0.task) }
-    ensures of { IfSome result (λ drawn. IsClaim J.problem drawn.0.task) }
-    ensures lent { IfSome result (λ drawn. IsLentTo seat.new drawn.0.task) }
+) -> Option<(Drawn<'a, J>, MutexGuard<'h, Held<'a, E, J>>)>
+    ensures mine { IfSome result (λ drawn. IsMine seat.new drawn.0.claim) }
+    ensures of { IfSome result (λ drawn. IsClaim J.problem drawn.0.claim) }
+    ensures lent { IfSome result (λ drawn. IsLentTo seat.new drawn.0.claim) }
 {
     let mut held = held;
     for _ in rt.forever() {
@@ -182,15 +176,15 @@ fn draw_now<'a, E: Executor, J: Case + Room>(
     alloc: Global,
     held: &mut Held<'a, E, J>,
     seat: &mut Seat<J>,
-) -> ControlFlow<Option<Drawn>>
-    ensures mine { IfSome (break_value result) (λ found. IfSome found (λ drawn. IsMine seat.new drawn.task)) }
-    ensures of { IfSome (break_value result) (λ found. IfSome found (λ drawn. IsClaim J.problem drawn.task)) }
-    ensures lent { IfSome (break_value result) (λ found. IfSome found (λ drawn. IsLentTo seat.new drawn.task)) }
+) -> ControlFlow<Option<Drawn<'a, J>>>
+    ensures mine { IfSome (break_value result) (λ found. IfSome found (λ drawn. IsMine seat.new drawn.claim)) }
+    ensures of { IfSome (break_value result) (λ found. IfSome found (λ drawn. IsClaim J.problem drawn.claim)) }
+    ensures lent { IfSome (break_value result) (λ found. IfSome found (λ drawn. IsLentTo seat.new drawn.claim)) }
 {
     match held.claim(alloc, seat) {
-        Ok(Some(task)) => {
+        Ok(Some(claim)) => {
             let is_more = held.has_more();
-            ControlFlow::Break(Some(Drawn { task, is_more }))
+            ControlFlow::Break(Some(Drawn { claim, is_more }))
         }
         Ok(None) => {
             if held.is_idle() {
@@ -202,36 +196,69 @@ fn draw_now<'a, E: Executor, J: Case + Room>(
     }
 }
 
-/// Settles the claim that a seat has out with what its run gave, or gives it up if that is want of memory. If it wasn't settled, what its run gave
-/// comes back.
+/// What a run gave, its value in the cell of its vertex.
+#[derive(Drop)]
+struct Kept<'a, J: Case> {
+    known: Known<'a, J>,
+    given: Vec<Tree>,
+}
+
+/// Puts what a run gave into the cell of its vertex, without the lock. None if memory is wanting, or if the value of another vertex stands there.
+fn keep<'a, E: Executor, M: Executor, G, J: Case + Room + Numbering>(
+    tools: &Tools<E, M, G, J>,
+    desk: &Desk<'a, E, J>,
+    claim: &Claim<Known<'a, J>>,
+    ran: Result<Ran, Memory>,
+) -> Option<Kept<'a, J>>
+    requires job { job_problem E.out tools.now.job.now ≡ J.problem }
+    requires leaves { LeaveTheSame (E.leaves tools.now.job.now.executor) J.leaves }
+    requires of { IsClaim J.problem claim.now }
+    requires value { IfOk ran (λ ran. IsResult J.problem claim.now ran.value) }
+    requires given { IfOk ran (λ ran. IsGivenBack J.problem claim.now ran.given.items) }
+    requires left { IfOk ran (λ ran. IsLeftFor (E.leaves tools.now.job.now.executor) J.problem claim.now ran.given.items) }
+    ensures value { IfSome result (λ kept. IsResult J.problem claim.now kept.known.value) }
+    ensures given { IfSome result (λ kept. IsGivenBack J.problem claim.now kept.given.items) }
+    ensures left { IfSome result (λ kept. IsLeftFor J.leaves J.problem claim.now kept.given.items) }
+{
+    let Ok(Ran { value, given }) = ran else {
+        return None;
+    };
+    match desk.keep(tools.alloc, tools.job, claim, value) {
+        Ok(Some(known)) => Some(Kept { known, given }),
+        _ => None,
+    }
+}
+
+/// Settles the claim that a seat has out with what stands in its vertex's cell, or gives it up if nothing does. If it wasn't settled, the trees
+/// that its run gave back come back.
 fn end<'a, E: Executor, J: Case + Room>(
     alloc: Global,
     held: &mut Held<'a, E, J>,
     seat: &mut Seat<J>,
-    claim: Claim,
-    ran: Result<Ran, Memory>,
-) -> Result<(), Option<Ran>>
+    claim: Claim<Known<'a, J>>,
+    kept: Option<Kept<'a, J>>,
+) -> Result<(), Vec<Tree>>
     requires mine { IsMine seat.old claim }
     requires of { IsClaim J.problem claim }
-    requires value { IfOk ran (λ ran. IsResult J.problem claim ran.value) }
-    requires given { IfOk ran (λ ran. IsGivenBack J.problem claim ran.given.items) }
+    requires value { IfSome kept (λ kept. IsResult J.problem claim kept.known.value) }
+    requires given { IfSome kept (λ kept. IsGivenBack J.problem claim kept.given.items) }
     requires lent { IsLentTo seat.old claim }
-    requires left { IfOk ran (λ ran. IsLeftFor J.leaves J.problem claim ran.given.items) }
+    requires left { IfSome kept (λ kept. IsLeftFor J.leaves J.problem claim kept.given.items) }
 {
-    let Ok(Ran { value, given }) = ran else {
+    let Some(Kept { known, given }) = kept else {
         held.abandon(seat, claim);
-        return Err(None);
+        return Err(Vec::new(alloc));
     };
-    match held.settle(alloc, seat, claim, value, given) {
+    match held.settle(alloc, seat, claim, known, given) {
         Ok(()) => Ok(()),
         Err(refused) => {
             let Refused {
                 claim,
-                value,
+                value: _,
                 given,
             } = refused;
             held.abandon(seat, claim);
-            Err(Some(Ran { value, given }))
+            Err(given)
         }
     }
 }

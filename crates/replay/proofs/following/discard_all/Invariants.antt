@@ -1,5 +1,5 @@
 use Rattle.std.proofs.Common.{vec_len}
 use Rattle.replay.proofs.following.discard_all.Given as goal
 
-abbrev pub decreases-loop-task : goal.decreases-loop-task
-decreases-loop-task l = vec_len l.tasks
+abbrev pub decreases-loop-claim : goal.decreases-loop-claim
+decreases-loop-claim l = vec_len l.claims

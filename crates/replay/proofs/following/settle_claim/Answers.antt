@@ -4,34 +4,28 @@ use Rattle.board.specs.Play.{Settle, claim_of}
 use Rattle.board.specs.Job.{job_problem}
 use Rattle.board.specs.Claim.{IsClaim, IsGivenBack}
 use Rattle.replay.specs.PrivateFollowing.{Applies}
-use Rattle.replay.proofs.FollowLemmas.{taken-claim, taken-out, taken-is, taken-settle, settle-applies, settle-left_out}
+use Rattle.replay.proofs.FollowLemmas.{taken-out, taken-is, taken-settle, settle-applies, settle-left_out}
 use Rattle.board.specs.declared.event.Event.TheVariants as event
 use Rattle.replay.proofs.LentLemmas.{taken-lent, fewer-lent}
 use Rattle.replay.proofs.following.settle_claim.Goals as goal
 
-pub run-requires-clause-of : goal.run-requires-clause-of
-run-requires-clause-of g c κs within =
-    let claim = c.into_parts-claim.result.0 in
-    let found = taken-claim c.args.worker c.args.out.now.items c.take_claim.new.out.items c.in-Some.task claim c.into_parts-claim.ensures.claim c.in-Some.ensures.found in
+pub run-requires-after_bounds : goal.run-requires-after_bounds
+run-requires-after_bounds g c κs within =
     let b = c.args.board.now in
     let problem = board_problem g.E.Executor.out b in
-    subst (λ job. IsClaim (job_problem g.E.Executor.out job) claim) (sym c.job.ensures) (taken-is problem b.run.state.claims c.args.worker c.args.out.now.items c.take_claim.new.out.items claim c.requires.out found)
+    subst (λ job. IsClaim (job_problem g.E.Executor.out job) c.in-Some.claim) (sym c.job.ensures) (taken-is problem b.run.state.claims c.args.worker c.args.out.now.items c.take_claim.new.out.items c.in-Some.claim c.requires.out c.in-Some.ensures.found)
 
 pub settle-requires-clause-out : goal.settle-requires-clause-out
 settle-requires-clause-out g c κs within =
-    let claim = c.into_parts-claim.result.0 in
-    let found = taken-claim c.args.worker c.args.out.now.items c.take_claim.new.out.items c.in-Some.task claim c.into_parts-claim.ensures.claim c.in-Some.ensures.found in
     let b = c.args.board.now in
     let problem = board_problem g.E.Executor.out b in
-    taken-out problem b.run.state.claims c.args.worker c.args.out.now.items c.take_claim.new.out.items claim c.requires.out found
+    taken-out problem b.run.state.claims c.args.worker c.args.out.now.items c.take_claim.new.out.items c.in-Some.claim c.requires.out c.in-Some.ensures.found
 
 pub settle-requires-clause-of : goal.settle-requires-clause-of
 settle-requires-clause-of g c κs within =
-    let claim = c.into_parts-claim.result.0 in
-    let found = taken-claim c.args.worker c.args.out.now.items c.take_claim.new.out.items c.in-Some.task claim c.into_parts-claim.ensures.claim c.in-Some.ensures.found in
     let b = c.args.board.now in
     let problem = board_problem g.E.Executor.out b in
-    taken-is problem b.run.state.claims c.args.worker c.args.out.now.items c.take_claim.new.out.items claim c.requires.out found
+    taken-is problem b.run.state.claims c.args.worker c.args.out.now.items c.take_claim.new.out.items c.in-Some.claim c.requires.out c.in-Some.ensures.found
 
 pub returns-in_default-clause-applies : goal.returns-in_default-clause-applies
 returns-in_default-clause-applies g c =
@@ -41,37 +35,29 @@ returns-in_default-clause-applies g c =
 
 pub returns-in-Ok-settle-clause-applies : goal.returns-in-Ok-settle-clause-applies
 returns-in-Ok-settle-clause-applies g c =
-    let claim = c.into_parts-claim.result.0 in
-    let found = taken-claim c.args.worker c.args.out.now.items c.take_claim.new.out.items c.in-Some.task claim c.into_parts-claim.ensures.claim c.in-Some.ensures.found in
     let b = c.args.board.now in
     let problem = board_problem g.E.Executor.out b in
-    let out = taken-out problem b.run.state.claims c.args.worker c.args.out.now.items c.take_claim.new.out.items claim c.requires.out found in
+    let out = taken-out problem b.run.state.claims c.args.worker c.args.out.now.items c.take_claim.new.out.items c.in-Some.claim c.requires.out c.in-Some.ensures.found in
     let e = c.in-Ok-settle.ensures.run.run in
     let same : job_problem g.E.Executor.out c.job.result.now ≡ problem = ap (job_problem g.E.Executor.out) c.job.ensures in
-    let count : IsGivenBack problem claim c.in-Ok.ran.given.items = subst (λ p. IsGivenBack p claim c.in-Ok.ran.given.items) same c.in-Ok.ensures.given in
-    subst (λ w. Applies problem (event.Settle w) b.run.history c.settle.new.self.run.history) found.by (settle-applies problem b.run c.settle.new.self.run claim _ c.history-known.ensures.problem c.history-known.ensures.replay out count e)
+    let count : IsGivenBack problem c.in-Some.claim c.in-Ok.ran.given.items = subst (λ p. IsGivenBack p c.in-Some.claim c.in-Ok.ran.given.items) same c.in-Ok.ensures.given in
+    subst (λ w. Applies problem (event.Settle w) b.run.history c.settle.new.self.run.history) c.in-Some.ensures.found.by (settle-applies problem b.run c.settle.new.self.run c.in-Some.claim _ c.history-known.ensures.problem c.history-known.ensures.replay out count e)
 
 pub returns-in-Ok-settle-clause-out : goal.returns-in-Ok-settle-clause-out
 returns-in-Ok-settle-clause-out g c =
-    let claim = c.into_parts-claim.result.0 in
-    let found = taken-claim c.args.worker c.args.out.now.items c.take_claim.new.out.items c.in-Some.task claim c.into_parts-claim.ensures.claim c.in-Some.ensures.found in
     let b = c.args.board.now in
     let problem = board_problem g.E.Executor.out b in
     let same : job_problem g.E.Executor.out c.job.result.now ≡ problem = ap (job_problem g.E.Executor.out) c.job.ensures in
-    let count : IsGivenBack problem claim c.in-Ok.ran.given.items = subst (λ p. IsGivenBack p claim c.in-Ok.ran.given.items) same c.in-Ok.ensures.given in
-    taken-settle problem b.run c.settle.new.self.run c.args.worker c.in-Ok.ran.given.items c.args.out.now.items c.take_claim.new.out.items claim c.requires.out found count c.in-Ok-settle.ensures.run.run
+    let count : IsGivenBack problem c.in-Some.claim c.in-Ok.ran.given.items = subst (λ p. IsGivenBack p c.in-Some.claim c.in-Ok.ran.given.items) same c.in-Ok.ensures.given in
+    taken-settle problem b.run c.settle.new.self.run c.args.worker c.in-Ok.ran.given.items c.args.out.now.items c.take_claim.new.out.items c.in-Some.claim c.requires.out c.in-Some.ensures.found count c.in-Ok-settle.ensures.run.run
 
 pub settle-requires-clause-lent : goal.settle-requires-clause-lent
 settle-requires-clause-lent g c κs within =
-    let claim = c.into_parts-claim.result.0 in
-    let found = taken-claim c.args.worker c.args.out.now.items c.take_claim.new.out.items c.in-Some.task claim c.into_parts-claim.ensures.claim c.in-Some.ensures.found in
     let b = c.args.board.now in
-    taken-lent (board_problem g.E.Executor.out b) b.first b.run.history c.args.worker c.args.out.now.items c.take_claim.new.out.items claim c.requires.lent found
+    taken-lent (board_problem g.E.Executor.out b) b.first b.run.history c.args.worker c.args.out.now.items c.take_claim.new.out.items c.in-Some.claim c.requires.lent c.in-Some.ensures.found
 
 pub returns-in-Ok-settle-clause-lent : goal.returns-in-Ok-settle-clause-lent
 returns-in-Ok-settle-clause-lent g c =
-    let claim = c.into_parts-claim.result.0 in
-    let found = taken-claim c.args.worker c.args.out.now.items c.take_claim.new.out.items c.in-Some.task claim c.into_parts-claim.ensures.claim c.in-Some.ensures.found in
     let b = c.args.board.now in
     let now = c.settle.new.self in
-    fewer-lent (board_problem g.E.Executor.out b) b.first now.first b.run now.run (Settle claim.worker c.in-Ok.ran.given.items) c.args.worker c.args.out.now.items c.take_claim.new.out.items claim c.requires.out c.requires.lent found refl c.in-Ok-settle.ensures.run.run c.in-Ok-settle.ensures.run.first
+    fewer-lent (board_problem g.E.Executor.out b) b.first now.first b.run now.run (Settle c.in-Some.claim.worker c.in-Ok.ran.given.items) c.args.worker c.args.out.now.items c.take_claim.new.out.items c.in-Some.claim c.requires.out c.requires.lent c.in-Some.ensures.found refl c.in-Ok-settle.ensures.run.run c.in-Ok-settle.ensures.run.first

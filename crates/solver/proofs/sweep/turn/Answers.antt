@@ -16,5 +16,5 @@ pub returns-in-Ok-settle-clause-unbuilt : goal.returns-in-Ok-settle-clause-unbui
 returns-in-Ok-settle-clause-unbuilt g c =
     let old = c.args.board.now in
     let is = c.history-known.ensures in
-    let next : IsNextClaim (board_problem g.E.Executor.out old) old.run.history 64 (Some c.in-Some.task.vertex) = search rules in
-    next-unbuilt (board_problem g.E.Executor.out old) old.run 64 c.in-Some.task.vertex is.problem is.replay next
+    let next : IsNextClaim (board_problem g.E.Executor.out old) old.run.history 64 (Some c.in-Some.claim.vertex) = search rules in
+    next-unbuilt (board_problem g.E.Executor.out old) old.run 64 c.in-Some.claim.vertex is.problem is.replay next

@@ -1,9 +1,15 @@
-use Rattle.std.proofs.Common.{ℕ, subst}
+use Rattle.std.proofs.Common.{◌∙◌, ℕ, ap, sym, subst}
 use Rattle.board.specs.Job.{job_problem}
 use Rattle.board.specs.Legal.{IsReady}
+use Rattle.solver.specs.Recall.{MayStay}
 use Rattle.workers.proofs.solving.finished.Goals as goal
 
+pub finish_recalled-requires-clause-stays : goal.finish_recalled-requires-clause-stays
+finish_recalled-requires-clause-stays g c κs within =
+    subst (λ board. MayStay g.J.Numbering.knows (g.E.Executor.leaves board.job.executor)) (sym c.in-Ok.ensures.ok) c.requires.stays
+
 -- the job is that of the board which was given
-pub returns-in-Ok-clause-over : goal.returns-in-Ok-clause-over
-returns-in-Ok-clause-over g c =
-    subst (λ j. (vertex : ℕ) → ¬ IsReady (job_problem g.E.Executor.out j) c.finish_recalled.new.board.run.history vertex) c.finish_recalled.ensures.job c.in-Ok.ensures.over
+pub returns-in-Ok-finish_recalled-clause-over : goal.returns-in-Ok-finish_recalled-clause-over
+returns-in-Ok-finish_recalled-clause-over g c =
+    let job = c.finish_recalled.ensures.job ∙ ap (λ board. board.job) c.in-Ok.ensures.ok in
+    subst (λ j. (vertex : ℕ) → ¬ IsReady (job_problem g.E.Executor.out j) c.finish_recalled.new.board.run.history vertex) job c.in-Ok-finish_recalled.ensures.over

@@ -10,7 +10,7 @@ use Rattle.solver.specs.Recall.{leaves_or_stays}
 use Rattle.solver.proofs.SolutionLemmas.{left-same, runs-same}
 use Rattle.workers.proofs.solving.solved.Goals as goal
 
--- where there are no findings nothing has happened
+-- where there are no cells nothing has happened
 pub returns-in_default-clause-left : goal.returns-in_default-clause-left
 returns-in_default-clause-left g c = left-same g.J.Case.problem g.J.Case.first c.unsolved.result.caches.contents (ap (λ store. store.contents) c.unsolved.ensures.caches ∙ c.requires.first)
 
@@ -20,8 +20,17 @@ returns-in_default-clause-runs g c = runs-same g.J.Case.leaves g.J.Case.problem 
 pub returns-in_default-clause-memo : goal.returns-in_default-clause-memo
 returns-in_default-clause-memo g c = grows-same c.args.memo.now
 
-pub returns-in-Err-clause-memo : goal.returns-in-Err-clause-memo
-returns-in-Err-clause-memo g c = grows-same c.args.memo.now
+pub returns-in_default-new-clause-left : goal.returns-in_default-new-clause-left
+returns-in_default-new-clause-left g c = left-same g.J.Case.problem g.J.Case.first c.unsolved-in_default-new.result.caches.contents (ap (λ store. store.contents) c.unsolved-in_default-new.ensures.caches ∙ c.requires.first)
+
+pub returns-in_default-new-clause-runs : goal.returns-in_default-new-clause-runs
+returns-in_default-new-clause-runs g c = runs-same g.J.Case.leaves g.J.Case.problem g.J.Case.first c.unsolved-in_default-new.result.caches.contents (ap (λ store. store.contents) c.unsolved-in_default-new.ensures.caches ∙ c.requires.first)
+
+pub returns-in_default-new-clause-memo : goal.returns-in_default-new-clause-memo
+returns-in_default-new-clause-memo g c = grows-same c.args.memo.now
+
+pub returns-clause-memo : goal.returns-clause-memo
+returns-clause-memo g c = grows-same c.args.memo.now
 
 -- what the memo gets is of the board's problem
 pub remember-requires-clause-executor : goal.remember-requires-clause-executor
@@ -31,13 +40,13 @@ remember-requires-clause-executor g c κs within =
 pub remember-requires-clause-values : goal.remember-requires-clause-values
 remember-requires-clause-values g c κs within = c.requires.named.same_values ∙ ap values_in (sym c.in-Ok-outcome.ensures.problem)
 
-pub returns-after-recall-clause-left : goal.returns-after-recall-clause-left
-returns-after-recall-clause-left g c =
+pub returns-in-Ok-outcome-clause-left : goal.returns-in-Ok-outcome-clause-left
+returns-in-Ok-outcome-clause-left g c =
     let named = subst (λ p. AreLeft p c.in-Ok-outcome.field-0.board.first c.into_caches.result.contents) c.in-Ok-outcome.ensures.problem c.into_caches.ensures.left in
     subst (λ f. AreLeft g.J.Case.problem f c.into_caches.result.contents) c.in-Ok-outcome.ensures.first named
 
-pub returns-after-recall-clause-runs : goal.returns-after-recall-clause-runs
-returns-after-recall-clause-runs g c =
+pub returns-in-Ok-outcome-clause-runs : goal.returns-in-Ok-outcome-clause-runs
+returns-in-Ok-outcome-clause-runs g c =
     let board = c.in-Ok-outcome.field-0.board in
     let contents = c.into_caches.result.contents in
     let leaves = leaves_or_stays g.J.Numbering.knows (g.E.Executor.leaves board.job.executor) in
@@ -46,8 +55,8 @@ returns-after-recall-clause-runs g c =
     left_by_runs-same leaves g.J.Case.leaves g.J.Case.problem g.J.Case.first contents c.in-Ok-outcome.ensures.leaves here
 
 -- no vertex is ready after the history that left them
-pub returns-after-recall-clause-ended : goal.returns-after-recall-clause-ended
-returns-after-recall-clause-ended g c =
+pub returns-in-Ok-outcome-clause-ended : goal.returns-in-Ok-outcome-clause-ended
+returns-in-Ok-outcome-clause-ended g c =
     let board = c.in-Ok-outcome.field-0.board in
     let problem = board_problem g.E.Executor.out board in
     let leaves = leaves_or_stays g.J.Numbering.knows (g.E.Executor.leaves board.job.executor) in

@@ -10,14 +10,14 @@ pub give_up-requires-after_bounds : goal.give_up-requires-after_bounds
 give_up-requires-after_bounds g c κs within =
     let b = c.self.inside in
     let problem = job_problem g.E.Executor.out b.job in
-    let out = least-held problem (run_of b.history.items b.settled.values b.claims.items b.caches.holds) c.as_slice.result.now c.in-Some.claim c.self.invariant.0.problem c.self.invariant.0.replay c.as_slice.ensures.value c.in-Some.ensures.found in
+    let out = least-held problem (run_of b.history.items b.settled b.claims.items b.caches.holds) c.as_slice.result.now c.in-Some.claim c.self.invariant.0.problem c.self.invariant.0.replay c.as_slice.ensures.value c.in-Some.ensures.found in
     subst (λ v. claim_of c.in-Some.claim.worker v.run.state.claims ≡ Some c.in-Some.claim) c.self.view_is out.0
 
 pub loop-claim-smaller : goal.loop-claim-smaller
 loop-claim-smaller g c =
     let b = c.self.inside in
     let problem = job_problem g.E.Executor.out b.job in
-    let out = least-held problem (run_of b.history.items b.settled.values b.claims.items b.caches.holds) c.as_slice.result.now c.in-Some.claim c.self.invariant.0.problem c.self.invariant.0.replay c.as_slice.ensures.value c.in-Some.ensures.found in
+    let out = least-held problem (run_of b.history.items b.settled b.claims.items b.caches.holds) c.as_slice.result.now c.in-Some.claim c.self.invariant.0.problem c.self.invariant.0.replay c.as_slice.ensures.value c.in-Some.ensures.found in
     let here = subst (λ v. claim_of c.in-Some.claim.worker v.run.state.claims ≡ Some c.in-Some.claim) c.self.view_is out.0 in
     let least = subst (λ v. IsLeastWorker v.run.state.claims c.in-Some.claim) c.self.view_is out.1 in
     let old = board_problem g.E.Executor.out c.loop-claim.self in
@@ -27,7 +27,7 @@ pub loop-claim-preserved : goal.loop-claim-preserved
 loop-claim-preserved g c =
     let b = c.self.inside in
     let problem = job_problem g.E.Executor.out b.job in
-    let out = least-held problem (run_of b.history.items b.settled.values b.claims.items b.caches.holds) c.as_slice.result.now c.in-Some.claim c.self.invariant.0.problem c.self.invariant.0.replay c.as_slice.ensures.value c.in-Some.ensures.found in
+    let out = least-held problem (run_of b.history.items b.settled b.claims.items b.caches.holds) c.as_slice.result.now c.in-Some.claim c.self.invariant.0.problem c.self.invariant.0.replay c.as_slice.ensures.value c.in-Some.ensures.found in
     let here = subst (λ v. claim_of c.in-Some.claim.worker v.run.state.claims ≡ Some c.in-Some.claim) c.self.view_is out.0 in
     let least = subst (λ v. IsLeastWorker v.run.state.claims c.in-Some.claim) c.self.view_is out.1 in
     let was = c.loop-claim.invariant in

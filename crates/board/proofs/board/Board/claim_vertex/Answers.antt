@@ -19,10 +19,10 @@ use Rattle.board.proofs.FrontierSteps.{frontier-claim, available-within, claimab
 use Rattle.board.proofs.ShelfLemmas.{inputs-are}
 use Rattle.board.proofs.board.Board.claim_vertex.Goals as goal
 
-pub copies-requires : goal.copies-requires
-copies-requires g c =
+pub again-requires : goal.again-requires
+again-requires g c =
     let b = c.self.inside in
-    let is : AreInputIds b.job.graph.vertices b.settled.values c.args.next.vertex c.args.next.inputs.now = subst (λ v. AreInputIds v.job.graph.vertices v.run.state.settled c.args.next.vertex c.args.next.inputs.now) (sym c.self.view_is) c.requires.inputs in
+    let is : AreInputIds b.job.graph.vertices b.settled c.args.next.vertex c.args.next.inputs.now = subst (λ v. AreInputIds v.job.graph.vertices v.run.state.settled c.args.next.vertex c.args.next.inputs.now) (sym c.self.view_is) c.requires.inputs in
     is.trees
 
 pub withdraw-requires : goal.withdraw-requires
@@ -30,16 +30,16 @@ withdraw-requires g c =
     let b = c.self.inside in
     let vertex = c.args.next.vertex in
     let problem = job_problem g.E.Executor.out b.job in
-    let run = run_of b.history.items b.settled.values b.claims.items b.caches.holds in
+    let run = run_of b.history.items b.settled b.claims.items b.caches.holds in
     let can : claimable problem run.state c.args.worker ≡ Some vertex = subst (λ v. claimable (board_problem g.E.Executor.out v) v.run.state c.args.worker ≡ Some vertex) (sym c.self.view_is) c.requires.next in
-    available-within b.job.graph.vertices b.job.graph.places b.settled.values b.claims.items b.frontier vertex c.self.invariant.2 (claimable-available problem run.state c.args.worker vertex can)
+    available-within b.job.graph.vertices b.job.graph.places b.settled b.claims.items b.frontier vertex c.self.invariant.2 (claimable-available problem run.state c.args.worker vertex can)
 
 pub take-requires-clause-free : goal.take-requires-clause-free
 take-requires-clause-free g c =
     let b = c.self.inside in
     let vertex = c.args.next.vertex in
     let problem = job_problem g.E.Executor.out b.job in
-    let run = run_of b.history.items b.settled.values b.claims.items b.caches.holds in
+    let run = run_of b.history.items b.settled b.claims.items b.caches.holds in
     let can : claimable problem run.state c.args.worker ≡ Some vertex = subst (λ v. claimable (board_problem g.E.Executor.out v) v.run.state c.args.worker ≡ Some vertex) (sym c.self.view_is) c.requires.next in
     (claim-can problem run c.args.worker vertex c.self.invariant.0.problem c.self.invariant.0.replay can).0
 
@@ -48,7 +48,7 @@ take-requires-clause-may g c =
     let b = c.self.inside in
     let vertex = c.args.next.vertex in
     let problem = job_problem g.E.Executor.out b.job in
-    let run = run_of b.history.items b.settled.values b.claims.items b.caches.holds in
+    let run = run_of b.history.items b.settled b.claims.items b.caches.holds in
     let can : claimable problem run.state c.args.worker ≡ Some vertex = subst (λ v. claimable (board_problem g.E.Executor.out v) v.run.state c.args.worker ≡ Some vertex) (sym c.self.view_is) c.requires.next in
     let uses : c.uses_of.result.now ≡ uses_at problem vertex = c.uses_of.ensures ∙ ap (λ vertices. uses_in vertices vertex) (c.vertices-vertices.ensures.value ∙ ap (λ graph. graph.vertices) c.graph.ensures.value) in
     subst (λ u. can_take b.caches.holds u ≡ true) (sym uses) (claim-can problem run c.args.worker vertex c.self.invariant.0.problem c.self.invariant.0.replay can).1
@@ -58,7 +58,7 @@ take-requires-clause-differ g c =
     let b = c.self.inside in
     let vertex = c.args.next.vertex in
     let problem = job_problem g.E.Executor.out b.job in
-    let run = run_of b.history.items b.settled.values b.claims.items b.caches.holds in
+    let run = run_of b.history.items b.settled b.claims.items b.caches.holds in
     let can : claimable problem run.state c.args.worker ≡ Some vertex = subst (λ v. claimable (board_problem g.E.Executor.out v) v.run.state c.args.worker ≡ Some vertex) (sym c.self.view_is) c.requires.next in
     let uses : c.uses_of.result.now ≡ uses_at problem vertex = c.uses_of.ensures ∙ ap (λ vertices. uses_in vertices vertex) (c.vertices-vertices.ensures.value ∙ ap (λ graph. graph.vertices) c.graph.ensures.value) in
     subst (λ u. ids_differ (ids_of u) ≡ true) (sym uses) (claim-can problem run c.args.worker vertex c.self.invariant.0.problem c.self.invariant.0.replay can).2
@@ -68,48 +68,48 @@ invariant_of-self-2 g c =
     let b = c.self.inside in
     let vertex = c.args.next.vertex in
     let problem = job_problem g.E.Executor.out b.job in
-    let run = run_of b.history.items b.settled.values b.claims.items b.caches.holds in
+    let run = run_of b.history.items b.settled b.claims.items b.caches.holds in
     let can : claimable problem run.state c.args.worker ≡ Some vertex = subst (λ v. claimable (board_problem g.E.Executor.out v) v.run.state c.args.worker ≡ Some vertex) (sym c.self.view_is) c.requires.next in
     let uses : c.uses_of.result.now ≡ uses_at problem vertex = c.uses_of.ensures ∙ ap (λ vertices. uses_in vertices vertex) (c.vertices-vertices.ensures.value ∙ ap (λ graph. graph.vertices) c.graph.ensures.value) in
     let after : IsAfter (Takes c.args.worker (uses_at problem vertex)) b.caches c.take.new.self = subst (λ u. IsAfter (Takes c.args.worker u) b.caches c.take.new.self) uses c.in_ok-lease.ensures.ok in
-    let gone = claim-gone g.E.Executor.out b.job b.first.items b.caches c.take.new.self b.history.items c.add-2.new.list.items b.settled.values b.claims.items c.add.new.list.items c.args.worker vertex c.len-at.result c.self.invariant.0 can (search rules) (search rules) (search rules) after in
-    let more = frontier-claim b.job.graph.vertices b.job.graph.places b.settled.values b.claims.items c.add.new.list.items b.frontier c.withdraw.new.self (record { worker = c.args.worker; vertex = vertex; at = c.len-at.result }) c.self.invariant.2 (claimable-available problem run.state c.args.worker vertex can) c.withdraw.ensures (search rules) in
+    let gone = claim-gone g.E.Executor.out b.job b.first.items b.caches c.take.new.self b.history.items c.add-2.new.list.items b.settled b.claims.items c.add.new.list.items c.args.worker vertex c.len-at.result c.self.invariant.0 can (search rules) (search rules) (search rules) after in
+    let more = frontier-claim b.job.graph.vertices b.job.graph.places b.settled b.claims.items c.add.new.list.items b.frontier c.withdraw.new.self (record { worker = c.args.worker; vertex = vertex; at = c.len-at.result }) c.self.invariant.2 (claimable-available problem run.state c.args.worker vertex can) c.withdraw.ensures (search rules) in
     let added : c.add-2.new.list.items ≡ b.history.items ++ Claimed c.args.worker vertex ∷ [] = search rules in
     let given = given-push (g.E.Executor.leaves b.job.executor) problem b.first.items b.history.items c.add-2.new.list.items (Claimed c.args.worker vertex) added c.self.invariant.3 tt in
-    rw c.pass_on.ensures (gone.board, omega (arith, c.self.invariant.1, c.in_ok-room-2.ensures.room, c.room-2.ensures.len, c.room.ensures.len, c.add.ensures.len, c.add-2.ensures.len, c.add-2.ensures.capacity, c.len.ensures), more, given, c.self.invariant.4)
+    rw c.again.ensures.same (gone.board, omega (arith, c.self.invariant.1, c.in_ok-room-2.ensures.room, c.room-2.ensures.len, c.room.ensures.len, c.add.ensures.len, c.add-2.ensures.len, c.add-2.ensures.capacity, c.len.ensures), more, given)
 
 pub returns-clause-run : goal.returns-clause-run
 returns-clause-run g c =
     let b = c.self.inside in
     let vertex = c.args.next.vertex in
     let problem = job_problem g.E.Executor.out b.job in
-    let run = run_of b.history.items b.settled.values b.claims.items b.caches.holds in
+    let run = run_of b.history.items b.settled b.claims.items b.caches.holds in
     let can : claimable problem run.state c.args.worker ≡ Some vertex = subst (λ v. claimable (board_problem g.E.Executor.out v) v.run.state c.args.worker ≡ Some vertex) (sym c.self.view_is) c.requires.next in
     let uses : c.uses_of.result.now ≡ uses_at problem vertex = c.uses_of.ensures ∙ ap (λ vertices. uses_in vertices vertex) (c.vertices-vertices.ensures.value ∙ ap (λ graph. graph.vertices) c.graph.ensures.value) in
     let after : IsAfter (Takes c.args.worker (uses_at problem vertex)) b.caches c.take.new.self = subst (λ u. IsAfter (Takes c.args.worker u) b.caches c.take.new.self) uses c.in_ok-lease.ensures.ok in
-    let gone = claim-gone g.E.Executor.out b.job b.first.items b.caches c.take.new.self b.history.items c.add-2.new.list.items b.settled.values b.claims.items c.add.new.list.items c.args.worker vertex c.len-at.result c.self.invariant.0 can (search rules) (search rules) (search rules) after in
-    subst (λ v. IsStep g.E.Executor.out (Claim c.args.worker) v (board_of b.job b.first.items c.take.new.self c.add-2.new.list.items c.pass_on.new.self.values c.add.new.list.items)) c.self.view_is (rw c.pass_on.ensures gone.goes)
+    let gone = claim-gone g.E.Executor.out b.job b.first.items b.caches c.take.new.self b.history.items c.add-2.new.list.items b.settled b.claims.items c.add.new.list.items c.args.worker vertex c.len-at.result c.self.invariant.0 can (search rules) (search rules) (search rules) after in
+    subst (λ v. IsStep g.E.Executor.out (Claim c.args.worker) v (board_of b.job b.first.items c.take.new.self c.add-2.new.list.items c.again.new.self c.add.new.list.items)) c.self.view_is (rw c.again.ensures.same gone.goes)
 
 pub returns-clause-of : goal.returns-clause-of
 returns-clause-of g c =
     let b = c.self.inside in
     let vertex = c.args.next.vertex in
     let problem = job_problem g.E.Executor.out b.job in
-    let run = run_of b.history.items b.settled.values b.claims.items b.caches.holds in
+    let run = run_of b.history.items b.settled b.claims.items b.caches.holds in
     let uses : c.uses_of.result.now ≡ uses_at problem vertex = c.uses_of.ensures ∙ ap (λ vertices. uses_in vertices vertex) (c.vertices-vertices.ensures.value ∙ ap (λ graph. graph.vertices) c.graph.ensures.value) in
-    let ids : AreInputIds b.job.graph.vertices b.settled.values vertex c.args.next.inputs.now = subst (λ v. AreInputIds v.job.graph.vertices v.run.state.settled vertex c.args.next.inputs.now) (sym c.self.view_is) c.requires.inputs in
-    let inputs = inputs-are b.job.graph.vertices b.settled.values vertex c.args.next.inputs.now c.in_ok-inputs.inputs.items ids c.in_ok-inputs.ensures in
+    let ids : AreInputIds b.job.graph.vertices b.settled vertex c.args.next.inputs.now = subst (λ v. AreInputIds v.job.graph.vertices v.run.state.settled vertex c.args.next.inputs.now) (sym c.self.view_is) c.requires.inputs in
+    let inputs = inputs-are b.job.graph.vertices b.settled vertex c.args.next.inputs.now c.in_ok-inputs.inputs ids c.in_ok-inputs.ensures.trees in
     let count = copies-count b.caches c.args.worker (uses_at problem vertex) c.in_ok-lease.lease (subst (λ u. c.in_ok-lease.lease ≡ record { holder = c.args.worker; trees = map (tree_held b.caches.contents) (new_holds c.args.worker b.caches.holds u) }) uses c.in_ok-lease.ensures.lease) in
-    subst (IsClaim problem) (sym c.new.ensures) (claim-is problem run c.args.worker vertex c.len-at.result c.in_ok-inputs.inputs.items c.in_ok-lease.lease.trees c.self.invariant.0.problem c.self.invariant.0.replay inputs count)
+    subst (IsClaim problem) (sym c.new.ensures) (claim-is problem run c.args.worker vertex c.len-at.result c.in_ok-inputs.inputs c.in_ok-lease.lease.trees c.self.invariant.0.problem c.self.invariant.0.replay inputs count)
 
 pub returns-clause-out : goal.returns-clause-out
 returns-clause-out g c =
     let b = c.self.inside in
     let vertex = c.args.next.vertex in
     let problem = job_problem g.E.Executor.out b.job in
-    let run = run_of b.history.items b.settled.values b.claims.items b.caches.holds in
+    let run = run_of b.history.items b.settled b.claims.items b.caches.holds in
     let can : claimable problem run.state c.args.worker ≡ Some vertex = subst (λ v. claimable (board_problem g.E.Executor.out v) v.run.state c.args.worker ≡ Some vertex) (sym c.self.view_is) c.requires.next in
-    subst (IsOut (run_of b.history.items c.pass_on.new.self.values c.add.new.list.items c.take.new.self.holds).state) (sym c.new.ensures) (claim-out problem run.state c.args.worker vertex c.len-at.result c.add.new.list.items can (search rules))
+    subst (IsOut (run_of b.history.items c.again.new.self c.add.new.list.items c.take.new.self.holds).state) (sym c.new.ensures) (claim-out problem run.state c.args.worker vertex c.len-at.result c.add.new.list.items can (search rules))
 
 pub returns-clause-caches : goal.returns-clause-caches
 returns-clause-caches g c =
@@ -127,7 +127,7 @@ returns-clause-lent g c =
     let worker = c.args.worker in
     let vertex = c.args.next.vertex in
     let problem = job_problem g.E.Executor.out b.job in
-    let run = run_of b.history.items b.settled.values b.claims.items b.caches.holds in
+    let run = run_of b.history.items b.settled b.claims.items b.caches.holds in
     let uses : c.uses_of.result.now ≡ uses_at problem vertex = c.uses_of.ensures ∙ ap (λ vertices. uses_in vertices vertex) (c.vertices-vertices.ensures.value ∙ ap (λ graph. graph.vertices) c.graph.ensures.value) in
     let here : c.in_ok-lease.lease.trees ≡ map (tree_held b.caches.contents) (new_holds worker b.caches.holds (uses_at problem vertex)) = subst (λ u. c.in_ok-lease.lease.trees ≡ map (tree_held b.caches.contents) (new_holds worker b.caches.holds u)) uses (ap (λ l. l.trees) c.in_ok-lease.ensures.lease) in
     let held = lent-held problem b.first.items b.caches.contents run worker vertex c.self.invariant.0.problem c.self.invariant.0.replay c.self.invariant.0.contents in

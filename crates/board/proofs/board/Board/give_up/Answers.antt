@@ -14,7 +14,7 @@ restore-requires g c =
     let b = c.self.inside in
     let claim = c.args.claim in
     let vertex_out : claim_of claim.worker b.claims.items ≡ Some claim = subst (λ v. claim_of claim.worker v.run.state.claims ≡ Some claim) (sym c.self.view_is) c.requires in
-    let alone = replay-alone (job_problem g.E.Executor.out b.job) (run_of b.history.items b.settled.values b.claims.items b.caches.holds) claim c.self.invariant.0.problem c.self.invariant.0.replay vertex_out in
+    let alone = replay-alone (job_problem g.E.Executor.out b.job) (run_of b.history.items b.settled b.claims.items b.caches.holds) claim c.self.invariant.0.problem c.self.invariant.0.replay vertex_out in
     omega (arith, alone.vertex_within, c.self.invariant.2.available_long)
 
 pub invariant_of-self : goal.invariant_of-self
@@ -22,18 +22,18 @@ invariant_of-self g c =
     let b = c.self.inside in
     let claim = c.args.claim in
     let vertex_out : claim_of claim.worker b.claims.items ≡ Some claim = subst (λ v. claim_of claim.worker v.run.state.claims ≡ Some claim) (sym c.self.view_is) c.requires in
-    let gone = abandon-gone g.E.Executor.out b.job b.first.items b.caches c.leave.new.self b.history.items c.add.new.list.items b.settled.values b.claims.items c.drop_claim.new.claims.items claim c.self.invariant.0 vertex_out (search rules) (search rules) c.leave.ensures.after in
+    let gone = abandon-gone g.E.Executor.out b.job b.first.items b.caches c.leave.new.self b.history.items c.add.new.list.items b.settled b.claims.items c.drop_claim.new.claims.items claim c.self.invariant.0 vertex_out (search rules) (search rules) c.leave.ensures.after in
     let fewer = c.drop_claim.ensures.fewer claim vertex_out in
-    let alone = replay-alone (job_problem g.E.Executor.out b.job) (run_of b.history.items b.settled.values b.claims.items b.caches.holds) claim c.self.invariant.0.problem c.self.invariant.0.replay vertex_out in
-    let left = frontier-abandon b.job.graph.vertices b.job.graph.places b.settled.values b.claims.items c.drop_claim.new.claims.items b.frontier c.restore.new.self claim c.self.invariant.2 alone c.restore.ensures (search rules) in
+    let alone = replay-alone (job_problem g.E.Executor.out b.job) (run_of b.history.items b.settled b.claims.items b.caches.holds) claim c.self.invariant.0.problem c.self.invariant.0.replay vertex_out in
+    let left = frontier-abandon b.job.graph.vertices b.job.graph.places b.settled b.claims.items c.drop_claim.new.claims.items b.frontier c.restore.new.self claim c.self.invariant.2 alone c.restore.ensures (search rules) in
     let added : c.add.new.list.items ≡ b.history.items ++ Abandoned claim.worker claim.vertex ∷ [] = search rules in
     let given = given-push (g.E.Executor.leaves b.job.executor) (job_problem g.E.Executor.out b.job) b.first.items b.history.items c.add.new.list.items (Abandoned claim.worker claim.vertex) added c.self.invariant.3 tt in
-    rw c.want_again.ensures (gone.board, omega (arith, fewer, c.self.invariant.1, c.add.ensures.len, c.add.ensures.capacity), left, given, c.self.invariant.4)
+    (gone.board, omega (arith, fewer, c.self.invariant.1, c.add.ensures.len, c.add.ensures.capacity), left, given)
 
 pub returns : goal.returns
 returns g c =
     let b = c.self.inside in
     let claim = c.args.claim in
     let vertex_out : claim_of claim.worker b.claims.items ≡ Some claim = subst (λ v. claim_of claim.worker v.run.state.claims ≡ Some claim) (sym c.self.view_is) c.requires in
-    let gone = abandon-gone g.E.Executor.out b.job b.first.items b.caches c.leave.new.self b.history.items c.add.new.list.items b.settled.values b.claims.items c.drop_claim.new.claims.items claim c.self.invariant.0 vertex_out (search rules) (search rules) c.leave.ensures.after in
-    subst (λ v. IsStep g.E.Executor.out (Abandon claim.worker) v (board_of b.job b.first.items c.leave.new.self c.add.new.list.items c.want_again.new.self.values c.drop_claim.new.claims.items)) c.self.view_is (rw c.want_again.ensures gone.goes)
+    let gone = abandon-gone g.E.Executor.out b.job b.first.items b.caches c.leave.new.self b.history.items c.add.new.list.items b.settled b.claims.items c.drop_claim.new.claims.items claim c.self.invariant.0 vertex_out (search rules) (search rules) c.leave.ensures.after in
+    subst (λ v. IsStep g.E.Executor.out (Abandon claim.worker) v (board_of b.job b.first.items c.leave.new.self c.add.new.list.items b.settled c.drop_claim.new.claims.items)) c.self.view_is gone.goes

@@ -15,7 +15,7 @@ pub returns-clause-more : goal.returns-clause-more
 returns-clause-more g c = λ yes.
     let b = c.self.inside in
     let problem = job_problem g.E.Executor.out b.job in
-    let run = run_of b.history.items b.settled.values b.claims.items b.caches.holds in
+    let run = run_of b.history.items b.settled b.claims.items b.caches.holds in
     let is = c.self.invariant.0 in
     let agrees = (replay-right problem run (sound problem is.problem) is.replay).agrees in
     let some = c.has_any.ensures.some yes in
@@ -26,7 +26,7 @@ pub returns-clause-none : goal.returns-clause-none
 returns-clause-none g c = λ no.
     let b = c.self.inside in
     let problem = job_problem g.E.Executor.out b.job in
-    let run = run_of b.history.items b.settled.values b.claims.items b.caches.holds in
+    let run = run_of b.history.items b.settled b.claims.items b.caches.holds in
     let is = c.self.invariant.0 in
     let agrees = (replay-right problem run (sound problem is.problem) is.replay).agrees in
     let none : (vertex : ℕ) → ¬ IsReady problem run.history vertex = λ vertex ready.

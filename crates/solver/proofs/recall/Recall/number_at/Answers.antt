@@ -10,11 +10,8 @@ sought-requires g c =
     let problem = job_problem g.X.Executor.out c.args.job.now in
     let claim = c.args.claim.now in
     let id = c.in-Some.input.now in
-    let tree = c.in-Some-get-2.tree.now in
+    let tree = c.input.result.now in
     let at = c.in-Some.ensures.lookup.4 (omega arith) 0 in
     let read : slice_get c.as_slice.result.now c.args.at ≡ Some id = slice_get-get_or c.as_slice.result.now c.args.at 0 c.in-Some.ensures.lookup.3.0 ∙ ap Some (sym at) in
     let there : slice_get c.args.vertex.now.inputs c.args.at ≡ Some id = subst (λ ids. slice_get ids c.args.at ≡ Some id) c.as_slice.ensures read in
-    let lent = c.in-Some-get-2.ensures.lookup.4 (omega arith) tree in
-    let given : slice_get c.args.inputs.now c.args.at ≡ Some tree = slice_get-get_or c.args.inputs.now c.args.at tree c.in-Some-get-2.ensures.lookup.3.0 ∙ ap Some (sym lent) in
-    let input : slice_get claim.inputs c.args.at ≡ Some tree = subst (λ trees. slice_get trees c.args.at ≡ Some tree) c.requires.inputs given in
-    (c.type_bounds.sync-E, (c.type_bounds.sync-X, claim-tree problem claim c.args.vertex.now c.args.at id tree g.N.Numbering.out g.N.Numbering.values c.requires.of c.requires.named c.requires.vertex there input))
+    (c.type_bounds.sync-E, (c.type_bounds.sync-X, claim-tree problem claim c.args.vertex.now c.args.at id tree g.N.Numbering.out g.N.Numbering.values c.requires.of c.requires.named c.requires.vertex there c.input.ensures))

@@ -7,7 +7,7 @@ use Rattle.solver.proofs.recalling.RecallingExecutor.run.Goals as goal
 pub returns-clause-left : goal.returns-clause-left
 returns-clause-left g c =
     let leaves = g.E.Executor.leaves c.args.self.now in
-    let request = c.args.request in
+    let request = c.args.request.now in
     let before = c.args.caches.now.items in
     let after = c.run.new.caches.items in
     let left = subst (λ executor. OnOk c.run.result (g.E.Executor.leaves executor request before after)) c.self.view_is c.run.ensures.left in
