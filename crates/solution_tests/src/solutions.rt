@@ -1,4 +1,4 @@
-use board::{Board, Job, Keeping, NoBoard, Refused};
+use board::{Board, Job, NoBoard, Refused};
 use cachemounts::CacheStore;
 use executor::{Executor, Fixture};
 use plain::Memory;
@@ -121,7 +121,7 @@ fn a_failure_that_is_not_needed_may_not_be_met(rt: HostRuntime) -> Result<(), Fa
 /// The tree of a plan where worker 0 claims vertex 1 and gives it up after worker 1 has settled the next one; empty where it fails.
 fn settled_crosswise(rt: &impl Abort, alloc: Global, plan: &Plan<u8>) -> Result<String, Fail> {
     let job = Job::new(plan, &Fixture);
-    match Board::new(alloc, job, CacheStore::new(alloc), Keeping::Target) {
+    match Board::new(alloc, job, CacheStore::new(alloc)) {
         Ok(mut board) => {
             let text = finished_crosswise(rt, alloc, &mut board);
             assert!(rt; board.into_caches().is_idle());
@@ -157,9 +157,7 @@ fn settle_crosswise<E: Executor>(
         return Err(Memory);
     };
     let settled = settle_next(alloc, board, 1);
-    let (kept, inputs) = kept.into_parts();
     assert!(rt; board.is_out(&kept));
-    drop(inputs);
     board.abandon(kept);
     settled
 }
@@ -170,11 +168,10 @@ fn settle_next<E: Executor>(
     board: &mut Board<E>,
     worker: u32,
 ) -> Result<(), Memory> {
-    let Some(task) = board.claim(alloc, worker)? else {
+    let Some(claim) = board.claim(alloc, worker)? else {
         return Ok(());
     };
-    let (claim, inputs) = task.into_parts();
-    match run(alloc, board.job(), &claim, inputs) {
+    match run(alloc, board.job(), &claim) {
         Ok(Ran { value, given }) => match board.settle(alloc, claim, value, given) {
             Ok(()) => Ok(()),
             Err(

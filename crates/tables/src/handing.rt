@@ -44,15 +44,14 @@ impl Executor for Watching {
 
     fn run(
         &self,
-        _alloc: Global,
-        request: Request,
+        alloc: Global,
+        request: &Request,
         caches: &mut Vec<Tree>,
     ) -> Result<Outcome, Memory> {
         if caches.iter().any(|tree| tree.root().uid == OWNER) {
             self.lent.fetch_add(1, Ordering::SeqCst);
         }
-        let Request { root, .. } = request;
-        Ok(Outcome::Done(root))
+        Ok(Outcome::Done(request.root.copy(alloc)?))
     }
 }
 

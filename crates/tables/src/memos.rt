@@ -54,7 +54,7 @@ impl Executor for Counting {
     fn run(
         &self,
         alloc: Global,
-        request: Request,
+        request: &Request,
         caches: &mut Vec<Tree>,
     ) -> Result<Outcome, Memory> {
         self.runs.fetch_add(1, Ordering::SeqCst);

@@ -24,12 +24,11 @@ impl Executor for Idle {
 
     fn run(
         &self,
-        _alloc: Global,
-        request: Request,
+        alloc: Global,
+        request: &Request,
         _caches: &mut Vec<Tree>,
     ) -> Result<Outcome, Memory> {
-        let Request { root, .. } = request;
-        Ok(Outcome::Done(root))
+        Ok(Outcome::Done(request.root.copy(alloc)?))
     }
 }
 
@@ -130,9 +129,8 @@ fn tell_bare<E: Executor>(
     if !is_copied_whole(alloc, request)? {
         told.push_str("another request")?;
     }
-    let handed = request.copy(alloc)?;
     let mut caches = Vec::new(alloc);
-    let ended = executor.run(alloc, handed, &mut caches);
+    let ended = executor.run(alloc, request, &mut caches);
     drop(caches);
     match ended {
         Ok(outcome) => tell_outcome(alloc, told, outcome),
@@ -162,7 +160,7 @@ fn tell_with_mounts(
     mount_trees(alloc, &mut request.binds)?;
     mount_cache(alloc, &mut request.caches)?;
     push_cache(alloc, caches)?;
-    match Fixture.run(alloc, request.copy(alloc)?, caches) {
+    match Fixture.run(alloc, request, caches) {
         Ok(outcome) => tell_outcome(alloc, told, outcome)?,
         Err(memory) => return Err(memory),
     }

@@ -42,7 +42,7 @@ impl Executor for Wanting {
     fn run(
         &self,
         alloc: Global,
-        request: Request,
+        request: &Request,
         caches: &mut Vec<Tree>,
     ) -> Result<Outcome, Memory> {
         if self.begun.fetch_add(1, Ordering::SeqCst) >= self.from {

@@ -1,5 +1,5 @@
 use crate::answers::{solved_anew, written};
-use board::{Board, Job, Keeping, NoBoard};
+use board::{Board, Job, NoBoard};
 use cachemounts::CacheStore;
 use executor::Fixture;
 use llb::VertexId;
@@ -105,7 +105,7 @@ fn workers_overlap(rt: HostRuntime) -> Result<(), Fail> {
 /// What a plan comes to on a new board that no worker has, in a line.
 fn swept<G: Gate>(alloc: Global, plan: &Plan<u8>, gate: &G) -> Result<String, Fail> {
     let job = Job::new(plan, &Fixture);
-    let solution = match Board::new(alloc, job, CacheStore::new(alloc), Keeping::Target) {
+    let solution = match Board::new(alloc, job, CacheStore::new(alloc)) {
         Ok(mut board) => {
             let solution = finish(alloc, gate, &mut board);
             drop(board);

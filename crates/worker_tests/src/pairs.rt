@@ -1,18 +1,18 @@
-ghost use Rattle.std.specs.Prelude.{◌≡◌, []};
+ghost use Rattle.std.specs.Prelude.{◌≡◌, [], length};
 ghost use Rattle.board.specs.Board.{board_problem};
 ghost use Rattle.board.specs.Claim.{IsClaim};
 ghost use Rattle.board.specs.Job.{job_problem};
 ghost use Rattle.board.specs.Leaving.{LeaveTheSame};
 ghost use Rattle.sites.specs.Seats.{IsMine, IsLentTo};
 
-use board::{Board, Job, Keeping, NoBoard, Refused, Task};
+use board::{Board, Claim, Job, NoBoard, Refused};
 use cachemounts::CacheStore;
 use executor::{Executor, Fixture};
 use plain::Memory;
 use plans::Plan;
 use rolls::{Opened, Room};
 use samples::{Row, plan_of_rows};
-use sites::{Case, Desk, Seat, Site};
+use sites::{Case, Desk, Known, Results, Seat, Site};
 use solver::run;
 use std::alloc::Global;
 use std::marker::Brand;
@@ -58,33 +58,36 @@ fn turn<E: Executor, J: Case + Room, R: Wait>(
 {
     let claimed = desk.lock(rt).claim(tools.alloc, seat);
     match claimed {
-        Ok(Some(task)) => settle_run(rt, desk, tools, seat, task),
+        Ok(Some(claim)) => settle_run(rt, desk, tools, seat, claim),
         _ => thread::yield_now(),
     }
 }
 
 /// Runs the vertex of a claim, and settles it. For want of memory the claim is given up.
-fn settle_run<E: Executor, J: Case + Room, R: Wait>(
+pub fn settle_run<'a, E: Executor, J: Case + Room, R: Wait>(
     rt: &R,
-    desk: &Desk<E, J>,
+    desk: &Desk<'a, E, J>,
     tools: &Tools<E>,
     seat: &mut Seat<J>,
-    task: Task,
+    claim: Claim<Known<'a, J>>,
 )
     requires job { job_problem E.out tools.now.job.now ≡ J.problem }
     requires leaves { LeaveTheSame (E.leaves tools.now.job.now.executor) J.leaves }
-    requires mine { IsMine seat.old task }
-    requires of { IsClaim J.problem task }
-    requires lent { IsLentTo seat.old task }
+    requires mine { IsMine seat.old claim }
+    requires of { IsClaim J.problem claim }
+    requires lent { IsLentTo seat.old claim }
 {
-    let (claim, inputs) = task.into_parts();
-    let Ok(ran) = run(tools.alloc, tools.job, &claim, inputs) else {
+    let Ok(ran) = run(tools.alloc, tools.job, &claim) else {
         desk.lock(rt).abandon(seat, claim);
         return;
     };
     let Ran { value, given } = ran;
+    let Ok(Some(known)) = desk.keep(tools.alloc, tools.job, &claim, value) else {
+        desk.lock(rt).abandon(seat, claim);
+        return;
+    };
     let mut held = desk.lock(rt);
-    if let Err(refused) = held.settle(tools.alloc, seat, claim, value, given) {
+    if let Err(refused) = held.settle(tools.alloc, seat, claim, known, given) {
         let Refused {
             claim,
             value: _,
@@ -118,18 +121,20 @@ fn work_all<E: Executor, J: Case + Room + Send + Sync, R: Threads + Wait + Sync>
 fn tallies_of_two<'a, E: Executor, J: Case + Room + Send + Sync, R: Threads + Wait + Sync>(
     rt: &R,
     tools: &Tools<E>,
-    board: Board<'a, E>,
+    board: Board<'a, E, Known<'a, J>>,
+    results: &'a Results<J>,
     opened: Opened,
 ) -> Result<Vec<u32>, Memory>
     requires job { job_problem E.out tools.now.job.now ≡ J.problem }
     requires problem { board_problem E.out board ≡ J.problem }
+    requires long { results.now ≡ length J.problem.vertices }
     requires first { board.first ≡ J.first }
     requires leaves { LeaveTheSame (E.leaves board.job.executor) J.leaves }
     requires same { LeaveTheSame (E.leaves tools.now.job.now.executor) J.leaves }
     requires room { opened.table.shared.table_id ≡ J.table }
     requires begun { board.run.history ≡ [] }
 {
-    let mut site = Site::<E, J>::new(board, opened);
+    let mut site = Site::<E, J>::new(board, results, opened);
     let mut seats = [site.seat(tools.alloc), site.seat(tools.alloc)];
     work_all(rt, site.desk(), tools, &mut seats);
     drop(site.close(&mut seats).into_caches());
@@ -163,9 +168,9 @@ fn tallies_of_job<E: Executor, J: Case + Room + Send + Sync, R: Threads + Wait +
     requires same { LeaveTheSame (E.leaves tools.now.job.now.executor) J.leaves }
     requires room { opened.table.shared.table_id ≡ J.table }
 {
-    let caches = CacheStore::new(tools.alloc);
-    match Board::new(tools.alloc, job, caches, Keeping::Target) {
-        Ok(board) => tallies_of_two::<E, J, R>(rt, tools, board, opened),
+    let results = Results::<J>::new(tools.alloc, job.graph().len())?;
+    match Board::new(tools.alloc, job, CacheStore::new(tools.alloc)) {
+        Ok(board) => tallies_of_two(rt, tools, board, &results, opened),
         Err(NoBoard { caches }) => {
             drop(caches);
             drop(opened);
