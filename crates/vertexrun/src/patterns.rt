@@ -17,9 +17,23 @@ use plain::{Fault, Items, Memory, Text};
 use std::alloc::Global;
 use trees::{Branch, Tree};
 
-/// How many names a search goes through at most, those of the paths that it finds among them. Trees share folders, so a few stages that copy each
-/// other twice make a tree of more paths than any machine could list: a pattern that leads to too many answers as for want of memory.
+/// How many names the patterns of one COPY go through at most, those of the paths that they find among them. Trees share folders, so a few stages
+/// that copy each other twice make a tree of more paths than any machine could list. And each of thousands of patterns that begin with a sign is
+/// tried on each of thousands of names. A COPY that goes through more answers as for want of memory.
 const MOST_NAMES: usize = 67_108_864;
+
+/// How many names the patterns of a COPY may still go through. Contracts don't see it.
+#[derive(Drop)]
+pub(crate) struct NamesLeft {
+    count: usize,
+}
+
+impl NamesLeft {
+    /// Those of a COPY that has found nothing yet.
+    pub(crate) fn of_copy() -> NamesLeft {
+        NamesLeft { count: MOST_NAMES }
+    }
+}
 
 /// What a search found so far, in path order, and how many names it may still go through.
 #[derive(Drop)]
@@ -30,12 +44,12 @@ struct Found {
 
 impl Found {
     /// Nothing yet. It takes no memory.
-    fn new(alloc: Global) -> Found
+    fn new(alloc: Global, names: &NamesLeft) -> Found
         ensures { result.paths.items ≡ [] }
     {
         Found {
             paths: Vec::new(alloc),
-            left: MOST_NAMES,
+            left: names.count,
         }
     }
 
@@ -63,13 +77,18 @@ impl Found {
 }
 
 /// The paths of a tree to which a pattern relates, in path order; none where it is malformed.
-pub(crate) fn find_matches(alloc: Global, from: &Tree, pattern: &str) -> Result<Items<Path>, Memory>
+pub(crate) fn find_matches(
+    alloc: Global,
+    from: &Tree,
+    pattern: &str,
+    names: &mut NamesLeft,
+) -> Result<Items<Path>, Memory>
     ensures { IfOk result (λ paths. paths ≡ matches_in from.now pattern.now) }
 {
     if is_spelled_out(pattern) {
         look_up(alloc, from, pattern)
     } else {
-        search(alloc, from, pattern)
+        search(alloc, from, pattern, names)
     }
 }
 
@@ -95,23 +114,33 @@ fn look_up(alloc: Global, from: &Tree, pattern: &str) -> Result<Items<Path>, Mem
 }
 
 /// The paths of a tree to which a pattern relates, in path order; none where it is malformed.
-fn search(alloc: Global, from: &Tree, pattern: &str) -> Result<Items<Path>, Memory>
+fn search(
+    alloc: Global,
+    from: &Tree,
+    pattern: &str,
+    names: &mut NamesLeft,
+) -> Result<Items<Path>, Memory>
     ensures { IfOk result (λ paths. paths ≡ matches_in from.now pattern.now) }
 {
     match Glob::read(alloc, pattern) {
-        Ok(glob) => Ok(Items::from_vec(matches_of(alloc, from, &glob)?)),
+        Ok(glob) => Ok(Items::from_vec(matches_of(alloc, from, &glob, names)?)),
         Err(Fault::Because(_)) => Ok(Items::new(alloc)),
         Err(Fault::Memory) => Err(Memory),
     }
 }
 
 /// The paths of a tree that a pattern matches, in path order.
-fn matches_of(alloc: Global, from: &Tree, glob: &Glob) -> Result<Vec<Path>, Memory>
+fn matches_of(
+    alloc: Global,
+    from: &Tree,
+    glob: &Glob,
+    names: &mut NamesLeft,
+) -> Result<Vec<Path>, Memory>
     ensures { IfOk result (λ paths. paths.items ≡ paths_that [] (matches glob.now) (entries from.now)) }
 {
     // What `root` says of its tree: each of its paths keeps the limits.
     let _root = from.root();
-    let mut found = Found::new(alloc);
+    let mut found = Found::new(alloc, names);
     descend(
         alloc,
         glob.components(),
@@ -119,6 +148,7 @@ fn matches_of(alloc: Global, from: &Tree, glob: &Glob) -> Result<Vec<Path>, Memo
         Path::root(alloc),
         &mut found,
     )?;
+    names.count = found.left;
     Ok(found.paths)
 }
 
