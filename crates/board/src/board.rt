@@ -28,8 +28,8 @@ use std::marker::Model;
 use trees::{Tree, TreeOrCause};
 
 /// Which vertices of a job are settled and with what, which claims are out, and what the job's caches hold. The type keeps that all of it is
-/// the replay of the history, and that each settle of it gave back what a run left: so whatever calls were made, the history is legal, each vertex that is settled
-/// has its value, and each content is as it was at the start, or what the last settle that gave it back brought, which its vertex's run left of what it was lent.
+/// the replay of the history: so whatever calls were made, the history is legal, each vertex that is settled has its value, and each cache holds what it
+/// held at the start, or what the last settle gave back to it. That this is what a run left is said under a premise: each call keeps it, if each settle does.
 #[derive(Drop)]
 pub struct Board<'a, E: Executor, P: Place<TreeOrCause> = TreeOrCause> {
     job: Job<'a, E>,
@@ -51,7 +51,6 @@ impl<'a, E: Executor, P: Place<TreeOrCause>> Model for Board<'a, E, P> {
     ghost use Rattle.std.specs.Prelude.{◌+◌, ◌≤◌, vec_len, vec_capacity};
     ghost use Rattle.board.specs.Board.{BoardValue, board_code, IsBoard};
     ghost use Rattle.board.specs.Job.{job_problem};
-    ghost use Rattle.board.specs.Leaving.{GivesBackWhatIsLeft};
     ghost use Rattle.board.specs.PrivateFrontier.{IsFrontier};
 
     ghost Value = { BoardValue E };
@@ -73,8 +72,7 @@ impl<'a, E: Executor, P: Place<TreeOrCause>> Model for Board<'a, E, P> {
           run = record { history = b.history.items; state = record { settled = b.settled; claims = b.claims.items; holds = b.caches.holds } };
         })
         × (vec_len b.history + vec_len b.claims ≤ vec_capacity b.history)
-        × IsFrontier b.job.graph.vertices b.job.graph.places b.settled b.claims.items b.frontier
-        × GivesBackWhatIsLeft (E.leaves b.job.executor) (job_problem E.out b.job) b.first.items b.history.items };
+        × IsFrontier b.job.graph.vertices b.job.graph.places b.settled b.claims.items b.frontier };
 }
 
 /// The store, given back where there was no memory for its board.
@@ -125,6 +123,8 @@ impl<'a, E: Executor, P: Place<TreeOrCause>> Board<'a, E, P> {
             ≡ map (tree_held self.old.contents) (new_holds worker self.old.run.state.holds (uses_at (board_problem E.out self.old) c.vertex)))) }
         ensures lent { IfOk result (λ claim. IfSome claim (IsLent (board_problem E.out self.new) self.new.first self.new.run.history)) }
         ensures run { OnOk result (IsStep E.out (Claiming worker) self.old self.new) }
+        ensures left { OnOk result (GivesBackWhatIsLeft (E.leaves self.old.job.executor) (board_problem E.out self.old) self.old.first self.old.run.history
+            → GivesBackWhatIsLeft (E.leaves self.new.job.executor) (board_problem E.out self.new) self.new.first self.new.run.history) }
         ensures none { IfOk result (λ claim. IfNone claim (self.new ≡ self.old)) }
         ensures err { OnErr result (self.new ≡ self.old) }
     {
@@ -146,9 +146,9 @@ impl<'a, E: Executor, P: Place<TreeOrCause>> Board<'a, E, P> {
     }
 
     /// Settles the vertex of a claim with its value, and gives trees back to the caches that the vertex uses, in the order of its uses. The claim
-    /// has to be out (`is_out` tests that), with the trees that it was lent, as `claim` gives it; the value has to be the result of its vertex's
-    /// operation on its inputs; and the trees have to be those that the vertex's run left of what the claim was lent, one for each use: a run
-    /// answers such (`solver::run`). After want of memory all three come back, and the board is as it was.
+    /// has to be out (`is_out` tests that), as `claim` gives it; the value has to be the result of its vertex's operation on its inputs; and there
+    /// has to be one tree for each use. After want of memory all three come back, and the board is as it was. If the trees are those that the vertex's
+    /// run left of what the claim was lent, as a run answers them (`solver::run`), a history that gave back what was left goes on so.
     pub fn settle(
         &mut self,
         alloc: Global,
@@ -160,10 +160,12 @@ impl<'a, E: Executor, P: Place<TreeOrCause>> Board<'a, E, P> {
         requires of { IsClaim (board_problem E.out self.old) claim }
         requires value { IsResult (board_problem E.out self.old) claim (P.stands value) }
         requires given { IsGivenBack (board_problem E.out self.old) claim given.items }
-        requires lent { IsLent (board_problem E.out self.old) self.old.first self.old.run.history claim }
-        requires left { IsLeftFor (E.leaves self.old.job.executor) (board_problem E.out self.old) claim given.items }
         ensures run { OnOk result (IsStep E.out (Settling claim.worker given.items) self.old self.new) }
         ensures value { OnOk result (slice_get self.new.run.state.settled claim.vertex ≡ Some (Some (P.stands value))) }
+        ensures left { OnOk result (IsLent (board_problem E.out self.old) self.old.first self.old.run.history claim
+            → IsLeftFor (E.leaves self.old.job.executor) (board_problem E.out self.old) claim given.items
+            → GivesBackWhatIsLeft (E.leaves self.old.job.executor) (board_problem E.out self.old) self.old.first self.old.run.history
+            → GivesBackWhatIsLeft (E.leaves self.new.job.executor) (board_problem E.out self.new) self.new.first self.new.run.history) }
         ensures nearer { OnOk result (unsettled_count self.new.run.state.settled < unsettled_count self.old.run.state.settled) }
         ensures err { OnErr result (self.new ≡ self.old) }
         ensures back { IfErr result (λ refused. (refused.claim ≡ claim) × (refused.value ≡ value) × (refused.given.items ≡ given.items)) }
@@ -199,6 +201,8 @@ impl<'a, E: Executor, P: Place<TreeOrCause>> Board<'a, E, P> {
     pub fn abandon(&mut self, claim: Claim<P>)
         ensures out { IsOut self.old.run.state claim → IsStep E.out (Abandoning claim.worker) self.old self.new }
         ensures ended { ¬ IsOut self.old.run.state claim → self.new ≡ self.old }
+        ensures left { GivesBackWhatIsLeft (E.leaves self.old.job.executor) (board_problem E.out self.old) self.old.first self.old.run.history
+            → GivesBackWhatIsLeft (E.leaves self.new.job.executor) (board_problem E.out self.new) self.new.first self.new.run.history }
     {
         let worker = claim.worker();
         let vertex = claim.vertex();
@@ -216,6 +220,8 @@ impl<'a, E: Executor, P: Place<TreeOrCause>> Board<'a, E, P> {
         ensures run { IsCleared (board_problem E.out self.old) self.old.run self.new.run }
         ensures job { self.new.job ≡ self.old.job }
         ensures first { self.new.first ≡ self.old.first }
+        ensures left { GivesBackWhatIsLeft (E.leaves self.old.job.executor) (board_problem E.out self.old) self.old.first self.old.run.history
+            → GivesBackWhatIsLeft (E.leaves self.new.job.executor) (board_problem E.out self.new) self.new.first self.new.run.history }
     {
         while let Some(claim) = state::least_worker(self.claims.as_slice()) {
             self.give_up(claim);
@@ -230,13 +236,12 @@ impl<'a, E: Executor, P: Place<TreeOrCause>> Board<'a, E, P> {
     }
 
     /// What has happened, in order. What the board holds is the replay of it, and the contents of its caches are those that it left of the
-    /// contents at the start. Each of its settles gave back what the run of its vertex left of what it was lent.
+    /// contents at the start.
     pub fn history(&self) -> &[Happened]
         ensures value { result.now ≡ self.now.run.history }
         ensures replay { IsReplay (board_problem E.out self.now) self.now.run }
         ensures problem { IsProblem (board_problem E.out self.now) }
         ensures contents { AreContents (board_problem E.out self.now) self.now.run.history self.now.first self.now.contents }
-        ensures given { GivesBackWhatIsLeft (E.leaves self.now.job.executor) (board_problem E.out self.now) self.now.first self.now.run.history }
     {
         self.history.as_slice()
     }
@@ -279,7 +284,6 @@ impl<'a, E: Executor, P: Place<TreeOrCause>> Board<'a, E, P> {
     /// Ends the board, and gives its history.
     pub fn into_history(self) -> Vec<Happened>
         ensures value { result.items ≡ self.entry.run.history }
-        ensures given { GivesBackWhatIsLeft (E.leaves self.entry.job.executor) (board_problem E.out self.entry) self.entry.first result.items }
     {
         let Board {
             job: _,
@@ -293,14 +297,15 @@ impl<'a, E: Executor, P: Place<TreeOrCause>> Board<'a, E, P> {
         history
     }
 
-    /// Ends the board, and gives its store: the contents are those that the history left, whose settles gave back what runs left. Where no claim is
-    /// out, no lease is.
+    /// Ends the board, and gives its store: the contents are those that the history left. If its settles gave back what runs left, so do those of a
+    /// legal history that leaves these contents. Where no claim is out, no lease is.
     pub fn into_caches(self) -> CacheStore
         ensures value { result ≡ record { contents = self.entry.contents; holds = self.entry.run.state.holds } }
         ensures idle { self.entry.run.state.claims ≡ [] → result.holds ≡ [] }
         ensures contents { AreContents (board_problem E.out self.entry) self.entry.run.history self.entry.first self.entry.contents }
         ensures left { AreLeft (board_problem E.out self.entry) self.entry.first result.contents }
-        ensures runs { AreLeftByRuns (E.leaves self.entry.job.executor) (board_problem E.out self.entry) self.entry.first result.contents }
+        ensures runs { GivesBackWhatIsLeft (E.leaves self.entry.job.executor) (board_problem E.out self.entry) self.entry.first self.entry.run.history
+            → AreLeftByRuns (E.leaves self.entry.job.executor) (board_problem E.out self.entry) self.entry.first result.contents }
     {
         let Board {
             job: _,
@@ -359,6 +364,8 @@ impl<'a, E: Executor, P: Place<TreeOrCause>> Board<'a, E, P> {
             ≡ map (tree_held self.old.contents) (new_holds worker self.old.run.state.holds (uses_at (board_problem E.out self.old) claim.vertex))) }
         ensures lent { IfOk result (IsLent (board_problem E.out self.new) self.new.first self.new.run.history) }
         ensures run { OnOk result (IsStep E.out (Claiming worker) self.old self.new) }
+        ensures left { OnOk result (GivesBackWhatIsLeft (E.leaves self.old.job.executor) (board_problem E.out self.old) self.old.first self.old.run.history
+            → GivesBackWhatIsLeft (E.leaves self.new.job.executor) (board_problem E.out self.new) self.new.first self.new.run.history) }
         ensures err { OnErr result (self.new ≡ self.old) }
     {
         let NextClaim { vertex, inputs } = next;
@@ -380,7 +387,9 @@ impl<'a, E: Executor, P: Place<TreeOrCause>> Board<'a, E, P> {
     /// Gives up a claim that is out.
     fn give_up(&mut self, claim: ClaimOut)
         requires { claim_of claim.worker self.old.run.state.claims ≡ Some claim }
-        ensures { IsStep E.out (Abandoning claim.worker) self.old self.new }
+        ensures run { IsStep E.out (Abandoning claim.worker) self.old self.new }
+        ensures left { GivesBackWhatIsLeft (E.leaves self.old.job.executor) (board_problem E.out self.old) self.old.first self.old.run.history
+            → GivesBackWhatIsLeft (E.leaves self.new.job.executor) (board_problem E.out self.new) self.new.first self.new.run.history }
     {
         let ClaimOut {
             worker,

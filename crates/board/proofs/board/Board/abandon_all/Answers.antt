@@ -21,7 +21,7 @@ loop-claim-smaller g c =
     let here = subst (λ v. claim_of c.in-Some.claim.worker v.run.state.claims ≡ Some c.in-Some.claim) c.self.view_is out.0 in
     let least = subst (λ v. IsLeastWorker v.run.state.claims c.in-Some.claim) c.self.view_is out.1 in
     let old = board_problem g.E.Executor.out c.loop-claim.self in
-    (clear-step old old c.loop-claim.self.run c.give_up.new.self.run c.in-Some.claim refl here least c.give_up.ensures.run).0
+    (clear-step old old c.loop-claim.self.run c.give_up.new.self.run c.in-Some.claim refl here least c.give_up.ensures.run.run).0
 
 pub loop-claim-preserved : goal.loop-claim-preserved
 loop-claim-preserved g c =
@@ -32,11 +32,12 @@ loop-claim-preserved g c =
     let least = subst (λ v. IsLeastWorker v.run.state.claims c.in-Some.claim) c.self.view_is out.1 in
     let was = c.loop-claim.invariant in
     let same : board_problem g.E.Executor.out c.loop-claim.self ≡ board_problem g.E.Executor.out c.args.self.now = rw was.job refl in
-    let step = clear-step (board_problem g.E.Executor.out c.args.self.now) (board_problem g.E.Executor.out c.loop-claim.self) c.loop-claim.self.run c.give_up.new.self.run c.in-Some.claim same here least c.give_up.ensures.run in
+    let step = clear-step (board_problem g.E.Executor.out c.args.self.now) (board_problem g.E.Executor.out c.loop-claim.self) c.loop-claim.self.run c.give_up.new.self.run c.in-Some.claim same here least c.give_up.ensures.run.run in
     record {
-      job = c.give_up.ensures.job ∙ was.job;
-      first = c.give_up.ensures.first ∙ was.first;
+      job = c.give_up.ensures.run.job ∙ was.job;
+      first = c.give_up.ensures.run.first ∙ was.first;
       cleared = λ after rest. was.cleared after (step.1 after rest);
+      left = λ gives. c.give_up.ensures.left (was.left gives);
     }
 
 pub returns-clause-run : goal.returns-clause-run

@@ -12,6 +12,7 @@ use Rattle.board.specs.PrivateShelf.{AreInputIds}
 use Rattle.board.specs.Board.{board_problem, IsStep}
 use Rattle.board.specs.Leaving.{lent_to, IsLent}
 use Rattle.board.specs.declared.event.Happened.TheVariants.{Claimed}
+use Rattle.board.specs.Leaving.{GivesBackWhatIsLeft}
 use Rattle.board.proofs.LeavingLemmas.{given-push, lent-held, lent-claimed}
 use Rattle.board.proofs.SoundLemmas.{claim-is, claim-can}
 use Rattle.board.proofs.BoardLemmas.{board_of, run_of, claim-gone, claim-out, copies-count}
@@ -74,9 +75,7 @@ invariant_of-self-2 g c =
     let after : IsAfter (Takes c.args.worker (uses_at problem vertex)) b.caches c.take.new.self = subst (λ u. IsAfter (Takes c.args.worker u) b.caches c.take.new.self) uses c.in_ok-lease.ensures.ok in
     let gone = claim-gone g.E.Executor.out b.job b.first.items b.caches c.take.new.self b.history.items c.add-2.new.list.items b.settled b.claims.items c.add.new.list.items c.args.worker vertex c.len-at.result c.self.invariant.0 can (search rules) (search rules) (search rules) after in
     let more = frontier-claim b.job.graph.vertices b.job.graph.places b.settled b.claims.items c.add.new.list.items b.frontier c.withdraw.new.self (record { worker = c.args.worker; vertex = vertex; at = c.len-at.result }) c.self.invariant.2 (claimable-available problem run.state c.args.worker vertex can) c.withdraw.ensures (search rules) in
-    let added : c.add-2.new.list.items ≡ b.history.items ++ Claimed c.args.worker vertex ∷ [] = search rules in
-    let given = given-push (g.E.Executor.leaves b.job.executor) problem b.first.items b.history.items c.add-2.new.list.items (Claimed c.args.worker vertex) added c.self.invariant.3 tt in
-    rw c.again.ensures.same (gone.board, omega (arith, c.self.invariant.1, c.in_ok-room-2.ensures.room, c.room-2.ensures.len, c.room.ensures.len, c.add.ensures.len, c.add-2.ensures.len, c.add-2.ensures.capacity, c.len.ensures), more, given)
+    rw c.again.ensures.same (gone.board, omega (arith, c.self.invariant.1, c.in_ok-room-2.ensures.room, c.room-2.ensures.len, c.room.ensures.len, c.add.ensures.len, c.add-2.ensures.len, c.add-2.ensures.capacity, c.len.ensures), more)
 
 pub returns-clause-run : goal.returns-clause-run
 returns-clause-run g c =
@@ -134,3 +133,14 @@ returns-clause-lent g c =
     let added : c.add-2.new.list.items ≡ b.history.items ++ Claimed worker vertex ∷ [] = search rules in
     subst (IsLent problem b.first.items c.add-2.new.list.items) (sym c.new.ensures)
     (subst (λ h. c.in_ok-lease.lease.trees ≡ lent_to problem b.first.items h worker) (sym added) (here ∙ (held ∙ sym (lent-claimed problem b.first.items b.history.items worker vertex))))
+
+pub returns-clause-left : goal.returns-clause-left
+returns-clause-left g c = λ gives.
+    let b = c.self.inside in
+    let worker = c.args.worker in
+    let vertex = c.args.next.vertex in
+    let leaves = g.E.Executor.leaves b.job.executor in
+    let problem = job_problem g.E.Executor.out b.job in
+    let before : GivesBackWhatIsLeft leaves problem b.first.items b.history.items = subst (λ v. GivesBackWhatIsLeft (g.E.Executor.leaves v.job.executor) (job_problem g.E.Executor.out v.job) v.first v.run.history) (sym c.self.view_is) gives in
+    let added : c.add-2.new.list.items ≡ b.history.items ++ Claimed worker vertex ∷ [] = search rules in
+    given-push leaves problem b.first.items b.history.items c.add-2.new.list.items (Claimed worker vertex) added before tt

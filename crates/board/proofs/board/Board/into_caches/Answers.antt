@@ -1,7 +1,7 @@
 use Rattle.std.proofs.Common.{◌≡◌, [], sym, subst}
 use Rattle.board.specs.Board.{board_problem, AreContents, AreLeft}
 use Rattle.board.specs.Job.{job_problem}
-use Rattle.board.specs.Leaving.{AreLeftByRuns}
+use Rattle.board.specs.Leaving.{AreLeftByRuns, GivesBackWhatIsLeft}
 use Rattle.board.proofs.SoundLemmas.{idle-free, sound}
 use Rattle.board.proofs.PlayLemmas.{replay-right}
 use Rattle.board.proofs.BoardLemmas.{run_of}
@@ -26,9 +26,10 @@ returns-clause-left g c =
 
 pub returns-clause-runs : goal.returns-clause-runs
 unfolding AreLeftByRuns
-returns-clause-runs g c =
+returns-clause-runs g c = λ gives.
     let b = c.self.inside in
     let is = c.self.invariant.0 in
     let problem = job_problem g.E.Executor.out b.job in
     let run = run_of b.history.items b.settled b.claims.items b.caches.holds in
-    subst (λ v. AreLeftByRuns (g.E.Executor.leaves v.job.executor) (board_problem g.E.Executor.out v) v.first b.caches.contents) c.self.view_is (run.history, (replay-right problem run (sound problem is.problem) is.replay).legal, is.contents, c.self.invariant.3)
+    let given : GivesBackWhatIsLeft (g.E.Executor.leaves b.job.executor) problem b.first.items b.history.items = subst (λ v. GivesBackWhatIsLeft (g.E.Executor.leaves v.job.executor) (board_problem g.E.Executor.out v) v.first v.run.history) (sym c.self.view_is) gives in
+    subst (λ v. AreLeftByRuns (g.E.Executor.leaves v.job.executor) (board_problem g.E.Executor.out v) v.first b.caches.contents) c.self.view_is (run.history, (replay-right problem run (sound problem is.problem) is.replay).legal, is.contents, given)

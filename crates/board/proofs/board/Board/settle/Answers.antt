@@ -8,7 +8,7 @@ use Rattle.plans.specs.Plan.{vertex_value, uses_at}
 use Rattle.board.specs.Play.{unsettled_count, Settle}
 use Rattle.board.specs.Claim.{IsClaim, IsOut, IsResult, claim_out}
 use Rattle.board.specs.Board.{IsStep}
-use Rattle.board.specs.Leaving.{IsLent, IsLeftFor}
+use Rattle.board.specs.Leaving.{IsLent, IsLeftFor, GivesBackWhatIsLeft}
 use Rattle.board.specs.declared.event.Happened.TheVariants.{Settled}
 use Rattle.board.proofs.LeavingLemmas.{given-push, left-at}
 use Rattle.board.proofs.SoundLemmas.{claim-within, claim-unsettled, claim-count, unsettled-fewer, result-is}
@@ -80,12 +80,7 @@ invariant_of-self g c =
     let settles : IsSettledIn claim.vertex c.least_place-line.result value b.frontier c.settle.new.self = subst (λ x. IsSettledIn claim.vertex c.least_place-line.result x b.frontier c.settle.new.self) c.value.ensures (subst (λ v. IsSettledIn v c.least_place-line.result c.value.result.now b.frontier c.settle.new.self) at c.settle.ensures) in
     let on : c.least_place-line.result ≡ line_in b.job.graph.places claim.vertex = c.least_place-line.ensures ∙ (ap (λ graph. line_in graph.places c.vertex-vertex.result) c.graph.ensures.value ∙ ap (line_in b.job.graph.places) at) in
     let left = frontier-settle b.job.graph.vertices b.job.graph.places b.settled c.put.new.self b.claims.items c.drop_claim.new.claims.items b.frontier c.settle.new.self (claim_out claim) c.least_place-line.result value c.self.invariant.2 alone on settles put (search rules) in
-    let leaves = g.E.Executor.leaves b.job.executor in
-    let lent : IsLent problem b.first.items b.history.items claim = subst (λ v. IsLent (job_problem g.E.Executor.out v.job) v.first v.run.history claim) (sym c.self.view_is) c.requires.lent in
-    let ran : IsLeftFor leaves problem claim c.args.given.items = subst (λ v. IsLeftFor (g.E.Executor.leaves v.job.executor) (job_problem g.E.Executor.out v.job) claim c.args.given.items) (sym c.self.view_is) c.requires.left in
-    let added : c.add.new.list.items ≡ b.history.items ++ Settled claim.worker claim.vertex c.args.given.items ∷ [] = search rules in
-    let given_so = given-push leaves problem b.first.items b.history.items c.add.new.list.items (Settled claim.worker claim.vertex c.args.given.items) added c.self.invariant.3 (left-at leaves problem claim _ c.args.given.items of ran lent) in
-    (gone.board, omega (arith, fewer, c.self.invariant.1, c.add.ensures.len, c.add.ensures.capacity), left, given_so)
+    (gone.board, omega (arith, fewer, c.self.invariant.1, c.add.ensures.len, c.add.ensures.capacity), left)
 
 pub returns-clause-run : goal.returns-clause-run
 returns-clause-run g c =
@@ -130,3 +125,16 @@ returns-clause-nearer g c =
     let fewer = unsettled-fewer b.settled claim.vertex value within none in
     let at : c.vertex-vertex.result ≡ claim.vertex = c.vertex-vertex.ensures in
     subst (λ v. unsettled_count c.put.new.self < unsettled_count v.run.state.settled) c.self.view_is (rw (c.put.ensures, at) fewer)
+
+pub returns-clause-left : goal.returns-clause-left
+returns-clause-left g c = λ lent left gives.
+    let b = c.self.inside in
+    let claim = c.args.claim in
+    let problem = job_problem g.E.Executor.out b.job in
+    let leaves = g.E.Executor.leaves b.job.executor in
+    let of : IsClaim problem claim = subst (λ v. IsClaim (job_problem g.E.Executor.out v.job) claim) (sym c.self.view_is) c.requires.of in
+    let is_lent : IsLent problem b.first.items b.history.items claim = subst (λ v. IsLent (job_problem g.E.Executor.out v.job) v.first v.run.history claim) (sym c.self.view_is) lent in
+    let ran : IsLeftFor leaves problem claim c.args.given.items = subst (λ v. IsLeftFor (g.E.Executor.leaves v.job.executor) (job_problem g.E.Executor.out v.job) claim c.args.given.items) (sym c.self.view_is) left in
+    let before : GivesBackWhatIsLeft leaves problem b.first.items b.history.items = subst (λ v. GivesBackWhatIsLeft (g.E.Executor.leaves v.job.executor) (job_problem g.E.Executor.out v.job) v.first v.run.history) (sym c.self.view_is) gives in
+    let added : c.add.new.list.items ≡ b.history.items ++ Settled claim.worker claim.vertex c.args.given.items ∷ [] = search rules in
+    given-push leaves problem b.first.items b.history.items c.add.new.list.items (Settled claim.worker claim.vertex c.args.given.items) added before (left-at leaves problem claim _ c.args.given.items of ran is_lent)
