@@ -7,6 +7,7 @@
 #![tactic(auto)]
 
 mod buildkit;
+mod by_hand;
 mod changing;
 mod commands;
 mod definitions;
@@ -14,23 +15,32 @@ mod devices;
 mod failing;
 mod files;
 mod flattening;
+mod graphs;
 mod handing;
+mod histories;
 mod language;
 mod leases;
+mod lent;
 mod limits;
 mod lookup;
 mod memos;
+mod one_cell;
 mod patterns;
 mod programs;
+mod randoms;
 mod reading;
+mod remembering;
 mod repeating;
 mod running;
 mod showing;
+mod sites;
+mod solving;
 mod spelling;
 mod stage;
 mod steps;
 mod stores;
 mod telling;
+mod watching;
 
 use plain::Memory;
 use std::alloc::Global;
@@ -48,7 +58,13 @@ enum Table {
     Language,
     Patterns,
     IgnoreFiles,
+    Graphs,
     Plans,
+    Histories,
+    Solving,
+    Randoms,
+    Sites,
+    OneCell,
     Leases,
     Trees,
     Definitions,
@@ -58,6 +74,7 @@ enum Table {
     Limits,
     Stores,
     Memos,
+    Remembering,
     Handing,
     /// No heading stands before the case, or one of another name.
     Unknown,
@@ -100,7 +117,13 @@ fn table_of(name: &str) -> Table {
         "language" => Table::Language,
         "patterns" => Table::Patterns,
         "ignore files" => Table::IgnoreFiles,
+        "graphs" => Table::Graphs,
         "plans" => Table::Plans,
+        "histories" => Table::Histories,
+        "solving" => Table::Solving,
+        "randoms" => Table::Randoms,
+        "sites" => Table::Sites,
+        "one cell" => Table::OneCell,
         "leases" => Table::Leases,
         "trees" => Table::Trees,
         "definitions" => Table::Definitions,
@@ -110,6 +133,7 @@ fn table_of(name: &str) -> Table {
         "limits" => Table::Limits,
         "stores" => Table::Stores,
         "memos" => Table::Memos,
+        "remembering" => Table::Remembering,
         "handing" => Table::Handing,
         _ => Table::Unknown,
     }
@@ -130,7 +154,13 @@ fn answer<F: Files + AllocGlobal + Clone + Drop>(
         Table::Language => language::answer(alloc, case),
         Table::Patterns => patterns::answer_of_pattern(alloc, case),
         Table::IgnoreFiles => patterns::answer_of_ignore_file(alloc, case),
+        Table::Graphs => graphs::answer(alloc, case),
         Table::Plans => flattening::answer(alloc, case),
+        Table::Histories => histories::answer(alloc, rt, case),
+        Table::Solving => solving::answer(alloc, rt, case),
+        Table::Randoms => randoms::answer(alloc, rt, case),
+        Table::Sites => sites::answer(alloc, rt, case),
+        Table::OneCell => one_cell::answer(alloc, rt, case),
         Table::Leases => leases::answer(alloc, case),
         Table::Trees => steps::answer(alloc, case),
         Table::Definitions => definitions::answer(alloc, case),
@@ -140,6 +170,7 @@ fn answer<F: Files + AllocGlobal + Clone + Drop>(
         Table::Limits => limits::answer(alloc, rt, files, case),
         Table::Stores => stores::answer(alloc, rt, case),
         Table::Memos => memos::answer(alloc, rt, case),
+        Table::Remembering => remembering::answer(alloc, rt, case),
         Table::Handing => handing::answer(alloc, rt, case),
         Table::Unknown => Err(Memory),
     }

@@ -16,7 +16,7 @@ use memo::Memo;
 use plain::Memory;
 use plans::Plan;
 use samples::listing;
-use solver::{OpenGate, Solution};
+use solver::{Gate, OpenGate, Solution};
 use std::alloc::Global;
 use std::sync::Wait;
 use std::sync::atomic::{AtomicU64, Ordering};
@@ -124,18 +124,19 @@ fn plan_text(
         begun: AtomicU64::new(0),
         from,
     };
-    let first = solved(alloc, rt, plan, &wanting, caches, workers);
-    let second = solved(alloc, rt, plan, &Fixture, caches, workers);
+    let first = solved(alloc, rt, plan, &wanting, &OpenGate, caches, workers);
+    let second = solved(alloc, rt, plan, &Fixture, &OpenGate, caches, workers);
     let (first, second) = (first?, second?);
     Ok(format!(in alloc; "{first}; then {second}")?)
 }
 
 /// What a plan comes to over a store, and whether a lease is out then.
-fn solved<E: Executor>(
+pub fn solved<C, E: Executor, G: Gate>(
     alloc: Global,
     rt: &(impl Threads + Wait + Sync),
-    plan: &Plan<Config>,
+    plan: &Plan<C>,
     executor: &E,
+    gate: &G,
     caches: &mut CacheStore,
     workers: u32,
 ) -> Result<String, Memory>
@@ -145,7 +146,7 @@ fn solved<E: Executor>(
 {
     let mut memo = Memo::new(alloc, executor);
     let solution = solve(
-        alloc, rt, plan, executor, workers, &OpenGate, caches, &mut memo,
+        alloc, rt, plan, executor, workers, gate, caches, &mut memo,
     );
     drop(memo);
     let text = match solution {

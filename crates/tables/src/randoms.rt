@@ -1,18 +1,21 @@
-use crate::answers::solved_anew;
+// `randoms`: a name, ` | `, and seeds, `FIRST to LAST`. Each makes a plan, which is solved with 1, 2, 4, 16 and 64 workers. The answer is the name and
+// `alike`, or the seed of the first plan with which the rules disagree, and what it came to.
+
+ghost use Rattle.std.specs.Prelude.{◌<◌, ◌≤◌};
+
+use crate::reading::number;
+use crate::stores::solved;
+use cachemounts::CacheStore;
+use executor::Fixture;
 use llb::Graph;
 use plain::Memory;
 use plans::Plan;
 use samples::{add_row, plan_of};
 use solver::OpenGate;
 use std::alloc::Global;
-use std::process::Abort;
 use std::sync::Wait;
-use std::test::Fail;
 use std::thread::Threads;
 use trees::Tree;
-
-/// How many plans each test makes: four of them make 200.
-const PLANS: u64 = 50;
 
 /// How many vertices each has at most.
 const VERTICES: u32 = 14;
@@ -177,91 +180,79 @@ fn make_plan(alloc: Global, seed: u64, known: &mut Known) -> Result<Plan<u8>, Me
     }
 }
 
-/// Adds what a plan comes to with each number of workers.
-fn push_answers<R: Threads + Wait + Sync>(
-    rt: &R,
+/// How many plans have the answer that the rules allow, or the answers to the first one that hasn't.
+pub fn answer(
     alloc: Global,
-    plan: &Plan<u8>,
-    answers: &mut Vec<String>,
-) -> Result<(), Fail> {
-    for workers in WORKERS {
-        answers.push(solved_anew(alloc, rt, plan, workers, &OpenGate)?)?;
-    }
-    Ok(())
-}
-
-/// Whether answers to one plan are allowed, and what is built is the same in each.
-fn expect_alike(rt: &impl Abort, known: &Known, answers: &[String]) {
-    let mut built = "";
-    for answer in answers {
-        let answer = answer.as_str();
-        assert!(rt; known.allows(answer), "{answer}");
-        if answer.starts_with("built") {
-            assert!(rt; built.is_empty() || built == answer, "{answer}");
-            built = answer;
+    rt: &(impl Threads + Wait + Sync),
+    case: &str,
+) -> Result<String, Memory> {
+    let (name, seeds) = case.split_once(" | ").unwrap_or((case, ""));
+    let (first, last) = seeds.split_once(" to ").unwrap_or((seeds, ""));
+    let (first, last) = (number(first)?, number(last)?);
+    for seed in first..=last {
+        if let Some(answers) = differing(alloc, rt, u64::from(seed))? {
+            return Ok(format!(in alloc; "{name}: seed {seed}{answers}")?);
         }
     }
+    Ok(format!(in alloc; "{name}: alike")?)
 }
 
-/// Solves a plan with each number of workers: what is built is the same, and what fails is known to.
-fn compare_known<R: Abort + Threads + Wait + Sync>(
-    rt: &R,
+/// The answers to the plan of a seed, if the rules don't allow one of them, or two differ that are built.
+fn differing(
     alloc: Global,
-    plan: &Plan<u8>,
-    known: &Known,
-) -> Result<(), Fail> {
-    let mut answers = Vec::new(alloc);
-    let done = push_answers(rt, alloc, plan, &mut answers);
-    if done.is_ok() {
-        expect_alike(rt, known, &answers);
-    }
-    drop(answers);
-    done
-}
-
-/// The same for the plan of a seed.
-fn compare<R: Abort + Threads + Wait + Sync>(rt: &R, alloc: Global, seed: u64) -> Result<(), Fail> {
+    rt: &(impl Threads + Wait + Sync),
+    seed: u64,
+) -> Result<Option<String>, Memory> {
     let mut known = Known {
         treed: Vec::new(alloc),
         failing: Vec::new(alloc),
         last_fails: false,
     };
-    let done = match make_plan(alloc, seed, &mut known) {
-        Ok(plan) => compare_known(rt, alloc, &plan, &known),
-        Err(memory) => Err(Fail::from(memory)),
+    let compared = match make_plan(alloc, seed, &mut known) {
+        Ok(plan) => {
+            let compared = compare(alloc, rt, &plan, &known);
+            drop(plan);
+            compared
+        }
+        Err(memory) => Err(memory),
     };
     drop(known);
-    done
+    compared
 }
 
-/// Compares the plans of as many seeds, from this one on.
-fn compare_from<R: Abort + Threads + Wait + Sync>(
-    rt: &R,
+/// The same of a plan of which this is known.
+fn compare(
     alloc: Global,
-    first: u64,
-) -> Result<(), Fail> {
-    for seed in 0..PLANS {
-        compare(rt, alloc, first.wrapping_add(seed))?;
+    rt: &(impl Threads + Wait + Sync),
+    plan: &Plan<u8>,
+    known: &Known,
+) -> Result<Option<String>, Memory> {
+    let mut answers = String::new(alloc);
+    let mut alike = true;
+    let mut built = String::new(alloc);
+    for workers in WORKERS {
+        let text = solved_anew(alloc, rt, plan, workers)?;
+        write!(answers, "; {workers}: {text}")?;
+        alike = alike && known.allows(text.as_str());
+        if text.as_str().starts_with("built") {
+            alike = alike && (built.is_empty() || built.as_str() == text.as_str());
+            built = text;
+        }
     }
-    Ok(())
+    Ok(if alike { None } else { Some(answers) })
 }
 
-#[test]
-fn random_plans_are_solved_alike(rt: HostRuntime) -> Result<(), Fail> {
-    compare_from(&rt, rt.alloc(), 0)
-}
-
-#[test]
-fn random_plans_from_50_on_are_solved_alike(rt: HostRuntime) -> Result<(), Fail> {
-    compare_from(&rt, rt.alloc(), 50)
-}
-
-#[test]
-fn random_plans_from_100_on_are_solved_alike(rt: HostRuntime) -> Result<(), Fail> {
-    compare_from(&rt, rt.alloc(), 100)
-}
-
-#[test]
-fn random_plans_from_150_on_are_solved_alike(rt: HostRuntime) -> Result<(), Fail> {
-    compare_from(&rt, rt.alloc(), 150)
+/// What a plan comes to over an empty store of caches.
+fn solved_anew(
+    alloc: Global,
+    rt: &(impl Threads + Wait + Sync),
+    plan: &Plan<u8>,
+    workers: u32,
+) -> Result<String, Memory>
+    requires { (0 < workers) × (workers ≤ 64) }
+{
+    let mut caches = CacheStore::new(alloc);
+    let text = solved(alloc, rt, plan, &Fixture, &OpenGate, &mut caches, workers);
+    drop(caches);
+    text
 }

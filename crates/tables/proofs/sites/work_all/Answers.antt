@@ -7,10 +7,10 @@ use Rattle.executor.specs.declared.executor.Executor.{Ghosts}
 use Rattle.std.proofs.Crossing as any
 use Rattle.sites.specs.contracts.site.Desk as Desk
 use Rattle.sites.proofs.Crosses.{desk_sync, job_sync}
-use Rattle.worker_tests.specs.contracts.pairs.Tools as Tools
-use Rattle.worker_tests.proofs.pairs.work_all.Goals as goal
+use Rattle.tables.specs.contracts.sites.Tools as Tools
+use Rattle.tables.proofs.sites.work_all.Goals as goal
 
--- what the two workers share may be lent to several threads. (It stands here, since a file of its own would be read where the tests aren't there.)
+-- what the two workers share may be lent to several threads.
 tools_sync : (κ : NamedLft) (E : RattleType) (g : Ghosts E.Denot) → IsSync E → IsSync (Tools.the_row κ E g)
 tools_sync κ E g e =
     let all : AllSync (fields (Tools.the_type κ E g)) = (search (sendable, any.crosses) depth 20, (search (job_sync κ E g e, sendable) depth 20, tt)) in
