@@ -207,7 +207,7 @@ impl<'a, E: Executor, P: Place<TreeOrCause>> Board<'a, E, P> {
         let worker = claim.worker();
         let vertex = claim.vertex();
         let at = claim.at();
-        claim.into_lease().discard();
+        drop(claim.into_lease());
         if !state::is_out(self.claims.as_slice(), worker, vertex, at) {
             return;
         }
@@ -376,7 +376,7 @@ impl<'a, E: Executor, P: Place<TreeOrCause>> Board<'a, E, P> {
         let vertices = self.job.graph().vertices();
         let lease = self
             .caches
-            .take(alloc, worker, state::uses_of(vertices, vertex))?;
+            .take_as(alloc, worker, state::uses_of(vertices, vertex))?;
         let at = self.history.len();
         self.frontier.withdraw(vertex);
         growth::add(&mut self.claims, ClaimOut { worker, vertex, at });
@@ -398,7 +398,7 @@ impl<'a, E: Executor, P: Place<TreeOrCause>> Board<'a, E, P> {
         } = claim;
         state::drop_claim(&mut self.claims, worker);
         self.frontier.restore(vertex);
-        self.caches.leave(worker);
+        self.caches.leave(worker as usize);
         growth::add(&mut self.history, Happened::Abandoned { worker, vertex });
     }
 }

@@ -105,7 +105,7 @@ impl<P: Place<TreeOrCause>> Claim<P> {
 
     /// Drops a claim of a board that has ended. On a board that goes on the claim stays out until `Board::abandon_all`.
     pub fn discard(self) {
-        self.into_lease().discard();
+        drop(self.into_lease());
     }
 
     /// The lease, for the board alone.

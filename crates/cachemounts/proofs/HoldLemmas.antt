@@ -15,7 +15,7 @@ use Rattle.runs.specs.Run.{ids_differ, ids_of}
 use Rattle.cachemounts.specs.declared.holds.Access.{Access}
 use Rattle.cachemounts.specs.declared.holds.Access.TheVariants.{Together, Alone, Slot}
 use Rattle.cachemounts.specs.declared.holds.Hold.{Hold}
-use Rattle.cachemounts.specs.Holds.{IsLowestFree, same_id, is_common, is_alone, is_slot, holds_common, holds_alone, holds_slot, may_begin, can_take, first_free, lowest_free, access_for, new_hold, new_holds, of_holder, without_holder, is_holder, accesses_clash, holds_clash, is_lawful}
+use Rattle.cachemounts.specs.Holds.{IsLowestFree, IsFreeNumber, free_number, nobody, same_id, is_common, is_alone, is_slot, holds_common, holds_alone, holds_slot, may_begin, can_take, first_free, lowest_free, access_for, new_hold, new_holds, of_holder, without_holder, is_holder, accesses_clash, holds_clash, is_lawful}
 
 -- tests that agree everywhere find alike
 any_same : {X : Type 0} (p q : X → Bool) → ((x : X) → p x ≡ q x) → (xs : List X) → list_any p xs ≡ list_any q xs
@@ -68,27 +68,33 @@ other_slot m n Together differ e = cc
 other_slot m n Alone differ e = cc
 other_slot m n (Slot slot) differ e = ne_eqb slot n (λ same. differ (sym (eqb-true slot m e) ∙ same))
 
--- so many slots are held by as many holds at least
-holds_few : (holds : List Hold) (id : List ℕ) (n : ℕ) → ((slot : ℕ) → slot < n → list_any (holds_slot id slot) holds ≡ true) → n ≤ length holds
-holds_few holds id zero all = omega arith
-holds_few holds id (suc n) all =
-    let here : list_any (λ t. not (others t)) holds ≡ true = sym (any_same (holds_slot id n) (λ t. not (others t)) twice holds) ∙ all n (omega arith) in
+-- a hold is of one slot at most
+one_slot : (id : List ℕ) (m n : ℕ) (hold : Hold) → m ≢ n → holds_slot id m hold ≡ true → holds_slot id n hold ≡ false
+one_slot id m n hold differ e =
+    let parts = and_parts (same_id hold.id id) (is_slot m hold.access) e in
+    ap (λ b. same_id hold.id id && b) (other_slot m n hold.access differ parts.1) ∙ and-false (same_id hold.id id)
+
+-- a hold is of one holder
+one_holder : (m n : ℕ) (hold : Hold) → m ≢ n → (hold.holder == m) ≡ true → (hold.holder == n) ≡ false
+one_holder m n hold differ e = ne_eqb hold.holder n (λ same. differ (sym (eqb-true hold.holder m e) ∙ same))
+
+-- where a hold has one number at most, so many numbers are those of as many holds at least
+holds_few : (has : ℕ → Hold → Bool) → ((m n : ℕ) (hold : Hold) → m ≢ n → has m hold ≡ true → has n hold ≡ false) → (holds : List Hold) (n : ℕ) → ((k : ℕ) → k < n → list_any (has k) holds ≡ true) → n ≤ length holds
+holds_few has one holds zero all = omega arith
+holds_few has one holds (suc n) all =
+    let here : list_any (λ t. not (others t)) holds ≡ true = sym (any_same (has n) (λ t. not (others t)) twice holds) ∙ all n (omega arith) in
     let fewer = filter_less others holds here in
-    let rest = holds_few (filter others holds) id n (λ slot l. any_filter_some (holds_slot id slot) others (kept slot l) holds (all slot (omega (arith, l)))) in
+    let rest = holds_few has one (filter others holds) n (λ k l. any_filter_some (has k) others (kept k l) holds (all k (omega (arith, l)))) in
     omega (arith, fewer, rest)
   where
     others : Hold → Bool
-    others hold = not (holds_slot id n hold)
+    others hold = not (has n hold)
 
-    twice : (hold : Hold) → holds_slot id n hold ≡ not (others hold)
-    twice hold = elim (holds_slot id n hold) as (λ b. b ≡ not (not b)) [ true ↦ refl | false ↦ refl ]
+    twice : (hold : Hold) → has n hold ≡ not (others hold)
+    twice hold = elim (has n hold) as (λ b. b ≡ not (not b)) [ true ↦ refl | false ↦ refl ]
 
-    kept : (slot : ℕ) → slot < n → (hold : Hold) → holds_slot id slot hold ≡ true → others hold ≡ true
-    kept slot l hold e =
-        let parts = and_parts (same_id hold.id id) (is_slot slot hold.access) e in
-        let no : is_slot n hold.access ≡ false = other_slot slot n hold.access (λ same. absurd (omega (arith, l, same))) parts.1 in
-        let none : holds_slot id n hold ≡ false = ap (λ b. same_id hold.id id && b) no ∙ and-false (same_id hold.id id) in
-        not_from_false (holds_slot id n hold) none
+    kept : (k : ℕ) → k < n → (hold : Hold) → has k hold ≡ true → others hold ≡ true
+    kept k l hold e = not_from_false (has n hold) (one k n hold (λ same. absurd (omega (arith, l, same))) e)
 
 free_low : (held : ℕ → Bool) (slot more j : ℕ) → slot ≤ j → j < first_free held slot more → held j ≡ true
 free_low held slot zero j l m = absurd (omega (arith, l, m))
@@ -108,29 +114,51 @@ free_found held slot (suc more) = by_test (free_found held (slot + 1) more) (hel
     by_test (inr past) true t = inr (rw t (omega (arith, past)))
     by_test rest false t = inl (rw t t)
 
-pub lowest_free-is : (holds : List Hold) (id : List ℕ) → IsLowestFree holds id (lowest_free holds id)
-lowest_free-is holds id = record { free = is_free (held (lowest_free holds id)) refl; lower = low }
+-- where a hold has one number at most, the first number that no hold has is found among the first `length holds + 1`
+first_free-is : (has : ℕ → Hold → Bool) → ((m n : ℕ) (hold : Hold) → m ≢ n → has m hold ≡ true → has n hold ≡ false) → (holds : List Hold) → (list_any (has (first_free (λ n. list_any (has n) holds) 0 (length holds))) holds ≡ false) × ((j : ℕ) → j < first_free (λ n. list_any (has n) holds) 0 (length holds) → list_any (has j) holds ≡ true)
+first_free-is has one holds = (is_free (held first) refl, low)
   where
     held : ℕ → Bool
-    held slot = list_any (holds_slot id slot) holds
+    held n = list_any (has n) holds
 
-    low : (j : ℕ) → j < lowest_free holds id → held j ≡ true
+    first : ℕ
+    first = first_free held 0 (length holds)
+
+    low : (j : ℕ) → j < first → held j ≡ true
     low j l = free_low held 0 (length holds) j (omega arith) l
 
-    is_free : (b : Bool) → held (lowest_free holds id) ≡ b → held (lowest_free holds id) ≡ false
+    is_free : (b : Bool) → held first ≡ b → held first ≡ false
     is_free false e = e
     is_free true e = elim (free_found held 0 (length holds)) [
       | inl free ↦ free
       | inr past ↦
-          let few = holds_few holds id (suc (length holds)) (λ j l. all j l past) in
+          let few = holds_few has one holds (suc (length holds)) (λ j l. all j l past) in
           absurd (omega (arith, few))
     ]
       where
-        all : (j : ℕ) → j < suc (length holds) → lowest_free holds id ≡ 0 + length holds → held j ≡ true
-        all j l past = elim (cases_lt j (lowest_free holds id)) [
+        all : (j : ℕ) → j < suc (length holds) → first ≡ 0 + length holds → held j ≡ true
+        all j l past = elim (cases_lt j first) [
           | inl before ↦ low j before
-          | inr after ↦ (let same : lowest_free holds id ≡ j = omega (arith, l, past, after) in rw (← same) e)
+          | inr after ↦ (let same : first ≡ j = omega (arith, l, past, after) in rw (← same) e)
         ]
+
+pub lowest_free-is : (holds : List Hold) (id : List ℕ) → IsLowestFree holds id (lowest_free holds id)
+lowest_free-is holds id = (let is = first_free-is (holds_slot id) (one_slot id) holds in record { free = is.0; lower = is.1 })
+
+pub free_number-is : (holds : List Hold) → IsFreeNumber holds (free_number holds)
+free_number-is holds = (let is = first_free-is (λ number hold. hold.holder == number) one_holder holds in record { free = is.0; lower = is.1 })
+
+-- what a holder takes has the number of no other one
+takings-apart : (holder other : ℕ) (holds : List Hold) (uses : List CacheUse) → holder ≢ other → is_holder other (new_holds holder holds uses) ≡ false
+takings-apart holder other holds [] differ = refl
+takings-apart holder other holds (mount ∷ uses) differ = or_from (holder == other) (is_holder other (new_holds holder holds uses)) (ne_eqb holder other differ) (takings-apart holder other holds uses differ)
+
+pub no-uses : (uses : List CacheUse) → (length uses == 0) ≡ true → uses ≡ []
+no-uses [] e = refl
+no-uses (mount ∷ uses) e = absurd (let h = eqb-true (length (mount ∷ uses)) 0 e in omega (arith, h))
+
+pub takings-below : (holder : ℕ) (holds : List Hold) (uses : List CacheUse) → holder < nobody → is_holder nobody (new_holds holder holds uses) ≡ false
+takings-below holder holds uses below = takings-apart holder nobody holds uses (λ same. absurd (omega (arith, below, same)))
 
 -- no two holds clash where holders leave
 pub lawful-filter : (q : Hold → Bool) (holds : List Hold) → is_lawful holds ≡ true → is_lawful (filter q holds) ≡ true

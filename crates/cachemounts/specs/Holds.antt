@@ -2,7 +2,7 @@
 --
 -- The holds of all leases that are out stand in one list, the oldest first. A cache has a common content, which shared uses hold together and a locked use
 -- holds alone, and private slots, each with a content of its own.
-use Rattle.std.specs.Prelude.{◌≡◌, ℕ, zero, suc, ◌+◌, ◌<◌, ◌==◌, Bool, true, false, not, ◌&&◌, if◌then◌else◌, List, [], ◌∷◌, map, filter, length, nat_eq}
+use Rattle.std.specs.Prelude.{◌≡◌, ℕ, zero, suc, ◌+◌, ◌-◌, ◌^◌, ◌<◌, ◌==◌, Bool, true, false, not, ◌&&◌, if◌then◌else◌, List, [], ◌∷◌, map, filter, length, nat_eq}
 use Rattle.std.specs.List.{list_any, list_all}
 use Rattle.std.specs.Cmp.Lexicographic.{pointwise}
 use Rattle.plain.specs.declared.sharing.Sharing.{Sharing}
@@ -96,6 +96,24 @@ without_holder holder holds = filter (λ hold. not (hold.holder == holder)) hold
 -- whether a holder holds anything (own)
 abbrev pub is_holder : ℕ → List Hold → Bool
 is_holder holder holds = list_any (λ hold. hold.holder == holder) holds
+
+-- the least number of a holder that holds nothing: it is among the first `length holds + 1`, since each hold is of one holder (own)
+abbrev pub free_number : List Hold → ℕ
+free_number holds = first_free (λ number. is_holder number holds) 0 (length holds)
+
+-- the least number of a holder that holds nothing (own)
+pub record IsFreeNumber (holds : List Hold) (number : ℕ) : Type 0 where
+  pub free : is_holder number holds ≡ false
+  pub lower : (j : ℕ) → j < number → is_holder j holds ≡ true
+
+-- the number of a lease that has no cache: no holder that holds something has it (own)
+unfoldable pub nobody : ℕ
+nobody = 2 ^ 64 - 1
+
+-- the number that a lease of these uses gets (own)
+abbrev pub number_for : List Hold → List CacheUse → ℕ
+number_for holds [] = nobody
+number_for holds (mount ∷ uses) = free_number holds
 
 -- whether one cache can't be held in both ways at once: its common content alone and by somebody else, or one slot twice (own)
 abbrev pub accesses_clash : Access → Access → Bool

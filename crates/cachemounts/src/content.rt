@@ -135,7 +135,12 @@ pub(crate) fn new_contents(
 }
 
 /// Puts trees in the contents that a holder holds, in the order of its holds. It takes no memory.
-pub(crate) fn give_back(contents: &mut Contents, holds: &[Hold], holder: u32, mut trees: Vec<Tree>)
+pub(crate) fn give_back(
+    contents: &mut Contents,
+    holds: &[Hold],
+    holder: usize,
+    mut trees: Vec<Tree>,
+)
     requires count { length trees.items ≡ length (of_holder holder holds.now) }
     requires have { have_contents contents.old holds.now ≡ true }
     ensures contents { (id : List ℕ) (slot : Option ℕ)

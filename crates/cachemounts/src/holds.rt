@@ -1,6 +1,6 @@
-ghost use Rattle.std.specs.Prelude.{◌≡◌, ◌+◌, length, map, IfOk, true};
+ghost use Rattle.std.specs.Prelude.{◌≡◌, ◌+◌, ◌<◌, length, map, IfOk, true, false};
 ghost use Rattle.std.specs.List.{list_any, list_all};
-ghost use Rattle.cachemounts.specs.Holds.{is_common, is_alone, is_slot, holds_common, holds_alone, holds_slot, may_begin, can_take, lowest_free, access_for, new_holds, same_id, of_holder, without_holder};
+ghost use Rattle.cachemounts.specs.Holds.{is_common, is_alone, is_slot, holds_common, holds_alone, holds_slot, may_begin, can_take, lowest_free, access_for, new_holds, same_id, of_holder, without_holder, is_holder, free_number, nobody, number_for};
 
 use plain::{Exact, Memory, Sharing, Text};
 use runs::CacheUse;
@@ -20,7 +20,7 @@ pub enum Access {
 /// A cache that is held: by whom, the cache's id, and which content of it.
 #[derive(Drop)]
 pub struct Hold {
-    pub holder: u32,
+    pub holder: usize,
     pub id: Text,
     pub access: Access,
 }
@@ -124,7 +124,7 @@ fn access_for(holds: &[Hold], id: &Text, sharing: Sharing) -> Access
 /// The holds of uses that begin together, beside these.
 pub(crate) fn new_holds(
     alloc: Global,
-    holder: u32,
+    holder: usize,
     holds: &[Hold],
     uses: &[CacheUse],
 ) -> Result<Vec<Hold>, Memory>
@@ -139,15 +139,48 @@ pub(crate) fn new_holds(
     Ok(new)
 }
 
+/// Whether a holder holds anything.
+pub(crate) fn is_holder(holds: &[Hold], holder: usize) -> bool
+    ensures { result ≡ is_holder holder holds.now }
+{
+    holds.iter().any(|hold| hold.holder == holder)
+}
+
+/// The least number of a holder that holds nothing.
+fn free_number(holds: &[Hold]) -> usize
+    ensures value { result ≡ free_number holds.now }
+    ensures below { result < usize.MAX }
+{
+    for number in 0..holds.len() {
+        if !is_holder(holds, number) {
+            return number;
+        }
+    }
+    holds.len()
+}
+
+/// The number that a lease of these uses gets. Without uses it holds nothing, so it shares its number with no lease that holds a cache.
+pub(crate) fn number_for(holds: &[Hold], uses: &[CacheUse]) -> usize
+    requires { is_holder nobody holds.now ≡ false }
+    ensures value { result ≡ number_for holds.now uses.now }
+    ensures free { is_holder result holds.now ≡ false }
+    ensures apart { is_holder nobody (new_holds result holds.now uses.now) ≡ false }
+{
+    if uses.is_empty() {
+        return usize::MAX;
+    }
+    free_number(holds)
+}
+
 /// How many of these holds are a holder's.
-pub(crate) fn count_of(holds: &[Hold], holder: u32) -> usize
+pub(crate) fn count_of(holds: &[Hold], holder: usize) -> usize
     ensures { result ≡ length (of_holder holder holds.now) }
 {
     holds.iter().filter(|hold| hold.holder == holder).count()
 }
 
 /// Ends what a holder holds.
-pub(crate) fn drop_holder(holds: &mut Vec<Hold>, holder: u32)
+pub(crate) fn drop_holder(holds: &mut Vec<Hold>, holder: usize)
     ensures { holds.new.items ≡ without_holder holder holds.old.items }
 {
     holds.retain(|hold| hold.holder != holder);

@@ -2,7 +2,7 @@
 ghost use Rattle.std.specs.Prelude.{◌≡◌, ℕ, true, List, Option, Some, map, slice_get};
 ghost use Rattle.trees.specs.TreeMap.{TreeMap};
 ghost use Rattle.cachemounts.specs.Content.{common_content, tree_in, tree_at_first};
-ghost use Rattle.cachemounts.specs.Holds.{is_common, is_lawful, lowest_free, IsLowestFree};
+ghost use Rattle.cachemounts.specs.Holds.{is_common, is_lawful, lowest_free, free_number, IsLowestFree, IsFreeNumber};
 ghost use Rattle.cachemounts.specs.declared.holds.Access.TheVariants.{Alone};
 ghost use Rattle.cachemounts.specs.declared.holds.Hold.{Hold};
 
@@ -16,6 +16,11 @@ pub fn a_locked_holder_is_alone()
 /// A private use gets the lowest slot that nobody holds.
 pub fn the_lowest_free_slot_is_found()
     ensures { (holds : List Hold) (id : List ℕ) → IsLowestFree holds id (lowest_free holds id) }
+{}
+
+/// A lease that has a cache gets the least number of a holder that holds nothing.
+pub fn the_least_free_number_is_found()
+    ensures { (holds : List Hold) → IsFreeNumber holds (free_number holds) }
 {}
 
 /// What is in the contents of a store that begins with common contents.

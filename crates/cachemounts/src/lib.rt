@@ -9,7 +9,7 @@
 //
 // ```
 // if store.can_take(uses) {
-//     let lease = store.take(alloc, worker, uses)?;
+//     let lease = store.take(alloc, uses)?;
 //     let trees = ..;                               // made of lease.trees()
 //     store.give(lease, trees);
 // }

@@ -1,6 +1,6 @@
 ghost use Rattle.std.specs.Prelude.{◌≡◌, ◌↔◌, ◌++◌, ◌+◌, ◌≤◌, vec_len, vec_capacity, [], ℕ, List, true, false, length, map, IsTrue, IfOk, OnOk, OnErr};
 ghost use Rattle.runs.specs.Run.{ids_differ, ids_of};
-ghost use Rattle.cachemounts.specs.Holds.{can_take, new_holds, of_holder, is_holder};
+ghost use Rattle.cachemounts.specs.Holds.{can_take, new_holds, of_holder, is_holder, nobody, number_for};
 ghost use Rattle.cachemounts.specs.Content.{common_content, tree_in, tree_held};
 ghost use Rattle.cachemounts.specs.Changes.{Takes, Gives, Leaves};
 ghost use Rattle.cachemounts.specs.Store.{IsAfter, IsStore};
@@ -35,9 +35,11 @@ impl Model for CacheStore {
 }
 
 /// The lease of caches that a holder took, with copies of the trees that were in their contents then. It ends by `CacheStore::give` or
-/// `CacheStore::release`.
+/// `CacheStore::release`. If it is let go in another way, its holder holds its caches until `CacheStore::leave` or `CacheStore::release_all`.
+#[must_use]
+#[derive(Drop)]
 pub struct Lease {
-    holder: u32,
+    holder: usize,
     trees: Items<Tree>,
 }
 
@@ -60,19 +62,10 @@ impl Lease {
     }
 
     /// The number of its holder.
-    pub fn holder(&self) -> u32
+    pub fn holder(&self) -> usize
         ensures { result ≡ self.now.holder }
     {
         self.holder
-    }
-
-    /// Drops a lease that was ended in another way, by `CacheStore::leave` or `CacheStore::release_all`. For one that is still out this does
-    /// not end it: its holder holds its caches until `leave`.
-    pub fn discard(self) {
-        let Lease {
-            holder: _,
-            trees: _,
-        } = self;
     }
 }
 
@@ -109,14 +102,14 @@ impl CacheStore {
     }
 
     /// Whether a holder holds anything.
-    pub fn is_holder(&self, holder: u32) -> bool
+    pub fn is_holder(&self, holder: usize) -> bool
         ensures { result ≡ is_holder holder self.now.holds }
     {
-        self.holds.iter().any(|hold| hold.holder == holder)
+        holds::is_holder(self.holds.as_slice(), holder)
     }
 
     /// How many caches a holder holds.
-    pub fn held_by(&self, holder: u32) -> usize
+    pub fn held_by(&self, holder: usize) -> usize
         ensures { result ≡ length (of_holder holder self.now.holds) }
     {
         holds::count_of(self.holds.as_slice(), holder)
@@ -129,11 +122,51 @@ impl CacheStore {
         self.holds.is_empty()
     }
 
-    /// Takes the caches of uses that may begin now (`can_take`), for a holder that holds nothing (`is_holder`): shared and locked uses the
-    /// common content of their caches, private ones their lowest free slots. No id may be named twice. It makes the room for what will be
-    /// given back, so `give` takes no memory. After `Memory` the store is as it was.
-    pub fn take(&mut self, alloc: Global, holder: u32, uses: &[CacheUse]) -> Result<Lease, Memory>
+    /// Takes the caches of uses that may begin now (`can_take`): shared and locked uses the common content of their caches, private ones their
+    /// lowest free slots. No id may be named twice. The holder is the least number that holds nothing; one that takes no cache has a number that never
+    /// holds any, so each lease that is out can be ended by itself. It makes the room for what will be given back, so `give` takes no memory. After
+    /// `Memory` the store is as it was.
+    pub fn take(&mut self, alloc: Global, uses: &[CacheUse]) -> Result<Lease, Memory>
+        requires may { can_take self.old.holds uses.now ≡ true }
+        requires differ { ids_differ (ids_of uses.now) ≡ true }
+        ensures holder { IfOk result (λ lease. lease.holder ≡ number_for self.old.holds uses.now) }
+        ensures free { IfOk result (λ lease. is_holder lease.holder self.old.holds ≡ false) }
+        ensures ok { IfOk result (λ lease. IsAfter (Takes lease.holder uses.now) self.old self.new) }
+        ensures trees { IfOk result (λ lease. lease.trees ≡ map (tree_held self.old.contents) (new_holds lease.holder self.old.holds uses.now)) }
+        ensures held { IfOk result (λ lease. length (of_holder lease.holder self.new.holds) ≡ length uses.now) }
+        ensures err { OnErr result (self.new ≡ self.old) }
+    {
+        let holder = holds::number_for(self.holds.as_slice(), uses);
+        self.take_numbered(alloc, holder, uses)
+    }
+
+    /// Takes the caches of uses as `take` does, for a holder of a number that the caller chose, which has to hold nothing (`is_holder`). A lease
+    /// without caches leaves its number free, so the caller sees to it that no two leases that are out have one number.
+    pub fn take_as(
+        &mut self,
+        alloc: Global,
+        holder: u32,
+        uses: &[CacheUse],
+    ) -> Result<Lease, Memory>
         requires free { is_holder holder self.old.holds ≡ false }
+        requires may { can_take self.old.holds uses.now ≡ true }
+        requires differ { ids_differ (ids_of uses.now) ≡ true }
+        ensures ok { OnOk result (IsAfter (Takes holder uses.now) self.old self.new) }
+        ensures lease { IfOk result (λ lease. lease ≡ record { holder = holder; trees = map (tree_held self.old.contents) (new_holds holder self.old.holds uses.now) }) }
+        ensures err { OnErr result (self.new ≡ self.old) }
+    {
+        self.take_numbered(alloc, holder as usize, uses)
+    }
+
+    /// Takes the caches of uses that may begin now, for a holder that holds nothing.
+    fn take_numbered(
+        &mut self,
+        alloc: Global,
+        holder: usize,
+        uses: &[CacheUse],
+    ) -> Result<Lease, Memory>
+        requires free { is_holder holder self.old.holds ≡ false }
+        requires apart { is_holder nobody (new_holds holder self.old.holds uses.now) ≡ false }
         requires may { can_take self.old.holds uses.now ≡ true }
         requires differ { ids_differ (ids_of uses.now) ≡ true }
         ensures ok { OnOk result (IsAfter (Takes holder uses.now) self.old self.new) }
@@ -159,7 +192,7 @@ impl CacheStore {
         ensures { IsAfter (Gives lease.holder trees.items) self.old self.new }
     {
         let holder = lease.holder();
-        lease.discard();
+        drop(lease);
         content::give_back(&mut self.contents, self.holds.as_slice(), holder, trees);
         holds::drop_holder(&mut self.holds, holder);
     }
@@ -169,12 +202,12 @@ impl CacheStore {
         ensures { IsAfter (Leaves lease.holder) self.old self.new }
     {
         let holder = lease.holder();
-        lease.discard();
+        drop(lease);
         holds::drop_holder(&mut self.holds, holder);
     }
 
     /// Ends the lease of a holder, whose lease value is elsewhere, and leaves the contents as they are. It takes no memory.
-    pub fn leave(&mut self, holder: u32)
+    pub fn leave(&mut self, holder: usize)
         ensures after { IsAfter (Leaves holder) self.old self.new }
         ensures contents { self.new.contents ≡ self.old.contents }
     {
