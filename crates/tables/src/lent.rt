@@ -77,10 +77,10 @@ pub fn caches_text(alloc: Global, caches: &mut CacheStore) -> Result<String, Mem
 
 fn held(alloc: Global, caches: &mut CacheStore, id: &str) -> Result<String, Memory> {
     let uses = [cache(alloc, id, "/c", Sharing::Locked)?];
-    if caches.is_holder(0) || !caches.can_take(&uses) {
+    if !caches.can_take(&uses) {
         return Ok(String::from_str(alloc, " is held")?);
     }
-    match caches.take(alloc, 0, &uses) {
+    match caches.take(alloc, &uses) {
         Ok(lease) => {
             let list = match lease.trees().first() {
                 Some(tree) => listing(alloc, tree),
