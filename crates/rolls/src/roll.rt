@@ -129,9 +129,9 @@ impl<J: Room> Giver<J> {
 }
 
 impl<J: Room> Roll<J> {
-    /// The next worker's slip.
+    /// The next worker's slip. There is one for each number that a worker can have but the greatest (`Giver::given` tells how many were given).
     pub fn slip(&self, giver: &mut Giver<J>) -> Slip<J>
-        requires { giver.old < 2 ^ 31 }
+        requires { giver.old + 1 < 2 ^ 32 }
         ensures giver { giver.new ≡ giver.old + 1 }
         ensures slip { result ≡ record { worker = giver.old; mine = [] } }
     {
