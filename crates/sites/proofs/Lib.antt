@@ -1,4 +1,5 @@
 mod BookLemmas
+mod BeginLemmas
 mod TallyLemmas
 pub mod Crosses
 mod KeepLemmas

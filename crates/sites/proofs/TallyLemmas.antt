@@ -1,11 +1,12 @@
 -- The tallies of all seats cut the settled vertices by worker.
-use Rattle.std.proofs.Common.{◌≡◌, ℕ, suc, ◌+◌, ◌<◌, ◌≤◌, ◌==◌, ◌||◌, ⊎_elim, List, [], ◌∷◌, Bool, true, false, cond, is_some, refl, sym, ap, ◌∙◌, arith}
+use Rattle.std.proofs.Common.{◌≡◌, ℕ, suc, ◌+◌, ◌<◌, ◌≤◌, ◌==◌, ◌||◌, ⊎_elim, ◌&&◌, not, List, [], ◌∷◌, ◌++◌, Bool, true, false, cond, is_some, refl, sym, ap, ◌∙◌, arith}
 use Rattle.std.specs.Prelude.{◌↔◌}
 use Rattle.std.specs.List.{list_any, count_by, sum_by}
 use Rattle.std.specs.Option.{option_map}
 use Rattle.std.proofs.Common.{Option, Some, None}
 use Rattle.std.proofs.lemmas.Bool.{cases_lt, eq-eqb}
-use Rattle.std.proofs.lemmas.List.Sums.{sum_by-cons}
+use Rattle.std.proofs.lemmas.List.{append_cancel_left}
+use Rattle.std.proofs.lemmas.List.Sums.{sum_by-cons, sum_by-append}
 use Rattle.trees.specs.TreeMap.{TreeMap}
 use Rattle.plans.specs.Plan.{Problem}
 use Rattle.rolls.specs.declared.note.Told.{Told}
@@ -20,10 +21,11 @@ use Rattle.board.specs.declared.claim.ClaimOut.{ClaimOut}
 use Rattle.board.specs.declared.event.Happened.{Happened}
 use Rattle.board.specs.declared.event.Happened.TheVariants.{Claimed, Settled, Abandoned}
 use Rattle.sites.specs.Seats.{SeatValue, tally_of, AreAll, AreTallies, times, hand_of, IsBook}
-use Rattle.sites.specs.PrivateSeats.{AreSeatsOf}
+use Rattle.sites.specs.PrivateSeats.{AreSeatsOf, SettledBelow}
+use Rattle.sites.proofs.BookLemmas.{tally-append}
 
 -- only workers below a number have settled anything
-abbrev pub AreOf : ℕ → List Happened → Type 0
+abbrev AreOf : ℕ → List Happened → Type 0
 AreOf given history = (worker : ℕ) → given ≤ worker → tally_of worker history ≡ []
 
 sum-zero : {A : Type 0} (xs : List A) → sum_by (λ x. 0) xs ≡ 0
@@ -39,14 +41,20 @@ sum-plus f g (x ∷ xs) =
     let more = sum-plus f g xs in
     omega (arith, e, a, b, more)
 
--- the seats' tallies are what the history says, added up
-tallies-are : (run : Run) (vertex : ℕ) (seats : List SeatValue) → AreSeatsOf run seats → sum_by (λ seat. times vertex seat.tally) seats ≡ sum_by (λ seat. times vertex (tally_of seat.worker run.history)) seats
-tallies-are run vertex [] are = refl
-tallies-are run vertex (seat ∷ seats) are =
-    let here : times vertex seat.tally ≡ times vertex (tally_of seat.worker run.history) = ap (times vertex) (are 0 seat (omega arith)).tally in
-    let more = tallies-are run vertex seats (λ k d l. are (suc k) d (omega (arith, l))) in
+-- what is in a tally beside what was settled before is what was settled since
+tally-since : (worker : ℕ) (before since history : List Happened) (tally : List ℕ) → history ≡ before ++ since → tally_of worker history ≡ tally_of worker before ++ tally → tally ≡ tally_of worker since
+tally-since worker before since history tally whole is =
+    append_cancel_left (tally_of worker before) tally (tally_of worker since) (sym is ∙ (ap (tally_of worker) whole ∙ tally-append worker before since))
+
+-- the seats' tallies are what the events since say, added up
+tallies-are : (before since : List Happened) (run : Run) (vertex : ℕ) (seats : List SeatValue) → run.history ≡ before ++ since → AreSeatsOf before run seats
+    → sum_by (λ seat. times vertex seat.tally) seats ≡ sum_by (λ seat. times vertex (tally_of seat.worker since)) seats
+tallies-are before since run vertex [] whole are = refl
+tallies-are before since run vertex (seat ∷ seats) whole are =
+    let here : times vertex seat.tally ≡ times vertex (tally_of seat.worker since) = ap (times vertex) (tally-since seat.worker before since run.history seat.tally whole (are 0 seat (omega arith)).tally) in
+    let more = tallies-are before since run vertex seats whole (λ k d l. are (suc k) d (omega (arith, l))) in
     let e = sum_by-cons (λ (s : SeatValue). times vertex s.tally) seat seats in
-    let f = sum_by-cons (λ (s : SeatValue). times vertex (tally_of s.worker run.history)) seat seats in
+    let f = sum_by-cons (λ (s : SeatValue). times vertex (tally_of s.worker since)) seat seats in
     omega (arith, here, more, e, f)
 
 -- a settle more, in one worker's list
@@ -132,6 +140,19 @@ once problem run vertex plan replay =
     by_test false false e f same most = counted-none (settles vertex) run.history f
     by_test false true e f same most = absurd (let t = same.1 f in cc)
 
+-- so the events since settle a vertex once where it is settled, unless it was so before
+once-since : (problem : Problem) (before since : List Happened) (run : Run) (vertex : ℕ) → IsProblem problem → IsReplay problem run → run.history ≡ before ++ since
+    → count_by (settles vertex) since ≡ cond (is_some (value_at run.state.settled vertex) && not (list_any (settles vertex) before)) 1 0
+once-since problem before since run vertex plan replay whole =
+    by_test (is_some (value_at run.state.settled vertex)) (list_any (settles vertex) before) refl (once problem run vertex plan replay)
+    (ap (count_by (settles vertex)) whole ∙ sum_by-append (λ x. cond (settles vertex x) 1 0) before since)
+  where
+    by_test : (b a : Bool) → list_any (settles vertex) before ≡ a → count_by (settles vertex) run.history ≡ cond b 1 0
+        → count_by (settles vertex) run.history ≡ count_by (settles vertex) before + count_by (settles vertex) since → count_by (settles vertex) since ≡ cond (b && not a) 1 0
+    by_test true true e all parts = (let some = counted-some (settles vertex) before e in omega (arith, all, parts, some))
+    by_test true false e all parts = (let none = counted-none (settles vertex) before e in omega (arith, all, parts, none))
+    by_test false a e all parts = omega (arith, all, parts)
+
 -- an abandon changes no settled value, and so none does where all claims were abandoned
 abandon-settled : (problem : Problem) (run : Run) (worker : ℕ) → (go problem run (Abandon worker)).state.settled ≡ run.state.settled
 abandon-settled problem run worker = by_claim (claim_of worker run.state.claims)
@@ -144,12 +165,18 @@ pub cleared-settled : (problem : Problem) (run after : Run) → IsCleared proble
 cleared-settled problem run after (no_claim here none) = refl
 cleared-settled problem run after (least_first here there claim least rest) = cleared-settled problem (go problem run (Abandon claim.worker)) after rest ∙ abandon-settled problem run claim.worker
 
--- where all seats are there, their tallies are the settled vertices
-pub tallies : (problem : Problem) (run : Run) (given : ℕ) (seats : List SeatValue) → IsProblem problem → IsReplay problem run → AreSeatsOf run seats → AreOf given run.history → AreAll given seats → AreTallies run.state.settled seats
-tallies problem run given seats plan replay are of all vertex =
-    tallies-are run vertex seats are ∙ (cut given vertex seats run.history all of ∙ once problem run vertex plan replay)
+-- where all seats are there, their tallies are the vertices that were settled since
+pub tallies : (before : List Happened) (problem : Problem) (run : Run) (given : ℕ) (seats : List SeatValue) → IsProblem problem → IsReplay problem run → AreSeatsOf before run seats → SettledBelow given before run.history → AreAll given seats
+    → AreTallies before run.state.settled seats
+tallies before problem run given seats plan replay are below all vertex =
+    let since = below.0 in
+    tallies-are before since run vertex seats below.1 are ∙ (cut given vertex seats since all below.2 ∙ once-since problem before since run vertex plan replay below.1)
 
--- nobody without a slip has settled anything
-pub of-given : (given : ℕ) (roll : List (ℕ × Told)) (run : Run) → IsBook roll run → ((worker : ℕ) → given ≤ worker → of_worker worker roll ≡ []) → AreOf given run.history
-of-given given roll run book none worker past =
-    sym (book.tally worker) ∙ ap (λ notes. (hand_of worker notes).tally) (none worker past)
+-- nobody without a slip has settled anything since
+pub of-given : (before : List Happened) (given : ℕ) (roll : List (ℕ × Told)) (run : Run) → IsBook before roll run → ((worker : ℕ) → given ≤ worker → of_worker worker roll ≡ []) → SettledBelow given before run.history
+of-given before given roll run book none = (
+  book.since.0,
+  book.since.1,
+  (λ worker past. sym (tally-since worker before book.since.0 run.history [] book.since.1
+      (book.tally worker ∙ ap (λ notes. tally_of worker before ++ (hand_of worker notes).tally) (none worker past)))),
+)

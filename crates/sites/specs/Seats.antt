@@ -1,6 +1,6 @@
 -- What a seat says of its worker, and how a site's book ties it to the board.
-use Rattle.std.specs.Prelude.{◌≡◌, ℕ, ◌<◌, ◌==◌, List, [], ◌∷◌, ◌++◌, if◌then◌else◌, length, Option, Some, None, is_some, IsSome, Contains, slice_index_or, refl}
-use Rattle.std.specs.List.{fold, count_by, sum_by}
+use Rattle.std.specs.Prelude.{◌≡◌, ℕ, ◌<◌, ◌==◌, not, ◌&&◌, List, [], ◌∷◌, ◌++◌, if◌then◌else◌, length, Option, Some, None, is_some, IsSome, Contains, slice_index_or, refl}
+use Rattle.std.specs.List.{fold, list_any, count_by, sum_by}
 use Rattle.std.specs.Coded.{Coded, code_by, coded×, coded_ℕ, coded_list, coded_option}
 use Rattle.trees.specs.Cause.{TreeOrCause}
 use Rattle.trees.specs.TreeMap.{TreeMap}
@@ -13,14 +13,15 @@ use Rattle.rolls.specs.declared.note.Note.TheVariants as note
 use Rattle.rolls.specs.Rolls.{of_worker}
 use Rattle.board.specs.Claim.{ClaimValue, claim_out}
 use Rattle.board.specs.Leaving.{lent_to}
-use Rattle.board.specs.Legal.{vertex_out}
+use Rattle.board.specs.Legal.{settles, vertex_out}
 use Rattle.board.specs.Play.{Run, claim_of, value_at, vertex_of}
 use Rattle.board.specs.contracts.claim.ClaimOut as claim_row
 use Rattle.board.specs.declared.claim.ClaimOut.{ClaimOut}
 use Rattle.board.specs.declared.event.Happened.{Happened}
 use Rattle.board.specs.declared.event.Happened.TheVariants.{Claimed, Settled, Abandoned}
 
--- a worker, the claim that it has out, if any, the vertices that it has settled, in order, and the trees that it was lent with its last claim (own)
+-- a worker, the claim that it has out, if any, the vertices that it has settled at its site, in order, and the trees that it was lent with its last claim
+-- there (own)
 pub record SeatValue : Type 0 where
   pub worker : ℕ
   pub out : Option ClaimOut
@@ -51,12 +52,16 @@ tally_of worker (Claimed by vertex ∷ history) = tally_of worker history
 tally_of worker (Settled by vertex given ∷ history) = if by == worker then vertex ∷ tally_of worker history else tally_of worker history
 tally_of worker (Abandoned by vertex ∷ history) = tally_of worker history
 
+-- a history goes on from the events before (own)
+abbrev pub GoesOnFrom : List Happened → List Happened → Type 0
+GoesOnFrom before history = (since : List Happened) × (history ≡ before ++ since)
+
 -- a seat says what a board has of its worker: the claim that it has out, with the vertex that it has out by the history, and the vertices that it has
--- settled (own)
-pub record IsSeatOf (run : Run) (seat : SeatValue) : Type 0 where
+-- settled since those that it had settled before the site was made (own)
+pub record IsSeatOf (before : List Happened) (run : Run) (seat : SeatValue) : Type 0 where
   pub claim : seat.out ≡ claim_of seat.worker run.state.claims
   pub vertex : vertex_of seat.out ≡ vertex_out run.history seat.worker
-  pub tally : seat.tally ≡ tally_of seat.worker run.history
+  pub tally : tally_of seat.worker run.history ≡ tally_of seat.worker before ++ seat.tally
 
 -- these are all seats that were given, of which there are so many: each worker has one (own)
 abbrev pub AreAll : ℕ → List SeatValue → Type 0
@@ -70,9 +75,10 @@ times number numbers = count_by (λ other. other == number) numbers
 abbrev pub AreSettled : List (Option TreeOrCause) → List SeatValue → Type 0
 AreSettled settled seats = (k vertex : ℕ) (default : SeatValue) → k < length seats → Contains (slice_index_or seats k default).tally vertex → IsSome (value_at settled vertex)
 
--- in these seats' tallies together each settled vertex is once, and no other vertex is (own)
-abbrev pub AreTallies : List (Option TreeOrCause) → List SeatValue → Type 0
-AreTallies settled seats = (vertex : ℕ) → sum_by (λ seat. times vertex seat.tally) seats ≡ (if is_some (value_at settled vertex) then 1 else 0)
+-- in these seats' tallies together each vertex is once that is settled and wasn't so before, and no other vertex is (own)
+abbrev pub AreTallies : List Happened → List (Option TreeOrCause) → List SeatValue → Type 0
+AreTallies before settled seats =
+    (vertex : ℕ) → sum_by (λ seat. times vertex seat.tally) seats ≡ (if is_some (value_at settled vertex) && not (list_any (settles vertex) before) then 1 else 0)
 
 -- what a worker has: the claim that is out, and its tally (own)
 pub record Hand : Type 0 where
@@ -103,11 +109,14 @@ loan_after loan lent note.Abandoned = loan
 abbrev pub loan_of : List Told → List TreeMap
 loan_of notes = fold (λ loan (told : Told). loan_after loan told.lent told.note) [] notes
 
--- the loans on a roll are true of a history: each worker was lent what stands there beside its last claim (own)
+-- the loans on a roll are true of a history: each worker that has a claim out was lent what stands there beside it (own)
 abbrev pub AreLoans : Problem → List Content → List (ℕ × Told) → Run → Type 0
-AreLoans problem first roll run = (worker : ℕ) → loan_of (of_worker worker roll) ≡ lent_to problem first run.history worker
+AreLoans problem first roll run =
+    (worker : ℕ) → IsSome (claim_of worker run.state.claims) → loan_of (of_worker worker roll) ≡ lent_to problem first run.history worker
 
--- the notes on a roll are true of a board: they leave in each worker's hand the claim that it has out, and the vertices that it has settled (own)
-pub record IsBook (roll : List (ℕ × Told)) (run : Run) : Type 0 where
+-- the notes on a roll are true of a board whose history goes on from the events before: they leave in each worker's hand the claim that it has out, and the
+-- vertices that it has settled since (own)
+pub record IsBook (before : List Happened) (roll : List (ℕ × Told)) (run : Run) : Type 0 where
+  pub since : GoesOnFrom before run.history
   pub out : (worker : ℕ) → (hand_of worker (of_worker worker roll)).out ≡ claim_of worker run.state.claims
-  pub tally : (worker : ℕ) → (hand_of worker (of_worker worker roll)).tally ≡ tally_of worker run.history
+  pub tally : (worker : ℕ) → tally_of worker run.history ≡ tally_of worker before ++ (hand_of worker (of_worker worker roll)).tally

@@ -1,4 +1,4 @@
-ghost use Rattle.std.specs.Prelude.{◌≡◌, ◌↔◌, ◌≤◌, ◌<◌, ◌+◌, ◌^◌, ◌++◌, ◌∷◌, ℕ, [], None, Some, Contains, map, slice_get, IsTrue, IsFalse, IfOk, IfErr, IfSome, IfNone, OnOk, OnErr};
+ghost use Rattle.std.specs.Prelude.{◌≡◌, ◌↔◌, ◌≤◌, ◌<◌, ◌+◌, ◌^◌, ◌++◌, ◌∷◌, ℕ, true, [], None, Some, IsSome, Contains, map, slice_get, IsTrue, IsFalse, IfOk, IfErr, IfSome, IfNone, OnOk, OnErr};
 ghost use Rattle.std.specs.Option.{option_map};
 ghost use Rattle.cachemounts.specs.Holds.{new_holds};
 ghost use Rattle.cachemounts.specs.Content.{tree_held};
@@ -10,10 +10,10 @@ ghost use Rattle.board.specs.Legal.{IsAvailable, IsReady, IsNextClaim};
 ghost use Rattle.board.specs.Play.{IsReplay};
 ghost use Rattle.board.specs.Play.{Claim as Claiming, Settle as Settling, Abandon as Abandoning};
 ghost use Rattle.board.specs.Problem.{IsProblem};
-ghost use Rattle.sites.specs.Seats.{SeatValue, IsMine, IsLentTo, IsSeatOf, tally_of};
-ghost use Rattle.sites.specs.PrivateSeats.{AreSeatsOf};
+ghost use Rattle.sites.specs.Seats.{SeatValue, IsMine, IsLentTo, IsSeatOf, GoesOnFrom};
+ghost use Rattle.sites.specs.PrivateSeats.{AreSeatsOf, SettledBelow};
 
-use crate::{Case, Known, Seat};
+use crate::{Case, Known, Seat, Sought};
 use board::{Board, Claim, ClaimOut, Happened, Refused};
 use executor::Executor;
 use plain::{Memory, growth};
@@ -24,16 +24,16 @@ use trees::Tree;
 
 /// What lies under a site's lock: the board of the site's problem, with the roll that ties it to the seats. Contracts see the board.
 #[derive(Drop)]
-pub struct Held<'a, E: Executor, J: Case + Room> {
-    pub(crate) board: Board<'a, E, Known<'a, J>>,
+pub struct Held<'a, E: Executor, J: Case + Room, S: Sought> {
+    pub(crate) board: Board<'a, E, Known<'a, S>>,
     pub(crate) roll: Roll<J>,
     pub(crate) of: PhantomData<J>,
 }
 
-impl<'a, E: Executor, J: Case + Room> Model for Held<'a, E, J> {
-    ghost use Rattle.std.specs.Prelude.{◌≡◌};
+impl<'a, E: Executor, J: Case + Room, S: Sought> Model for Held<'a, E, J, S> {
+    ghost use Rattle.std.specs.Prelude.{◌≡◌, true};
     ghost use Rattle.board.specs.Board.{BoardValue, board_code, board_problem};
-    ghost use Rattle.board.specs.Leaving.{LeaveTheSame};
+    ghost use Rattle.board.specs.Leaving.{LeaveTheSame, GivesBackWhatIsLeft};
     ghost use Rattle.sites.specs.Seats.{IsBook, AreLoans};
 
     ghost Value = { BoardValue E };
@@ -42,19 +42,21 @@ impl<'a, E: Executor, J: Case + Room> Model for Held<'a, E, J> {
 
     ghost view = { λ h. h.board };
 
-    ghost invariant = { λ h. (board_problem E.out h.board ≡ J.problem) × IsBook h.roll h.board.run × (h.board.first ≡ J.first)
-        × AreLoans J.problem J.first h.roll h.board.run × LeaveTheSame (E.leaves h.board.job.executor) J.leaves };
+    ghost invariant = { λ h. (board_problem E.out h.board ≡ J.problem) × IsBook J.before h.roll h.board.run × (h.board.first ≡ J.first)
+        × AreLoans J.problem J.first h.roll h.board.run
+        × (J.promises ≡ true → LeaveTheSame (E.leaves h.board.job.executor) J.leaves)
+        × (J.promises ≡ true → GivesBackWhatIsLeft (E.leaves h.board.job.executor) (board_problem E.out h.board) h.board.first h.board.run.history) };
 }
 
-impl<'a, E: Executor, J: Case + Room> Held<'a, E, J> {
+impl<'a, E: Executor, J: Case + Room, S: Sought> Held<'a, E, J, S> {
     /// Claims the ready vertex of least id for the seat's worker, with the places of its inputs' trees and the lease of its caches. It claims
     /// nothing where no vertex is ready, or where the seat has a claim out. After `Memory` board and seat are as they were.
     pub fn claim(
         &mut self,
         alloc: Global,
         seat: &mut Seat<J>,
-    ) -> Result<Option<Claim<Known<'a, J>>>, Memory>
-        ensures agrees { IsSeatOf self.old.run seat.old }
+    ) -> Result<Option<Claim<Known<'a, S>>>, Memory>
+        ensures agrees { IsSeatOf J.before self.old.run seat.old }
         ensures next { IfOk result (λ claim. IsNextClaim J.problem self.old.run.history seat.old.worker
             (option_map (λ c. c.vertex) claim)) }
         ensures of { IfOk result (λ claim. IfSome claim (IsClaim J.problem)) }
@@ -84,26 +86,26 @@ impl<'a, E: Executor, J: Case + Room> Held<'a, E, J> {
         Ok(Some(claim))
     }
 
-    /// Settles the vertex of the claim that the seat has out (`Seat::out` tells which), gives trees back to the caches that the vertex
-    /// uses, and puts the vertex into the seat's tally. The claim has to have the trees that the seat was lent with it, as `claim` gives it; the
-    /// value has to be the result of the vertex's operation on the claim's inputs; and the trees have to be those that the vertex's run left of
-    /// what the claim was lent, one for each use: a run answers such (`solver::run`). After want of memory claim, value and trees come back, and
-    /// board and seat are as they were.
+    /// Settles the vertex of the claim that the seat has out (`Seat::out` tells which), gives trees back to the caches that the vertex uses, one for each
+    /// use, and puts the vertex into the seat's tally. The value has to be the result of the vertex's operation on the claim's inputs. After want of memory
+    /// claim, value and trees come back, and board and seat are as they were.
+    ///
+    /// If the site's case promises it, the trees have to be those that the vertex's run left of what the claim was lent, as a run answers them
+    /// (`solver::run`), and the claim has the trees that the seat was lent with it, as `claim` gives it.
     pub fn settle(
         &mut self,
         alloc: Global,
         seat: &mut Seat<J>,
-        claim: Claim<Known<'a, J>>,
-        value: Known<'a, J>,
+        claim: Claim<Known<'a, S>>,
+        value: Known<'a, S>,
         given: Vec<Tree>,
-    ) -> Result<(), Refused<Known<'a, J>>>
+    ) -> Result<(), Refused<Known<'a, S>>>
         requires mine { IsMine seat.old claim }
         requires of { IsClaim J.problem claim }
         requires value { IsResult J.problem claim value.value }
         requires given { IsGivenBack J.problem claim given.items }
-        requires lent { IsLentTo seat.old claim }
-        requires left { IsLeftFor J.leaves J.problem claim given.items }
-        ensures agrees { IsSeatOf self.old.run seat.old }
+        requires left { J.promises ≡ true → IsLentTo seat.old claim × IsLeftFor J.leaves J.problem claim given.items }
+        ensures agrees { IsSeatOf J.before self.old.run seat.old }
         ensures run { OnOk result (IsStep E.out (Settling seat.old.worker given.items) self.old self.new) }
         ensures value { OnOk result (slice_get self.new.run.state.settled claim.entry.vertex ≡ Some (Some value.entry.value)) }
         ensures seat { OnOk result (seat.new ≡ record { worker = seat.old.worker; out = None; tally = seat.old.tally ++ claim.entry.vertex ∷ []; lent = seat.old.lent }) }
@@ -129,9 +131,9 @@ impl<'a, E: Executor, J: Case + Room> Held<'a, E, J> {
 
     /// Gives up the claim that the seat has out (`Seat::out` tells which): its vertex may be claimed again, and the contents of its caches
     /// stay as they are. It takes no memory.
-    pub fn abandon(&mut self, seat: &mut Seat<J>, claim: Claim<Known<'a, J>>)
+    pub fn abandon(&mut self, seat: &mut Seat<J>, claim: Claim<Known<'a, S>>)
         requires mine { IsMine seat.old claim }
-        ensures agrees { IsSeatOf self.old.run seat.old }
+        ensures agrees { IsSeatOf J.before self.old.run seat.old }
         ensures run { IsStep E.out (Abandoning seat.old.worker) self.old self.new }
         ensures seat { seat.new ≡ record seat.old { out = None } }
     {
@@ -141,16 +143,18 @@ impl<'a, E: Executor, J: Case + Room> Held<'a, E, J> {
         seat.out = None;
     }
 
-    /// What has happened, in order. The board is that of the site's problem, what it holds is the replay of its history, and the contents of
-    /// its caches are those that the history left of the contents at the start. Each settle gave back what the run of its vertex left.
+    /// What has happened, in order, of which what had happened when the site was made is the beginning. The board is that of the site's problem, what it
+    /// holds is the replay of its history, and the contents of its caches are those that the history left of the contents at the start. If the site's case
+    /// promises it, each settle gave back what the run of its vertex left.
     pub fn history(&self) -> &[Happened]
         ensures value { result.now ≡ self.now.run.history }
+        ensures since { GoesOnFrom J.before self.now.run.history }
         ensures of { board_problem E.out self.now ≡ J.problem }
         ensures replay { IsReplay J.problem self.now.run }
         ensures problem { IsProblem J.problem }
         ensures first { self.now.first ≡ J.first }
         ensures contents { AreContents J.problem self.now.run.history J.first self.now.contents }
-        ensures given { GivesBackWhatIsLeft J.leaves J.problem J.first self.now.run.history }
+        ensures given { J.promises ≡ true → GivesBackWhatIsLeft J.leaves J.problem J.first self.now.run.history }
     {
         self.board.history()
     }
@@ -173,9 +177,9 @@ impl<'a, E: Executor, J: Case + Room> Held<'a, E, J> {
 
     /// Tells that a seat says what the board has of its worker. It changes nothing.
     pub(crate) fn agree(&mut self, seat: &mut Seat<J>)
-        ensures agrees { IsSeatOf self.old.run seat.old }
+        ensures agrees { IsSeatOf J.before self.old.run seat.old }
         ensures out { (claim : ClaimValue) → IsMine seat.old claim → IsOut self.old.run.state claim × (claim.worker ≡ seat.old.worker) }
-        ensures lent { seat.old.lent ≡ lent_to J.problem J.first self.old.run.history seat.old.worker }
+        ensures lent { IsSome seat.old.out → seat.old.lent ≡ lent_to J.problem J.first self.old.run.history seat.old.worker }
         ensures replay { IsReplay J.problem self.old.run }
         ensures problem { IsProblem J.problem }
         ensures same { (self.new ≡ self.old) × (seat.new ≡ seat.old) }
@@ -186,7 +190,7 @@ impl<'a, E: Executor, J: Case + Room> Held<'a, E, J> {
 
     /// Tells that each of these seats says what the board has of its worker. It changes nothing.
     pub(crate) fn agree_all(&mut self, seats: &mut [Seat<J>])
-        ensures agrees { AreSeatsOf self.old.run seats.old }
+        ensures agrees { AreSeatsOf J.before self.old.run seats.old }
         ensures same { (self.new ≡ self.old) × (seats.new ≡ seats.old) }
     {
         for at in 0..seats.len() {
@@ -194,9 +198,9 @@ impl<'a, E: Executor, J: Case + Room> Held<'a, E, J> {
         }
     }
 
-    /// Tells that nobody without a seat has settled anything. It changes nothing.
+    /// Tells that nobody without a seat has settled anything since the site was made. It changes nothing.
     pub(crate) fn complete(&mut self, giver: &mut Giver<J>)
-        ensures none { (worker : ℕ) → giver.old ≤ worker → tally_of worker self.old.run.history ≡ [] }
+        ensures since { SettledBelow giver.old J.before self.old.run.history }
         ensures replay { IsReplay J.problem self.old.run }
         ensures problem { IsProblem J.problem }
         ensures same { (self.new ≡ self.old) × (giver.new ≡ giver.old) }
@@ -207,7 +211,7 @@ impl<'a, E: Executor, J: Case + Room> Held<'a, E, J> {
 
     /// The slip of the next worker's seat.
     pub(crate) fn slip(&mut self, giver: &mut Giver<J>) -> Slip<J>
-        requires { giver.old < 2 ^ 31 }
+        requires { giver.old + 1 < 2 ^ 32 }
         ensures giver { giver.new ≡ giver.old + 1 }
         ensures slip { result ≡ record { worker = giver.old; mine = [] } }
         ensures same { self.new ≡ self.old }
@@ -216,11 +220,12 @@ impl<'a, E: Executor, J: Case + Room> Held<'a, E, J> {
     }
 
     /// The board, for the site alone.
-    pub(crate) fn into_board(self) -> Board<'a, E, Known<'a, J>>
+    pub(crate) fn into_board(self) -> Board<'a, E, Known<'a, S>>
         ensures board { result ≡ self.entry }
         ensures problem { board_problem E.out result ≡ J.problem }
         ensures first { result.first ≡ J.first }
-        ensures leaves { LeaveTheSame (E.leaves result.job.executor) J.leaves }
+        ensures leaves { J.promises ≡ true → LeaveTheSame (E.leaves result.job.executor) J.leaves }
+        ensures given { J.promises ≡ true → GivesBackWhatIsLeft (E.leaves result.job.executor) (board_problem E.out result) result.first result.run.history }
     {
         let Held {
             board,

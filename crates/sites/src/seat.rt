@@ -6,8 +6,8 @@ use rolls::{Room, Slip};
 use std::alloc::Global;
 use std::marker::Model;
 
-/// A worker's place at a site: which claim it has out, if any, which vertices it has settled, and, in the proofs alone, which trees it was lent with its last
-/// claim. It goes with the worker's thread.
+/// A worker's place at a site: which claim it has out, if any, which vertices it has settled there, and, in the proofs alone, which trees it was lent with its
+/// last claim. It goes with the worker's thread.
 #[derive(Drop)]
 pub struct Seat<J: Room> {
     pub(crate) worker: u32,
@@ -57,7 +57,7 @@ impl<J: Room> Seat<J> {
         self.out
     }
 
-    /// The vertices that the worker has settled, in order.
+    /// The vertices that the worker has settled at the site, in order.
     pub fn tally(&self) -> &[VertexId]
         ensures { result.now ≡ self.now.tally }
     {

@@ -6,4 +6,4 @@ use Rattle.sites.proofs.held.Held.agree_all.Given as goal
 abbrev pub invariant-loop-at : goal.invariant-loop-at
 invariant-loop-at g l =
     (l.self ≡ l.fn.self) × (l.seats ≡ l.fn.seats)
-    × ((k : ℕ) (default : SeatValue) → k < l.at → IsSeatOf l.fn.self.run (slice_index_or l.fn.seats k default))
+    × ((k : ℕ) (default : SeatValue) → k < l.at → IsSeatOf g.J.Case.before l.fn.self.run (slice_index_or l.fn.seats k default))

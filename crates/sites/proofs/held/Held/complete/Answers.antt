@@ -2,13 +2,15 @@ use Rattle.std.proofs.Common.{subst}
 use Rattle.board.specs.Board.{BoardValue}
 use Rattle.board.specs.Play.{IsReplay}
 use Rattle.board.specs.Problem.{IsProblem}
-use Rattle.sites.proofs.TallyLemmas.{AreOf, of-given}
+use Rattle.sites.specs.PrivateSeats.{SettledBelow}
+use Rattle.sites.proofs.TallyLemmas.{of-given}
 use Rattle.sites.proofs.held.Held.complete.Goals as goal
 
-pub returns-clause-none : goal.returns-clause-none
-returns-clause-none g c =
+pub returns-clause-since : goal.returns-clause-since
+returns-clause-since g c =
     let h = c.self.inside in
-    subst (λ (b : BoardValue _). AreOf c.args.giver.now b.run.history) c.self.view_is (of-given c.args.giver.now h.roll h.board.run c.self.invariant.1 c.complete.ensures.none)
+    let before = g.J.Case.before in
+    subst (λ (b : BoardValue _). SettledBelow c.args.giver.now before b.run.history) c.self.view_is (of-given before c.args.giver.now h.roll h.board.run c.self.invariant.1 c.complete.ensures.none)
 
 pub returns-clause-replay : goal.returns-clause-replay
 returns-clause-replay g c =

@@ -4,6 +4,7 @@ use Rattle.board.specs.Leaving.{GivesBackWhatIsLeft}
 use Rattle.board.proofs.LeavingLemmas.{given-same}
 use Rattle.board.specs.Play.{IsReplay}
 use Rattle.board.specs.Problem.{IsProblem}
+use Rattle.sites.specs.Seats.{GoesOnFrom}
 use Rattle.sites.proofs.held.Held.history.Goals as goal
 
 pub returns-clause-replay : goal.returns-clause-replay
@@ -24,11 +25,14 @@ returns-clause-contents g c =
     subst (λ (b : BoardValue _). AreContents problem b.run.history g.J.Case.first b.contents) c.self.view_is here
 
 pub returns-clause-given : goal.returns-clause-given
-returns-clause-given g c =
+returns-clause-given g c = λ promised.
     let h = c.self.inside in
     let problem = g.J.Case.problem in
     let leaves = g.E.Executor.leaves h.board.job.executor in
-    let named = subst (λ p. GivesBackWhatIsLeft leaves p h.board.first h.board.run.history) c.self.invariant.0 c.history.ensures.given in
+    let named = subst (λ p. GivesBackWhatIsLeft leaves p h.board.first h.board.run.history) c.self.invariant.0 (c.self.invariant.5 promised) in
     let here = subst (λ first. GivesBackWhatIsLeft leaves problem first h.board.run.history) c.self.invariant.2 named in
     subst (λ (b : BoardValue _). GivesBackWhatIsLeft g.J.Case.leaves problem g.J.Case.first b.run.history) c.self.view_is
-    (given-same leaves g.J.Case.leaves problem g.J.Case.first h.board.run.history c.self.invariant.4 here)
+    (given-same leaves g.J.Case.leaves problem g.J.Case.first h.board.run.history (c.self.invariant.4 promised) here)
+
+pub returns-clause-since : goal.returns-clause-since
+returns-clause-since g c = subst (λ (b : BoardValue _). GoesOnFrom g.J.Case.before b.run.history) c.self.view_is c.self.invariant.1.since
