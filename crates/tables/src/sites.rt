@@ -1,8 +1,10 @@
-// `sites`: a name, ` | `, a bundle, ` | `, and how its plan is solved on one site: `tallies` or `apart`, by two threads, each with a seat; or `inputs`, by one
-// thread, which reads the first input of each claim after the claim was settled.
+// `sites`: a name, ` | `, a bundle, ` | `, and how its plan is solved on one site: `tallies` or `apart`, by two threads, each with a seat; `inputs`, by one thread,
+// which reads the first input of each claim after the claim was settled; or `given up`, by one thread, which settles one vertex and still has the claim of
+// the next when the site is closed.
 //
 // The answer is the name, and the vertices of both tallies in ascending order; with `apart` also whether a command was claimed while another one was out. With
-// `inputs` it is each vertex with what its first input holds, if it has one.
+// `inputs` it is each vertex with what its first input holds, if it has one. With `given up` it is the history of the board that the site gives, once a sweep
+// has solved what is left, and what the plan comes to.
 //
 // The case of these sites promises nothing of what a settle gives back.
 
@@ -12,7 +14,8 @@ ghost use Rattle.board.specs.Claim.{IsClaim};
 ghost use Rattle.board.specs.Job.{job_problem};
 ghost use Rattle.sites.specs.Seats.{IsMine};
 
-use crate::histories::is_command;
+use crate::histories::{is_command, push_history};
+use crate::stores::solution_text;
 use board::{Board, Claim, Happened, Job, NoBoard, Refused};
 use build::{Asked, ask, plan_of};
 use cachemounts::CacheStore;
@@ -22,8 +25,8 @@ use plain::Memory;
 use plans::Plan;
 use rolls::{Opened, Room};
 use samples::listing;
-use sites::{Case, Desk, Known, Results, Seat, Site};
-use solver::run;
+use sites::{Case, Desk, Known, Results, Seat, Site, Sought};
+use solver::{OpenGate, finish, run};
 use std::alloc::Global;
 use std::marker::Brand;
 use std::sync::Wait;
@@ -40,6 +43,7 @@ enum How {
     Tallies,
     Apart,
     Inputs,
+    GivenUp,
 }
 
 pub fn answer(
@@ -51,6 +55,7 @@ pub fn answer(
     let (bundle, how) = rest.rsplit_once(" | ").unwrap_or((rest, ""));
     let how = match how {
         "inputs" => How::Inputs,
+        "given up" => How::GivenUp,
         "apart" => How::Apart,
         _ => How::Tallies,
     };
@@ -91,7 +96,7 @@ fn of_plan<C, E: Executor, R: Threads + Wait + Sync>(
 }
 
 /// On a new board of a job.
-fn of_job<E: Executor, J: Case + Room + Send + Sync, R: Threads + Wait + Sync>(
+fn of_job<E: Executor, J: Case + Room + Sought + Send + Sync, R: Threads + Wait + Sync>(
     rt: &R,
     tools: &Tools<E>,
     job: Job<E>,
@@ -102,6 +107,7 @@ fn of_job<E: Executor, J: Case + Room + Send + Sync, R: Threads + Wait + Sync>(
     requires problem { job_problem E.out job ≡ J.problem }
     requires first { J.first ≡ [] }
     requires before { J.before ≡ [] }
+    requires sought { J.sought ≡ J.problem }
     requires promises { J.promises ≡ false }
     requires room { opened.table.shared.table_id ≡ J.table }
 {
@@ -109,6 +115,7 @@ fn of_job<E: Executor, J: Case + Room + Send + Sync, R: Threads + Wait + Sync>(
     match Board::new(tools.alloc, job, CacheStore::new(tools.alloc)) {
         Ok(board) => match how {
             How::Inputs => inputs_of(rt, tools, board, &results, opened),
+            How::GivenUp => given_up(rt, tools, board, &results, opened),
             How::Tallies => shared(rt, tools, board, &results, opened, false),
             How::Apart => shared(rt, tools, board, &results, opened, true),
         },
@@ -121,7 +128,7 @@ fn of_job<E: Executor, J: Case + Room + Send + Sync, R: Threads + Wait + Sync>(
 }
 
 /// Two threads share a site of the board.
-fn shared<'a, E: Executor, J: Case + Room + Send + Sync, R: Threads + Wait + Sync>(
+fn shared<'a, E: Executor, J: Case + Room + Sought + Send + Sync, R: Threads + Wait + Sync>(
     rt: &R,
     tools: &Tools<E>,
     board: Board<'a, E, Known<'a, J>>,
@@ -134,10 +141,11 @@ fn shared<'a, E: Executor, J: Case + Room + Send + Sync, R: Threads + Wait + Syn
     requires long { results.now ≡ length J.problem.vertices }
     requires first { board.first ≡ J.first }
     requires before { board.run.history ≡ J.before }
+    requires sought { J.sought ≡ J.problem }
     requires promises { J.promises ≡ false }
     requires room { opened.table.shared.table_id ≡ J.table }
 {
-    let mut site = Site::<E, J>::new(board, results, opened);
+    let mut site = Site::<E, J, J>::new(board, results, opened);
     let mut seats = [site.seat(tools.alloc), site.seat(tools.alloc)];
     work_all(rt, site.desk(), tools, &mut seats);
     let history = site.close(&mut seats).into_history();
@@ -203,13 +211,14 @@ fn tallies_of<J: Room>(alloc: Global, seats: &[Seat<J>]) -> Result<Vec<u32>, Mem
 }
 
 /// The work of each seat, in a thread of its own.
-fn work_all<E: Executor, J: Case + Room + Send + Sync, R: Threads + Wait + Sync>(
+fn work_all<E: Executor, J: Case + Room + Sought + Send + Sync, R: Threads + Wait + Sync>(
     rt: &R,
-    desk: &Desk<E, J>,
+    desk: &Desk<E, J, J>,
     tools: &Tools<E>,
     seats: &mut [Seat<J>],
 )
     requires job { job_problem E.out tools.now.job.now ≡ J.problem }
+    requires sought { J.sought ≡ J.problem }
     requires promises { J.promises ≡ false }
 {
     thread::for_each_mut(
@@ -217,19 +226,22 @@ fn work_all<E: Executor, J: Case + Room + Send + Sync, R: Threads + Wait + Sync>
         seats,
         2,
         &|_, seat: &mut Seat<J>|
-            requires { (job_problem E.out tools.now.job.now ≡ J.problem) × (J.promises ≡ false) }
+            requires job { job_problem E.out tools.now.job.now ≡ J.problem }
+            requires sought { J.sought ≡ J.problem }
+            requires promises { J.promises ≡ false }
         { work(rt, desk, tools, seat) },
     );
 }
 
 /// A worker's turns: a claim under the lock, a run outside of it, a settle under it.
-fn work<E: Executor, J: Case + Room, R: Wait>(
+fn work<E: Executor, J: Case + Room + Sought, R: Wait>(
     rt: &R,
-    desk: &Desk<E, J>,
+    desk: &Desk<E, J, J>,
     tools: &Tools<E>,
     seat: &mut Seat<J>,
 )
     requires job { job_problem E.out tools.now.job.now ≡ J.problem }
+    requires sought { J.sought ≡ J.problem }
     requires promises { J.promises ≡ false }
 {
     for _ in 0..TURNS {
@@ -242,14 +254,15 @@ fn work<E: Executor, J: Case + Room, R: Wait>(
 }
 
 /// Runs the vertex of a claim, and settles it. For want of memory the claim is given up.
-fn settle_run<'a, E: Executor, J: Case + Room, R: Wait>(
+fn settle_run<'a, E: Executor, J: Case + Room + Sought, R: Wait>(
     rt: &R,
-    desk: &Desk<'a, E, J>,
+    desk: &Desk<'a, E, J, J>,
     tools: &Tools<E>,
     seat: &mut Seat<J>,
     claim: Claim<Known<'a, J>>,
 )
     requires job { job_problem E.out tools.now.job.now ≡ J.problem }
+    requires sought { J.sought ≡ J.problem }
     requires promises { J.promises ≡ false }
     requires mine { IsMine seat.old claim }
     requires of { IsClaim J.problem claim }
@@ -275,7 +288,7 @@ fn settle_run<'a, E: Executor, J: Case + Room, R: Wait>(
 }
 
 /// One thread has a site of the board, and reads inputs after it settled.
-fn inputs_of<'a, E: Executor, J: Case + Room, R: Wait>(
+fn inputs_of<'a, E: Executor, J: Case + Room + Sought, R: Wait>(
     rt: &R,
     tools: &Tools<E>,
     board: Board<'a, E, Known<'a, J>>,
@@ -287,10 +300,11 @@ fn inputs_of<'a, E: Executor, J: Case + Room, R: Wait>(
     requires long { results.now ≡ length J.problem.vertices }
     requires first { board.first ≡ J.first }
     requires before { board.run.history ≡ J.before }
+    requires sought { J.sought ≡ J.problem }
     requires promises { J.promises ≡ false }
     requires room { opened.table.shared.table_id ≡ J.table }
 {
-    let mut site = Site::<E, J>::new(board, results, opened);
+    let mut site = Site::<E, J, J>::new(board, results, opened);
     let mut seat = site.seat(tools.alloc);
     let mut text = String::new(tools.alloc);
     let done = read_inputs(rt, tools, &site, &mut seat, &mut text);
@@ -302,14 +316,15 @@ fn inputs_of<'a, E: Executor, J: Case + Room, R: Wait>(
     }
 }
 
-fn read_inputs<'a, E: Executor, J: Case + Room, R: Wait>(
+fn read_inputs<'a, E: Executor, J: Case + Room + Sought, R: Wait>(
     rt: &R,
     tools: &Tools<E>,
-    site: &Site<'a, E, J>,
+    site: &Site<'a, E, J, J>,
     seat: &mut Seat<J>,
     text: &mut String,
 ) -> Result<(), Memory>
     requires job { job_problem E.out tools.now.job.now ≡ J.problem }
+    requires sought { J.sought ≡ J.problem }
     requires promises { J.promises ≡ false }
 {
     for _ in 0..tools.job.graph().len() {
@@ -319,14 +334,15 @@ fn read_inputs<'a, E: Executor, J: Case + Room, R: Wait>(
 }
 
 /// Claims a vertex, settles it, and tells then what its first input holds.
-fn read_input<'a, E: Executor, J: Case + Room, R: Wait>(
+fn read_input<'a, E: Executor, J: Case + Room + Sought, R: Wait>(
     rt: &R,
     tools: &Tools<E>,
-    site: &Site<'a, E, J>,
+    site: &Site<'a, E, J, J>,
     seat: &mut Seat<J>,
     text: &mut String,
 ) -> Result<(), Memory>
     requires job { job_problem E.out tools.now.job.now ≡ J.problem }
+    requires sought { J.sought ≡ J.problem }
     requires promises { J.promises ≡ false }
 {
     let claimed = site.lock(rt).claim(tools.alloc, seat)?;
@@ -346,4 +362,66 @@ fn read_input<'a, E: Executor, J: Case + Room, R: Wait>(
         write!(text, " after{list};")?;
     }
     Ok(())
+}
+
+/// One thread settles a vertex, and has the next one claimed when the site is closed. Its claim goes to the board that the site gives, on which a sweep solves the rest.
+fn given_up<'a, E: Executor, J: Case + Room + Sought, R: Wait>(
+    rt: &R,
+    tools: &Tools<E>,
+    board: Board<'a, E, Known<'a, J>>,
+    results: &'a Results<J>,
+    opened: Opened,
+) -> Result<String, Memory>
+    requires job { job_problem E.out tools.now.job.now ≡ J.problem }
+    requires problem { board_problem E.out board ≡ J.problem }
+    requires long { results.now ≡ length J.problem.vertices }
+    requires first { board.first ≡ J.first }
+    requires before { board.run.history ≡ J.before }
+    requires sought { J.sought ≡ J.problem }
+    requires promises { J.promises ≡ false }
+    requires room { opened.table.shared.table_id ≡ J.table }
+{
+    let mut site = Site::<E, J, J>::new(board, results, opened);
+    let mut seat = site.seat(tools.alloc);
+    let mut text = String::new(tools.alloc);
+    let settled = read_input(rt, tools, &site, &mut seat, &mut text);
+    drop(text);
+    let claimed = site.lock(rt).claim(tools.alloc, &mut seat);
+    let mut seats = [seat];
+    let mut board = site.close(&mut seats);
+    drop(seats);
+    if let Ok(Some(claim)) = claimed {
+        board.abandon(claim);
+    }
+    match settled {
+        Ok(()) => finished(tools, board),
+        Err(memory) => {
+            drop(board);
+            Err(memory)
+        }
+    }
+}
+
+/// The history of a board once a sweep has solved what is left, and what its plan comes to.
+fn finished<'a, E: Executor, S: Sought>(
+    tools: &Tools<E>,
+    board: Board<'a, E, Known<'a, S>>,
+) -> Result<String, Memory>
+    requires { board.run.state.claims ≡ [] }
+{
+    match board.at_home(tools.alloc) {
+        Ok(mut board) => {
+            let solution = finish(tools.alloc, &OpenGate, &mut board);
+            let mut text = String::new(tools.alloc);
+            let told = push_history(&mut text, tools.job.graph(), board.history());
+            drop(board);
+            let (solution, ()) = (solution?, told?);
+            let solution = solution_text(tools.alloc, solution)?;
+            Ok(format!(in tools.alloc; "{text}; {solution}")?)
+        }
+        Err(board) => {
+            drop(board);
+            Err(Memory)
+        }
+    }
 }
