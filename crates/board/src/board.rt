@@ -281,7 +281,7 @@ impl<'a, E: Executor, P: Place<TreeOrCause>> Board<'a, E, P> {
         &self.job
     }
 
-    /// Ends the board, and gives its history.
+    /// Ends the board, and gives its history. Claims that are out are spent by `abandon` before, since no call of another board takes them.
     pub fn into_history(self) -> Vec<Happened>
         ensures value { result.items ≡ self.entry.run.history }
     {

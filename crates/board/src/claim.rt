@@ -8,8 +8,8 @@ use llb::VertexId;
 use std::marker::Model;
 use trees::{Tree, TreeOrCause};
 
-/// The claim of a vertex by a worker, with the trees of the vertex's inputs and the lease of its caches. It ends by `Board::settle` or
-/// `Board::abandon`.
+/// The claim of a vertex by a worker, with the trees of the vertex's inputs and the lease of its caches. It has to be spent, by `Board::settle` or
+/// `Board::abandon`: the language doesn't let it go, since its vertex would stay claimed.
 pub struct Claim<P: Place<TreeOrCause> = TreeOrCause> {
     worker: u32,
     vertex: VertexId,
@@ -101,11 +101,6 @@ impl<P: Place<TreeOrCause>> Claim<P> {
         ensures { result.now ≡ self.now.caches }
     {
         self.lease.trees()
-    }
-
-    /// Drops a claim of a board that has ended. On a board that goes on the claim stays out until `Board::abandon_all`.
-    pub fn discard(self) {
-        drop(self.into_lease());
     }
 
     /// The lease, for the board alone.

@@ -35,8 +35,8 @@ withdraw-requires g c =
     let can : claimable problem run.state c.args.worker ≡ Some vertex = subst (λ v. claimable (board_problem g.E.Executor.out v) v.run.state c.args.worker ≡ Some vertex) (sym c.self.view_is) c.requires.next in
     available-within b.job.graph.vertices b.job.graph.places b.settled b.claims.items b.frontier vertex c.self.invariant.2 (claimable-available problem run.state c.args.worker vertex can)
 
-pub take-requires-clause-free : goal.take-requires-clause-free
-take-requires-clause-free g c =
+pub take_as-requires-clause-free : goal.take_as-requires-clause-free
+take_as-requires-clause-free g c =
     let b = c.self.inside in
     let vertex = c.args.next.vertex in
     let problem = job_problem g.E.Executor.out b.job in
@@ -44,8 +44,8 @@ take-requires-clause-free g c =
     let can : claimable problem run.state c.args.worker ≡ Some vertex = subst (λ v. claimable (board_problem g.E.Executor.out v) v.run.state c.args.worker ≡ Some vertex) (sym c.self.view_is) c.requires.next in
     (claim-can problem run c.args.worker vertex c.self.invariant.0.problem c.self.invariant.0.replay can).0
 
-pub take-requires-clause-may : goal.take-requires-clause-may
-take-requires-clause-may g c =
+pub take_as-requires-clause-may : goal.take_as-requires-clause-may
+take_as-requires-clause-may g c =
     let b = c.self.inside in
     let vertex = c.args.next.vertex in
     let problem = job_problem g.E.Executor.out b.job in
@@ -54,8 +54,8 @@ take-requires-clause-may g c =
     let uses : c.uses_of.result.now ≡ uses_at problem vertex = c.uses_of.ensures ∙ ap (λ vertices. uses_in vertices vertex) (c.vertices-vertices.ensures.value ∙ ap (λ graph. graph.vertices) c.graph.ensures.value) in
     subst (λ u. can_take b.caches.holds u ≡ true) (sym uses) (claim-can problem run c.args.worker vertex c.self.invariant.0.problem c.self.invariant.0.replay can).1
 
-pub take-requires-clause-differ : goal.take-requires-clause-differ
-take-requires-clause-differ g c =
+pub take_as-requires-clause-differ : goal.take_as-requires-clause-differ
+take_as-requires-clause-differ g c =
     let b = c.self.inside in
     let vertex = c.args.next.vertex in
     let problem = job_problem g.E.Executor.out b.job in
@@ -72,8 +72,8 @@ invariant_of-self-2 g c =
     let run = run_of b.history.items b.settled b.claims.items b.caches.holds in
     let can : claimable problem run.state c.args.worker ≡ Some vertex = subst (λ v. claimable (board_problem g.E.Executor.out v) v.run.state c.args.worker ≡ Some vertex) (sym c.self.view_is) c.requires.next in
     let uses : c.uses_of.result.now ≡ uses_at problem vertex = c.uses_of.ensures ∙ ap (λ vertices. uses_in vertices vertex) (c.vertices-vertices.ensures.value ∙ ap (λ graph. graph.vertices) c.graph.ensures.value) in
-    let after : IsAfter (Takes c.args.worker (uses_at problem vertex)) b.caches c.take.new.self = subst (λ u. IsAfter (Takes c.args.worker u) b.caches c.take.new.self) uses c.in_ok-lease.ensures.ok in
-    let gone = claim-gone g.E.Executor.out b.job b.first.items b.caches c.take.new.self b.history.items c.add-2.new.list.items b.settled b.claims.items c.add.new.list.items c.args.worker vertex c.len-at.result c.self.invariant.0 can (search rules) (search rules) (search rules) after in
+    let after : IsAfter (Takes c.args.worker (uses_at problem vertex)) b.caches c.take_as.new.self = subst (λ u. IsAfter (Takes c.args.worker u) b.caches c.take_as.new.self) uses c.in_ok-lease.ensures.ok in
+    let gone = claim-gone g.E.Executor.out b.job b.first.items b.caches c.take_as.new.self b.history.items c.add-2.new.list.items b.settled b.claims.items c.add.new.list.items c.args.worker vertex c.len-at.result c.self.invariant.0 can (search rules) (search rules) (search rules) after in
     let more = frontier-claim b.job.graph.vertices b.job.graph.places b.settled b.claims.items c.add.new.list.items b.frontier c.withdraw.new.self (record { worker = c.args.worker; vertex = vertex; at = c.len-at.result }) c.self.invariant.2 (claimable-available problem run.state c.args.worker vertex can) c.withdraw.ensures (search rules) in
     rw c.again.ensures.same (gone.board, omega (arith, c.self.invariant.1, c.in_ok-room-2.ensures.room, c.room-2.ensures.len, c.room.ensures.len, c.add.ensures.len, c.add-2.ensures.len, c.add-2.ensures.capacity, c.len.ensures), more)
 
@@ -85,9 +85,9 @@ returns-clause-run g c =
     let run = run_of b.history.items b.settled b.claims.items b.caches.holds in
     let can : claimable problem run.state c.args.worker ≡ Some vertex = subst (λ v. claimable (board_problem g.E.Executor.out v) v.run.state c.args.worker ≡ Some vertex) (sym c.self.view_is) c.requires.next in
     let uses : c.uses_of.result.now ≡ uses_at problem vertex = c.uses_of.ensures ∙ ap (λ vertices. uses_in vertices vertex) (c.vertices-vertices.ensures.value ∙ ap (λ graph. graph.vertices) c.graph.ensures.value) in
-    let after : IsAfter (Takes c.args.worker (uses_at problem vertex)) b.caches c.take.new.self = subst (λ u. IsAfter (Takes c.args.worker u) b.caches c.take.new.self) uses c.in_ok-lease.ensures.ok in
-    let gone = claim-gone g.E.Executor.out b.job b.first.items b.caches c.take.new.self b.history.items c.add-2.new.list.items b.settled b.claims.items c.add.new.list.items c.args.worker vertex c.len-at.result c.self.invariant.0 can (search rules) (search rules) (search rules) after in
-    subst (λ v. IsStep g.E.Executor.out (Claim c.args.worker) v (board_of b.job b.first.items c.take.new.self c.add-2.new.list.items c.again.new.self c.add.new.list.items)) c.self.view_is (rw c.again.ensures.same gone.goes)
+    let after : IsAfter (Takes c.args.worker (uses_at problem vertex)) b.caches c.take_as.new.self = subst (λ u. IsAfter (Takes c.args.worker u) b.caches c.take_as.new.self) uses c.in_ok-lease.ensures.ok in
+    let gone = claim-gone g.E.Executor.out b.job b.first.items b.caches c.take_as.new.self b.history.items c.add-2.new.list.items b.settled b.claims.items c.add.new.list.items c.args.worker vertex c.len-at.result c.self.invariant.0 can (search rules) (search rules) (search rules) after in
+    subst (λ v. IsStep g.E.Executor.out (Claim c.args.worker) v (board_of b.job b.first.items c.take_as.new.self c.add-2.new.list.items c.again.new.self c.add.new.list.items)) c.self.view_is (rw c.again.ensures.same gone.goes)
 
 pub returns-clause-of : goal.returns-clause-of
 returns-clause-of g c =
@@ -108,7 +108,7 @@ returns-clause-out g c =
     let problem = job_problem g.E.Executor.out b.job in
     let run = run_of b.history.items b.settled b.claims.items b.caches.holds in
     let can : claimable problem run.state c.args.worker ≡ Some vertex = subst (λ v. claimable (board_problem g.E.Executor.out v) v.run.state c.args.worker ≡ Some vertex) (sym c.self.view_is) c.requires.next in
-    subst (IsOut (run_of b.history.items c.again.new.self c.add.new.list.items c.take.new.self.holds).state) (sym c.new.ensures) (claim-out problem run.state c.args.worker vertex c.len-at.result c.add.new.list.items can (search rules))
+    subst (IsOut (run_of b.history.items c.again.new.self c.add.new.list.items c.take_as.new.self.holds).state) (sym c.new.ensures) (claim-out problem run.state c.args.worker vertex c.len-at.result c.add.new.list.items can (search rules))
 
 pub returns-clause-caches : goal.returns-clause-caches
 returns-clause-caches g c =
