@@ -11,7 +11,7 @@ ghost use Rattle.solver.specs.Recall.{AreOf, IsFinding, IsKept, stays};
 
 use crate::Numbering;
 use crate::finding::{Finding, Findings};
-use crate::running::{is_command, vertex_at};
+use crate::running::vertex_at;
 use board::{Claim, Job};
 use cells::Place;
 use executor::Executor;
@@ -249,4 +249,9 @@ impl<'m, 'k, E: Executor, N: Numbering> Recall<'m, 'k, E, N> {
             let _written = self.findings.keep(alloc, vertex.number(), finding);
         }
     }
+}
+
+/// Whether an operation is a command, which an executor runs.
+fn is_command(op: &Op) -> bool {
+    matches!(op, Op::Exec(_))
 }

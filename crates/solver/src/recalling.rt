@@ -16,7 +16,7 @@ use trees::{Tree, TreeOrCause};
 use vertexrun::Ran;
 
 /// An executor in a solve that asks a memo first: in the caches of a request that the memo knew, the trees may also stay as they were. It runs what its executor
-/// runs, and has no memo: `run_recalled` asks that. The board of such a solve is of this executor, so that its type says what a settle may give back.
+/// runs, and has no memo: `run_recalled` asks that. The board of such a solve is of this executor, by which its settles may give back either.
 #[derive(Drop)]
 pub struct Recalling<'e, E: Executor, N: Numbering> {
     executor: &'e E,

@@ -4,11 +4,12 @@ ghost use Rattle.board.specs.Job.{job_problem};
 ghost use Rattle.board.specs.Leaving.{IsLeftFor};
 ghost use Rattle.board.specs.Problem.{IsProblem};
 
-use crate::Gate;
+use crate::gate::Gated;
+use crate::{Gate, OpenGate};
 use board::{Claim, Job};
 use cells::Place;
 use executor::Executor;
-use llb::{Op, Vertex, VertexId};
+use llb::{Vertex, VertexId};
 use plain::Memory;
 use std::alloc::Global;
 use trees::{Tree, TreeOrCause};
@@ -26,19 +27,11 @@ pub fn run<E: Executor, P: Place<TreeOrCause>>(
     ensures given { IfOk result (λ ran. IsGivenBack (job_problem E.out job.now) claim.now ran.given.items) }
     ensures left { IfOk result (λ ran. IsLeftFor (E.leaves job.now.executor) (job_problem E.out job.now) claim.now ran.given.items) }
 {
-    let vertex = vertex_at(job, claim.vertex());
-    let inputs = inputs_of(alloc, claim)?;
-    vertex_result(
-        alloc,
-        job.sources(),
-        job.executor(),
-        &vertex.op,
-        inputs.as_slice(),
-        claim.caches(),
-    )
+    run_gated(alloc, job, &OpenGate, claim)
 }
 
-/// The result of a claim as `run` gives it, with a gate asked before and after where the vertex of the claim is a command.
+/// The result of a claim as `run` gives it, with a gate asked before and after the executor's run, if there is one: where the vertex of the claim is a
+/// command, each bind of which has its source.
 pub fn run_gated<E: Executor, G: Gate, P: Place<TreeOrCause>>(
     alloc: Global,
     job: &Job<E>,
@@ -50,18 +43,17 @@ pub fn run_gated<E: Executor, G: Gate, P: Place<TreeOrCause>>(
     ensures given { IfOk result (λ ran. IsGivenBack (job_problem E.out job.now) claim.now ran.given.items) }
     ensures left { IfOk result (λ ran. IsLeftFor (E.leaves job.now.executor) (job_problem E.out job.now) claim.now ran.given.items) }
 {
-    if !is_command(&vertex_at(job, claim.vertex()).op) {
-        return run(alloc, job, claim);
-    }
-    gate.enter(claim.worker(), claim.vertex());
-    let ran = run(alloc, job, claim);
-    gate.leave(claim.worker(), claim.vertex());
-    ran
-}
-
-/// Whether an operation is a command, which an executor runs.
-pub(crate) fn is_command(op: &Op) -> bool {
-    matches!(op, Op::Exec(_))
+    let vertex = vertex_at(job, claim.vertex());
+    let inputs = inputs_of(alloc, claim)?;
+    let gated = Gated::new(job.executor(), gate, claim.worker(), claim.vertex());
+    vertex_result(
+        alloc,
+        job.sources(),
+        &gated,
+        &vertex.op,
+        inputs.as_slice(),
+        claim.caches(),
+    )
 }
 
 /// A vertex of a job.

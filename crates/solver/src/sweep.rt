@@ -2,7 +2,7 @@ ghost use Rattle.std.specs.Prelude.{◌≡◌, ◌<◌, ℕ, [], false, None, So
 ghost use Rattle.std.specs.Bool.{OnTrue, OnFalse};
 ghost use Rattle.trees.specs.TreeMap.{TreeMap};
 ghost use Rattle.board.specs.Board.{board_problem, AreLeft};
-ghost use Rattle.board.specs.Leaving.{AreLeftByRuns, AreLeftAtEnd};
+ghost use Rattle.board.specs.Leaving.{GivesBackWhatIsLeft, AreLeftByRuns, AreLeftAtEnd};
 ghost use Rattle.board.specs.Legal.{IsReady};
 ghost use Rattle.board.specs.Play.{value_at, unsettled_count};
 ghost use Rattle.board.specs.Readiness.{has_tree};
@@ -98,7 +98,8 @@ fn answer_of<C: Exact>(
 
 /// The solution of a board: what is left of its job is claimed, run and settled, one vertex at a time, until no vertex is ready. What is settled
 /// isn't run again: where that is the target with a tree, the solution is built with this tree, whatever else has failed. The gate is asked around
-/// the run of each command. No claim may be out (`Board::is_idle` tests that), and whatever the result, none is afterwards. It always returns.
+/// each run of the executor. No claim may be out (`Board::is_idle` tests that), and whatever the result, none is afterwards. Each settle gives back what a run
+/// left: so if the history did so before, it does so afterwards. It always returns.
 pub fn finish<'a, E: Executor + 'a, G: Gate>(
     alloc: Global,
     gate: &G,
@@ -112,6 +113,8 @@ pub fn finish<'a, E: Executor + 'a, G: Gate>(
     ensures over { OnOk result ((vertex : ℕ) → ¬ IsReady (board_problem E.out board.new) board.new.run.history vertex) }
     ensures job { board.new.job ≡ board.old.job }
     ensures first { board.new.first ≡ board.old.first }
+    ensures left { GivesBackWhatIsLeft (E.leaves board.old.job.executor) (board_problem E.out board.old) board.old.first board.old.run.history
+        → GivesBackWhatIsLeft (E.leaves board.new.job.executor) (board_problem E.out board.new) board.new.first board.new.run.history }
 {
     finish_alone::<E, G, Brand>(alloc, gate, board)
 }
@@ -132,6 +135,8 @@ fn finish_alone<'a, E: Executor + 'a, G: Gate, N: Numbering + 'a>(
     ensures over { OnOk result ((vertex : ℕ) → ¬ IsReady (board_problem E.out board.new) board.new.run.history vertex) }
     ensures job { board.new.job ≡ board.old.job }
     ensures first { board.new.first ≡ board.old.first }
+    ensures left { GivesBackWhatIsLeft (E.leaves board.old.job.executor) (board_problem E.out board.old) board.old.first board.old.run.history
+        → GivesBackWhatIsLeft (E.leaves board.new.job.executor) (board_problem E.out board.new) board.new.first board.new.run.history }
 {
     let nothing: Option<&'a Recall<'a, 'a, E, N>> = None;
     finish_recalled(alloc, nothing, gate, board)
@@ -154,6 +159,8 @@ pub fn finish_recalled<E: Executor, M: Executor, G: Gate, N: Numbering>(
     ensures over { OnOk result ((vertex : ℕ) → ¬ IsReady (board_problem E.out board.new) board.new.run.history vertex) }
     ensures job { board.new.job ≡ board.old.job }
     ensures first { board.new.first ≡ board.old.first }
+    ensures left { GivesBackWhatIsLeft (E.leaves board.old.job.executor) (board_problem E.out board.old) board.old.first board.old.run.history
+        → GivesBackWhatIsLeft (E.leaves board.new.job.executor) (board_problem E.out board.new) board.new.first board.new.run.history }
 {
     while turn(alloc, recall, gate, board)? {}
     solution_of(alloc, board)
@@ -171,6 +178,8 @@ fn turn<E: Executor, M: Executor, G: Gate, N: Numbering>(
     requires stays { MayStay N.knows (E.leaves board.old.job.executor) }
     ensures job { board.new.job ≡ board.old.job }
     ensures first { board.new.first ≡ board.old.first }
+    ensures left { GivesBackWhatIsLeft (E.leaves board.old.job.executor) (board_problem E.out board.old) board.old.first board.old.run.history
+        → GivesBackWhatIsLeft (E.leaves board.new.job.executor) (board_problem E.out board.new) board.new.first board.new.run.history }
     ensures idle { board.new.run.state.claims ≡ [] }
     ensures nearer { IfOk result (λ more. OnTrue more (unsettled_count board.new.run.state.settled < unsettled_count board.old.run.state.settled)) }
     ensures same { IfOk result (λ more. OnFalse more (board.new ≡ board.old)) }

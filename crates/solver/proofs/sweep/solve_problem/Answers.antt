@@ -1,7 +1,7 @@
 use Rattle.std.proofs.Common.{◌∙◌, ℕ, ap, sym, subst, IfOk}
 use Rattle.board.specs.Legal.{IsReady}
 use Rattle.board.specs.Board.{AreLeft}
-use Rattle.board.specs.Leaving.{AreLeftByRuns, AreLeftAtEnd}
+use Rattle.board.specs.Leaving.{GivesBackWhatIsLeft, AreLeftByRuns, AreLeftAtEnd}
 use Rattle.board.proofs.LeavingLemmas.{left-at-end}
 use Rattle.board.specs.Job.{job_problem}
 use Rattle.plans.specs.Plan.{problem_of}
@@ -40,7 +40,10 @@ returns-clause-runs g c =
     let leaves = g.E.Executor.leaves in
     let job = c.finish-solution.ensures.job ∙ ap (λ board. board.job) c.in-Ok.ensures.ok ∙ c.new-2.ensures in
     let first = c.finish-solution.ensures.first ∙ ap (λ board. board.first) c.in-Ok.ensures.ok ∙ ap (λ store. store.contents) c.replace-lent.ensures.value in
-    let named = subst (λ j. AreLeftByRuns (leaves j.executor) (job_problem out j) c.finish-solution.new.board.first c.into_caches.result.contents) job c.into_caches.ensures.runs in
+    let board = c.finish-solution.new.board in
+    let begun = subst (λ b. GivesBackWhatIsLeft (leaves b.job.executor) (job_problem out b.job) b.first b.run.history) (sym c.in-Ok.ensures.ok) tt in
+    let runs = c.into_caches.ensures.runs (c.finish-solution.ensures.left begun) in
+    let named = subst (λ j. AreLeftByRuns (leaves j.executor) (job_problem out j) board.first c.into_caches.result.contents) job runs in
     subst (λ f. AreLeftByRuns (leaves c.args.executor.now) (problem_of (out c.args.executor.now) c.args.plan.now) f c.into_caches.result.contents) first named
 
 -- no vertex is ready after the history that left them
@@ -53,11 +56,13 @@ returns-clause-ended g c =
     let known = c.history-known.ensures in
     let job = c.finish-solution.ensures.job ∙ ap (λ board. board.job) c.in-Ok.ensures.ok ∙ c.new-2.ensures in
     let first = c.finish-solution.ensures.first ∙ ap (λ board. board.first) c.in-Ok.ensures.ok ∙ ap (λ store. store.contents) c.replace-lent.ensures.value in
+    let begun = subst (λ b. GivesBackWhatIsLeft (leaves b.job.executor) (job_problem out b.job) b.first b.run.history) (sym c.in-Ok.ensures.ok) tt in
+    let given = c.finish-solution.ensures.left begun in
     on-ok-more ((vertex : ℕ) → ¬ IsReady problem board.run.history vertex)
     (AreLeftAtEnd (leaves c.args.executor.now) (problem_of (out c.args.executor.now) c.args.plan.now) c.args.caches.now.contents c.into_caches.result.contents)
     c.finish-solution.result
     (λ over.
-    let ended = left-at-end (leaves board.job.executor) problem board.run board.first board.contents known.problem known.replay c.finish-solution.ensures.idle known.contents known.given over in
+    let ended = left-at-end (leaves board.job.executor) problem board.run board.first board.contents known.problem known.replay c.finish-solution.ensures.idle known.contents given over in
     let held = subst (AreLeftAtEnd (leaves board.job.executor) problem board.first) (sym (ap (λ store. store.contents) c.into_caches.ensures.value)) ended in
     let named = subst (λ j. AreLeftAtEnd (leaves j.executor) (job_problem out j) board.first c.into_caches.result.contents) job held in
     subst (λ f. AreLeftAtEnd (leaves c.args.executor.now) (problem_of (out c.args.executor.now) c.args.plan.now) f c.into_caches.result.contents) first named)

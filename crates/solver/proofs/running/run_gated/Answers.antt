@@ -1,7 +1,7 @@
 use Rattle.std.proofs.Common.{◌≡◌, ◌∙◌, map, ap, rules}
 use Rattle.board.specs.Job.{job_problem}
 use Rattle.solver.proofs.RunLemmas.{claim-formed}
-use Rattle.solver.proofs.running.run.Goals as goal
+use Rattle.solver.proofs.running.run_gated.Goals as goal
 
 pub vertex_result-requires-clause-well_formed : goal.vertex_result-requires-clause-well_formed
 vertex_result-requires-clause-well_formed g c κs within =
