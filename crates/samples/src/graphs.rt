@@ -93,9 +93,22 @@ fn with_two_caches(alloc: Global, text: &str) -> Result<Exec, Memory> {
     }
 }
 
+/// A command as `command` gives it, with a bind of this path of its second tree, at `/m`.
+fn bound(alloc: Global, source: &str, text: &str) -> Result<Exec, Memory> {
+    let mount = bind(alloc, source, "/m", false)?;
+    let mut exec = command(alloc, text)?;
+    match exec.binds.push(mount) {
+        Ok(()) => Ok(exec),
+        Err(memory) => {
+            drop(exec);
+            Err(memory)
+        }
+    }
+}
+
 /// The operation that a line names: `scratch`, `context`, `image NAME`, `run WORD ..`, `locked WORD ..` (a run with the locked cache `k` at
-/// `/c`), `both WORD ..` (one with the locked cache `l` at `/d` besides), `dirs PATH`, `merge`, or `copy PATTERN .. DEST`. Any other line is
-/// `scratch`.
+/// `/c`), `both WORD ..` (one with the locked cache `l` at `/d` besides), `bound PATH WORD ..` (a run with this path of its second tree at `/m`),
+/// `dirs PATH`, `merge`, or `copy PATTERN .. DEST`. Any other line is `scratch`.
 pub fn op_of(alloc: Global, line: &str) -> Result<Op, Memory> {
     let (kind, rest) = line.split_once(' ').unwrap_or((line, ""));
     match kind {
@@ -104,6 +117,10 @@ pub fn op_of(alloc: Global, line: &str) -> Result<Op, Memory> {
         "run" => Ok(Op::Exec(command(alloc, rest)?)),
         "locked" => Ok(Op::Exec(locked(alloc, "k", rest)?)),
         "both" => Ok(Op::Exec(with_two_caches(alloc, rest)?)),
+        "bound" => {
+            let (source, words) = rest.split_once(' ').unwrap_or((rest, ""));
+            Ok(Op::Exec(bound(alloc, source, words)?))
+        }
         "dirs" => Ok(Op::MakeDirs(path(alloc, rest)?)),
         "merge" => Ok(Op::Merge),
         "copy" => {
