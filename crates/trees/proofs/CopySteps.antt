@@ -1,6 +1,6 @@
 -- From the steps of a COPY's code to what its calls promise.
-use Rattle.std.specs.Prelude.{◌≡◌, ℕ, Bool, true, false, ◌||◌, cond, Option, Some, None, Result, Ok, Err, List, [], ◌∷◌, ◌++◌, length, is_some, nat_lt}
-use Rattle.std.proofs.Common.{sym, ap, refl, ◌∙◌, subst, true≢false, append-nil, append_assoc}
+use Rattle.std.specs.Prelude.{◌≡◌, ℕ, Bool, true, false, ◌||◌, cond, Option, Some, None, Result, Ok, Err, List, length, is_some, nat_lt}
+use Rattle.std.proofs.Common.{sym, ap, refl, ◌∙◌, subst, true≢false}
 use Rattle.std.specs.Option.{option_or}
 use Rattle.std.specs.declared.cmp.Reverse.{Reverse}
 use Rattle.std.specs.Ordering.{eq_by_cmp}
@@ -11,7 +11,6 @@ use Rattle.paths.specs.Path.{IsClean}
 use Rattle.trees.specs.declared.meta.Meta.{Meta}
 use Rattle.trees.specs.declared.entry.Entry.{Entry}
 use Rattle.trees.specs.declared.entry.Entry.TheVariants.{Directory, File}
-use Rattle.trees.specs.declared.copy.Change.{Change}
 use Rattle.trees.specs.declared.copy.Change.TheVariants.{Place, Make}
 use Rattle.trees.specs.declared.cause.Cause.{Cause}
 use Rattle.trees.specs.declared.cause.Cause.TheVariants.{F2, F3, F5}
@@ -23,10 +22,10 @@ use Rattle.trees.specs.Cause.{ChangesTree}
 use Rattle.trees.specs.Put.{cause_at, placed, clash_of}
 use Rattle.trees.specs.Make.{make_cause, with_directory, made_with, made}
 use Rattle.trees.specs.PrivateNode.{IsPlanted}
-use Rattle.trees.specs.Copy.{changed_tree, kind_of, kind_placed, is_repeated, change_cause, first_cause}
-use Rattle.trees.specs.PrivateCopy.{IsChanged, AppliesChange, TellsCause, with_change, kind_by, kind_in}
+use Rattle.trees.specs.Copy.{kind_of, is_repeated, change_cause}
+use Rattle.trees.specs.PrivateCopy.{IsChanged, AppliesChange, kind_in}
 use Rattle.trees.proofs.CauseLaws.{tree_or-ok, tree_or-none, tree_or-err}
-use Rattle.trees.proofs.CopyLaws.{get-with_directory, with_directory-new, with_directory-kept, changed_tree-more, kind_placed-more}
+use Rattle.trees.proofs.CopyLaws.{get-with_directory, with_directory-new, with_directory-kept}
 use Rattle.trees.proofs.SubtreeLaws.{way-open}
 use Rattle.trees.proofs.TreeLaws.{placed-IsTree, free-from_cause}
 use Rattle.trees.proofs.TreeSteps.{placed-from_planted}
@@ -146,50 +145,3 @@ make-change meta old new p before (Ok done) tree h =
     record { fine = is.0; map = sym is.1; kinds = λ q. refl; tree = tree }
 make-change meta old new p before (Err (Because cause)) tree h = tree_or-err (make_cause (get old) p) (with_directory meta old p) cause h.0
 make-change meta old new p before (Err Memory) tree h = tt
-
--- ---- one change after another
-
-pub record IsSoFar (meta : Meta) (old : TreeMap) (before rest all : List Change) (kinds_now : List (Reverse (List (List ℕ)) × Bool)) (now : TreeMap) : Type 0 where
-  pub causes : first_cause meta old before rest ≡ first_cause meta old [] all
-  pub whole : before ++ rest ≡ all
-  pub map : now ≡ changed_tree meta old before
-  pub kinds : (q : List (List ℕ)) → kind_placed before q ≡ kind_in kinds_now q
-  pub tree : IsTree now
-
-pub so_far-start : (meta : Meta) (old : TreeMap) (rest all : List Change) (none : List (Reverse (List (List ℕ)) × Bool)) → rest ≡ all → none ≡ [] → IsTree old → IsSoFar meta old [] rest all none old
-so_far-start meta old rest all none same empty tree = record {
-  causes = ap (first_cause meta old []) same;
-  whole = same;
-  map = refl;
-  kinds = λ q. ap (λ rows. kind_in rows q) (sym empty);
-  tree = tree;
-}
-
-module _ (meta : Meta) (old : TreeMap) (before rest more all : List Change) (change : Change) (kinds_now : List (Reverse (List (List ℕ)) × Bool)) (now : TreeMap) (h : IsSoFar meta old before more all kinds_now now) (next : more ≡ change ∷ rest) where
-  change-is : change_cause (kind_placed before) (get (changed_tree meta old before)) change ≡ change_cause (kind_in kinds_now) (get now) change
-  change-is = λ i. change_cause (λ q. h.kinds q i) (get (sym h.map i)) change
-
-  whole-is : option_or (change_cause (kind_placed before) (get (changed_tree meta old before)) change) (first_cause meta old (before ++ change ∷ []) rest) ≡ first_cause meta old [] all
-  whole-is = ap (first_cause meta old before) (sym next) ∙ h.causes
-
-  pub so_far-step : (kinds_then : List (Reverse (List (List ℕ)) × Bool)) (then_tree : TreeMap) → IsChanged meta change (kind_in kinds_now) now (kind_in kinds_then) then_tree → IsSoFar meta old (before ++ change ∷ []) rest all kinds_then then_tree
-  so_far-step kinds_then then_tree s = record {
-    causes = sym (ap (λ o. option_or o (first_cause meta old (before ++ change ∷ []) rest)) (change-is ∙ s.fine)) ∙ whole-is;
-    whole = append_assoc before (change ∷ []) rest ∙ ap (λ xs. before ++ xs) (sym next) ∙ h.whole;
-    map = s.map ∙ ap (λ t. with_change meta t change) h.map ∙ sym (changed_tree-more meta old before change);
-    kinds = λ q. kind_placed-more before change q ∙ ap (option_or (kind_by change q)) (h.kinds q) ∙ sym (s.kinds q);
-    tree = s.tree;
-  }
-
-  pub so_far-fault : (cause : Cause) → change_cause (kind_in kinds_now) (get now) change ≡ Some cause → first_cause meta old [] all ≡ Some cause
-  so_far-fault cause c = sym whole-is ∙ ap (λ o. option_or o (first_cause meta old (before ++ change ∷ []) rest)) (change-is ∙ c)
-
-pub so_far-end : (meta : Meta) (old : TreeMap) (before rest all : List Change) (kinds_now : List (Reverse (List (List ℕ)) × Bool)) (now : TreeMap) → IsSoFar meta old before rest all kinds_now now → rest ≡ [] → (first_cause meta old [] all ≡ None) × ((now ≡ changed_tree meta old all) × IsTree now)
-so_far-end meta old before rest all kinds_now now h none = (
-  sym h.causes ∙ ap (first_cause meta old before) none,
-  (h.map ∙ ap (changed_tree meta old) (sym (append-nil before) ∙ ap (λ xs. before ++ xs) (sym none) ∙ h.whole), h.tree),
-)
-
-pub told-change : (meta : Meta) (old : TreeMap) (change : Change) (before after : List (List ℕ) → Option Bool) (new : TreeMap) (fault : (Fault Cause)) → AppliesChange meta change before old after new (Err fault) → TellsCause fault (change_cause before (get old) change)
-told-change meta old change before after new (Because cause) h = h
-told-change meta old change before after new Memory h = tt

@@ -30,6 +30,7 @@ mod DepthSteps
 mod SeenSteps
 mod PlacedSteps
 mod FolderSteps
+mod PlacingSteps
 mod FolderDone
 mod GatheredSteps
 mod GrowingSteps

@@ -30,7 +30,7 @@ use Rattle.trees.specs.TreeMap.{TreeMap, IsTree, is_directory}
 use Rattle.trees.specs.Put.{placed}
 use Rattle.trees.specs.Make.{make_cause, with_directory}
 use Rattle.trees.specs.Over.{over}
-use Rattle.trees.specs.Copy.{placed_by, last_placed, needs_directory, kind_of, change_cause, first_cause, changed_tree}
+use Rattle.trees.specs.Copy.{placed_by, last_placed, needs_directory, kind_of, kind_placed, change_cause, first_cause, changed_tree}
 
 -- the tree after one change more
 abbrev pub with_change : Meta → TreeMap → Change → TreeMap
@@ -62,6 +62,19 @@ AppliesChange meta change before old after new (Err Memory) = Unit {0}
 abbrev pub TellsCause : Fault Cause → Option Cause → Type 0
 TellsCause (Because cause) found = found ≡ Some cause
 TellsCause Memory found = Unit {0}
+
+-- These changes of a COPY were made over a first tree, and none of them failed; kind is that of what they placed at each path.
+pub record AreMade (meta : Meta) (first : TreeMap) (changes : List Change) (kind : List (List ℕ) → Option Bool) (now : TreeMap) : Type 0 where
+  pub fine : first_cause meta first [] changes ≡ None
+  pub map : now ≡ changed_tree meta first changes
+  pub kinds : (q : List (List ℕ)) → kind_placed changes q ≡ kind q
+  pub tree : IsTree now
+
+-- A call makes these changes after all that were made before, or tells the cause of the first that fails. After a fault nothing is said of the
+-- tree.
+abbrev pub AppliesMore : Meta → List Change → (List (List ℕ) → Option Bool) → TreeMap → (List (List ℕ) → Option Bool) → TreeMap → Result (Unit {0}) (Fault Cause) → Type 0
+AppliesMore meta changes before old after new (Ok done) = IsTree new × ((first : TreeMap) (made : List Change) → AreMade meta first made before old → AreMade meta first (made ++ changes) after new)
+AppliesMore meta changes before old after new (Err fault) = (first : TreeMap) (made : List Change) → AreMade meta first made before old → TellsCause fault (first_cause meta first [] (made ++ changes))
 
 -- a call makes all changes, or tells the cause of the first that fails
 abbrev pub AppliesChanges : Meta → List Change → TreeMap → TreeMap → Result (Unit {0}) (Fault Cause) → Type 0

@@ -7,7 +7,7 @@ ghost use Rattle.trees.specs.TreeMap.{IsTree};
 ghost use Rattle.trees.specs.Cause.{ChangesTree};
 ghost use Rattle.trees.specs.Make.{make_cause, made_with};
 ghost use Rattle.trees.specs.Copy.{is_repeated, change_cause};
-ghost use Rattle.trees.specs.PrivateCopy.{AppliesChange, AppliesChanges, kind_in};
+ghost use Rattle.trees.specs.PrivateCopy.{AppliesChange, AppliesMore, kind_in};
 ghost use Rattle.trees.specs.PrivateNode.{map_of};
 
 use crate::copy::Change;
@@ -23,21 +23,22 @@ use std::collections::BTreeMap;
 
 /// Each path at which a COPY placed an entry, and whether that is a directory. A COPY mostly places in the order of the paths, and the map finds the
 /// place before its first key in one comparison a level, and that after its last key by comparing with all keys on the way: so the greatest path is first.
-type Placed = BTreeMap<Reverse<Path>, bool>;
+pub(crate) type Placed = BTreeMap<Reverse<Path>, bool>;
 
-/// Makes the changes, one after another. After a fault the root is left half done.
+/// Makes the changes, one after another, after what was placed before. After a fault the root is left half done.
 pub(crate) fn apply_all(
     alloc: Global,
     root: &mut Node,
+    placed: &mut Placed,
     parent: &Meta,
     changes: Vec<Change>,
 ) -> Result<(), TreeFault>
     requires { IsTree (map_of root.old) }
-    ensures { AppliesChanges parent.now changes.items (map_of root.old) (map_of root.new) result }
+    ensures { AppliesMore parent.now changes.items (kind_in placed.old.entries) (map_of root.old)
+        (kind_in placed.new.entries) (map_of root.new) result }
 {
-    let mut placed = BTreeMap::new(alloc);
     for change in changes {
-        apply(alloc, root, &mut placed, parent, change)?;
+        apply(alloc, root, placed, parent, change)?;
     }
     Ok(())
 }

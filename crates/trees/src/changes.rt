@@ -1,16 +1,18 @@
-// From the sources of a COPY to its changes. Nothing is placed here: the tree copied from and the options say all.
+// From a source of a COPY to its changes. Nothing is placed here: the tree copied from and the options say all.
 
 ghost use Rattle.std.specs.Prelude.{◌≡◌, ◌++◌, ◌∷◌, [], drop, length, ◌-◌, IfOk, OnOk};
 ghost use Rattle.std.specs.List.{list_any};
 ghost use Rattle.paths.specs.Name.{IsComponent};
-ghost use Rattle.trees.specs.Copy.{file_path, path_changes, paths_changes, source_changes, changes_of, is_missing, is_absent, goes_into};
+ghost use Rattle.trees.specs.declared.entry.Entry.TheVariants.{File};
+ghost use Rattle.trees.specs.declared.copy.Change.TheVariants.{Place};
+ghost use Rattle.trees.specs.TreeMap.{file_meta};
+ghost use Rattle.trees.specs.Copy.{file_path, path_changes, placed_entry, is_missing, is_absent, goes_into};
 ghost use Rattle.trees.specs.PrivateNode.{map_of};
 
 use crate::copy::Change;
 use crate::node::Node;
-use crate::work::Work;
-use crate::{CopyOptions, CopySource, Entry, Meta, Tree};
-use paths::{LongPath, Path};
+use crate::{Content, CopyOptions, CopySource, Entry, Meta, Tree};
+use paths::{LongPath, Name, Path};
 use plain::{Exact, Memory, Text};
 use std::alloc::Global;
 
@@ -71,86 +73,38 @@ pub(crate) fn goes_into(root: &Node, dest: &Path, options: &CopyOptions) -> bool
     }
 }
 
-/// The changes of a COPY, in order.
-pub(crate) fn changes_of(
+/// The changes of one match, in order.
+pub(crate) fn path_changes(
     alloc: Global,
     options: &CopyOptions,
     into: bool,
     from: &Tree,
     dest: &Path,
-    sources: &[CopySource],
+    path: &Path,
 ) -> Result<Vec<Change>, Memory>
-    ensures { IfOk result (λ changes. changes.items ≡ changes_of options.now into from.now dest.now sources.now) }
+    ensures { IfOk result (λ changes. changes.items ≡ path_changes options.now into from.now dest.now path.now) }
 {
     let mut changes = Vec::new(alloc);
-    let mut work = Work::of_listing();
-    for source in sources {
-        push_source(
-            alloc,
-            options,
-            into,
-            from,
-            dest,
-            source,
-            &mut changes,
-            &mut work,
-        )?;
-    }
+    push_path(alloc, options, into, from, dest, path, &mut changes)?;
     Ok(changes)
 }
 
-/// Adds the changes of one source.
-fn push_source(
+/// The one change of a source that is a file of its own.
+pub(crate) fn data_changes(
     alloc: Global,
     options: &CopyOptions,
     into: bool,
-    from: &Tree,
     dest: &Path,
-    source: &CopySource,
-    changes: &mut Vec<Change>,
-    work: &mut Work,
-) -> Result<(), Memory>
-    ensures { OnOk result (changes.new.items ≡ changes.old.items ++ source_changes options.now into from.now dest.now source.now) }
+    name: &Name,
+    content: &Content,
+) -> Result<Vec<Change>, Memory>
+    ensures { IfOk result (λ changes. changes.items ≡ Place (file_path into dest.now (name.now ∷ [])) (placed_entry options.now (File file_meta content.now)) ∷ []) }
 {
-    match source {
-        CopySource::Found(paths) => {
-            push_paths(
-                alloc,
-                options,
-                into,
-                from,
-                dest,
-                paths.as_slice(),
-                changes,
-                work,
-            )
-        }
-        CopySource::Data(name, content) => {
-            let path = file_path(alloc, into, dest, name.as_text())?;
-            let entry = Entry::File(options.placed_meta(Meta::file()), content.copy(alloc)?);
-            changes.push(Change::Place(path, entry))?;
-            Ok(())
-        }
-    }
-}
-
-/// Adds the changes of these matches.
-fn push_paths(
-    alloc: Global,
-    options: &CopyOptions,
-    into: bool,
-    from: &Tree,
-    dest: &Path,
-    paths: &[Path],
-    changes: &mut Vec<Change>,
-    work: &mut Work,
-) -> Result<(), Memory>
-    ensures { OnOk result (changes.new.items ≡ changes.old.items ++ paths_changes options.now into from.now dest.now paths.now) }
-{
-    for path in paths {
-        push_path(alloc, options, into, from, dest, path, changes, work)?;
-    }
-    Ok(())
+    let path = file_path(alloc, into, dest, name.as_text())?;
+    let entry = Entry::File(options.placed_meta(Meta::file()), content.copy(alloc)?);
+    let mut changes = Vec::new(alloc);
+    changes.push(Change::Place(path, entry))?;
+    Ok(changes)
 }
 
 /// Adds the changes of one match.
@@ -162,7 +116,6 @@ fn push_path(
     dest: &Path,
     path: &Path,
     changes: &mut Vec<Change>,
-    work: &mut Work,
 ) -> Result<(), Memory>
     ensures { OnOk result (changes.new.items ≡ changes.old.items ++ path_changes options.now into from.now dest.now path.now) }
 {
@@ -171,7 +124,7 @@ fn push_path(
     };
     if node.is_directory() {
         changes.push(Change::Make(dest.copy(alloc)?))?;
-        return node.push_changes(alloc, options, &LongPath::of(alloc, dest)?, changes, work);
+        return node.push_changes(alloc, options, &LongPath::of(alloc, dest)?, changes);
     }
     let place = match_path(alloc, into, dest, path)?;
     changes.push(Change::Place(place, node.placed(options).entry().to_entry(alloc)?))?;

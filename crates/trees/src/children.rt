@@ -20,7 +20,6 @@ use crate::node::Node;
 use crate::part::{
     Part, has_room, make_room, own, part_of_one, place, placed_parts, put, share, take_away,
 };
-use crate::work::Work;
 use crate::{CopyOptions, Entry, Meta};
 use plain::{Exact, Fault, Memory, Text};
 use std::alloc::Global;
@@ -143,15 +142,6 @@ impl Children {
         ensures { IsTrue result ↔ (self.now ≡ []) }
     {
         self.parts.is_empty()
-    }
-
-    /// How many there are. It goes through their parts.
-    pub(crate) fn len(&self) -> usize {
-        let mut names: usize = 0;
-        for part in self.parts.as_slice() {
-            names = names.saturating_add(part.len());
-        }
-        names
     }
 
     /// The child of a name, lent to be changed: its part is made this holder's own first. The children stay as they are until it is.
@@ -291,12 +281,7 @@ impl Children {
     /// Lays other children over these, and answers whether one of these is less deep than before. Where there is no memory, they are
     /// left half done.
     #[cycle(laying)]
-    pub(crate) fn lay_over(
-        &mut self,
-        alloc: Global,
-        upper: &LentKids<'_>,
-        work: &mut Work,
-    ) -> Result<bool, Memory>
+    pub(crate) fn lay_over(&mut self, alloc: Global, upper: &LentKids<'_>) -> Result<bool, Memory>
         ensures { OnOk result (AreLaid self.old upper.now self.new) }
     {
         let mut is_less = false;
@@ -304,7 +289,7 @@ impl Children {
         while let Some((name, kid)) = uppers.next() {
             match self.own_mut(alloc, name) {
                 Ok(below) => {
-                    if below.lay_over(alloc, &kid, work)? {
+                    if below.lay_over(alloc, &kid)? {
                         is_less = true;
                     }
                 }

@@ -11,11 +11,10 @@ ghost use Rattle.trees.specs.Copy.{parent_meta, changes_of, source_changes, path
 ghost use Rattle.trees.specs.PrivateCopy.{AppliesChanges, IsFreeBelow, IsLaidPlaced, IsSunk, Comes, IsFoundOf, HangsIn};
 ghost use Rattle.trees.specs.PrivateNode.{map_of};
 
-use crate::apply::{apply_all, make, make_cause};
-use crate::changes::{changes_of, goes_into};
+use crate::apply::{make, make_cause};
 use crate::lent_node::LentNode;
 use crate::node::Node;
-use crate::work::Work;
+use crate::placing::place_each;
 use crate::{Cause, CopyOptions, CopySource, Entry, Meta, Tree, TreeFault};
 use paths::Path;
 use plain::limits::MOST_COMPONENTS;
@@ -61,11 +60,7 @@ pub(crate) fn place_sources(
     match whole_folder(alloc, root, options, from, dest, sources)? {
         Whole::Folder(folder) => hang_in(alloc, root, &parent, dest, &folder),
         Whole::Deep => Err(Fault::Because(deep_cause(root, dest))),
-        Whole::Neither => {
-            let into = goes_into(root, dest, options);
-            let changes = changes_of(alloc, options, into, from, dest, sources)?;
-            apply_all(alloc, root, &parent, changes)
-        }
+        Whole::Neither => place_each(alloc, root, options, from, dest, sources),
     }
 }
 
@@ -95,8 +90,7 @@ fn whole_folder(
         return Ok(Whole::Neither);
     }
     let mut joined = Node::leaf(Entry::Directory(Meta::directory()));
-    let mut work = Work::of_laying();
-    match join_sources(alloc, &mut joined, options, from, dest, sources, &mut work)? {
+    match join_sources(alloc, &mut joined, options, from, dest, sources)? {
         Joined::All => {}
         Joined::TooDeep => return Ok(Whole::Deep),
         Joined::Other => return Ok(Whole::Neither),
@@ -117,13 +111,12 @@ fn join_sources(
     from: &Tree,
     dest: &Path,
     sources: &[CopySource],
-    work: &mut Work,
 ) -> Result<Joined, Memory>
     requires { IsClean dest.now }
     ensures { IfOk result (λ came. (into : Bool) → Comes dest.now (changes_of options.now into from.now dest.now sources.now) (map_of joined.old) (map_of joined.new) came) }
 {
     for source in sources {
-        match join_source(alloc, joined, options, from, dest, source, work)? {
+        match join_source(alloc, joined, options, from, dest, source)? {
             Joined::All => {}
             Joined::TooDeep => return Ok(Joined::TooDeep),
             Joined::Other => return Ok(Joined::Other),
@@ -140,14 +133,13 @@ fn join_source(
     from: &Tree,
     dest: &Path,
     source: &CopySource,
-    work: &mut Work,
 ) -> Result<Joined, Memory>
     requires { IsClean dest.now }
     ensures { IfOk result (λ came. (into : Bool) → Comes dest.now (source_changes options.now into from.now dest.now source.now) (map_of joined.old) (map_of joined.new) came) }
 {
     match source {
         CopySource::Found(paths) => {
-            join_paths(alloc, joined, options, from, dest, paths.as_slice(), work)
+            join_paths(alloc, joined, options, from, dest, paths.as_slice())
         }
         CopySource::Data(_, _) => Ok(Joined::Other),
     }
@@ -161,13 +153,12 @@ fn join_paths(
     from: &Tree,
     dest: &Path,
     paths: &[Path],
-    work: &mut Work,
 ) -> Result<Joined, Memory>
     requires { IsClean dest.now }
     ensures { IfOk result (λ came. (into : Bool) → Comes dest.now (paths_changes options.now into from.now dest.now paths.now) (map_of joined.old) (map_of joined.new) came) }
 {
     for path in paths {
-        match join_match(alloc, joined, options, from, dest, path, work)? {
+        match join_match(alloc, joined, options, from, dest, path)? {
             Joined::All => {}
             Joined::TooDeep => return Ok(Joined::TooDeep),
             Joined::Other => return Ok(Joined::Other),
@@ -184,7 +175,6 @@ fn join_match(
     from: &Tree,
     dest: &Path,
     path: &Path,
-    work: &mut Work,
 ) -> Result<Joined, Memory>
     requires { IsClean dest.now }
     ensures { IfOk result (λ came. (into : Bool) → Comes dest.now (path_changes options.now into from.now dest.now path.now) (map_of joined.old) (map_of joined.new) came) }
@@ -192,11 +182,11 @@ fn join_match(
     let Some(folder) = from.node_at(path) else {
         return Ok(Joined::Other);
     };
-    if !folder.is_directory() || joined.lent().meets(&folder, work)? {
+    if !folder.is_directory() || joined.lent().meets(&folder) {
         return Ok(Joined::Other);
     }
     if fits(&folder, dest) {
-        lay_placed(alloc, joined, options, &folder, work)?;
+        lay_placed(alloc, joined, options, &folder)?;
         return Ok(Joined::All);
     }
     if folder.is_deeper(MOST_COMPONENTS - dest.depth()) {
@@ -211,11 +201,10 @@ fn lay_placed(
     joined: &mut Node,
     options: &CopyOptions,
     folder: &LentNode<'_>,
-    work: &mut Work,
 ) -> Result<(), Memory>
     ensures { OnOk result (IsLaidPlaced options.now (map_of joined.old) folder.now (map_of joined.new)) }
 {
-    joined.lay_over(alloc, &folder.placed(options), work)?;
+    joined.lay_over(alloc, &folder.placed(options))?;
     Ok(())
 }
 

@@ -14,7 +14,6 @@ use crate::lent_kids::LentKids;
 use crate::lent_node::LentNode;
 use crate::node::Node;
 use crate::part::Part;
-use crate::work::Work;
 use crate::{CopyOptions, Entry, Meta};
 use plain::limits::MOST_COMPONENTS;
 use plain::{Exact, Memory, Text};
@@ -188,7 +187,6 @@ impl Inner {
         alloc: Global,
         upper: &LentNode<'_>,
         uppers: &LentKids<'_>,
-        work: &mut Work,
     ) -> Result<bool, Memory>
         requires directory { is_directory (Some upper.now.top) ≡ true }
         requires kids { node_of upper.now.top uppers.now ≡ upper.now }
@@ -199,7 +197,7 @@ impl Inner {
         let deepest = before.max(upper.depth());
         // Where there is no memory, what is half done may be anything.
         self.depth = UNKNOWN;
-        let is_less = self.kids.lay_over(alloc, uppers, work)?;
+        let is_less = self.kids.lay_over(alloc, uppers)?;
         self.depth = depth_of(&self.kids, deepest, is_less);
         Ok(self.depth < before)
     }
@@ -275,32 +273,6 @@ pub(crate) fn own(
     *shared = Arc::new(alloc, inner)?;
     *options = CopyOptions::keeping();
     Ok(())
-}
-
-/// Does so within some work: where a copy takes the node's place, the names right below it count.
-pub(crate) fn own_within(
-    alloc: Global,
-    shared: &mut Arc<Inner, Global>,
-    options: &mut CopyOptions,
-    work: &mut Work,
-) -> Result<(), Memory>
-    ensures same { seen options.new (arc_value shared.new) ≡ seen options.old (arc_value shared.old) }
-    ensures keeping { OnOk result (options.new ≡ keeping) }
-{
-    if !is_own(shared, options) {
-        work.take(shared.kids.len())?;
-    }
-    own(alloc, shared, options)
-}
-
-/// Whether a node is the holder's own already, with nothing put on it.
-fn is_own(shared: &mut Arc<Inner, Global>, options: &CopyOptions) -> bool
-    ensures { arc_value shared.new ≡ arc_value shared.old }
-{
-    match Arc::get_mut(shared) {
-        Some(_alone) => options.is_keeping(),
-        None => false,
-    }
 }
 
 /// How deep children are that are no deeper than `deepest`, and as deep as that unless one of them is less deep than before.

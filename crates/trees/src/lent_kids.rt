@@ -17,7 +17,6 @@ use crate::children::Children;
 use crate::copy::Change;
 use crate::kids::Kids;
 use crate::lent_node::LentNode;
-use crate::work::Work;
 use crate::{CopyOptions, LentEntry};
 use paths::{LongPath, Path};
 use plain::{Exact, Memory, Text};
@@ -87,11 +86,6 @@ impl<'a> LentKids<'a> {
         self.kids.is_none()
     }
 
-    /// How many there are.
-    pub(crate) fn len(&self) -> usize {
-        self.kids.len()
-    }
-
     /// Whether nothing of these is left once others are laid over them, as far as is seen at once: the others begin with the same names,
     /// and each of their nodes hides the one of its name.
     pub(crate) fn is_hidden_by(&self, upper: &LentKids<'_>) -> bool
@@ -157,23 +151,22 @@ impl<'a> LentKids<'a> {
 
     /// Whether something stands at one path in or below both, unless it is a directory in both.
     #[cycle(meeting)]
-    pub(crate) fn meets(&self, other: &LentKids<'_>, work: &mut Work) -> Result<bool, Memory>
-        ensures { IfOk result (λ meets. meets ≡ false → MeetInDirectories (joined self.now) (joined other.now)) }
+    pub(crate) fn meets(&self, other: &LentKids<'_>) -> bool
+        ensures { result ≡ false → MeetInDirectories (joined self.now) (joined other.now) }
     {
         // The first folder of a COPY meets nothing, and may have many names.
         if self.is_none() {
-            return Ok(false);
+            return false;
         }
-        work.take(other.len())?;
         let mut others = other.iter();
         while let Some((name, kid)) = others.next() {
             if let Some(own) = self.get(name) {
-                if !own.is_directory() || !kid.is_directory() || own.meets(&kid, work)? {
-                    return Ok(true);
+                if !own.is_directory() || !kid.is_directory() || own.meets(&kid) {
+                    return true;
                 }
             }
         }
-        Ok(false)
+        false
     }
 
     /// Adds a row for each entry of these children and below them, in path order, their folder's path being `at`.
@@ -204,7 +197,6 @@ impl<'a> LentKids<'a> {
         options: &CopyOptions,
         at: &LongPath,
         changes: &mut Vec<Change>,
-        work: &mut Work,
     ) -> Result<(), Memory>
         requires { (q : List (List ℕ)) → is_some (get (joined self.now) q) ≡ true → IsClean q }
         ensures { OnOk result (changes.new.items ≡ changes.old.items ++ placements options.now at.now (entries (joined self.now))) }
@@ -212,11 +204,9 @@ impl<'a> LentKids<'a> {
         let mut kids = self.iter();
         while let Some((name, kid)) = kids.next() {
             let below = at.child(alloc, name)?;
-            // The list holds the whole path, so each name on the way counts.
-            work.take(below.components().len())?;
             let entry = kid.placed(options).entry().to_entry(alloc)?;
             changes.push(Change::Place(below.copy(alloc)?, entry))?;
-            kid.push_changes(alloc, options, &below, changes, work)?;
+            kid.push_changes(alloc, options, &below, changes)?;
         }
         Ok(())
     }

@@ -18,7 +18,6 @@ use crate::kids::Kids;
 use crate::landing::Landing;
 use crate::lent_kids::LentKids;
 use crate::node::{Held, Node};
-use crate::work::Work;
 use crate::{CopyOptions, Entry, LentEntry, Meta};
 use paths::{LongPath, Path};
 use plain::{Exact, Memory, Text};
@@ -296,14 +295,13 @@ impl<'a> LentNode<'a> {
         options: &CopyOptions,
         at: &LongPath,
         changes: &mut Vec<Change>,
-        work: &mut Work,
     ) -> Result<(), Memory>
         requires { (q : List (List ℕ)) → is_some (get (map_of self.now) q) ≡ true → IsClean q }
         ensures { OnOk result (changes.new.items ≡ changes.old.items ++ placements options.now at.now (drop 1 (entries (map_of self.now)))) }
     {
         match self.children() {
             None => Ok(()),
-            Some(kids) => kids.push_changes(alloc, options, at, changes, work),
+            Some(kids) => kids.push_changes(alloc, options, at, changes),
         }
     }
 
@@ -317,15 +315,15 @@ impl<'a> LentNode<'a> {
     /// Whether something stands at one path below both, unless it is a directory in both. The names of the other are looked up here, and
     /// only where both have a folder does it go on below.
     #[cycle(meeting)]
-    pub(crate) fn meets(&self, other: &LentNode<'_>, work: &mut Work) -> Result<bool, Memory>
-        ensures { IfOk result (λ meets. meets ≡ false → MeetInDirectories self.now.below other.now.below) }
+    pub(crate) fn meets(&self, other: &LentNode<'_>) -> bool
+        ensures { result ≡ false → MeetInDirectories self.now.below other.now.below }
     {
         let Some(kids) = self.children() else {
-            return Ok(false);
+            return false;
         };
         match other.children() {
-            None => Ok(false),
-            Some(others) => kids.meets(&others, work),
+            None => false,
+            Some(others) => kids.meets(&others),
         }
     }
 }

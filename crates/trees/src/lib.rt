@@ -37,12 +37,12 @@ mod meta;
 mod names;
 mod node;
 mod part;
+mod placing;
 mod put;
 mod slab;
 mod spine;
 mod tree;
 mod walk;
-mod work;
 
 pub use branch::{Branch, Branches};
 pub use builder::TreeBuilder;

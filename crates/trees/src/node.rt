@@ -6,11 +6,10 @@ ghost use Rattle.trees.specs.PrivateNode.{map_of, joined, node_of, IsDepth, IsDe
 ghost use Rattle.trees.specs.PrivateHeld.{held_value};
 ghost use Rattle.trees.specs.PrivateSeen.{seen};
 
-use crate::inner::{Inner, own, own_within};
+use crate::inner::{Inner, own};
 use crate::lent_kids::LentKids;
 use crate::lent_node::LentNode;
 use crate::part::Part;
-use crate::work::Work;
 use crate::{CopyOptions, Entry, Meta};
 use plain::{Exact, Memory, Text};
 use std::alloc::Global;
@@ -234,12 +233,7 @@ impl Node {
     /// Lays another node over this one, and answers whether this one is less deep than before. Where there is no memory, it is left
     /// half done.
     #[cycle(laying)]
-    pub(crate) fn lay_over(
-        &mut self,
-        alloc: Global,
-        upper: &LentNode<'_>,
-        work: &mut Work,
-    ) -> Result<bool, Memory>
+    pub(crate) fn lay_over(&mut self, alloc: Global, upper: &LentNode<'_>) -> Result<bool, Memory>
         ensures { OnOk result (map_of self.new ≡ over (map_of self.old) (map_of upper.now)) }
     {
         let before = self.depth();
@@ -255,17 +249,16 @@ impl Node {
             *self = upper.copy(alloc)?;
             return Ok(false);
         };
-        work.take(uppers.len())?;
         // Folders of files are mostly laid over others of the same names: they are shared then, and no name is copied.
         if LentKids::of(shared.kids(), *options).is_hidden_by(&uppers) {
             *self = upper.copy(alloc)?;
             return Ok(self.depth() < before);
         }
-        own_within(alloc, shared, options, work)?;
+        own(alloc, shared, options)?;
         let Some(inner) = Arc::get_mut(shared) else {
             return Err(Memory);
         };
-        inner.lay_over(alloc, upper, &uppers, work)
+        inner.lay_over(alloc, upper, &uppers)
     }
 
     /// Puts what is below a folder below the node at a path, if there is one, in place of what was below that. All of it is shared.

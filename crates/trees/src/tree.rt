@@ -20,7 +20,6 @@ use crate::growing::grow;
 use crate::lent_node::LentNode;
 use crate::node::Node;
 use crate::put::{cause_at, written_meta};
-use crate::work::Work;
 use crate::{
     Branch, Cause, Content, CopyOptions, CopySource, Entry, LentEntry, Meta, TreeFault, Walk,
 };
@@ -291,7 +290,7 @@ impl Tree {
         ensures { IfOk result (λ tree. tree ≡ over self upper.now) }
     {
         let Tree { mut root } = self;
-        root.lay_over(alloc, &upper.root.lent(), &mut Work::of_laying())?;
+        root.lay_over(alloc, &upper.root.lent())?;
         Ok(Tree { root })
     }
 

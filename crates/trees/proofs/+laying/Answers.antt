@@ -43,8 +43,8 @@ node::Node::lay_over-lay_over-requires t c =
 
 pub node::Node::lay_over-returns : goal.node::Node::lay_over-returns
 node::Node::lay_over-returns t c =
-    on_ok_weaker c.lay_over.result (carried (λ v n. map_of n ≡ over (map_of v) (map_of c.args.upper.now)) c.own_within.new.options c.in-Some-get_mut.inner.now c.args.self.now c.lay_over.new.self c.in_ok-own_within.ensures.keeping
-    (c.in-Some-get_mut.ensures.value ∙ owned c.in-Folder.options c.own_within.new.options (arc_value c.in-Folder.shared) (arc_value c.own_within.new.shared) c.args.self.now c.own_within.ensures.same c.in_ok-own_within.ensures.keeping (sym (ap held_value c.in-Folder.is) ∙ c.self.view_is))) c.lay_over.ensures
+    on_ok_weaker c.lay_over.result (carried (λ v n. map_of n ≡ over (map_of v) (map_of c.args.upper.now)) c.own.new.options c.in-Some-get_mut.inner.now c.args.self.now c.lay_over.new.self c.in_ok-own.ensures.keeping
+    (c.in-Some-get_mut.ensures.value ∙ owned c.in-Folder.options c.own.new.options (arc_value c.in-Folder.shared) (arc_value c.own.new.shared) c.args.self.now c.own.ensures.same c.in_ok-own.ensures.keeping (sym (ap held_value c.in-Folder.is) ∙ c.self.view_is))) c.lay_over.ensures
 
 pub inner::Inner::lay_over-lay_over-requires : goal.inner::Inner::lay_over-lay_over-requires
 inner::Inner::lay_over-lay_over-requires t c =

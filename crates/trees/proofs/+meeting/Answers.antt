@@ -1,5 +1,4 @@
 use Rattle.std.proofs.Common.{◌∙◌, sym, refl, subst, [], ◌∷◌, ◌++◌, List, ℕ, Some, None}
-use Rattle.std.proofs.lemmas.Result.{IfOk-weaker}
 use Rattle.trees.specs.PrivateNode.{NodeValue, joined}
 use Rattle.trees.specs.PrivateCopy.{MeetInDirectories}
 use Rattle.trees.proofs.KidLists.{passed-more}
@@ -11,7 +10,7 @@ pub lent_kids::LentKids::meets-loop-name-preserved-in-Some-get : goal.lent_kids:
 lent_kids::LentKids::meets-loop-name-preserved-in-Some-get t c = (
   λ h. c.loop-name.invariant.0
       (meet-step c.args.self.now c.loop-name.others c.next.new.self c.in-Some.name.now c.in-Some.kid (Some c.in-Some-get.own) c.in-Some.ensures c.in-Some-get.ensures
-      (kids-meet c.in-Some-get.own c.in-Some.kid (sym c.is_directory.ensures ∙ c.if-not-is_directory.false) (sym c.is_directory-else-not-is_directory.ensures ∙ c.if-not-is_directory-2.false) (c.in_ok-meets.ensures c.if-branch.false)) h),
+      (kids-meet c.in-Some-get.own c.in-Some.kid (sym c.is_directory.ensures ∙ c.if-not-is_directory.false) (sym c.is_directory-else-not-is_directory.ensures ∙ c.if-not-is_directory-2.false) (c.meets.ensures c.if-meets.false)) h),
   (c.loop-name.invariant.1.0 ++ (c.in-Some.name.now, c.in-Some.kid) ∷ [], passed-more c.args.other.now c.loop-name.invariant.1.0 c.next.new.self c.loop-name.others c.in-Some.name.now c.in-Some.kid c.loop-name.invariant.1.1 c.in-Some.ensures),
 )
 
@@ -36,4 +35,4 @@ lent_node::LentNode::meets-returns-in-None t c = λ _. subst (λ (n : NodeValue)
 
 pub lent_node::LentNode::meets-returns-in-Some-children : goal.lent_node::LentNode::meets-returns-in-Some-children
 lent_node::LentNode::meets-returns-in-Some-children t c =
-    IfOk-weaker c.meets.result _ _ (λ meets below apart. meets-below c.args.self.now c.args.other.now c.in-Some.kids c.in-Some-children.others c.in-Some.ensures c.in-Some-children.ensures (below apart)) c.meets.ensures
+    λ apart. meets-below c.args.self.now c.args.other.now c.in-Some.kids c.in-Some-children.others c.in-Some.ensures c.in-Some-children.ensures (c.meets.ensures apart)
