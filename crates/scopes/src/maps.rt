@@ -76,12 +76,3 @@ pub(crate) fn valued(arguments: &[(Text, Option<Text>)]) -> usize {
     }
     count
 }
-
-/// How many bytes the values of these rows have together.
-pub(crate) fn values_len(rows: &[Variable]) -> usize {
-    let mut len: usize = 0;
-    for row in rows {
-        len = len.saturating_add(row.value.len());
-    }
-    len
-}

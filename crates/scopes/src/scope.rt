@@ -9,17 +9,13 @@ ghost use Rattle.scopes.specs.Evaluate.{declaration_of, env_variables, env_fault
 
 use crate::args::Args;
 use crate::evaluate::{argument_rows, assigned_variables, variable_rows};
-use crate::maps::{push_arguments, push_variables, valued, values_len};
+use crate::maps::{push_arguments, push_variables, valued};
 use expand::{ExpandFault, Lookup};
 use instructions::{Argument, Assignment};
 use named::NamedRows;
 use plain::{Exact, Items, Memory, Text, Variable, Variables};
 use std::alloc::Global;
 use std::marker::Model;
-
-/// The most bytes that the values of one environment have together. Values are shared, so a short line can set thousands of names to one long
-/// text, and the environment's hash goes through each of them. No system starts a command with so many bytes.
-const MOST_ENV_BYTES: usize = 268_435_456;
 
 /// What names have values by the ENV and ARG lines so far.
 ///
@@ -138,7 +134,6 @@ impl Scope {
     /// The environment of RUN: the names that ENVs set, in the order in which they came first, with their last values; then
     /// the names that have a value by an ARG and no ENV, in the order in which they were first declared (own). There is no
     /// `PATH` among them unless one was set (own). It is shared with the scope if [`keep_env`](Scope::keep_env) made it before.
-    /// `Memory` also if its values have more than 268,435,456 bytes together (own).
     pub fn run_env(&self, alloc: Global) -> Result<Variables, Memory>
         ensures { IfOk result (λ env. env ≡ run_env self.now) }
     {
@@ -149,7 +144,6 @@ impl Scope {
     }
 
     /// Makes RUN's environment and keeps it, until the next ENV or ARG: the RUNs up to there share it, as many as they are.
-    /// `Memory` as of [`run_env`](Scope::run_env).
     pub fn keep_env(&mut self, alloc: Global) -> Result<(), Memory>
         ensures { self.new ≡ self.old }
     {
@@ -164,9 +158,6 @@ impl Scope {
         ensures { IfOk result (λ env. env ≡ run_env self.now) }
     {
         let rows = self.env_rows(alloc)?;
-        if values_len(rows.as_slice()) > MOST_ENV_BYTES {
-            return Err(Memory);
-        }
         Variables::of(alloc, rows.into_vec())
     }
 
