@@ -6,9 +6,6 @@ use plain::Memory;
 use std::alloc::Global;
 use trees::{LentEntry, Tree};
 
-/// So many entries a tree has at most that is gone through. Trees share folders, so a small one may have more than anybody can wait for.
-pub(crate) const MOST_ENTRIES: usize = 16_777_216;
-
 /// So many bytes and those of all files of each of some trees; `usize::MAX` if they are more.
 pub(crate) fn count_trees(alloc: Global, trees: &[Tree], bytes: usize) -> Result<usize, Memory>
     ensures { IfOk result (λ count. count ≡ capped (bytes + trees_bytes trees.now)) }
@@ -21,19 +18,13 @@ pub(crate) fn count_trees(alloc: Global, trees: &[Tree], bytes: usize) -> Result
     Ok(count)
 }
 
-/// So many bytes and those of all files of a tree; `usize::MAX` if they are more. A tree that has too many entries is one for which there is no
-/// memory.
+/// So many bytes and those of all files of a tree; `usize::MAX` if they are more.
 fn count_tree(alloc: Global, tree: &Tree, bytes: usize) -> Result<usize, Memory>
     ensures { IfOk result (λ count. count ≡ capped (bytes + tree_bytes tree.now)) }
 {
     let mut count = bytes;
-    let mut left = MOST_ENTRIES;
     let mut walk = tree.walk(alloc)?;
     while let Some(entry) = walk.next() {
-        if left == 0 {
-            return Err(Memory);
-        }
-        left -= 1;
         count = count.saturating_add(entry_bytes(entry));
     }
     note_fits(count);

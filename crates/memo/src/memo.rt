@@ -106,7 +106,8 @@ impl<'a, E: Executor> Memo<'a, E> {
     /// The bytes of the files of all trees that it keeps, of each tree all its files; `usize::MAX` if they are more.
     ///
     /// A tree is kept for each entry, and for each tree that one was given and that wasn't kept before. Trees share files, and each counts them: so what is
-    /// held in memory is at most this, and mostly much less. It walks all these trees, and answers want of memory if one has more than 16,777,216 entries.
+    /// held in memory is at most this, and mostly much less. It walks all these trees, path by path: one that shares folders may have more paths than
+    /// anybody can wait for.
     pub fn content_bytes(&self, alloc: Global) -> Result<usize, Memory>
         ensures { IfOk result (λ bytes. bytes ≡ capped (trees_bytes self.now.recent.trees + trees_bytes self.now.earlier.trees)) }
     {

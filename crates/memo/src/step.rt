@@ -4,7 +4,6 @@ ghost use Rattle.memo.specs.Memo.{Has};
 ghost use Rattle.memo.specs.PrivateGeneration.{tree_at, trees_at, entries_at, AreAt, AreBelow, IsPlaced, ArePlaced, IsFor, Stands, Tells, step_of};
 
 use crate::Hit;
-use crate::content::MOST_ENTRIES;
 use crate::number::{Age, TreeNumber, known_at};
 use crate::sought::Sought;
 use llb::Op;
@@ -14,6 +13,9 @@ use trees::Tree;
 
 /// How many trees are walked, at most, to find the number of one.
 const MOST_WALKS: u32 = 4;
+
+/// So many entries a tree has at most that is compared with others. Trees share folders, so a small one may have more than anybody can wait for.
+const MOST_ENTRIES: usize = 16_777_216;
 
 /// An entry, with the numbers of its trees in place of these.
 #[derive(Drop)]
