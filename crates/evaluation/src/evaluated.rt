@@ -180,9 +180,6 @@ fn evaluate_needed(
 /// (own), R21 with a text if a variable is required that doesn't pass its test. A stage that isn't needed isn't evaluated, and nothing of
 /// it is refused.
 ///
-/// `Memory` comes for want of memory, and also if the values of one RUN's environment have more than 268,435,456 bytes together, or if needed
-/// stages and their RUNs list more than 16,777,216 variables and words (own). What was handed over is let go then.
-///
 /// The rows are such as lowering asks for: each is well formed after those before it, the target is one of them, they name no more images and
 /// have no more steps than the limits allow, and each source that they name has its tree, where the table was made with
 /// just these images. Their lines ascend, and the target needs each stage that isn't left out.

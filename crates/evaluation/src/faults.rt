@@ -9,7 +9,6 @@ ghost use Rattle.evaluation.specs.PrivateFaults.{IsOpenedJudged, IsNeededJudged,
 ghost use Rattle.evaluation.specs.PrivateKept.{is_wanted, state_if};
 ghost use Rattle.evaluation.specs.PrivateNames.{AreWhole};
 
-use crate::budget::ListBudget;
 use crate::given::Given;
 use crate::names::NamedImages;
 use crate::opening::{Opened, open};
@@ -57,15 +56,13 @@ fn is_base_lost(needed: &[bool], states: &[Option<State>], base: &Origin) -> boo
     }
 }
 
-/// What was judged so far, with one refused stage more. `budget` is what was left before the stage: what its RUNs listed is let go, so it doesn't
-/// count.
+/// What was judged so far, with one refused stage more.
 fn refuse_stage(
     alloc: Global,
     rows: Items<Option<Stage>>,
     states: Items<Option<State>>,
     faults: Items<Rejection>,
     refusal: Rejection,
-    budget: ListBudget,
 ) -> Result<Judged, Memory>
     ensures { IfOk result (λ more. more ≡ record { walk = with_none (record { rows = rows; states = states; names = [] }); faults = faults ++ refusal ∷ [] }) }
 {
@@ -79,7 +76,7 @@ fn refuse_stage(
             return Err(memory);
         }
     }
-    let names = NamedImages::with_budget(alloc, budget);
+    let names = NamedImages::new(alloc);
     leave_out(Judged {
         walk: Walk {
             rows,
@@ -156,7 +153,6 @@ fn judge_opened(
         instructions,
     } = stage;
     let number = rows.len();
-    let budget = names.budget();
     match evaluate_stage(
         alloc,
         given,
@@ -172,7 +168,7 @@ fn judge_opened(
         }
         Err(Fault::Because(refusal)) => {
             drop(base);
-            refuse_stage(alloc, rows, states, faults, refusal, budget)
+            refuse_stage(alloc, rows, states, faults, refusal)
         }
         Err(Fault::Memory) => {
             drop(rows);
@@ -306,8 +302,7 @@ fn list_needed(
 /// left out for that, has nothing to be evaluated from, and is left out. A stage that only copies from such a stage, or mounts it, is evaluated.
 /// The images that R18 counts are counted anew after a stage that is refused.
 ///
-/// The first of them is what `evaluate` refuses the table for, and there is none exactly if it evaluates it. `Memory` comes as of `evaluate`: also
-/// if a stage after the first refusal lists too much.
+/// The first of them is what `evaluate` refuses the table for, and there is none exactly if it evaluates it.
 pub fn list_faults(
     alloc: Global,
     table: StageTable,

@@ -19,7 +19,6 @@
 // ```
 #![tactic(auto)]
 
-mod budget;
 mod evaluated;
 mod faults;
 mod given;

@@ -2,26 +2,20 @@ ghost use Rattle.std.specs.Prelude.{◌≡◌, [], length, nat_lt, OnOk, OnErr};
 ghost use Rattle.plain.specs.Limits.{most_images};
 ghost use Rattle.evaluation.specs.Images.{is_among, with_name, with_origin, with_origins};
 
-use crate::budget::ListBudget;
-use crate::state::State;
-use instructions::InstructionKind;
 use llb::Source;
 use named::{NamedRows, Present};
 use plain::limits::MOST_IMAGES;
 use plain::{Exact, Memory, Text};
-use rows::{Action, Origin};
-use stages::ResolvedInstruction;
+use rows::Origin;
 use std::alloc::Global;
 use std::marker::Model;
 
 /// The names of the images that were named so far.
 ///
-/// Contracts see a list of them, each once, in the order in which they were named first. How much RUNs and stages may still list is handed from line
-/// to line with them, and contracts don't see it, since `Memory` may come at any line.
+/// Contracts see a list of them, each once, in the order in which they were named first.
 #[derive(Drop)]
 pub struct NamedImages {
     names: NamedRows<Present>,
-    budget: ListBudget,
 }
 
 impl Model for NamedImages {
@@ -40,22 +34,9 @@ impl NamedImages {
     pub fn new(alloc: Global) -> NamedImages
         ensures { result ≡ [] }
     {
-        NamedImages::with_budget(alloc, ListBudget::of_build())
-    }
-
-    /// No name, and so much that RUNs and stages may still list. It takes no memory.
-    pub(crate) fn with_budget(alloc: Global, budget: ListBudget) -> NamedImages
-        ensures { result ≡ [] }
-    {
         NamedImages {
             names: NamedRows::new(alloc),
-            budget,
         }
-    }
-
-    /// How much RUNs and stages may still list.
-    pub(crate) fn budget(&self) -> ListBudget {
-        self.budget
     }
 
     /// How many names there are.
@@ -103,58 +84,10 @@ impl NamedImages {
         Ok(())
     }
 
-    /// Adds the name of the image that a stage begins with, if any, and counts the variables that `state`, what it begins with, has. `Memory` also
-    /// if too little is left for them.
-    pub(crate) fn add_base(
-        &mut self,
-        alloc: Global,
-        base: &Origin,
-        state: &State,
-    ) -> Result<(), Memory>
-        ensures { OnOk result (self.new ≡ with_origin self.old base.now) }
-    {
-        let variables = state.config.get().env.as_slice().len();
-        self.budget.open_stage(variables)?;
-        self.add_origin(alloc, base)
-    }
-
-    /// Adds the names of all images that a line names. After an ENV or an ARG the environment of the next RUN counts anew. After `Memory` some
-    /// of the names may have been added.
-    pub(crate) fn add_line(
-        &mut self,
-        alloc: Global,
-        line: &ResolvedInstruction,
-    ) -> Result<(), Memory>
-        ensures { OnOk result (self.new ≡ with_origins self.old line.now.origins) }
-    {
-        if declares(&line.instruction.kind) {
-            self.budget.count_env_again();
-        }
-        self.add_origins(alloc, line.origins.as_slice())
-    }
-
-    /// Counts what a RUN lists; other actions list nothing. `Memory` if too little is left.
-    pub(crate) fn take_listed(&mut self, action: &Option<Action>) -> Result<(), Memory>
-        ensures { self.new ≡ self.old }
-    {
-        match action {
-            Some(Action::Run { exec, .. }) => self.budget.take_run(exec),
-            _ => Ok(()),
-        }
-    }
-
     /// Whether there are more names than one build may name.
     pub fn are_many(&self) -> bool
         ensures { result ≡ nat_lt most_images (length self.now) }
     {
         self.len() > MOST_IMAGES
     }
-}
-
-/// Whether an instruction may change the environment of the RUNs after it.
-fn declares(kind: &InstructionKind) -> bool {
-    matches!(
-        kind,
-        InstructionKind::Env { .. } | InstructionKind::Arg { .. }
-    )
 }

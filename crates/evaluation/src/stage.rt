@@ -16,7 +16,7 @@ use crate::names::NamedImages;
 use crate::state::State;
 use expand::{Reason, Rejection, RejectionFault};
 use plain::{Code, Fault, Items, Memory};
-use rows::{Action, Step};
+use rows::{Action, Origin, Step};
 use stages::ResolvedInstruction;
 use std::alloc::Global;
 
@@ -83,7 +83,7 @@ fn push_step(steps: Items<Step>, line: u32, action: Option<Action>) -> Result<It
     }
 }
 
-/// The stage with one instruction more: what it left and did. What a RUN lists is counted; `Memory` if too little is left.
+/// The stage with one instruction more: what it left and did.
 fn advance(
     steps: Items<Step>,
     names: NamedImages,
@@ -92,15 +92,7 @@ fn advance(
 ) -> Result<Progress, Memory>
     ensures { IfOk result (λ progress. progress ≡ put_to steps names line done) }
 {
-    let mut names = names;
     let Done { state, action } = done;
-    if names.take_listed(&action).is_err() {
-        drop(steps);
-        drop(names);
-        drop(state);
-        drop(action);
-        return Err(Memory);
-    }
     match push_step(steps, line, action) {
         Ok(steps) => Ok(Progress {
             state,
@@ -137,15 +129,11 @@ fn advance_unless_many(
 }
 
 /// The images that were named so far, and those that a line names.
-fn name_images(
-    alloc: Global,
-    names: NamedImages,
-    line: &ResolvedInstruction,
-) -> Result<NamedImages, Memory>
-    ensures { IfOk result (λ more. more ≡ with_origins names line.now.origins) }
+fn name_images(alloc: Global, names: NamedImages, origins: &[Origin]) -> Result<NamedImages, Memory>
+    ensures { IfOk result (λ more. more ≡ with_origins names origins.now) }
 {
     let mut names = names;
-    match names.add_line(alloc, line) {
+    match names.add_origins(alloc, origins) {
         Ok(()) => Ok(names),
         Err(memory) => {
             drop(names);
@@ -158,16 +146,16 @@ fn name_images(
 fn name_line_images(
     alloc: Global,
     progress: Progress,
-    line: &ResolvedInstruction,
+    origins: &[Origin],
 ) -> Result<Progress, Memory>
-    ensures { IfOk result (λ more. more ≡ record { state = progress.state; steps = progress.steps; names = with_origins progress.names line.now.origins }) }
+    ensures { IfOk result (λ more. more ≡ record { state = progress.state; steps = progress.steps; names = with_origins progress.names origins.now }) }
 {
     let Progress {
         state,
         steps,
         names,
     } = progress;
-    match name_images(alloc, names, line) {
+    match name_images(alloc, names, origins) {
         Ok(names) => Ok(Progress {
             state,
             steps,
@@ -222,7 +210,7 @@ fn evaluate_next(
     requires { IsInstruction resolved.instruction.kind }
     ensures { IsNext (arg_value given.now.args.now) (value_in given.now.outer.now) progress resolved result }
 {
-    match name_line_images(alloc, progress, &resolved) {
+    match name_line_images(alloc, progress, resolved.origins.as_slice()) {
         Ok(progress) => evaluate_named(alloc, given, progress, resolved),
         Err(_) => {
             drop(resolved);

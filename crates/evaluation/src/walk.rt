@@ -44,18 +44,17 @@ fn refuse_many(names: NamedImages, line: u32) -> Result<NamedImages, RejectionFa
     Ok(names)
 }
 
-/// The names with that of a FROM's image, or R18 at its line if they are too many. The stage begins with `state`, whose variables are counted.
+/// The names with that of a FROM's image, or R18 at its line if they are too many.
 fn name_base(
     alloc: Global,
     names: NamedImages,
     base: &Origin,
-    state: &State,
     line: u32,
 ) -> Result<NamedImages, RejectionFault>
     ensures { AreNamed names base.now line result }
 {
     let mut names = names;
-    match names.add_base(alloc, base, state) {
+    match names.add_origin(alloc, base) {
         Ok(()) => refuse_many(names, line),
         Err(_) => {
             drop(names);
@@ -77,7 +76,7 @@ pub(crate) fn evaluate_stage(
     requires { All (λ (r : Resolved). IsInstruction r.instruction.kind) instructions.items }
     ensures { IsEnded (arg_value given.now.args.now) (value_in given.now.outer.now) state names line base.now instructions.items result }
 {
-    match name_base(alloc, names, base, &state, line) {
+    match name_base(alloc, names, base, line) {
         Ok(names) => {
             let begun = Progress {
                 state,
