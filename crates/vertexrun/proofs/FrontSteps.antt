@@ -118,10 +118,6 @@ module _ (at : List (List ℕ)) (parts : List Part) (more : List (List Part)) wh
         ∙ none-below ((name, child) ∷ rest)
         (unrelated name other, behind-none name (subst (AreFrom front) next from).0 other rest (both_first _ _ (ap (is_sorted name_cmp) (sym next) ∙ rise)))
 
--- counting names leaves what was found
-pub counted : (new old paths all : List (List (List ℕ))) → new ≡ old → old ++ paths ≡ all → new ++ paths ≡ all
-counted new old paths all kept so_far = ap (λ (before : List (List (List ℕ))). before ++ paths) kept ∙ so_far
-
 -- where nothing is found of what is left, all is found
 pub none-left : (before paths all : List (List (List ℕ))) → paths ≡ [] → before ++ paths ≡ all → before ≡ all
 none-left before paths all none so_far = sym (append-nil before) ∙ ap (λ (rest : List (List (List ℕ))). before ++ rest) (sym none) ∙ so_far

@@ -5,7 +5,7 @@ ghost use Rattle.trees.specs.Over.{merged};
 ghost use Rattle.plans.specs.Files.{source_in, sources_in};
 ghost use Rattle.plans.specs.Value.{copied_files, copy_value, file_value};
 
-use crate::patterns::{NamesLeft, find_matches};
+use crate::patterns::find_matches;
 use llb::{CopyFiles, FileSource, Op};
 use paths::Path;
 use plain::{Exact, Fault, Memory};
@@ -88,21 +88,15 @@ fn find_sources(
 ) -> Result<Vec<CopySource>, Memory>
     ensures { IfOk result (λ found. found.items ≡ sources_in from.now sources.now) }
 {
-    let mut names = NamesLeft::of_copy();
     let mut found = Vec::with_capacity(alloc, sources.len())?;
     for source in sources {
-        found.push(find_source(alloc, from, source, &mut names)?)?;
+        found.push(find_source(alloc, from, source)?)?;
     }
     Ok(found)
 }
 
 /// A source, found in the tree that is copied from.
-fn find_source(
-    alloc: Global,
-    from: &Tree,
-    source: &FileSource,
-    names: &mut NamesLeft,
-) -> Result<CopySource, Memory>
+fn find_source(alloc: Global, from: &Tree, source: &FileSource) -> Result<CopySource, Memory>
     ensures { IfOk result (λ found. found ≡ source_in from.now source.now) }
 {
     match source {
@@ -110,7 +104,6 @@ fn find_source(
             alloc,
             from,
             text.as_str(),
-            names,
         )?)),
         FileSource::Data(name, content) => {
             let name = name.copy(alloc)?;

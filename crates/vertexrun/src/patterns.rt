@@ -17,78 +17,14 @@ use plain::{Fault, Items, Memory, Text};
 use std::alloc::Global;
 use trees::{Branch, Tree};
 
-/// How many names the patterns of one COPY go through at most, those of the paths that they find among them. Trees share folders, so a few stages
-/// that copy each other twice make a tree of more paths than any machine could list. And each of thousands of patterns that begin with a sign is
-/// tried on each of thousands of names. A COPY that goes through more answers as for want of memory.
-const MOST_NAMES: usize = 67_108_864;
-
-/// How many names the patterns of a COPY may still go through. Contracts don't see it.
-#[derive(Drop)]
-pub(crate) struct NamesLeft {
-    count: usize,
-}
-
-impl NamesLeft {
-    /// Those of a COPY that has found nothing yet.
-    pub(crate) fn of_copy() -> NamesLeft {
-        NamesLeft { count: MOST_NAMES }
-    }
-}
-
-/// What a search found so far, in path order, and how many names it may still go through.
-#[derive(Drop)]
-struct Found {
-    paths: Vec<Path>,
-    left: usize,
-}
-
-impl Found {
-    /// Nothing yet. It takes no memory.
-    fn new(alloc: Global, names: &NamesLeft) -> Found
-        ensures { result.paths.items ≡ [] }
-    {
-        Found {
-            paths: Vec::new(alloc),
-            left: names.count,
-        }
-    }
-
-    /// Counts names that are gone through; `Memory` if there are too many.
-    fn count(&mut self, names: usize) -> Result<(), Memory>
-        ensures { self.new.paths.items ≡ self.old.paths.items }
-    {
-        match self.left.checked_sub(names) {
-            Some(left) => {
-                self.left = left;
-                Ok(())
-            }
-            None => Err(Memory),
-        }
-    }
-
-    /// Adds a path that was found.
-    fn push(&mut self, path: Path) -> Result<(), Memory>
-        ensures { OnOk result (self.new.paths.items ≡ self.old.paths.items ++ path ∷ []) }
-    {
-        self.count(path.depth())?;
-        self.paths.push(path)?;
-        Ok(())
-    }
-}
-
 /// The paths of a tree to which a pattern relates, in path order; none where it is malformed.
-pub(crate) fn find_matches(
-    alloc: Global,
-    from: &Tree,
-    pattern: &str,
-    names: &mut NamesLeft,
-) -> Result<Items<Path>, Memory>
+pub(crate) fn find_matches(alloc: Global, from: &Tree, pattern: &str) -> Result<Items<Path>, Memory>
     ensures { IfOk result (λ paths. paths ≡ matches_in from.now pattern.now) }
 {
     if is_spelled_out(pattern) {
         look_up(alloc, from, pattern)
     } else {
-        search(alloc, from, pattern, names)
+        search(alloc, from, pattern)
     }
 }
 
@@ -114,33 +50,23 @@ fn look_up(alloc: Global, from: &Tree, pattern: &str) -> Result<Items<Path>, Mem
 }
 
 /// The paths of a tree to which a pattern relates, in path order; none where it is malformed.
-fn search(
-    alloc: Global,
-    from: &Tree,
-    pattern: &str,
-    names: &mut NamesLeft,
-) -> Result<Items<Path>, Memory>
+fn search(alloc: Global, from: &Tree, pattern: &str) -> Result<Items<Path>, Memory>
     ensures { IfOk result (λ paths. paths ≡ matches_in from.now pattern.now) }
 {
     match Glob::read(alloc, pattern) {
-        Ok(glob) => Ok(Items::from_vec(matches_of(alloc, from, &glob, names)?)),
+        Ok(glob) => Ok(Items::from_vec(matches_of(alloc, from, &glob)?)),
         Err(Fault::Because(_)) => Ok(Items::new(alloc)),
         Err(Fault::Memory) => Err(Memory),
     }
 }
 
 /// The paths of a tree that a pattern matches, in path order.
-fn matches_of(
-    alloc: Global,
-    from: &Tree,
-    glob: &Glob,
-    names: &mut NamesLeft,
-) -> Result<Vec<Path>, Memory>
+fn matches_of(alloc: Global, from: &Tree, glob: &Glob) -> Result<Vec<Path>, Memory>
     ensures { IfOk result (λ paths. paths.items ≡ paths_that [] (matches glob.now) (entries from.now)) }
 {
     // What `root` says of its tree: each of its paths keeps the limits.
     let _root = from.root();
-    let mut found = Found::new(alloc, names);
+    let mut found = Vec::new(alloc);
     descend(
         alloc,
         glob.components(),
@@ -148,8 +74,7 @@ fn matches_of(
         Path::root(alloc),
         &mut found,
     )?;
-    names.count = found.left;
-    Ok(found.paths)
+    Ok(found)
 }
 
 /// Adds the paths at and below a branch to which components of a pattern relate from there, in path order; `at` is the branch's path.
@@ -162,10 +87,10 @@ fn descend(
     components: &[Component],
     branch: &Branch<'_>,
     at: Path,
-    found: &mut Found,
+    found: &mut Vec<Path>,
 ) -> Result<(), Memory>
     requires { AreClean at (entries branch.now) }
-    ensures { OnOk result (found.new.paths.items ≡ found.old.paths.items ++ paths_that at (matches components.now) (entries branch.now)) }
+    ensures { OnOk result (found.new.items ≡ found.old.items ++ paths_that at (matches components.now) (entries branch.now)) }
 {
     match components {
         [] => {
@@ -192,10 +117,10 @@ fn enter(
     child: &Branch<'_>,
     at: &Path,
     name: &Text,
-    found: &mut Found,
+    found: &mut Vec<Path>,
 ) -> Result<(), Memory>
     requires { AreClean (at.now ++ name.now ∷ []) (entries child.now) }
-    ensures { OnOk result (found.new.paths.items ≡ found.old.paths.items ++ paths_that (at.now ++ name.now ∷ []) (matches components.now) (entries child.now)) }
+    ensures { OnOk result (found.new.items ≡ found.old.items ++ paths_that (at.now ++ name.now ∷ []) (matches components.now) (entries child.now)) }
 {
     // What `entry` says of the child: something stands at its own path, which is clean then.
     let _entry = child.entry();
@@ -219,15 +144,14 @@ fn go_through(
     rest: &[Component],
     branch: &Branch<'_>,
     at: &Path,
-    found: &mut Found,
+    found: &mut Vec<Path>,
 ) -> Result<(), Memory>
     requires { AreClean at.now (entries branch.now) }
-    ensures { OnOk result (found.new.paths.items ≡ found.old.paths.items ++ paths_that at.now (matches (component.now ∷ rest.now)) (entries branch.now)) }
+    ensures { OnOk result (found.new.items ≡ found.old.items ++ paths_that at.now (matches (component.now ∷ rest.now)) (entries branch.now)) }
 {
     let front = component.front();
     let mut children = branch.children_from(front);
     while let Some((name, child)) = children.next() {
-        found.count(1)?;
         if !begins_as(name, front) {
             return Ok(());
         }

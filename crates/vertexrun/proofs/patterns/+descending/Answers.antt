@@ -2,12 +2,12 @@ use Rattle.std.proofs.Common.{◌≡◌, ◌∙◌, ℕ, List, ◌++◌, sym, ap
 use Rattle.std.proofs.lemmas.Result.{on_ok_weaker}
 use Rattle.trees.specs.Rows.{entry_of}
 use Rattle.vertexrun.proofs.MatchSteps.{fewer-left, here-found, clean-here, clean-child, clean-first, child-found, no-child-found, all-found, found-first, passed-first}
-use Rattle.vertexrun.proofs.FrontSteps.{branch-found, branch-clean, branch-from, rest-from, end-found, none-left, counted}
+use Rattle.vertexrun.proofs.FrontSteps.{branch-found, branch-clean, branch-from, rest-from, end-found, none-left}
 use Rattle.vertexrun.proofs.patterns.+descending.Goals as goal
 
 pub descend-returns-in-empty : goal.descend-returns-in-empty
 descend-returns-in-empty t c =
-    here-found c.args.at c.args.components.now c.args.branch.now (entry_of c.entry-entry.result) c.args.found.now.paths.items c.push.new.self.paths.items c.in-empty.len_below c.entry-entry.ensures c.in_ok-push-in-empty.ensures
+    here-found c.args.at c.args.components.now c.args.branch.now (entry_of c.entry-entry.result) c.args.found.now.items c.push.new.self.items c.in-empty.len_below c.entry-entry.ensures c.in_ok-push-in-empty.ensures.items
 
 pub descend-enter-requires : goal.descend-enter-requires
 descend-enter-requires t c =
@@ -19,17 +19,17 @@ descend-enter-requires t c =
 pub descend-returns-in-Some-child : goal.descend-returns-in-Some-child
 descend-returns-in-Some-child t c =
     on_ok_weaker c.enter.result
-    (child-found c.args.at c.in-Some.name.now c.args.components.now c.component-item.result c.args.branch.now c.in-Some-child.child c.args.found.now.paths.items c.enter.new.found.paths.items c.in-len1-up.len_at_least c.component-item.is c.in-Some.ensures c.in-Some-child.ensures)
+    (child-found c.args.at c.in-Some.name.now c.args.components.now c.component-item.result c.args.branch.now c.in-Some-child.child c.args.found.now.items c.enter.new.found.items c.in-len1-up.len_at_least c.component-item.is c.in-Some.ensures c.in-Some-child.ensures)
     c.enter.ensures
 
 pub descend-returns-in-Some : goal.descend-returns-in-Some
 descend-returns-in-Some t c =
-    no-child-found c.args.at c.in-Some.name.now c.args.components.now c.component-item.result c.args.branch.now c.args.found.now.paths.items c.in-len1-up.len_at_least c.component-item.is c.in-Some.ensures c.in-None-child.ensures
+    no-child-found c.args.at c.in-Some.name.now c.args.components.now c.component-item.result c.args.branch.now c.args.found.now.items c.in-len1-up.len_at_least c.component-item.is c.in-Some.ensures c.in-None-child.ensures
 
 pub descend-returns : goal.descend-returns
 descend-returns t c =
     on_ok_weaker c.go_through.result
-    (all-found c.args.at c.args.components.now c.component-item.result c.args.branch.now c.args.found.now.paths.items c.go_through.new.found.paths.items c.in-len1-up.len_at_least c.component-item.is)
+    (all-found c.args.at c.args.components.now c.component-item.result c.args.branch.now c.args.found.now.items c.go_through.new.found.items c.in-len1-up.len_at_least c.component-item.is)
     c.go_through.ensures
 
 pub enter-child-requires : goal.enter-child-requires
@@ -44,7 +44,7 @@ go_through-enter-requires t c =
 pub go_through-loop-name-init : goal.go_through-loop-name-init
 go_through-loop-name-init t c = record {
   found =
-      ap (λ (paths : List (List (List ℕ))). c.args.found.now.paths.items ++ paths)
+      ap (λ (paths : List (List (List ℕ))). c.args.found.now.items ++ paths)
       (branch-found c.args.at.now c.args.component.now c.args.rest.now c.front-front.result.now c.front-front.ensures c.args.branch.now c.children_from-children.result c.children_from-children.ensures);
   clean = branch-clean c.args.at.now c.front-front.result.now c.args.branch.now c.children_from-children.result c.children_from-children.ensures c.requires;
   rise = c.children_from-children.ensures.rise;
@@ -55,7 +55,7 @@ pub go_through-loop-name-preserved : goal.go_through-loop-name-preserved
 go_through-loop-name-preserved t c =
     let left = rest-from c.front-front.result.now c.in-Some.name.now c.in-Some.child c.loop-name.children c.next.new.self c.in-Some.ensures c.loop-name.invariant.rise c.loop-name.invariant.from in
     record {
-      found = found-first c.args.at.now c.in-Some.name.now c.in-Some.child c.args.component.now c.args.rest.now c.loop-name.children c.next.new.self c.in-Some.ensures (sym c.matches.ensures ∙ c.if-not-matches.false) c.count.new.self.paths.items c.enter.new.found.paths.items _ (counted _ _ _ _ c.count.ensures c.loop-name.invariant.found) c.in_ok-enter.ensures;
+      found = found-first c.args.at.now c.in-Some.name.now c.in-Some.child c.args.component.now c.args.rest.now c.loop-name.children c.next.new.self c.in-Some.ensures (sym c.matches.ensures ∙ c.if-not-matches.false) c.loop-name.found.items c.enter.new.found.items _ c.loop-name.invariant.found c.in_ok-enter.ensures;
       clean = (clean-first c.args.at.now c.in-Some.name.now c.in-Some.child c.loop-name.children c.next.new.self c.in-Some.ensures c.loop-name.invariant.clean).1;
       rise = left.0;
       from = left.1;
@@ -65,7 +65,7 @@ pub go_through-loop-name-preserved-then-not-matches : goal.go_through-loop-name-
 go_through-loop-name-preserved-then-not-matches t c =
     let left = rest-from c.front-front.result.now c.in-Some.name.now c.in-Some.child c.loop-name.children c.next.new.self c.in-Some.ensures c.loop-name.invariant.rise c.loop-name.invariant.from in
     record {
-      found = passed-first c.args.at.now c.in-Some.name.now c.in-Some.child c.args.component.now c.args.rest.now c.loop-name.children c.next.new.self c.in-Some.ensures (sym c.matches.ensures ∙ c.if-not-matches.true) c.count.new.self.paths.items _ (counted _ _ _ _ c.count.ensures c.loop-name.invariant.found);
+      found = passed-first c.args.at.now c.in-Some.name.now c.in-Some.child c.args.component.now c.args.rest.now c.loop-name.children c.next.new.self c.in-Some.ensures (sym c.matches.ensures ∙ c.if-not-matches.true) c.loop-name.found.items _ c.loop-name.invariant.found;
       clean = (clean-first c.args.at.now c.in-Some.name.now c.in-Some.child c.loop-name.children c.next.new.self c.in-Some.ensures c.loop-name.invariant.clean).1;
       rise = left.0;
       from = left.1;
@@ -73,7 +73,7 @@ go_through-loop-name-preserved-then-not-matches t c =
 
 pub go_through-returns-then-not-begins_as : goal.go_through-returns-then-not-begins_as
 go_through-returns-then-not-begins_as t c =
-    none-left c.count.new.self.paths.items _ _
+    none-left c.loop-name.found.items _ _
     (end-found c.args.at.now c.args.component.now c.args.rest.now c.front-front.result.now c.front-front.ensures c.in-Some.name.now c.in-Some.child c.loop-name.children c.next.new.self c.in-Some.ensures c.loop-name.invariant.rise c.loop-name.invariant.from
     (λ begins. true≢false (sym (c.begins_as.ensures.1 begins) ∙ c.if-not-begins_as.true)))
-    (counted _ _ _ _ c.count.ensures c.loop-name.invariant.found)
+    c.loop-name.invariant.found

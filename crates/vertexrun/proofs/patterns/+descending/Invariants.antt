@@ -20,7 +20,7 @@ decreases-go_through l = 3 * length l.rest.now + 2
 -- what was found, and what is left of the children, are all that is found below the branch
 abbrev pub invariant-go_through-loop-name : goal.invariant-go_through-loop-name
 invariant-go_through-loop-name l = record {
-  found : l.found.paths.items ++ paths_that l.at (matches (l.component ∷ l.rest)) (rows_of_children l.children) ≡ l.initial.found.paths.items ++ paths_that l.at (matches (l.component ∷ l.rest)) (entries l.branch);
+  found : l.found.items ++ paths_that l.at (matches (l.component ∷ l.rest)) (rows_of_children l.children) ≡ l.initial.found.items ++ paths_that l.at (matches (l.component ∷ l.rest)) (entries l.branch);
   clean : AreClean l.at (rows_of_children l.children);
   rise : is_sorted name_cmp l.children ≡ true;
   from : AreFrom l.front l.children;
