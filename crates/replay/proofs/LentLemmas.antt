@@ -1,5 +1,5 @@
 -- Each claim that `follow` keeps has the trees that its worker was lent with it: nobody else is lent trees under the worker's number.
-use Rattle.std.proofs.Common.{◌≡◌, ◌≢◌, ℕ, zero, suc, ◌==◌, Bool, true, false, true≢false, List, [], ◌∷◌, ◌++◌, map, Option, Some, None, refl, sym, ap, ◌∙◌, subst}
+use Rattle.std.proofs.Common.{◌≡◌, ◌≢◌, ℕ, zero, suc, ◌==◌, Bool, true, false, true≢false, List, [], ◌∷◌, ◌++◌, map, Some, None, refl, sym, ap, ◌∙◌, subst}
 use Rattle.std.specs.Prelude.{slice_get}
 use Rattle.std.specs.List.{remove}
 use Rattle.std.proofs.lemmas.Bool.{eq-eqb}
@@ -12,7 +12,6 @@ use Rattle.board.specs.PrivateClaim.{AreApart}
 use Rattle.board.proofs.ListLemmas.{claim_of-without}
 use Rattle.board.proofs.StepLemmas.{claim-free}
 use Rattle.board.proofs.LeavingLemmas.{lent-other}
-use Rattle.board.specs.declared.claim.ClaimOut.{ClaimOut}
 use Rattle.board.specs.declared.event.Happened.{Happened}
 use Rattle.replay.specs.PrivateFollowing.{AreOut, AreLent, IsTaken}
 use Rattle.replay.proofs.FollowLemmas.{placed-without}

@@ -1,2 +1,3 @@
 pub mod FollowLemmas
 mod LentLemmas
+mod EndLemmas

@@ -53,3 +53,7 @@ abbrev pub event_of_step : Step → Event
 event_of_step (Claim worker) = event.Claim worker
 event_of_step (Settle worker given) = event.Settle worker
 event_of_step (Abandon worker) = event.Abandon worker
+
+-- a history begins with these events (own)
+abbrev pub Begins : List Happened → List Happened → Type 0
+Begins before history = (later : List Happened) × (history ≡ before ++ later)

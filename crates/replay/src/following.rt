@@ -6,7 +6,7 @@ ghost use Rattle.board.specs.Leaving.{GivesBackWhatIsLeft};
 ghost use Rattle.board.specs.Legal.{Plays};
 ghost use Rattle.board.specs.Play.{claim_of};
 ghost use Rattle.board.specs.declared.event.Event.TheVariants.{Claim as Claiming, Settle as Settling, Abandon as Abandoning};
-ghost use Rattle.replay.specs.PrivateFollowing.{AreOut, AreLent, IsAt, IsTaken, Applies};
+ghost use Rattle.replay.specs.PrivateFollowing.{AreOut, AreLent, Begins, IsAt, IsTaken, Applies};
 
 use board::{Board, Claim, Event, Happened, Job, NoBoard, Refused};
 use cachemounts::CacheStore;
@@ -18,7 +18,8 @@ use std::alloc::Global;
 use vertexrun::Ran;
 
 /// The history that a list of events leaves on a new board with an empty store: an event that isn't possible when its turn comes is skipped. A
-/// settle brings what the run of its claim gives, and gives back what it leaves of what the caches held when its vertex was claimed.
+/// settle brings what the run of its claim gives, and gives back what it leaves of what the caches held when its vertex was claimed. A claim that is
+/// still out after the last event is given up, and the history doesn't tell of that.
 pub fn follow<C, E: Executor>(
     alloc: Global,
     plan: &Plan<C>,
@@ -39,12 +40,16 @@ pub fn follow<C, E: Executor>(
     let mut out = Vec::new(alloc);
     for event in events {
         if let Err(memory) = apply(alloc, &mut board, &mut out, *event) {
-            discard_all(out);
+            abandon_each(&mut board, out);
             return Err(memory);
         }
     }
-    discard_all(out);
-    Ok(Items::from_vec(board.into_history()))
+    let count = board.history().len();
+    abandon_each(&mut board, out);
+    let mut history = board.into_history();
+    // No event asked for the abandons of the claims that were still out.
+    history.truncate(count);
+    Ok(Items::from_vec(history))
 }
 
 /// One event, where it is possible. `out` has the claims that are out.
@@ -61,6 +66,8 @@ fn apply<E: Executor>(
     ensures applies { OnOk result (Applies (board_problem E.out board.old) event board.old.run.history board.new.run.history) }
     ensures out { OnOk result (AreOut (board_problem E.out board.old) board.new.run.state.claims out.new.items) }
     ensures lent { OnOk result (AreLent (board_problem E.out board.old) board.new.first board.new.run.history out.new.items) }
+    ensures left { OnOk result (GivesBackWhatIsLeft (E.leaves board.old.job.executor) (board_problem E.out board.old) board.old.first board.old.run.history
+        → GivesBackWhatIsLeft (E.leaves board.new.job.executor) (board_problem E.out board.new) board.new.first board.new.run.history) }
 {
     match event {
         Event::Claim(worker) => claim_next(alloc, board, out, worker),
@@ -86,6 +93,8 @@ fn claim_next<E: Executor>(
     ensures applies { OnOk result (Applies (board_problem E.out board.old) (Claiming worker) board.old.run.history board.new.run.history) }
     ensures out { OnOk result (AreOut (board_problem E.out board.old) board.new.run.state.claims out.new.items) }
     ensures lent { OnOk result (AreLent (board_problem E.out board.old) board.new.first board.new.run.history out.new.items) }
+    ensures left { OnOk result (GivesBackWhatIsLeft (E.leaves board.old.job.executor) (board_problem E.out board.old) board.old.first board.old.run.history
+        → GivesBackWhatIsLeft (E.leaves board.new.job.executor) (board_problem E.out board.new) board.new.first board.new.run.history) }
 {
     growth::room(out, 1)?;
     let _known = board.history();
@@ -111,6 +120,8 @@ fn settle_claim<E: Executor>(
     ensures applies { OnOk result (Applies (board_problem E.out board.old) (Settling worker) board.old.run.history board.new.run.history) }
     ensures out { OnOk result (AreOut (board_problem E.out board.old) board.new.run.state.claims out.new.items) }
     ensures lent { OnOk result (AreLent (board_problem E.out board.old) board.new.first board.new.run.history out.new.items) }
+    ensures left { OnOk result (GivesBackWhatIsLeft (E.leaves board.old.job.executor) (board_problem E.out board.old) board.old.first board.old.run.history
+        → GivesBackWhatIsLeft (E.leaves board.new.job.executor) (board_problem E.out board.new) board.new.first board.new.run.history) }
 {
     let _known = board.history();
     let Some(claim) = take_claim(out, worker) else {
@@ -119,7 +130,7 @@ fn settle_claim<E: Executor>(
     let Ran { value, given } = match run(alloc, board.job(), &claim) {
         Ok(ran) => ran,
         Err(memory) => {
-            claim.discard();
+            board.abandon(claim);
             return Err(memory);
         }
     };
@@ -131,7 +142,7 @@ fn settle_claim<E: Executor>(
                 value: _,
                 given: _,
             } = refused;
-            claim.discard();
+            board.abandon(claim);
             Err(Memory)
         }
     }
@@ -146,6 +157,8 @@ fn abandon_claim<E: Executor>(board: &mut Board<E>, out: &mut Vec<Claim>, worker
     ensures applies { Applies (board_problem E.out board.old) (Abandoning worker) board.old.run.history board.new.run.history }
     ensures out { AreOut (board_problem E.out board.old) board.new.run.state.claims out.new.items }
     ensures lent { AreLent (board_problem E.out board.old) board.new.first board.new.run.history out.new.items }
+    ensures left { GivesBackWhatIsLeft (E.leaves board.old.job.executor) (board_problem E.out board.old) board.old.first board.old.run.history
+        → GivesBackWhatIsLeft (E.leaves board.new.job.executor) (board_problem E.out board.new) board.new.first board.new.run.history }
 {
     let _known = board.history();
     let Some(claim) = take_claim(out, worker) else {
@@ -177,10 +190,12 @@ fn position_of(out: &[Claim], worker: u32) -> Option<usize>
     None
 }
 
-/// Drops claims of a board that has ended.
-fn discard_all(mut claims: Vec<Claim>) {
+/// Gives each of these claims up. What has happened before stays the beginning of the history.
+fn abandon_each<E: Executor>(board: &mut Board<E>, mut claims: Vec<Claim>)
+    ensures { Begins board.old.run.history board.new.run.history }
+{
     while let Some(claim) = claims.pop() {
-        claim.discard();
+        board.abandon(claim);
     }
     claims.destroy_empty();
 }

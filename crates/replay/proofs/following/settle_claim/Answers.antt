@@ -3,6 +3,7 @@ use Rattle.board.specs.Board.{board_problem}
 use Rattle.board.specs.Play.{Settle, claim_of}
 use Rattle.board.specs.Job.{job_problem}
 use Rattle.board.specs.Claim.{IsClaim, IsGivenBack}
+use Rattle.board.specs.Leaving.{IsLeftFor}
 use Rattle.replay.specs.PrivateFollowing.{Applies}
 use Rattle.replay.proofs.FollowLemmas.{taken-out, taken-is, taken-settle, settle-applies, settle-left_out}
 use Rattle.board.specs.declared.event.Event.TheVariants as event
@@ -51,10 +52,16 @@ returns-in-Ok-settle-clause-out g c =
     let count : IsGivenBack problem c.in-Some.claim c.in-Ok.ran.given.items = subst (λ p. IsGivenBack p c.in-Some.claim c.in-Ok.ran.given.items) same c.in-Ok.ensures.given in
     taken-settle problem b.run c.settle.new.self.run c.args.worker c.in-Ok.ran.given.items c.args.out.now.items c.take_claim.new.out.items c.in-Some.claim c.requires.out c.in-Some.ensures.found count c.in-Ok-settle.ensures.run.run
 
-pub settle-requires-clause-lent : goal.settle-requires-clause-lent
-settle-requires-clause-lent g c κs within =
+-- the run left what is given back, of what its worker was lent
+pub returns-in-Ok-settle-clause-left : goal.returns-in-Ok-settle-clause-left
+returns-in-Ok-settle-clause-left g c =
     let b = c.args.board.now in
-    taken-lent (board_problem g.E.Executor.out b) b.first b.run.history c.args.worker c.args.out.now.items c.take_claim.new.out.items c.in-Some.claim c.requires.lent c.in-Some.ensures.found
+    let claim = c.in-Some.claim in
+    let given = c.in-Ok.ran.given.items in
+    let lent = taken-lent (board_problem g.E.Executor.out b) b.first b.run.history c.args.worker c.args.out.now.items c.take_claim.new.out.items claim c.requires.lent c.in-Some.ensures.found in
+    let left : IsLeftFor (g.E.Executor.leaves b.job.executor) (board_problem g.E.Executor.out b) claim given =
+    subst (λ job. IsLeftFor (g.E.Executor.leaves job.executor) (job_problem g.E.Executor.out job) claim given) c.job.ensures c.in-Ok.ensures.left in
+    c.in-Ok-settle.ensures.left lent left
 
 pub returns-in-Ok-settle-clause-lent : goal.returns-in-Ok-settle-clause-lent
 returns-in-Ok-settle-clause-lent g c =
