@@ -8,8 +8,8 @@
 // history (`IsReplay`, `specs/Play.antt`). From these two the laws follow (`src/laws.rt`), for every list of events of any number of
 // workers: each settled value is the vertex's value, no vertex is settled twice, no two holds of caches clash, and a board is never stuck. If the target needs
 // every vertex and lines are in order, a board on which nothing is left to do has the target's tree or the first failure. For that, a failure stops only the
-// vertices of its own line and of later ones. The type also keeps that each settle gave back what a run left (`specs/Leaving.antt`): so each content of a
-// cache is as it was at the start, or what the last settle that gave it back brought, which its vertex's run left of what it was lent.
+// vertices of its own line and of later ones. If each settle so far gave back what a run left, so does the history that a call leaves (`specs/Leaving.antt`):
+// then each content of a cache is as it was at the start, or what the last settle that gave it back brought, which its vertex's run left of what it was lent.
 //
 // ```
 // let mut board = Board::new(alloc, Job::new(&plan, &executor), CacheStore::new(alloc))?;
