@@ -39,7 +39,6 @@ use Rattle.board.specs.contracts.board.Board.TheInside as BoardInside
 use Rattle.rolls.specs.declared.room.Room.{Ghosts as RoomGhosts}
 use Rattle.rolls.proofs.roll.Roll.TheSendSync as roll
 use Rattle.sites.specs.declared.case.Case.{Ghosts as CaseGhosts}
-use Rattle.sites.specs.declared.values.Sought.{Ghosts as SoughtGhosts}
 use Rattle.sites.specs.contracts.held.Held as Held
 use Rattle.sites.specs.contracts.held.Held.TheInside as HeldInside
 use Rattle.sites.specs.contracts.site.Desk as Desk
@@ -99,17 +98,15 @@ board_send κ E P g p e s =
     (search (job_send κ E g e, sendable) depth 20, (search (shelf_send P p s, sendable) depth 20, (search (claim.the_field_send, sendable, any.crosses) depth 20, (search (happened_send, sendable, any.crosses) depth 20, (search (content_send, sendable, any.crosses) depth 20, (search (caches_send, sendable) depth 20, (search (frontier.the_field_send, sendable, any.crosses) depth 20, tt))))))) in
     search (all, sendable) depth 20
 
-pub held_send : (κ : NamedLft) (E J S : RattleType) (g : Ghosts E.Denot) (j : CaseGhosts J.Denot) (r : RoomGhosts J.Denot) (n : SoughtGhosts S.Denot)
-    → IsSync E → IsSend J → IsSync J → IsSend S → IsSync S → IsSend (Held.the_row κ E J S g j r n)
-held_send κ E J S g j r n e s t u v =
+pub held_send : (κ : NamedLft) (E J : RattleType) (g : Ghosts E.Denot) (j : CaseGhosts J.Denot) (r : RoomGhosts J.Denot) → IsSync E → IsSend J → IsSync J → IsSend (Held.the_row κ E J g j r)
+held_send κ E J g j r e s t =
     let board : (P : RattleType) (p : PlaceGhosts P.Denot (result.the_row Tree.the_row cause_row.the_row).Denot) → IsSend P → IsSend (Board.the_row κ E P g p) = λ P p. board_send κ E P g p e in
-    let all : AllSend (fields (HeldInside.the_type κ E J S g j r n)) =
+    let all : AllSend (fields (HeldInside.the_type κ E J g j r)) =
     (search (board, value_send, value_sync, known.the_send, sendable, any.crosses) depth 30, (search (roll.the_send, sendable) depth 20, (search sendable depth 20, tt))) in
     search (all, sendable) depth 20
 
 -- so workers may share a desk
-pub desk_sync : (κ : NamedLft) (E J S : RattleType) (g : Ghosts E.Denot) (j : CaseGhosts J.Denot) (r : RoomGhosts J.Denot) (n : SoughtGhosts S.Denot)
-    → IsSync E → IsSend J → IsSync J → IsSend S → IsSync S → IsSync (Desk.the_row κ E J S g j r n)
-desk_sync κ E J S g j r n e s t u v =
-    let held : (κ : NamedLft) → IsSend (Held.the_row κ E J S g j r n) = λ κ. held_send κ E J S g j r n e s t u v in
+pub desk_sync : (κ : NamedLft) (E J : RattleType) (g : Ghosts E.Denot) (j : CaseGhosts J.Denot) (r : RoomGhosts J.Denot) → IsSync E → IsSend J → IsSync J → IsSync (Desk.the_row κ E J g j r)
+desk_sync κ E J g j r e s t =
+    let held : (κ : NamedLft) → IsSend (Held.the_row κ E J g j r) = λ κ. held_send κ E J g j r e s t in
     search (held, value_send, value_sync, row.the_sync, sendable, any.crosses) depth 30

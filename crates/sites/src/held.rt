@@ -13,7 +13,7 @@ ghost use Rattle.board.specs.Problem.{IsProblem};
 ghost use Rattle.sites.specs.Seats.{SeatValue, IsMine, IsLentTo, IsSeatOf, GoesOnFrom};
 ghost use Rattle.sites.specs.PrivateSeats.{AreSeatsOf, SettledBelow};
 
-use crate::{Case, Known, Seat, Sought};
+use crate::{Case, Known, Seat};
 use board::{Board, Claim, ClaimOut, Happened, Refused};
 use executor::Executor;
 use plain::{Memory, growth};
@@ -24,13 +24,13 @@ use trees::Tree;
 
 /// What lies under a site's lock: the board of the site's problem, with the roll that ties it to the seats. Contracts see the board.
 #[derive(Drop)]
-pub struct Held<'a, E: Executor, J: Case + Room, S: Sought> {
-    pub(crate) board: Board<'a, E, Known<'a, S>>,
+pub struct Held<'a, E: Executor, J: Case + Room> {
+    pub(crate) board: Board<'a, E, Known<'a, J>>,
     pub(crate) roll: Roll<J>,
     pub(crate) of: PhantomData<J>,
 }
 
-impl<'a, E: Executor, J: Case + Room, S: Sought> Model for Held<'a, E, J, S> {
+impl<'a, E: Executor, J: Case + Room> Model for Held<'a, E, J> {
     ghost use Rattle.std.specs.Prelude.{◌≡◌, true};
     ghost use Rattle.board.specs.Board.{BoardValue, board_code, board_problem};
     ghost use Rattle.board.specs.Leaving.{LeaveTheSame, GivesBackWhatIsLeft};
@@ -48,14 +48,14 @@ impl<'a, E: Executor, J: Case + Room, S: Sought> Model for Held<'a, E, J, S> {
         × (J.promises ≡ true → GivesBackWhatIsLeft (E.leaves h.board.job.executor) (board_problem E.out h.board) h.board.first h.board.run.history) };
 }
 
-impl<'a, E: Executor, J: Case + Room, S: Sought> Held<'a, E, J, S> {
+impl<'a, E: Executor, J: Case + Room> Held<'a, E, J> {
     /// Claims the ready vertex of least id for the seat's worker, with the places of its inputs' trees and the lease of its caches. It claims
     /// nothing where no vertex is ready, or where the seat has a claim out. After `Memory` board and seat are as they were.
     pub fn claim(
         &mut self,
         alloc: Global,
         seat: &mut Seat<J>,
-    ) -> Result<Option<Claim<Known<'a, S>>>, Memory>
+    ) -> Result<Option<Claim<Known<'a, J>>>, Memory>
         ensures agrees { IsSeatOf J.before self.old.run seat.old }
         ensures next { IfOk result (λ claim. IsNextClaim J.problem self.old.run.history seat.old.worker
             (option_map (λ c. c.vertex) claim)) }
@@ -96,10 +96,10 @@ impl<'a, E: Executor, J: Case + Room, S: Sought> Held<'a, E, J, S> {
         &mut self,
         alloc: Global,
         seat: &mut Seat<J>,
-        claim: Claim<Known<'a, S>>,
-        value: Known<'a, S>,
+        claim: Claim<Known<'a, J>>,
+        value: Known<'a, J>,
         given: Vec<Tree>,
-    ) -> Result<(), Refused<Known<'a, S>>>
+    ) -> Result<(), Refused<Known<'a, J>>>
         requires mine { IsMine seat.old claim }
         requires of { IsClaim J.problem claim }
         requires value { IsResult J.problem claim value.value }
@@ -131,7 +131,7 @@ impl<'a, E: Executor, J: Case + Room, S: Sought> Held<'a, E, J, S> {
 
     /// Gives up the claim that the seat has out (`Seat::out` tells which): its vertex may be claimed again, and the contents of its caches
     /// stay as they are. It takes no memory.
-    pub fn abandon(&mut self, seat: &mut Seat<J>, claim: Claim<Known<'a, S>>)
+    pub fn abandon(&mut self, seat: &mut Seat<J>, claim: Claim<Known<'a, J>>)
         requires mine { IsMine seat.old claim }
         ensures agrees { IsSeatOf J.before self.old.run seat.old }
         ensures run { IsStep E.out (Abandoning seat.old.worker) self.old self.new }
@@ -220,7 +220,7 @@ impl<'a, E: Executor, J: Case + Room, S: Sought> Held<'a, E, J, S> {
     }
 
     /// The board, for the site alone.
-    pub(crate) fn into_board(self) -> Board<'a, E, Known<'a, S>>
+    pub(crate) fn into_board(self) -> Board<'a, E, Known<'a, J>>
         ensures board { result ≡ self.entry }
         ensures problem { board_problem E.out result ≡ J.problem }
         ensures first { result.first ≡ J.first }

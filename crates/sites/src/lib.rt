@@ -7,12 +7,11 @@
 // A value under a lock is known by its type alone: whoever locks it knows nothing of what others did before. So the type says what has to be known: which
 // problem the board solves, and whether each settle gives back what a run left (`Case`); and that what a seat says of its worker is what the board has of it
 // (`IsSeatOf`, `specs/Seats.antt`), for which board and seat are tied by a roll (crate `rolls`, `Room`). A case that promises nothing asks of a settle what the
-// board's own asks. A site may be made of a board on which much has happened, as one that another site gave back: a seat's tally has what was settled since. So
-// the cells, which last as long as the board, have a name of their own (`Sought`).
+// board's own asks. A site may be made of a board on which much has happened: a seat's tally has what was settled since.
 //
 // ```
 // let results = Results::<J>::new(alloc, job.graph().len())?;
-// let mut site = Site::<E, J, J>::new(board, &results, Opened::new(alloc)?);
+// let mut site = Site::<E, J>::new(board, &results, Opened::new(alloc)?);
 // let mut seat = site.seat(alloc);
 // let claimed = site.lock(rt).claim(alloc, &mut seat)?;
 // if let Some(claim) = claimed {
@@ -35,4 +34,4 @@ pub use case::Case;
 pub use held::Held;
 pub use seat::Seat;
 pub use site::{Desk, Site};
-pub use values::{Known, Results, Sought, Values};
+pub use values::{Known, Results, Values};

@@ -1,35 +1,22 @@
+use crate::Case;
 use cells::{KnownCell, Meaning, Row};
-use std::marker::{Brand, PhantomData};
+use std::marker::PhantomData;
 use trees::TreeOrCause;
 
-/// Names the problem whose values stand in cells, since of what stands in a cell no more is known than its type says. Whoever makes the cells picks it. A site's
-/// own names (`Case`) are picked when the site is made: by then much may have happened on the board of these cells.
-pub trait Sought {
-    ghost use Rattle.plans.specs.Plan.{Problem};
-
-    ghost sought: { Problem };
-}
-
-impl Sought for Brand {
-    ghost use Rattle.sites.specs.Cases.{no_problem};
-
-    ghost sought = { no_problem };
-}
-
-/// What stands in the cell of a vertex: its value in the problem that a type names.
+/// What stands in the cell of a vertex: its value in the problem of a case.
 #[derive(Drop)]
-pub struct Values<S> {
-    of: PhantomData<S>,
+pub struct Values<J> {
+    of: PhantomData<J>,
 }
 
-impl<S: Sought> Meaning<TreeOrCause> for Values<S> {
+impl<J: Case> Meaning<TreeOrCause> for Values<J> {
     ghost use Rattle.plans.specs.Plan.{IsValue};
 
-    ghost means = { IsValue S.sought };
+    ghost means = { IsValue J.problem };
 }
 
-/// A cell for each vertex of a problem, made before the board. It is lent to the site, and the board's claims and values are in it.
-pub type Results<S> = Row<TreeOrCause, Values<S>>;
+/// A cell for each vertex of the problem of a case, made before the board. It is lent to the site, and the board's claims and values are in it.
+pub type Results<J> = Row<TreeOrCause, Values<J>>;
 
 /// A cell in which the value of a vertex stands.
-pub type Known<'a, S> = KnownCell<'a, TreeOrCause, Values<S>>;
+pub type Known<'a, J> = KnownCell<'a, TreeOrCause, Values<J>>;
