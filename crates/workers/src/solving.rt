@@ -1,9 +1,9 @@
-ghost use Rattle.std.specs.Prelude.{◌≡◌, ◌<◌, ◌≤◌, ℕ, [], IfOk, IfErr, OnOk, OnErr, IsTrue, length};
+ghost use Rattle.std.specs.Prelude.{◌≡◌, ◌<◌, ◌≤◌, ℕ, true, [], IfOk, IfErr, OnOk, OnErr, IsTrue, length};
 ghost use Rattle.plain.specs.Limits.{most_workers};
 ghost use Rattle.plans.specs.Plan.{problem_of};
 ghost use Rattle.board.specs.Board.{board_problem, AreLeft};
 ghost use Rattle.board.specs.Job.{job_problem};
-ghost use Rattle.board.specs.Leaving.{LeaveTheSame, AreLeftByRuns, AreLeftAtEnd};
+ghost use Rattle.board.specs.Leaving.{LeaveTheSame, GivesBackWhatIsLeft, AreLeftByRuns, AreLeftAtEnd};
 ghost use Rattle.board.specs.Legal.{IsReady};
 ghost use Rattle.runs.specs.declared.run.RunRequest.{RunRequest};
 ghost use Rattle.memo.specs.Memo.{Grows, Knows};
@@ -146,7 +146,9 @@ fn solved<
 ) -> Ended
     requires problem { problem_of (E.out executor.now) plan.now ≡ J.problem }
     requires first { caches.contents ≡ J.first }
+    requires before { J.before ≡ [] }
     requires leaves { LeaveTheSame (leaves_or_stays J.knows (E.leaves executor.now)) J.leaves }
+    requires promises { J.promises ≡ true }
     requires idle { caches.holds ≡ [] }
     requires room { opened.table.shared.table_id ≡ J.table }
     requires workers { workers ≤ most_workers }
@@ -241,8 +243,10 @@ fn closed<
     requires stays { MayStay J.knows J.leaves }
     requires own { job_problem E.out own ≡ J.problem }
     requires leaves { LeaveTheSame (E.leaves own.executor) J.leaves }
+    requires promises { J.promises ≡ true }
     requires long { results.now ≡ length J.problem.vertices }
     requires first { caches.contents ≡ J.first }
+    requires before { J.before ≡ [] }
     requires idle { caches.holds ≡ [] }
     requires room { opened.table.shared.table_id ≡ J.table }
     requires workers { workers ≤ most_workers }
@@ -250,6 +254,7 @@ fn closed<
     ensures problem { IfOk result (λ closed. board_problem E.out closed.board ≡ J.problem) }
     ensures first { IfOk result (λ closed. closed.board.first ≡ J.first) }
     ensures leaves { IfOk result (λ closed. LeaveTheSame (E.leaves closed.board.job.executor) J.leaves) }
+    ensures given { IfOk result (λ closed. GivesBackWhatIsLeft (E.leaves closed.board.job.executor) (board_problem E.out closed.board) closed.board.first closed.board.run.history) }
     ensures claims { IfOk result (λ closed. closed.board.run.state.claims ≡ []) }
     ensures over { IfOk result (λ closed. (vertex : ℕ) → ¬ IsReady J.problem closed.board.run.history vertex) }
     ensures idle { IfErr result (λ caches. caches.holds ≡ []) }
@@ -283,9 +288,11 @@ fn finished<'a, E: Executor, M: Executor, G: Gate, J: Numbering, P: Place<TreeOr
     requires claims { board.run.state.claims ≡ [] }
     requires named { AreOf (board_problem E.out board) J.out J.values }
     requires stays { MayStay J.knows (E.leaves board.job.executor) }
+    requires given { GivesBackWhatIsLeft (E.leaves board.job.executor) (board_problem E.out board) board.first board.run.history }
     ensures solution { IfOk result (λ closed. IsSolution (board_problem E.out board.entry) closed.solution) }
     ensures job { IfOk result (λ closed. closed.board.job ≡ board.entry.job) }
     ensures first { IfOk result (λ closed. closed.board.first ≡ board.entry.first) }
+    ensures given { IfOk result (λ closed. GivesBackWhatIsLeft (E.leaves closed.board.job.executor) (board_problem E.out closed.board) closed.board.first closed.board.run.history) }
     ensures claims { IfOk result (λ closed. closed.board.run.state.claims ≡ []) }
     ensures over { IfOk result (λ closed. (vertex : ℕ) → ¬ IsReady (board_problem E.out board.entry) closed.board.run.history vertex) }
     ensures idle { IfErr result (λ caches. caches.holds ≡ []) }
@@ -301,7 +308,7 @@ fn finished<'a, E: Executor, M: Executor, G: Gate, J: Numbering, P: Place<TreeOr
     }
 }
 
-/// A new board after the work of so many workers, with no claim out. Where there is no memory for their seats, nobody works.
+/// A new board after the work of so many workers, with no claim out. If there is no memory for their seats, nobody works.
 fn worked<
     'a,
     E: Executor,
@@ -325,13 +332,16 @@ fn worked<
     requires long { results.now ≡ length J.problem.vertices }
     requires first { board.first ≡ J.first }
     requires leaves { LeaveTheSame (E.leaves board.job.executor) J.leaves }
+    requires promises { J.promises ≡ true }
     requires room { opened.table.shared.table_id ≡ J.table }
+    requires before { J.before ≡ [] }
     requires begun { board.run.history ≡ [] }
     requires claims { board.run.state.claims ≡ [] }
     requires workers { workers ≤ most_workers }
     ensures problem { board_problem E.out result ≡ J.problem }
     ensures first { result.first ≡ J.first }
     ensures leaves { LeaveTheSame (E.leaves result.job.executor) J.leaves }
+    ensures given { GivesBackWhatIsLeft (E.leaves result.job.executor) (board_problem E.out result) result.first result.run.history }
     ensures claims { result.run.state.claims ≡ [] }
 {
     let Ok(mut seats) = Vec::with_capacity(tools.alloc, workers as usize) else {

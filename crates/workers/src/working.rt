@@ -7,9 +7,7 @@ ghost use Rattle.sites.specs.Seats.{IsMine, IsLentTo};
 ghost use Rattle.solver.specs.Recall.{AreOf, MayStay};
 
 use board::{Claim, Job, Refused};
-use cells::Place;
 use executor::Executor;
-use llb::Op;
 use plain::Memory;
 use plain::limits::MOST_WORKERS;
 use rolls::Room;
@@ -20,7 +18,7 @@ use std::ops::ControlFlow;
 use std::sync::{Condvar, MutexGuard, Wait};
 use std::thread;
 use std::thread::Threads;
-use trees::{Tree, TreeOrCause};
+use trees::Tree;
 use vertexrun::Ran;
 
 /// What the workers of a site share beside its desk.
@@ -61,14 +59,14 @@ pub(crate) fn work_all<
     );
 }
 
-/// The work of one seat: claim, run, settle, until nothing is left to claim or memory is wanting. What a run gave stands in the vertex's cell before the lock is
-/// taken, and what wasn't settled is let go after the lock, so that no tree is changed or let go under it. The lock is taken once for a vertex: whoever ends a claim
-/// looks for the next under the same one. A source is run under it too: to share a tree that is there takes less than to let go of a lock for which others wait.
+/// The work of one seat: claim, run, settle, until nothing is left to claim or memory is wanting. No vertex is run and no memo is asked under the lock. What a run
+/// gave stands in the vertex's cell before the lock is taken, and what wasn't settled is let go after the lock, so that no tree is changed or let go under it. The
+/// lock is taken once for a vertex: whoever ends a claim looks for the next under the same one.
 ///
 /// A vertex is ready from the start, or gets so by the end of a claim: its last input gets its tree, a cache that it waits for comes back, or its own claim is
 /// given up. Each worker looks at the board first of all, and whoever ends a claim looks again, or leaves. A look claims a vertex, and wakes one sleeper if
-/// more may be left (`Held::has_more`), unless it claimed a source: then it looks again at once. Or it finds none ready: then it sleeps while a claim is out,
-/// and else leaves. Where memory is wanting, it leaves too. Whoever leaves wakes all.
+/// more may be left (`Held::has_more`). Or it finds none ready: then it sleeps while a claim is out, and else leaves. Where memory is wanting, it leaves too.
+/// Whoever leaves wakes all.
 ///
 /// Each look is under the lock, and who falls asleep lets go of the lock only as a sleeper, so that no ring gets lost. From this follows, though no clause says
 /// it:
@@ -98,13 +96,13 @@ fn work<E: Executor, M: Executor, G: Gate, J: Case + Room + Numbering, R: Wait>(
             break;
         };
         let Drawn { claim, is_more } = drawn;
-        let lock = let_go(tools, &claim, is_more, lock);
+        drop(lock);
+        if is_more {
+            tools.bell.notify_one();
+        }
         let ran = run_recalled(tools.alloc, tools.job, tools.recall, tools.gate, &claim);
         let kept = keep(tools, desk, &claim, ran);
-        held = match lock {
-            Some(lock) => lock,
-            None => desk.lock(rt),
-        };
+        held = desk.lock(rt);
         let ended = end(tools.alloc, &mut *held, seat, claim, kept);
         if ended.is_err() {
             drop(held);
@@ -112,32 +110,6 @@ fn work<E: Executor, M: Executor, G: Gate, J: Case + Room + Numbering, R: Wait>(
         }
     }
     tools.bell.notify_all();
-}
-
-/// Lets go of the lock before a claim is run, and wakes a sleeper if there may be more to claim. For a source the lock is kept, and nobody is woken: its worker
-/// looks again at once.
-fn let_go<'a, 'h, E: Executor, M: Executor, G, J: Case + Room + Numbering>(
-    tools: &Tools<E, M, G, J>,
-    claim: &Claim<Known<'a, J>>,
-    is_more: bool,
-    held: MutexGuard<'h, Held<'a, E, J>>,
-) -> Option<MutexGuard<'h, Held<'a, E, J>>> {
-    if is_source(tools.job, claim) {
-        return Some(held);
-    }
-    drop(held);
-    if is_more {
-        tools.bell.notify_one();
-    }
-    None
-}
-
-/// Whether the vertex of a claim is a source, whose run only shares a tree that is there.
-fn is_source<E: Executor, P: Place<TreeOrCause>>(job: &Job<E>, claim: &Claim<P>) -> bool {
-    match job.graph().vertex(claim.vertex()) {
-        Some(vertex) => matches!(vertex.op, Op::Source(_)),
-        None => false,
-    }
 }
 
 /// A claim, and whether there may be more: if not, the claim left no vertex ready.

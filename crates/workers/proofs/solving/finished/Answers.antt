@@ -1,5 +1,7 @@
 use Rattle.std.proofs.Common.{◌∙◌, ℕ, ap, sym, subst}
+use Rattle.board.specs.Board.{board_problem}
 use Rattle.board.specs.Job.{job_problem}
+use Rattle.board.specs.Leaving.{GivesBackWhatIsLeft}
 use Rattle.board.specs.Legal.{IsReady}
 use Rattle.solver.specs.Recall.{MayStay}
 use Rattle.workers.proofs.solving.finished.Goals as goal
@@ -13,3 +15,9 @@ pub returns-in-Ok-finish_recalled-clause-over : goal.returns-in-Ok-finish_recall
 returns-in-Ok-finish_recalled-clause-over g c =
     let job = c.finish_recalled.ensures.job ∙ ap (λ board. board.job) c.in-Ok.ensures.ok in
     subst (λ j. (vertex : ℕ) → ¬ IsReady (job_problem g.E.Executor.out j) c.finish_recalled.new.board.run.history vertex) job c.in-Ok-finish_recalled.ensures.over
+
+-- what was given back before the caller's thread went on was what runs left, and so it is afterwards
+pub returns-in-Ok-finish_recalled-clause-given : goal.returns-in-Ok-finish_recalled-clause-given
+returns-in-Ok-finish_recalled-clause-given g c =
+    c.finish_recalled.ensures.left
+    (subst (λ board. GivesBackWhatIsLeft (g.E.Executor.leaves board.job.executor) (board_problem g.E.Executor.out board) board.first board.run.history) (sym c.in-Ok.ensures.ok) c.requires.given)

@@ -50,7 +50,8 @@ returns-in-Ok-outcome-clause-runs g c =
     let board = c.in-Ok-outcome.field-0.board in
     let contents = c.into_caches.result.contents in
     let leaves = leaves_or_stays g.J.Numbering.knows (g.E.Executor.leaves board.job.executor) in
-    let named = subst (λ p. AreLeftByRuns leaves p board.first contents) c.in-Ok-outcome.ensures.problem c.into_caches.ensures.runs in
+    let left = c.into_caches.ensures.runs c.in-Ok-outcome.ensures.given in
+    let named = subst (λ p. AreLeftByRuns leaves p board.first contents) c.in-Ok-outcome.ensures.problem left in
     let here = subst (λ first. AreLeftByRuns leaves g.J.Case.problem first contents) c.in-Ok-outcome.ensures.first named in
     left_by_runs-same leaves g.J.Case.leaves g.J.Case.problem g.J.Case.first contents c.in-Ok-outcome.ensures.leaves here
 
@@ -62,7 +63,7 @@ returns-in-Ok-outcome-clause-ended g c =
     let leaves = leaves_or_stays g.J.Numbering.knows (g.E.Executor.leaves board.job.executor) in
     let known = c.history-known.ensures in
     let over = subst (λ p. (vertex : ℕ) → ¬ IsReady p board.run.history vertex) (sym c.in-Ok-outcome.ensures.problem) c.in-Ok-outcome.ensures.over in
-    let ended = left-at-end leaves problem board.run board.first board.contents known.problem known.replay c.in-Ok-outcome.ensures.claims known.contents known.given over in
+    let ended = left-at-end leaves problem board.run board.first board.contents known.problem known.replay c.in-Ok-outcome.ensures.claims known.contents c.in-Ok-outcome.ensures.given over in
     let held = subst (AreLeftAtEnd leaves problem board.first) (sym (ap (λ store. store.contents) c.into_caches.ensures.value)) ended in
     let named = subst (λ p. AreLeftAtEnd leaves p board.first c.into_caches.result.contents) c.in-Ok-outcome.ensures.problem held in
     let here = subst (λ first. AreLeftAtEnd leaves g.J.Case.problem first c.into_caches.result.contents) c.in-Ok-outcome.ensures.first named in
