@@ -25,7 +25,7 @@ use plain::Memory;
 use plans::Plan;
 use rolls::{Opened, Room};
 use samples::listing;
-use sites::{Case, Desk, Known, Results, Seat, Site, Sought};
+use sites::{Case, Desk, Known, Results, Seat, Site};
 use solver::{OpenGate, finish, run};
 use std::alloc::Global;
 use std::marker::Brand;
@@ -96,7 +96,7 @@ fn of_plan<C, E: Executor, R: Threads + Wait + Sync>(
 }
 
 /// On a new board of a job.
-fn of_job<E: Executor, J: Case + Room + Sought + Send + Sync, R: Threads + Wait + Sync>(
+fn of_job<E: Executor, J: Case + Room + Send + Sync, R: Threads + Wait + Sync>(
     rt: &R,
     tools: &Tools<E>,
     job: Job<E>,
@@ -107,7 +107,6 @@ fn of_job<E: Executor, J: Case + Room + Sought + Send + Sync, R: Threads + Wait 
     requires problem { job_problem E.out job ≡ J.problem }
     requires first { J.first ≡ [] }
     requires before { J.before ≡ [] }
-    requires sought { J.sought ≡ J.problem }
     requires promises { J.promises ≡ false }
     requires room { opened.table.shared.table_id ≡ J.table }
 {
@@ -128,7 +127,7 @@ fn of_job<E: Executor, J: Case + Room + Sought + Send + Sync, R: Threads + Wait 
 }
 
 /// Two threads share a site of the board.
-fn shared<'a, E: Executor, J: Case + Room + Sought + Send + Sync, R: Threads + Wait + Sync>(
+fn shared<'a, E: Executor, J: Case + Room + Send + Sync, R: Threads + Wait + Sync>(
     rt: &R,
     tools: &Tools<E>,
     board: Board<'a, E, Known<'a, J>>,
@@ -141,11 +140,10 @@ fn shared<'a, E: Executor, J: Case + Room + Sought + Send + Sync, R: Threads + W
     requires long { results.now ≡ length J.problem.vertices }
     requires first { board.first ≡ J.first }
     requires before { board.run.history ≡ J.before }
-    requires sought { J.sought ≡ J.problem }
     requires promises { J.promises ≡ false }
     requires room { opened.table.shared.table_id ≡ J.table }
 {
-    let mut site = Site::<E, J, J>::new(board, results, opened);
+    let mut site = Site::<E, J>::new(board, results, opened);
     let mut seats = [site.seat(tools.alloc), site.seat(tools.alloc)];
     work_all(rt, site.desk(), tools, &mut seats);
     let history = site.close(&mut seats).into_history();
@@ -211,14 +209,13 @@ fn tallies_of<J: Room>(alloc: Global, seats: &[Seat<J>]) -> Result<Vec<u32>, Mem
 }
 
 /// The work of each seat, in a thread of its own.
-fn work_all<E: Executor, J: Case + Room + Sought + Send + Sync, R: Threads + Wait + Sync>(
+fn work_all<E: Executor, J: Case + Room + Send + Sync, R: Threads + Wait + Sync>(
     rt: &R,
-    desk: &Desk<E, J, J>,
+    desk: &Desk<E, J>,
     tools: &Tools<E>,
     seats: &mut [Seat<J>],
 )
     requires job { job_problem E.out tools.now.job.now ≡ J.problem }
-    requires sought { J.sought ≡ J.problem }
     requires promises { J.promises ≡ false }
 {
     thread::for_each_mut(
@@ -227,21 +224,19 @@ fn work_all<E: Executor, J: Case + Room + Sought + Send + Sync, R: Threads + Wai
         2,
         &|_, seat: &mut Seat<J>|
             requires job { job_problem E.out tools.now.job.now ≡ J.problem }
-            requires sought { J.sought ≡ J.problem }
-            requires promises { J.promises ≡ false }
+                    requires promises { J.promises ≡ false }
         { work(rt, desk, tools, seat) },
     );
 }
 
 /// A worker's turns: a claim under the lock, a run outside of it, a settle under it.
-fn work<E: Executor, J: Case + Room + Sought, R: Wait>(
+fn work<E: Executor, J: Case + Room, R: Wait>(
     rt: &R,
-    desk: &Desk<E, J, J>,
+    desk: &Desk<E, J>,
     tools: &Tools<E>,
     seat: &mut Seat<J>,
 )
     requires job { job_problem E.out tools.now.job.now ≡ J.problem }
-    requires sought { J.sought ≡ J.problem }
     requires promises { J.promises ≡ false }
 {
     for _ in 0..TURNS {
@@ -254,15 +249,14 @@ fn work<E: Executor, J: Case + Room + Sought, R: Wait>(
 }
 
 /// Runs the vertex of a claim, and settles it. For want of memory the claim is given up.
-fn settle_run<'a, E: Executor, J: Case + Room + Sought, R: Wait>(
+fn settle_run<'a, E: Executor, J: Case + Room, R: Wait>(
     rt: &R,
-    desk: &Desk<'a, E, J, J>,
+    desk: &Desk<'a, E, J>,
     tools: &Tools<E>,
     seat: &mut Seat<J>,
     claim: Claim<Known<'a, J>>,
 )
     requires job { job_problem E.out tools.now.job.now ≡ J.problem }
-    requires sought { J.sought ≡ J.problem }
     requires promises { J.promises ≡ false }
     requires mine { IsMine seat.old claim }
     requires of { IsClaim J.problem claim }
@@ -288,7 +282,7 @@ fn settle_run<'a, E: Executor, J: Case + Room + Sought, R: Wait>(
 }
 
 /// One thread has a site of the board, and reads inputs after it settled.
-fn inputs_of<'a, E: Executor, J: Case + Room + Sought, R: Wait>(
+fn inputs_of<'a, E: Executor, J: Case + Room, R: Wait>(
     rt: &R,
     tools: &Tools<E>,
     board: Board<'a, E, Known<'a, J>>,
@@ -300,11 +294,10 @@ fn inputs_of<'a, E: Executor, J: Case + Room + Sought, R: Wait>(
     requires long { results.now ≡ length J.problem.vertices }
     requires first { board.first ≡ J.first }
     requires before { board.run.history ≡ J.before }
-    requires sought { J.sought ≡ J.problem }
     requires promises { J.promises ≡ false }
     requires room { opened.table.shared.table_id ≡ J.table }
 {
-    let mut site = Site::<E, J, J>::new(board, results, opened);
+    let mut site = Site::<E, J>::new(board, results, opened);
     let mut seat = site.seat(tools.alloc);
     let mut text = String::new(tools.alloc);
     let done = read_inputs(rt, tools, &site, &mut seat, &mut text);
@@ -316,15 +309,14 @@ fn inputs_of<'a, E: Executor, J: Case + Room + Sought, R: Wait>(
     }
 }
 
-fn read_inputs<'a, E: Executor, J: Case + Room + Sought, R: Wait>(
+fn read_inputs<'a, E: Executor, J: Case + Room, R: Wait>(
     rt: &R,
     tools: &Tools<E>,
-    site: &Site<'a, E, J, J>,
+    site: &Site<'a, E, J>,
     seat: &mut Seat<J>,
     text: &mut String,
 ) -> Result<(), Memory>
     requires job { job_problem E.out tools.now.job.now ≡ J.problem }
-    requires sought { J.sought ≡ J.problem }
     requires promises { J.promises ≡ false }
 {
     for _ in 0..tools.job.graph().len() {
@@ -334,15 +326,14 @@ fn read_inputs<'a, E: Executor, J: Case + Room + Sought, R: Wait>(
 }
 
 /// Claims a vertex, settles it, and tells then what its first input holds.
-fn read_input<'a, E: Executor, J: Case + Room + Sought, R: Wait>(
+fn read_input<'a, E: Executor, J: Case + Room, R: Wait>(
     rt: &R,
     tools: &Tools<E>,
-    site: &Site<'a, E, J, J>,
+    site: &Site<'a, E, J>,
     seat: &mut Seat<J>,
     text: &mut String,
 ) -> Result<(), Memory>
     requires job { job_problem E.out tools.now.job.now ≡ J.problem }
-    requires sought { J.sought ≡ J.problem }
     requires promises { J.promises ≡ false }
 {
     let claimed = site.lock(rt).claim(tools.alloc, seat)?;
@@ -365,7 +356,7 @@ fn read_input<'a, E: Executor, J: Case + Room + Sought, R: Wait>(
 }
 
 /// One thread settles a vertex, and has the next one claimed when the site is closed. Its claim goes to the board that the site gives, on which a sweep solves the rest.
-fn given_up<'a, E: Executor, J: Case + Room + Sought, R: Wait>(
+fn given_up<'a, E: Executor, J: Case + Room, R: Wait>(
     rt: &R,
     tools: &Tools<E>,
     board: Board<'a, E, Known<'a, J>>,
@@ -377,11 +368,10 @@ fn given_up<'a, E: Executor, J: Case + Room + Sought, R: Wait>(
     requires long { results.now ≡ length J.problem.vertices }
     requires first { board.first ≡ J.first }
     requires before { board.run.history ≡ J.before }
-    requires sought { J.sought ≡ J.problem }
     requires promises { J.promises ≡ false }
     requires room { opened.table.shared.table_id ≡ J.table }
 {
-    let mut site = Site::<E, J, J>::new(board, results, opened);
+    let mut site = Site::<E, J>::new(board, results, opened);
     let mut seat = site.seat(tools.alloc);
     let mut text = String::new(tools.alloc);
     let settled = read_input(rt, tools, &site, &mut seat, &mut text);
@@ -403,9 +393,9 @@ fn given_up<'a, E: Executor, J: Case + Room + Sought, R: Wait>(
 }
 
 /// The history of a board once a sweep has solved what is left, and what its plan comes to.
-fn finished<'a, E: Executor, S: Sought>(
+fn finished<'a, E: Executor, J: Case>(
     tools: &Tools<E>,
-    board: Board<'a, E, Known<'a, S>>,
+    board: Board<'a, E, Known<'a, J>>,
 ) -> Result<String, Memory>
     requires { board.run.state.claims ≡ [] }
 {

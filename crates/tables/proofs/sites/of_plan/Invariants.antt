@@ -9,7 +9,3 @@ ghosts-of_job-J-Case g a = record { problem = job_problem g.E.Executor.out a.job
 -- its roll is on the table that was opened for it
 abbrev pub ghosts-of_job-J-Room : goal.ghosts-of_job-J-Room
 ghosts-of_job-J-Room g a = record { table = a.opened.table.shared.table_id }
-
--- its cells are of that problem too
-abbrev pub ghosts-of_job-J-Sought : goal.ghosts-of_job-J-Sought
-ghosts-of_job-J-Sought g a = record { sought = job_problem g.E.Executor.out a.job }

@@ -21,5 +21,5 @@ pub for_each_mut-requires-sync-F : goal.for_each_mut-requires-sync-F
 for_each_mut-requires-sync-F g c κs within =
     let b = c.type_bounds in
     let tools : (κ : NamedLft) → IsSync (Tools.the_row κ (param 0 g.row.E) g.E.Executor) = λ κ. tools_sync κ (param 0 g.row.E) g.E.Executor b.sync-E in
-    let desk : (κ : NamedLft) → IsSync (Desk.the_row κ (param 0 g.row.E) (param 1 g.row.J) (param 1 g.row.J) g.E.Executor g.J.Case g.J.Room g.J.Sought) = λ κ. desk_sync κ (param 0 g.row.E) (param 1 g.row.J) (param 1 g.row.J) g.E.Executor g.J.Case g.J.Room g.J.Sought b.sync-E b.send-J b.sync-J b.send-J b.sync-J in
+    let desk : (κ : NamedLft) → IsSync (Desk.the_row κ (param 0 g.row.E) (param 1 g.row.J) g.E.Executor g.J.Case g.J.Room) = λ κ. desk_sync κ (param 0 g.row.E) (param 1 g.row.J) g.E.Executor g.J.Case g.J.Room b.sync-E b.send-J b.sync-J in
     search (tools, desk, sendable) depth 30
