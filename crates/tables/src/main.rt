@@ -25,6 +25,7 @@ mod limits;
 mod lookup;
 mod memos;
 mod one_cell;
+mod one_site;
 mod patterns;
 mod programs;
 mod randoms;
@@ -33,7 +34,6 @@ mod remembering;
 mod repeating;
 mod running;
 mod showing;
-mod sites;
 mod solving;
 mod spelling;
 mod stage;
@@ -159,7 +159,7 @@ fn answer<F: Files + AllocGlobal + Clone + Drop>(
         Table::Histories => histories::answer(alloc, rt, case),
         Table::Solving => solving::answer(alloc, rt, case),
         Table::Randoms => randoms::answer(alloc, rt, case),
-        Table::Sites => sites::answer(alloc, rt, case),
+        Table::Sites => one_site::answer(alloc, rt, case),
         Table::OneCell => one_cell::answer(alloc, rt, case),
         Table::Leases => leases::answer(alloc, case),
         Table::Trees => steps::answer(alloc, case),

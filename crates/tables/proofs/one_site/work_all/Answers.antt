@@ -7,8 +7,8 @@ use Rattle.executor.specs.declared.executor.Executor.{Ghosts}
 use Rattle.std.proofs.Crossing as any
 use Rattle.sites.specs.contracts.site.Desk as Desk
 use Rattle.sites.proofs.Crosses.{desk_sync, job_sync}
-use Rattle.tables.specs.contracts.sites.Tools as Tools
-use Rattle.tables.proofs.sites.work_all.Goals as goal
+use Rattle.tables.specs.contracts.one_site.Tools as Tools
+use Rattle.tables.proofs.one_site.work_all.Goals as goal
 
 -- what the two workers share may be lent to several threads.
 tools_sync : (κ : NamedLft) (E : RattleType) (g : Ghosts E.Denot) → IsSync E → IsSync (Tools.the_row κ E g)

@@ -1,6 +1,6 @@
 use Rattle.std.specs.Prelude.{[], false}
 use Rattle.board.specs.Job.{job_problem}
-use Rattle.tables.proofs.sites.of_plan.Given as goal
+use Rattle.tables.proofs.one_site.of_plan.Given as goal
 
 -- the site's problem is that of the job which is given to it, its caches hold nothing at the start, and it promises nothing of what a settle gives back
 abbrev pub ghosts-of_job-J-Case : goal.ghosts-of_job-J-Case
