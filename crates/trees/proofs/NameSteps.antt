@@ -1,6 +1,6 @@
 -- What the code of names does, step by step.
-use Rattle.std.specs.Prelude.{◌≡◌, ℕ, ◌+◌, ◌<◌, ◌≤◌, Bool, true, false, ◌==◌, cond, IsTrue, ◌↔◌, Option, Some, None, List, [], ◌∷◌, ◌++◌, length, take, drop, set, get_or, is_some}
-use Rattle.std.proofs.Common.{sym, ap, refl, ◌∙◌, subst, true≢false, append_assoc, take-append-drop, add-one, arith}
+use Rattle.std.specs.Prelude.{◌≡◌, ℕ, ◌+◌, ◌<◌, ◌≤◌, Bool, true, false, ◌==◌, cond, IsTrue, ◌↔◌, Option, Some, None, List, [], ◌∷◌, ◌++◌, length, take, drop, set, get_or, is_some, ◌⊎◌}
+use Rattle.std.proofs.Common.{sym, ap, refl, ◌∙◌, subst, true≢false, append_assoc, take-append-drop, add-one, inl, inr, arith}
 use Rattle.std.proofs.lemmas.Bool.{eqb-true}
 use Rattle.std.proofs.lemmas.List.{drop_more, take_more, drop_all, length-take-le, length-append, set_split}
 use Rattle.std.proofs.Math.Seq.{get_or-append_seam, take-append_seam, drop-append-add}
@@ -273,6 +273,12 @@ taken-none name rows at left rise g says = record {
     by : (q : List ℕ) (b : Bool) → is_eq (name_cmp name q) ≡ b → lookup (is_at (name_cmp q)) rows ≡ cond b None (lookup (is_at (name_cmp q)) rows)
     by q false e = refl
     by q true e = ap (λ (c : List ℕ). lookup (is_at (name_cmp c)) rows) (sym (name_same name q e)) ∙ sym (goes-none name rows at g)
+
+-- ---- names that are lent to be changed: themselves, or a copy
+
+pub same-names : (names copied : Rows) → (copied ≡ names) ⊎ (copied ≡ names) → copied ≡ names
+same-names names copied (inl same) = same
+same-names names copied (inr same) = same
 
 -- ---- names cut in two
 

@@ -1,5 +1,5 @@
 -- What the code of parts does, step by step.
-use Rattle.std.specs.Prelude.{◌≡◌, ℕ, ◌+◌, ◌<◌, ◌≤◌, Bool, true, false, ◌==◌, cond, Option, Some, None, Result, Ok, Err, OnOk, OnErr, if◌then◌else◌, is_ok, List, [], ◌∷◌, ◌++◌, length, take, drop, set, get_or, ◌↔◌}
+use Rattle.std.specs.Prelude.{◌≡◌, ℕ, ◌+◌, ◌<◌, ◌≤◌, Bool, true, false, ◌==◌, cond, Option, Some, None, Result, Ok, Err, OnOk, OnErr, IfSome, IfNone, if◌then◌else◌, is_ok, List, [], ◌∷◌, ◌++◌, length, take, drop, set, get_or, ◌↔◌}
 use Rattle.std.proofs.Common.{sym, ap, refl, ◌∙◌, subst, true≢false, append_assoc, zero, suc, add-one, arith}
 use Rattle.std.proofs.lemmas.List.{drop_more, set-get_or, set_split, take_more_set, take-set, drop-set-lt}
 use Rattle.std.specs.List.{insert, remove}
@@ -314,3 +314,10 @@ no-change old new name same none = record { at = λ d. ap (find name_cmp d) same
     by : (d : List ℕ) (tie : Bool) → eq_by_cmp name_cmp d name ≡ tie → find name_cmp d old ≡ cond tie None (find name_cmp d old)
     by d true t = ap (λ c. find name_cmp c old) (name_same d name t) ∙ none
     by d false t = refl
+
+-- what is said of a half that was taken, and where none was
+pub some-halved : {Z : Type 0} (old new : List (List ℕ × NodeValue)) (taken : Option (Arc (List (List ℕ × NodeValue)) Z)) (upper : Arc (List (List ℕ × NodeValue)) Z) → taken ≡ Some upper → IfSome taken (λ u. IsHalved old new (arc_value u)) → IsHalved old new (arc_value upper)
+some-halved {Z = Z} old new taken upper is h = subst (λ (o : Option (Arc (List (List ℕ × NodeValue)) Z)). IfSome o (λ u. IsHalved old new (arc_value u))) is h
+
+pub none-halved : {Z : Type 0} (old new : List (List ℕ × NodeValue)) (taken : Option (Arc (List (List ℕ × NodeValue)) Z)) → taken ≡ None → IfNone taken (new ≡ old) → new ≡ old
+none-halved {Z = Z} old new taken is h = subst (λ (o : Option (Arc (List (List ℕ × NodeValue)) Z)). IfNone o (new ≡ old)) is h

@@ -275,17 +275,15 @@ seen_kids-from o front (k ∷ ks) = by (is_lt (name_cmp k.0 front)) (seen_kids-f
     by true more = more
     by false more = ap (λ (r : Kids). seen_kids o (k ∷ []) ++ r) more
 
--- ---- a node that is made the holder's own
+-- ---- a node that is changed where it stands
 
-pub plainly : (p : CopyOptions) (v : NodeValue) → p ≡ keeping → seen p v ≡ v
-plainly p v none = ap (λ (o : CopyOptions). seen o v) none ∙ seen-keeping v
+-- nothing is put on it
+pub here-same : (o : CopyOptions) (v w self : NodeValue) → ((entry : Entry) → placed_entry o entry ≡ entry) → w ≡ v → seen o v ≡ self → w ≡ self
+here-same o v w self plain same is = same ∙ sym (seen-plain o plain v) ∙ is
 
-pub owned : (o p : CopyOptions) (v w self : NodeValue) → seen p w ≡ seen o v → p ≡ keeping → seen o v ≡ self → w ≡ self
-owned o p v w self same none is = sym (plainly p w none) ∙ same ∙ is
-
--- what is done to the own node is done to the one that was held
-pub carried : (P : NodeValue → NodeValue → Type 0) (p : CopyOptions) (w self new : NodeValue) → p ≡ keeping → w ≡ self → P w new → P self (seen p new)
-carried P p w self new none same h = subst (λ (n : NodeValue). P self n) (sym (plainly p new none)) (subst (λ (n : NodeValue). P n new) same h)
+-- so what is done there is done to what is seen
+pub changed-here : (P : NodeValue → NodeValue → Type 0) (o : CopyOptions) (v w self new : NodeValue) → ((entry : Entry) → placed_entry o entry ≡ entry) → w ≡ v → seen o v ≡ self → P w new → P self (seen o new)
+changed-here P o v w self new plain same is h = subst (λ (n : NodeValue). P self n) (sym (seen-plain o plain new)) (subst (λ (n : NodeValue). P n new) (here-same o v w self plain same is) h)
 
 -- a node of children that are placed
 pub kids-node : (o : CopyOptions) (top : Entry) (kids placed : Kids) (self : NodeValue) → node_of top kids ≡ self → placed ≡ seen_kids o kids → node_of (seen o self).top placed ≡ seen o self

@@ -18,7 +18,7 @@ use crate::lent_kids::LentKids;
 use crate::lent_node::LentNode;
 use crate::node::Node;
 use crate::part::{
-    Part, has_room, make_room, own, part_of_one, place, placed_parts, put, share, take_away,
+    Part, has_room, make_room, part_of_one, place, placed_parts, put, share, take_away,
 };
 use crate::{CopyOptions, Entry, Meta};
 use plain::{Exact, Fault, Memory, Text};
@@ -144,8 +144,8 @@ impl Children {
         self.parts.is_empty()
     }
 
-    /// The child of a name, lent to be changed: its part is made this holder's own first. The children stay as they are until it is.
-    pub(crate) fn own_mut(&mut self, alloc: Global, name: &Text) -> Result<&mut Node, Fault<Absent>>
+    /// The child of a name, lent to be changed: where others share its part, a copy takes the part's place first. The children stay as they are until it is.
+    pub(crate) fn own_mut(&mut self, name: &Text) -> Result<&mut Node, Fault<Absent>>
         ensures* lends { sem 𝓛 (LendsKid self.entry name.now result) }
         ensures kid { IfOk result (λ kid. find name_cmp name.now self.old ≡ Some kid.now) }
         ensures absent { IfErr result (λ fault. (why : Absent) → fault ≡ Because why → find name_cmp name.now self.old ≡ None) }
@@ -154,11 +154,9 @@ impl Children {
         let Some(part) = self.parts.get_mut(at) else {
             return Err(Fault::Because(Absent));
         };
-        if let Err(Memory) = own(alloc, part, 0) {
-            return Err(Fault::Memory);
-        }
-        let Some(names) = Arc::get_mut(part) else {
-            return Err(Fault::Memory);
+        let names = match Arc::make_mut(part) {
+            Ok(names) => names,
+            Err(_) => return Err(Fault::Memory),
         };
         match names.get_mut(name) {
             Some(kid) => Ok(kid),
@@ -222,10 +220,7 @@ impl Children {
             let kid = Node::chain(alloc, rest, parent, entry)?;
             return self.insert(alloc, name, kid);
         };
-        own(alloc, part, 0)?;
-        let Some(names) = Arc::get_mut(part) else {
-            return Err(Memory);
-        };
+        let names = Arc::make_mut(part)?;
         if let Some(kid) = names.get_mut(name) {
             return kid.plant(alloc, rest, parent, entry);
         }
@@ -245,7 +240,7 @@ impl Children {
         if rest.is_empty() {
             return self.remove(alloc, name);
         }
-        match self.own_mut(alloc, name) {
+        match self.own_mut(name) {
             Ok(kid) => kid.cut(alloc, rest),
             Err(Fault::Because(_)) => Ok(()),
             Err(Fault::Memory) => Err(Memory),
@@ -263,7 +258,7 @@ impl Children {
     ) -> Result<(), Memory>
         ensures { OnOk result (AreFilled (joined self.old) (joined self.new) name.now rest.now folder.now.below) }
     {
-        match self.own_mut(alloc, name) {
+        match self.own_mut(name) {
             Ok(kid) => kid.fill(alloc, rest, folder),
             Err(Fault::Because(_)) => Ok(()),
             Err(Fault::Memory) => Err(Memory),
@@ -287,7 +282,7 @@ impl Children {
         let mut is_less = false;
         let mut uppers = upper.iter();
         while let Some((name, kid)) = uppers.next() {
-            match self.own_mut(alloc, name) {
+            match self.own_mut(name) {
                 Ok(below) => {
                     if below.lay_over(alloc, &kid)? {
                         is_less = true;

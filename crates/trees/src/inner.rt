@@ -143,8 +143,8 @@ impl Inner {
         self.entry = entry;
     }
 
-    /// The same node as a COPY places it.
-    fn placed(&self, alloc: Global, options: &CopyOptions) -> Result<Inner, Memory>
+    /// The same node as a COPY places it. What is below its children is shared.
+    pub(crate) fn placed(&self, alloc: Global, options: &CopyOptions) -> Result<Inner, Memory>
         ensures { IfOk result (λ n. n ≡ seen options.now self.now) }
     {
         let entry = options.placed_entry(alloc, &self.entry)?;
@@ -249,30 +249,6 @@ impl Inner {
             None => false,
         }
     }
-}
-
-/// Makes a node the holder's own, with nothing put on it. If others share it, or a COPY put a mode or an owner on it, a copy takes its
-/// place whose entry and children's entries are as they are seen; what is below the children stays shared. If there is no memory, nothing
-/// that is seen has changed.
-pub(crate) fn own(
-    alloc: Global,
-    shared: &mut Arc<Inner, Global>,
-    options: &mut CopyOptions,
-) -> Result<(), Memory>
-    ensures same { seen options.new (arc_value shared.new) ≡ seen options.old (arc_value shared.old) }
-    ensures keeping { OnOk result (options.new ≡ keeping) }
-{
-    if options.is_keeping() {
-        if let Some(_alone) = Arc::get_mut(shared) {
-            // `into` may be anything.
-            *options = CopyOptions::keeping();
-            return Ok(());
-        }
-    }
-    let inner = shared.placed(alloc, options)?;
-    *shared = Arc::new(alloc, inner)?;
-    *options = CopyOptions::keeping();
-    Ok(())
 }
 
 /// How deep children are that are no deeper than `deepest`, and as deep as that unless one of them is less deep than before.

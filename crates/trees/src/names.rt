@@ -1,6 +1,7 @@
 // Names with their nodes, in the order of the names: what a part of a folder holds.
 ghost use Rattle.std.specs.Prelude.{◌≡◌, ◌≤◌, true, IfOk, IfErr, OnOk, OnErr, [], ◌∷◌, length, option_copied};
 ghost use Rattle.std.specs.Option.{option_copied_mut};
+ghost use Rattle.std.specs.Arc.{arc_value};
 ghost use Rattle.std.specs.Borrow.{sem};
 ghost use Rattle.std.specs.Map.{lookup};
 ghost use Rattle.std.specs.BTreeMap.{is_at};
@@ -13,10 +14,12 @@ ghost use Rattle.trees.specs.PrivateSeen.{seen_kids};
 
 use crate::CopyOptions;
 use crate::node::Node;
+use crate::part::Part;
 use plain::{Exact, Memory, Text};
-use std::alloc::Global;
+use std::alloc::{AllocError, Global};
 use std::cmp::Ordering;
 use std::marker::Model;
+use std::sync::Arc;
 
 /// Names that rise, each with its node. They lie one after another in one block of memory.
 #[derive(Drop)]
@@ -150,14 +153,21 @@ impl Names {
         }
     }
 
-    /// Takes the names from a place on away, and gives them.
-    pub(crate) fn split_off(&mut self, at: usize) -> Result<Names, Memory>
+    /// Takes the names from a place on away, and gives them as a part. Where there is no memory, nothing has changed.
+    pub(crate) fn split_off(&mut self, alloc: Global, at: usize) -> Result<Part, Memory>
         requires { at ≤ length self.old }
-        ensures ok { IfOk result (λ upper. IsCutAt at self.old self.new upper) }
+        ensures ok { IfOk result (λ upper. IsCutAt at self.old self.new (arc_value upper)) }
         ensures err { OnErr result (self.new ≡ self.old) }
     {
         let rows = self.rows.split_off(at)?;
-        Ok(Names { rows })
+        match Arc::new(alloc, Names { rows }) {
+            Ok(upper) => Ok(upper),
+            Err(refused) => {
+                let mut rows = refused.value.rows;
+                self.rows.append(&mut rows).unwrap();
+                Err(Memory)
+            }
+        }
     }
 
     /// The same names, each of whose nodes shares what is below it, with room for so many more.
@@ -182,6 +192,19 @@ impl Names {
             rows.push((row.0.copy(alloc)?, row.1.placed(alloc, options)?))?;
         }
         Ok(Names { rows })
+    }
+}
+
+impl Clone for Names {
+    ghost use Rattle.std.specs.Prelude.{◌≡◌};
+
+    ghost is_clone = { λ names copied. copied ≡ names };
+
+    fn clone(&self) -> Result<Names, AllocError> {
+        match self.copy(*self.rows.allocator(), 0) {
+            Ok(names) => Ok(names),
+            Err(_) => Err(AllocError),
+        }
     }
 }
 

@@ -6,7 +6,7 @@ ghost use Rattle.trees.specs.PrivateNode.{map_of, joined, node_of, IsDepth, IsDe
 ghost use Rattle.trees.specs.PrivateHeld.{held_value};
 ghost use Rattle.trees.specs.PrivateSeen.{seen};
 
-use crate::inner::{Inner, own};
+use crate::inner::Inner;
 use crate::lent_kids::LentKids;
 use crate::lent_node::LentNode;
 use crate::part::Part;
@@ -19,7 +19,8 @@ use std::sync::Arc;
 /// An entry, with all that stands below it by the names of its directory. A file has no children.
 ///
 /// Most nodes are files, so one takes no more than its entry, and what else a node with children has lies behind a pointer that its copies
-/// share, with what COPYs put on all of it beside the pointer.
+/// share, with what COPYs put on all of it beside the pointer. What nobody else points to, and nothing is put on, is changed where it stands;
+/// else a copy is changed and takes its place.
 #[derive(Drop)]
 #[cycle(nodes)]
 pub(crate) struct Node {
@@ -147,11 +148,15 @@ impl Node {
         let Held::Folder(shared, options) = &mut self.held else {
             return self.plant_leaf(alloc, path, parent, entry);
         };
-        own(alloc, shared, options)?;
-        let Some(inner) = Arc::get_mut(shared) else {
-            return Err(Memory);
-        };
-        inner.plant(alloc, path, parent, entry)
+        if options.is_keeping() {
+            if let Some(inner) = Arc::get_mut(shared) {
+                return inner.plant(alloc, path, parent, entry);
+            }
+        }
+        let mut inner = shared.placed(alloc, options)?;
+        inner.plant(alloc, path, parent, entry)?;
+        *self = Node::of_inner(alloc, inner)?;
+        Ok(())
     }
 
     /// Does so where nothing is below this node.
@@ -190,11 +195,14 @@ impl Node {
             *self = Node::leaf(entry);
             return Ok(());
         };
-        own(alloc, shared, options)?;
-        let Some(inner) = Arc::get_mut(shared) else {
-            return Err(Memory);
-        };
-        inner.set_entry(entry);
+        if options.is_keeping() {
+            if let Some(inner) = Arc::get_mut(shared) {
+                inner.set_entry(entry);
+                return Ok(());
+            }
+        }
+        let inner = shared.with_entry(alloc, entry, options)?;
+        *self = Node::of_inner(alloc, inner)?;
         Ok(())
     }
 }
@@ -254,11 +262,15 @@ impl Node {
             *self = upper.copy(alloc)?;
             return Ok(self.depth() < before);
         }
-        own(alloc, shared, options)?;
-        let Some(inner) = Arc::get_mut(shared) else {
-            return Err(Memory);
-        };
-        inner.lay_over(alloc, upper, &uppers)
+        if options.is_keeping() {
+            if let Some(inner) = Arc::get_mut(shared) {
+                return inner.lay_over(alloc, upper, &uppers);
+            }
+        }
+        let mut inner = shared.placed(alloc, options)?;
+        let is_less = inner.lay_over(alloc, upper, &uppers)?;
+        *self = Node::of_inner(alloc, inner)?;
+        Ok(is_less)
     }
 
     /// Puts what is below a folder below the node at a path, if there is one, in place of what was below that. All of it is shared.
@@ -277,11 +289,15 @@ impl Node {
         let Held::Folder(shared, options) = &mut self.held else {
             return Ok(());
         };
-        own(alloc, shared, options)?;
-        let Some(inner) = Arc::get_mut(shared) else {
-            return Err(Memory);
-        };
-        inner.fill(alloc, path, folder)
+        if options.is_keeping() {
+            if let Some(inner) = Arc::get_mut(shared) {
+                return inner.fill(alloc, path, folder);
+            }
+        }
+        let mut inner = shared.placed(alloc, options)?;
+        inner.fill(alloc, path, folder)?;
+        *self = Node::of_inner(alloc, inner)?;
+        Ok(())
     }
 
     /// Puts what is below a folder below this node, in place of what was there.
@@ -309,10 +325,14 @@ impl Node {
         let Held::Folder(shared, options) = &mut self.held else {
             return Ok(());
         };
-        own(alloc, shared, options)?;
-        let Some(inner) = Arc::get_mut(shared) else {
-            return Err(Memory);
-        };
-        inner.cut(alloc, path)
+        if options.is_keeping() {
+            if let Some(inner) = Arc::get_mut(shared) {
+                return inner.cut(alloc, path);
+            }
+        }
+        let mut inner = shared.placed(alloc, options)?;
+        inner.cut(alloc, path)?;
+        *self = Node::of_inner(alloc, inner)?;
+        Ok(())
     }
 }

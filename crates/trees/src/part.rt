@@ -1,5 +1,5 @@
 // The parts of a folder's children: which one a name is in, and how one is changed that others may share.
-ghost use Rattle.std.specs.Prelude.{◌≡◌, ◌+◌, ◌<◌, ◌≤◌, ◌↔◌, true, false, length, IsTrue, IfOk, OnOk, OnErr, [], ◌∷◌, ◌++◌, vec_len};
+ghost use Rattle.std.specs.Prelude.{◌≡◌, ◌+◌, ◌<◌, ◌≤◌, ◌↔◌, true, false, length, IfOk, IfSome, IfNone, OnOk, OnErr, [], ◌∷◌, ◌++◌, vec_len};
 ghost use Rattle.std.specs.Arc.{arc_value};
 ghost use Rattle.trees.specs.PrivateNode.{lists_of, flat, are_parts, begins_past, IsPlace, IsPut, IsTaken, IsHalved};
 ghost use Rattle.trees.specs.PrivateSeen.{seen_parts};
@@ -73,19 +73,6 @@ pub(crate) fn part_of_one(alloc: Global, name: &Text, kid: Node) -> Result<Part,
     Ok(part)
 }
 
-/// Makes a part the holder's own: where others share it, a part with the same children takes its place, each of which shares what
-/// is below it, with room for so many more.
-pub(crate) fn own(alloc: Global, part: &mut Part, more: usize) -> Result<(), Memory>
-    ensures { arc_value part.new ≡ arc_value part.old }
-{
-    if let Some(_alone) = Arc::get_mut(part) {
-        return Ok(());
-    }
-    let names = part.copy(alloc, more)?;
-    *part = Arc::new(alloc, names)?;
-    Ok(())
-}
-
 /// Parts of the same names, each of whose nodes is as a COPY places it. What is below it is shared.
 pub(crate) fn placed_parts(
     alloc: Global,
@@ -102,28 +89,32 @@ pub(crate) fn placed_parts(
     Ok(placed)
 }
 
-/// Puts a child into a part.
+/// Puts a child into a part. Where others share the part, a copy with room for it takes its place.
 pub(crate) fn put(alloc: Global, part: &mut Part, name: &Text, kid: Node) -> Result<(), Memory>
     ensures ok { OnOk result (IsPut name.now kid (arc_value part.old) (arc_value part.new)) }
     ensures err { OnErr result ((arc_value part.new) ≡ (arc_value part.old)) }
 {
-    own(alloc, part, 1)?;
-    let Some(names) = Arc::get_mut(part) else {
-        return Err(Memory);
-    };
-    names.put(alloc, name, kid)
+    if let Some(names) = Arc::get_mut(part) {
+        return names.put(alloc, name, kid);
+    }
+    let mut names = part.copy(alloc, 1)?;
+    names.put(alloc, name, kid)?;
+    *part = Arc::new(alloc, names)?;
+    Ok(())
 }
 
-/// Takes a child out of a part, and answers whether none is left.
+/// Takes a child out of a part, and answers whether none is left. Where others share the part, a copy takes its place.
 pub(crate) fn take_away(alloc: Global, part: &mut Part, name: &Text) -> Result<bool, Memory>
     ensures ok { IfOk result (λ none_left. IsTaken name.now (arc_value part.old) (arc_value part.new) none_left) }
     ensures err { OnErr result ((arc_value part.new) ≡ (arc_value part.old)) }
 {
-    own(alloc, part, 0)?;
-    let Some(names) = Arc::get_mut(part) else {
-        return Err(Memory);
-    };
-    Ok(names.remove(name))
+    if let Some(names) = Arc::get_mut(part) {
+        return Ok(names.remove(name));
+    }
+    let mut names = part.copy(alloc, 0)?;
+    let none_left = names.remove(name);
+    *part = Arc::new(alloc, names)?;
+    Ok(none_left)
 }
 
 /// How many names each part of a folder may have, if there are so many parts.
@@ -150,33 +141,29 @@ pub(crate) fn make_room(
     ensures more { vec_len parts.old ≤ vec_len parts.new }
 {
     parts.reserve(1)?;
-    let mut upper = Arc::new(alloc, Names::none(alloc))?;
-    let halved = halve(alloc, &mut parts[at], &mut upper, name)?;
-    if halved {
+    if let Some(upper) = halve(alloc, &mut parts[at], name)? {
         parts.insert(at + 1, upper).unwrap();
     }
     Ok(())
 }
 
-/// Moves the upper half of a part into an empty one, so that a new name has room. Where there is nothing to move, nothing has changed.
-fn halve(alloc: Global, part: &mut Part, upper: &mut Part, new: &Text) -> Result<bool, Memory>
-    ensures done { IfOk result (λ halved. IsTrue halved → IsHalved (arc_value part.old) (arc_value part.new) (arc_value upper.new)) }
-    ensures kept { IfOk result (λ halved. halved ≡ false → (arc_value part.new) ≡ (arc_value part.old)) }
+/// Takes the upper half of a part away and gives it, so that a new name has room. Where there is nothing to take, nothing has changed.
+fn halve(alloc: Global, part: &mut Part, new: &Text) -> Result<Option<Part>, Memory>
+    ensures done { IfOk result (λ halved. IfSome halved (λ upper. IsHalved (arc_value part.old) (arc_value part.new) (arc_value upper))) }
+    ensures kept { IfOk result (λ halved. IfNone halved ((arc_value part.new) ≡ (arc_value part.old))) }
     ensures err { OnErr result ((arc_value part.new) ≡ (arc_value part.old)) }
 {
     let half = lower_half(part, new);
     if half >= part.len() {
-        return Ok(false);
+        return Ok(None);
     }
-    own(alloc, part, 0)?;
-    let Some(names) = Arc::get_mut(part) else {
-        return Err(Memory);
-    };
-    let Some(empty) = Arc::get_mut(upper) else {
-        return Err(Memory);
-    };
-    *empty = names.split_off(half)?;
-    Ok(true)
+    if let Some(names) = Arc::get_mut(part) {
+        return Ok(Some(names.split_off(alloc, half)?));
+    }
+    let mut names = part.copy(alloc, 0)?;
+    let upper = names.split_off(alloc, half)?;
+    *part = Arc::new(alloc, names)?;
+    Ok(Some(upper))
 }
 
 /// How many names stay where a part is cut: half of them. Rows in the order of a walk are placed last first, so all but one go where a new

@@ -4,7 +4,6 @@ use Rattle.trees.proofs.NodeSteps.{keep-kid}
 use Rattle.trees.proofs.CutSteps.{cut-kid, cut-step, cut-empty, cut-none, kids-kept}
 use Rattle.std.proofs.Common.{◌≡◌, ◌+◌, ◌<◌, arith}
 use Rattle.trees.specs.PrivateNode.{NodeValue, map_of, height_of, joined, IsCut}
-use Rattle.trees.proofs.PartSteps.{anyway}
 use Rattle.trees.proofs.CutSteps.{long-path}
 use Rattle.std.specs.Prelude.{is_ok}
 use Rattle.std.specs.FinMap.{get}
@@ -13,7 +12,7 @@ use Rattle.trees.proofs.DepthSteps.{depth-cut}
 use Rattle.trees.proofs.BelowSteps.{leaf-bare, leaf-cut}
 use Rattle.std.specs.Arc.{arc_value}
 use Rattle.trees.specs.PrivateHeld.{held_value}
-use Rattle.trees.proofs.SeenSteps.{owned, carried}
+use Rattle.trees.proofs.SeenSteps.{changed-here}
 use Rattle.trees.proofs.+cutting.Goals as goal
 
 pub inner::Inner::cut-returns-in_ok-cut-in-len1-up-clause-ok : goal.inner::Inner::cut-returns-in_ok-cut-in-len1-up-clause-ok
@@ -62,25 +61,12 @@ node::Node::cut-returns-in_default-clause-ok t c =
     subst (λ (n : NodeValue). IsCut (get (map_of c.args.self.now)) (get (map_of n)) c.args.path.now) (sym c.self.view_is)
     (leaf-cut c.args.self.now c.args.path.now (leaf-bare c.self.inside.held c.args.self.now c.in_default.field-0 c.self.view_is c.in_default.is) c.requires)
 
-pub node::Node::cut-returns-in_default-get_mut-clause-err : goal.node::Node::cut-returns-in_default-get_mut-clause-err
-node::Node::cut-returns-in_default-get_mut-clause-err t c = ap map_of (c.own.ensures.same ∙ sym (ap held_value c.in-Folder.is) ∙ c.self.view_is)
+pub node::Node::cut-returns-in-Some-clause-ok : goal.node::Node::cut-returns-in-Some-clause-ok
+node::Node::cut-returns-in-Some-clause-ok t c =
+    on_ok_weaker c.cut.result (changed-here (λ v n. IsCut (get (map_of v)) (get (map_of n)) c.args.path.now) c.in-Folder.options (arc_value c.in-Folder.shared) c.in-Some.inner.now c.args.self.now c.cut.new.self (c.is_keeping.ensures c.if-is_keeping.true) c.in-Some.ensures.value
+    (sym (ap held_value c.in-Folder.is) ∙ c.self.view_is)) c.cut.ensures.ok
 
-pub node::Node::cut-returns-in_err-own-clause-err : goal.node::Node::cut-returns-in_err-own-clause-err
-node::Node::cut-returns-in_err-own-clause-err t c = anyway c.from_residual.result (ap map_of (c.own.ensures.same ∙ sym (ap held_value c.in-Folder.is) ∙ c.self.view_is))
-
-pub node::Node::cut-cut-requires : goal.node::Node::cut-cut-requires
-node::Node::cut-cut-requires t c =
-    let same : c.in-Some.inner.now.height ≡ c.args.self.now.height = ap (λ (n : NodeValue). n.height) (c.in-Some.ensures.value ∙ owned c.in-Folder.options c.own.new.options (arc_value c.in-Folder.shared) (arc_value c.own.new.shared) c.args.self.now c.own.ensures.same c.in_ok-own.ensures.keeping (sym (ap held_value c.in-Folder.is) ∙ c.self.view_is)) in
-    let d : c.args.self.now.height + c.args.self.now.height + 1 ≡ t = c.decreases in
-    let g : c.in-Some.inner.now.height + c.in-Some.inner.now.height < t = omega arith in
-    (g, c.requires)
-
-pub node::Node::cut-returns-clause-ok : goal.node::Node::cut-returns-clause-ok
-node::Node::cut-returns-clause-ok t c =
-    on_ok_weaker c.cut.result (carried (λ v n. IsCut (get (map_of v)) (get (map_of n)) c.args.path.now) c.own.new.options c.in-Some.inner.now c.args.self.now c.cut.new.self c.in_ok-own.ensures.keeping
-    (c.in-Some.ensures.value ∙ owned c.in-Folder.options c.own.new.options (arc_value c.in-Folder.shared) (arc_value c.own.new.shared) c.args.self.now c.own.ensures.same c.in_ok-own.ensures.keeping (sym (ap held_value c.in-Folder.is) ∙ c.self.view_is))) c.cut.ensures.ok
-
-pub node::Node::cut-returns-clause-err : goal.node::Node::cut-returns-clause-err
-node::Node::cut-returns-clause-err t c =
-    on_err_weaker c.cut.result (carried (λ v n. map_of n ≡ map_of v) c.own.new.options c.in-Some.inner.now c.args.self.now c.cut.new.self c.in_ok-own.ensures.keeping
-    (c.in-Some.ensures.value ∙ owned c.in-Folder.options c.own.new.options (arc_value c.in-Folder.shared) (arc_value c.own.new.shared) c.args.self.now c.own.ensures.same c.in_ok-own.ensures.keeping (sym (ap held_value c.in-Folder.is) ∙ c.self.view_is))) c.cut.ensures.err
+pub node::Node::cut-returns-in-Some-clause-err : goal.node::Node::cut-returns-in-Some-clause-err
+node::Node::cut-returns-in-Some-clause-err t c =
+    on_err_weaker c.cut.result (changed-here (λ v n. map_of n ≡ map_of v) c.in-Folder.options (arc_value c.in-Folder.shared) c.in-Some.inner.now c.args.self.now c.cut.new.self (c.is_keeping.ensures c.if-is_keeping.true) c.in-Some.ensures.value
+    (sym (ap held_value c.in-Folder.is) ∙ c.self.view_is)) c.cut.ensures.err

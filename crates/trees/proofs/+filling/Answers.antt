@@ -12,7 +12,7 @@ use Rattle.trees.proofs.DepthSteps.{depth-filled, max-left, max-right}
 use Rattle.trees.proofs.BelowSteps.{leaf-bare, leaf-filled}
 use Rattle.std.specs.Arc.{arc_value}
 use Rattle.trees.specs.PrivateHeld.{held_value}
-use Rattle.trees.proofs.SeenSteps.{owned, carried}
+use Rattle.trees.proofs.SeenSteps.{changed-here}
 use Rattle.trees.proofs.+filling.Goals as goal
 
 pub inner::Inner::fill-returns : goal.inner::Inner::fill-returns
@@ -59,14 +59,7 @@ pub node::Node::fill-returns-then-is_empty : goal.node::Node::fill-returns-then-
 node::Node::fill-returns-then-is_empty t c =
     fill-own c.hold.result c.args.self.now c.hold.new.self c.args.path.now c.args.folder.now.below c.is_empty.result c.is_empty.ensures c.if-is_empty.true c.hold.ensures.top c.hold.ensures.below
 
-pub node::Node::fill-fill-requires : goal.node::Node::fill-fill-requires
-node::Node::fill-fill-requires t c =
-    let same : c.in-Some.inner.now.height ≡ c.args.self.now.height = ap (λ (n : NodeValue). n.height) (c.in-Some.ensures.value ∙ owned c.in-Folder.options c.own.new.options (arc_value c.in-Folder.shared) (arc_value c.own.new.shared) c.args.self.now c.own.ensures.same c.in_ok-own.ensures.keeping (sym (ap held_value c.in-Folder.is) ∙ c.self.view_is)) in
-    let d : c.args.self.now.height + c.args.self.now.height + 1 ≡ t = c.decreases in
-    let g : c.in-Some.inner.now.height + c.in-Some.inner.now.height < t = omega arith in
-    (g, long-path c.args.path.now c.is_empty.result c.is_empty.ensures c.if-is_empty.false)
-
-pub node::Node::fill-returns : goal.node::Node::fill-returns
-node::Node::fill-returns t c =
-    on_ok_weaker c.fill.result (carried (λ v n. IsFilled (get (map_of v)) (get (map_of n)) c.args.path.now c.args.folder.now.below) c.own.new.options c.in-Some.inner.now c.args.self.now c.fill.new.self c.in_ok-own.ensures.keeping
-    (c.in-Some.ensures.value ∙ owned c.in-Folder.options c.own.new.options (arc_value c.in-Folder.shared) (arc_value c.own.new.shared) c.args.self.now c.own.ensures.same c.in_ok-own.ensures.keeping (sym (ap held_value c.in-Folder.is) ∙ c.self.view_is))) c.fill.ensures
+pub node::Node::fill-returns-in-Some : goal.node::Node::fill-returns-in-Some
+node::Node::fill-returns-in-Some t c =
+    on_ok_weaker c.fill.result (changed-here (λ v n. IsFilled (get (map_of v)) (get (map_of n)) c.args.path.now c.args.folder.now.below) c.in-Folder.options (arc_value c.in-Folder.shared) c.in-Some.inner.now c.args.self.now c.fill.new.self (c.is_keeping.ensures c.if-is_keeping.true) c.in-Some.ensures.value
+    (sym (ap held_value c.in-Folder.is) ∙ c.self.view_is)) c.fill.ensures

@@ -13,7 +13,7 @@ use Rattle.std.specs.Arc.{arc_value}
 use Rattle.trees.specs.Over.{over}
 use Rattle.trees.specs.PrivateNode.{NodeValue, IsDepth}
 use Rattle.trees.specs.PrivateSeen.{seen}
-use Rattle.trees.proofs.SeenSteps.{owned, carried, kids-node}
+use Rattle.trees.proofs.SeenSteps.{changed-here, kids-node}
 use Rattle.trees.proofs.+laying.Goals as goal
 
 pub node::Node::lay_over-returns-then-not-is_directory : goal.node::Node::lay_over-returns-then-not-is_directory
@@ -34,17 +34,6 @@ node::Node::lay_over-returns-then-is_hidden_by t c =
     ap map_of (c.branch-then-is_hidden_by.view_is ∙ c.in_ok-self-inside-3.ensures)
     ∙ hidden-whole c.args.self.now c.args.upper.now (seen c.in-Folder.options c.deref.result.now) c.args.upper.now c.of.result c.in-Some.uppers (kids-node c.in-Folder.options c.deref.result.now.top c.kids.result.now c.of.result c.deref.result.now c.kids.ensures c.of.ensures)
     (ap (seen c.in-Folder.options) c.deref.ensures ∙ sym (ap held_value c.in-Folder.is) ∙ c.self.view_is) c.in-Some.ensures refl (sym c.is_directory.ensures ∙ c.if-not-is_directory.false) (c.is_hidden_by.ensures c.if-is_hidden_by.true)
-
-pub node::Node::lay_over-lay_over-requires : goal.node::Node::lay_over-lay_over-requires
-node::Node::lay_over-lay_over-requires t c =
-    let d : c.args.upper.now.height + c.args.upper.now.height + 1 ≡ t = c.decreases in
-    let g : c.args.upper.now.height + c.args.upper.now.height < t = omega arith in
-    (g, (sym c.is_directory.ensures ∙ c.if-not-is_directory.false, c.in-Some.ensures))
-
-pub node::Node::lay_over-returns : goal.node::Node::lay_over-returns
-node::Node::lay_over-returns t c =
-    on_ok_weaker c.lay_over.result (carried (λ v n. map_of n ≡ over (map_of v) (map_of c.args.upper.now)) c.own.new.options c.in-Some-get_mut.inner.now c.args.self.now c.lay_over.new.self c.in_ok-own.ensures.keeping
-    (c.in-Some-get_mut.ensures.value ∙ owned c.in-Folder.options c.own.new.options (arc_value c.in-Folder.shared) (arc_value c.own.new.shared) c.args.self.now c.own.ensures.same c.in_ok-own.ensures.keeping (sym (ap held_value c.in-Folder.is) ∙ c.self.view_is))) c.lay_over.ensures
 
 pub inner::Inner::lay_over-lay_over-requires : goal.inner::Inner::lay_over-lay_over-requires
 inner::Inner::lay_over-lay_over-requires t c =
@@ -100,3 +89,8 @@ children::Children::lay_over-loop-name-preserved t c =
 
 pub children::Children::lay_over-returns : goal.children::Children::lay_over-returns
 children::Children::lay_over-returns t c = laid-done c.args.self.now c.args.upper.now c.loop-name.self c.loop-name.uppers c.loop-name.invariant.0 c.in_default.ensures.0
+
+pub node::Node::lay_over-returns-in-Some-get_mut : goal.node::Node::lay_over-returns-in-Some-get_mut
+node::Node::lay_over-returns-in-Some-get_mut t c =
+    on_ok_weaker c.lay_over.result (changed-here (λ v n. map_of n ≡ over (map_of v) (map_of c.args.upper.now)) c.in-Folder.options (arc_value c.in-Folder.shared) c.in-Some-get_mut.inner.now c.args.self.now c.lay_over.new.self (c.is_keeping.ensures c.if-is_keeping.true) c.in-Some-get_mut.ensures.value
+    (sym (ap held_value c.in-Folder.is) ∙ c.self.view_is)) c.lay_over.ensures
