@@ -26,16 +26,11 @@ pub fn answer(alloc: Global, case: &str) -> Result<String, Memory> {
     }
 }
 
-fn tell(
-    alloc: Global,
-    told: &mut String,
-    graph: &mut Graph,
-    vertices: &str,
-) -> Result<(), Memory> {
+fn tell(alloc: Global, told: &mut String, graph: &mut Graph, vertices: &str) -> Result<(), Memory> {
     let count = vertices.split("; ").count();
     for (number, vertex) in vertices.split("; ").enumerate() {
         let added = add(alloc, graph, vertex)?;
-        if count <= MOST_SHOWN || count - number <= 3 {
+        if count <= MOST_SHOWN || count.saturating_sub(number) <= 3 {
             push_number(told, added)?;
         }
     }

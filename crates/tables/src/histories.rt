@@ -82,11 +82,7 @@ fn played<C>(alloc: Global, plan: &Plan<C>, events: &[Event]) -> Result<String, 
 }
 
 /// Tells what has happened.
-pub fn push_history(
-    text: &mut String,
-    graph: &Graph,
-    history: &[Happened],
-) -> Result<(), Memory> {
+pub fn push_history(text: &mut String, graph: &Graph, history: &[Happened]) -> Result<(), Memory> {
     for happened in history {
         match happened {
             Happened::Claimed { worker, vertex } => {

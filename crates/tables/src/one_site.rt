@@ -186,8 +186,7 @@ fn are_apart(graph: &Graph, history: &[Happened]) -> bool {
                 is_out = true;
             }
             Happened::Settled { vertex, .. } | Happened::Abandoned { vertex, .. }
-                if is_command(graph, *vertex) =>
-            {
+                if is_command(graph, *vertex) => {
                 is_out = false;
             }
             _ => {}
@@ -224,7 +223,7 @@ fn work_all<E: Executor, J: Case + Room + Send + Sync, R: Threads + Wait + Sync>
         2,
         &|_, seat: &mut Seat<J>|
             requires job { job_problem E.out tools.now.job.now ≡ J.problem }
-                    requires promises { J.promises ≡ false }
+            requires promises { J.promises ≡ false }
         { work(rt, desk, tools, seat) },
     );
 }
@@ -386,7 +385,7 @@ fn given_up<'a, E: Executor, J: Case + Room, R: Wait>(
     match settled {
         Ok(()) => finished(tools, board),
         Err(memory) => {
-            drop(board);
+            drop(board.into_caches());
             Err(memory)
         }
     }
@@ -410,7 +409,7 @@ fn finished<'a, E: Executor, J: Case>(
             Ok(format!(in tools.alloc; "{text}; {solution}")?)
         }
         Err(board) => {
-            drop(board);
+            drop(board.into_caches());
             Err(Memory)
         }
     }

@@ -63,7 +63,11 @@ fn take_step(
 ) -> Result<(), Memory> {
     match cut(step) {
         ("find", op) => {
-            let found = if has(alloc, memo, op)? { "found" } else { "none" };
+            let found = if has(alloc, memo, op)? {
+                "found"
+            } else {
+                "none"
+            };
             Ok(told.push_str(found)?)
         }
         ("forget", _) => {

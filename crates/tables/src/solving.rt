@@ -105,10 +105,11 @@ fn tell_all(
     case: &Case<'_>,
     watch: &Watch,
     caches: &mut CacheStore,
-) -> Result<(), Memory>
-    requires { caches.old.holds ≡ [] }
-{
+) -> Result<(), Memory> {
     for _ in 0..case.times {
+        if !caches.is_idle() {
+            return Ok(told.push_str("; a lease is out")?);
+        }
         let text = solved_by(alloc, rt, plan, case.who, watch, caches)?;
         if !told.as_str().contains(text.as_str()) {
             told.push_str(text.as_str())?;
@@ -132,15 +133,7 @@ fn solved_by<G: Gate>(
     match who {
         "here" => answer_text(alloc, solve_here(alloc, plan, &Fixture, caches)?),
         "sweep" => swept(alloc, plan, gate),
-        _ => solved(
-            alloc,
-            rt,
-            plan,
-            &Fixture,
-            gate,
-            caches,
-            workers_of(who),
-        ),
+        _ => solved(alloc, rt, plan, &Fixture, gate, caches, workers_of(who)),
     }
 }
 

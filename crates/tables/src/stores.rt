@@ -145,9 +145,7 @@ pub fn solved<C, E: Executor, G: Gate>(
     ensures idle { caches.new.holds ≡ [] }
 {
     let mut memo = Memo::new(alloc, executor);
-    let solution = solve(
-        alloc, rt, plan, executor, workers, gate, caches, &mut memo,
-    );
+    let solution = solve(alloc, rt, plan, executor, workers, gate, caches, &mut memo);
     drop(memo);
     let text = match solution {
         Ok(solution) => solution_text(alloc, solution),
