@@ -1,17 +1,38 @@
-// A plan by hand: its vertices and then `target N`, with `; ` between each two. A vertex is `OPERATION on INPUT .. of LINE`: an operation as
+// Plans of cases: that of a bundle, or one by hand.
+//
+// A plan by hand is its vertices and then `target N`, with `; ` between each two. A vertex is `OPERATION on INPUT .. of LINE`: an operation as
 // `samples::op_of` reads it, the numbers of the vertices that it works on, and the line of its instruction, 0 if it has none; it is `OPERATION of LINE` if it works
 // on none. In an operation `⏎` is a LF and `⇥` a tab. The context has the files `/a/f1`, `/b/g` and `/f`, which hold 1, 2 and 3.
 
 use crate::reading::number;
 use ascii::split_at_blanks;
+use build::{Asked, ask};
+use imageconfig::Config;
 use llb::Graph;
 use plain::Memory;
 use plans::Plan;
 use samples::{add_row, plan_of, tree};
 use std::alloc::Global;
+use std::thread::Threads;
 
 /// The files of each plan's context.
 const FILES: [(&str, &str); 3] = [("/a/f1", "1"), ("/b/g", "2"), ("/f", "3")];
+
+/// The plan of a bundle, without what its caches hold.
+pub fn plan_of_bundle(
+    alloc: Global,
+    rt: &(impl Threads + Sync),
+    bundle: &str,
+) -> Result<Plan<Config>, Memory> {
+    match ask(alloc, rt, bundle.as_bytes()) {
+        Ok(asked) => {
+            let Asked { evaluated, caches } = asked;
+            drop(caches);
+            build::plan_of(alloc, evaluated)
+        }
+        Err(_) => Err(Memory),
+    }
+}
 
 /// The plan that a text says.
 pub fn plan_read(alloc: Global, text: &str) -> Result<Plan<u8>, Memory> {

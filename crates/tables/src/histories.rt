@@ -1,9 +1,9 @@
 // `histories`: a name, ` | `, a plan by hand or a bundle, ` | `, and events: `c0` is a claim by worker 0, `s0` its settle, `a0` its abandon. They are played on a
 // new board, by one thread. The answer is the name and what has happened, in order: the event and the vertex, and `!` where a command is claimed.
 
-use crate::by_hand::plan_read;
+use crate::by_hand::{plan_of_bundle, plan_read};
+use crate::reading::number;
 use board::{Event, Happened};
-use build::{Asked, ask, plan_of};
 use executor::Fixture;
 use llb::{Graph, Op, VertexId};
 use plain::Memory;
@@ -37,7 +37,7 @@ fn event_of(word: &str) -> Result<Event, Memory> {
     let Some((kind, worker)) = word.split_at_checked(1) else {
         return Err(Memory);
     };
-    let worker = crate::reading::number(worker)?;
+    let worker = number(worker)?;
     match kind {
         "c" => Ok(Event::Claim(worker)),
         "s" => Ok(Event::Settle(worker)),
@@ -59,19 +59,10 @@ fn of_bundle(
     bundle: &str,
     events: &[Event],
 ) -> Result<String, Memory> {
-    let Ok(asked) = ask(alloc, rt, bundle.as_bytes()) else {
-        return Err(Memory);
-    };
-    let Asked { evaluated, caches } = asked;
-    drop(caches);
-    match plan_of(alloc, evaluated) {
-        Ok(plan) => {
-            let text = played(alloc, &plan, events);
-            drop(plan);
-            text
-        }
-        Err(memory) => Err(memory),
-    }
+    let plan = plan_of_bundle(alloc, rt, bundle)?;
+    let text = played(alloc, &plan, events);
+    drop(plan);
+    text
 }
 
 fn played<C>(alloc: Global, plan: &Plan<C>, events: &[Event]) -> Result<String, Memory> {

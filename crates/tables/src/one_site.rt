@@ -8,16 +8,15 @@
 //
 // The case of these sites promises nothing of what a settle gives back.
 
-ghost use Rattle.std.specs.Prelude.{◌≡◌, ◌<◌, [], false, length};
-ghost use Rattle.board.specs.Board.{board_problem};
+ghost use Rattle.std.specs.Prelude.{◌≡◌, [], false};
 ghost use Rattle.board.specs.Claim.{IsClaim};
 ghost use Rattle.board.specs.Job.{job_problem};
 ghost use Rattle.sites.specs.Seats.{IsMine};
 
+use crate::by_hand::plan_of_bundle;
 use crate::histories::{is_command, push_history};
 use crate::stores::solution_text;
 use board::{Board, Claim, Happened, Job, NoBoard, Refused};
-use build::{Asked, ask, plan_of};
 use cachemounts::CacheStore;
 use executor::{Executor, Fixture};
 use llb::Graph;
@@ -59,20 +58,11 @@ pub fn answer(
         "apart" => How::Apart,
         _ => How::Tallies,
     };
-    let Ok(asked) = ask(alloc, rt, bundle.as_bytes()) else {
-        return Err(Memory);
-    };
-    let Asked { evaluated, caches } = asked;
-    drop(caches);
-    match plan_of(alloc, evaluated) {
-        Ok(plan) => {
-            let text = of_plan(alloc, rt, &plan, &Fixture, how);
-            drop(plan);
-            let text = text?;
-            Ok(format!(in alloc; "{name}:{text}")?)
-        }
-        Err(memory) => Err(memory),
-    }
+    let plan = plan_of_bundle(alloc, rt, bundle)?;
+    let text = of_plan(alloc, rt, &plan, &Fixture, how);
+    drop(plan);
+    let text = text?;
+    Ok(format!(in alloc; "{name}:{text}")?)
 }
 
 /// What the workers share beside the desk.
@@ -112,12 +102,15 @@ fn of_job<E: Executor, J: Case + Room + Send + Sync, R: Threads + Wait + Sync>(
 {
     let results = Results::<J>::new(tools.alloc, job.graph().len())?;
     match Board::new(tools.alloc, job, CacheStore::new(tools.alloc)) {
-        Ok(board) => match how {
-            How::Inputs => inputs_of(rt, tools, board, &results, opened),
-            How::GivenUp => given_up(rt, tools, board, &results, opened),
-            How::Tallies => shared(rt, tools, board, &results, opened, false),
-            How::Apart => shared(rt, tools, board, &results, opened, true),
-        },
+        Ok(board) => {
+            let site = Site::<E, J>::new(board, &results, opened);
+            match how {
+                How::Inputs => inputs_of(rt, tools, site),
+                How::GivenUp => given_up(rt, tools, site),
+                How::Tallies => shared(rt, tools, site, false),
+                How::Apart => shared(rt, tools, site, true),
+            }
+        }
         Err(NoBoard { caches }) => {
             drop(caches);
             drop(opened);
@@ -126,24 +119,17 @@ fn of_job<E: Executor, J: Case + Room + Send + Sync, R: Threads + Wait + Sync>(
     }
 }
 
-/// Two threads share a site of the board.
+/// Two threads share the site.
 fn shared<'a, E: Executor, J: Case + Room + Send + Sync, R: Threads + Wait + Sync>(
     rt: &R,
     tools: &Tools<E>,
-    board: Board<'a, E, Known<'a, J>>,
-    results: &'a Results<J>,
-    opened: Opened,
+    mut site: Site<'a, E, J>,
     is_apart: bool,
 ) -> Result<String, Memory>
+    requires fresh { site ≡ 0 }
     requires job { job_problem E.out tools.now.job.now ≡ J.problem }
-    requires problem { board_problem E.out board ≡ J.problem }
-    requires long { results.now ≡ length J.problem.vertices }
-    requires first { board.first ≡ J.first }
-    requires before { board.run.history ≡ J.before }
     requires promises { J.promises ≡ false }
-    requires room { opened.table.shared.table_id ≡ J.table }
 {
-    let mut site = Site::<E, J>::new(board, results, opened);
     let mut seats = [site.seat(tools.alloc), site.seat(tools.alloc)];
     work_all(rt, site.desk(), tools, &mut seats);
     let history = site.close(&mut seats).into_history();
@@ -280,23 +266,16 @@ fn settle_run<'a, E: Executor, J: Case + Room, R: Wait>(
     }
 }
 
-/// One thread has a site of the board, and reads inputs after it settled.
+/// One thread has the site, and reads inputs after it settled.
 fn inputs_of<'a, E: Executor, J: Case + Room, R: Wait>(
     rt: &R,
     tools: &Tools<E>,
-    board: Board<'a, E, Known<'a, J>>,
-    results: &'a Results<J>,
-    opened: Opened,
+    mut site: Site<'a, E, J>,
 ) -> Result<String, Memory>
+    requires fresh { site ≡ 0 }
     requires job { job_problem E.out tools.now.job.now ≡ J.problem }
-    requires problem { board_problem E.out board ≡ J.problem }
-    requires long { results.now ≡ length J.problem.vertices }
-    requires first { board.first ≡ J.first }
-    requires before { board.run.history ≡ J.before }
     requires promises { J.promises ≡ false }
-    requires room { opened.table.shared.table_id ≡ J.table }
 {
-    let mut site = Site::<E, J>::new(board, results, opened);
     let mut seat = site.seat(tools.alloc);
     let mut text = String::new(tools.alloc);
     let done = read_inputs(rt, tools, &site, &mut seat, &mut text);
@@ -358,19 +337,12 @@ fn read_input<'a, E: Executor, J: Case + Room, R: Wait>(
 fn given_up<'a, E: Executor, J: Case + Room, R: Wait>(
     rt: &R,
     tools: &Tools<E>,
-    board: Board<'a, E, Known<'a, J>>,
-    results: &'a Results<J>,
-    opened: Opened,
+    mut site: Site<'a, E, J>,
 ) -> Result<String, Memory>
+    requires fresh { site ≡ 0 }
     requires job { job_problem E.out tools.now.job.now ≡ J.problem }
-    requires problem { board_problem E.out board ≡ J.problem }
-    requires long { results.now ≡ length J.problem.vertices }
-    requires first { board.first ≡ J.first }
-    requires before { board.run.history ≡ J.before }
     requires promises { J.promises ≡ false }
-    requires room { opened.table.shared.table_id ≡ J.table }
 {
-    let mut site = Site::<E, J>::new(board, results, opened);
     let mut seat = site.seat(tools.alloc);
     let mut text = String::new(tools.alloc);
     let settled = read_input(rt, tools, &site, &mut seat, &mut text);

@@ -8,6 +8,7 @@ use crate::stores::solved;
 use cachemounts::CacheStore;
 use executor::Fixture;
 use llb::Graph;
+use memo::Memo;
 use plain::Memory;
 use plans::Plan;
 use samples::{add_row, plan_of};
@@ -252,7 +253,18 @@ fn solved_anew(
     requires { (0 < workers) × (workers ≤ 64) }
 {
     let mut caches = CacheStore::new(alloc);
-    let text = solved(alloc, rt, plan, &Fixture, &OpenGate, &mut caches, workers);
+    let mut memo = Memo::new(alloc, &Fixture);
+    let text = solved(
+        alloc,
+        rt,
+        plan,
+        &Fixture,
+        &OpenGate,
+        &mut caches,
+        workers,
+        &mut memo,
+    );
+    drop(memo);
     drop(caches);
     text
 }

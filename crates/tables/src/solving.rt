@@ -16,6 +16,7 @@ use crate::watching::{Watch, Way};
 use board::{Board, Job, NoBoard};
 use cachemounts::CacheStore;
 use executor::Fixture;
+use memo::Memo;
 use plain::Memory;
 use plans::Plan;
 use samples::listing;
@@ -133,7 +134,21 @@ fn solved_by<G: Gate>(
     match who {
         "here" => answer_text(alloc, solve_here(alloc, plan, &Fixture, caches)?),
         "sweep" => swept(alloc, plan, gate),
-        _ => solved(alloc, rt, plan, &Fixture, gate, caches, workers_of(who)),
+        _ => {
+            let mut memo = Memo::new(alloc, &Fixture);
+            let text = solved(
+                alloc,
+                rt,
+                plan,
+                &Fixture,
+                gate,
+                caches,
+                workers_of(who),
+                &mut memo,
+            );
+            drop(memo);
+            text
+        }
     }
 }
 

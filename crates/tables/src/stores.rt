@@ -1,7 +1,7 @@
 // `stores`: a name, ` | `, a number of workers and, if the executor wants memory, the number of its first run that does, from 0 on, as do all that
-// begin later; ` | `, and a bundle. Its plan is solved over a store of what the bundle's caches hold, and then again over that store by an executor
-// that has memory. The answer is the name and what each came to: a tree's entries, or a failure's line and cause, or want of memory; and that a
-// lease is out after it, if one is.
+// begin later; ` | `, and a bundle. Its plan is solved over a store of what the bundle's caches hold, and then again over that store and with the same memo
+// by an executor that has memory. The answer is the name and what each came to: a tree's entries, or a failure's line and cause, or want of memory; and
+// that a lease is out after it, if one is.
 //
 // `tools/refuse-allocations` runs this table with each of its allocations refused in turn.
 
@@ -29,6 +29,15 @@ use workers::solve;
 struct Wanting {
     begun: AtomicU64,
     from: u64,
+}
+
+impl Wanting {
+    fn new(from: u64) -> Wanting {
+        Wanting {
+            begun: AtomicU64::new(0),
+            from,
+        }
+    }
 }
 
 impl Executor for Wanting {
@@ -120,17 +129,21 @@ fn plan_text(
     requires workers { (0 < workers) × (workers ≤ 64) }
     requires idle { caches.old.holds ≡ [] }
 {
-    let wanting = Wanting {
-        begun: AtomicU64::new(0),
-        from,
-    };
-    let first = solved(alloc, rt, plan, &wanting, &OpenGate, caches, workers);
-    let second = solved(alloc, rt, plan, &Fixture, &OpenGate, caches, workers);
+    let wanting = Wanting::new(from);
+    let sated = Wanting::new(u64::MAX);
+    let mut memo = Memo::new(alloc, &wanting);
+    let first = solved(
+        alloc, rt, plan, &wanting, &OpenGate, caches, workers, &mut memo,
+    );
+    let second = solved(
+        alloc, rt, plan, &sated, &OpenGate, caches, workers, &mut memo,
+    );
+    drop(memo);
     let (first, second) = (first?, second?);
     Ok(format!(in alloc; "{first}; then {second}")?)
 }
 
-/// What a plan comes to over a store, and whether a lease is out then.
+/// What a plan comes to over a store and with a memo, and whether a lease is out then.
 pub fn solved<C, E: Executor, G: Gate>(
     alloc: Global,
     rt: &(impl Threads + Wait + Sync),
@@ -139,14 +152,14 @@ pub fn solved<C, E: Executor, G: Gate>(
     gate: &G,
     caches: &mut CacheStore,
     workers: u32,
+    memo: &mut Memo<E>,
 ) -> Result<String, Memory>
+    requires executor { E.out memo.old.executor ≡ E.out executor.now }
     requires workers { (0 < workers) × (workers ≤ 64) }
     requires idle { caches.old.holds ≡ [] }
     ensures idle { caches.new.holds ≡ [] }
 {
-    let mut memo = Memo::new(alloc, executor);
-    let solution = solve(alloc, rt, plan, executor, workers, gate, caches, &mut memo);
-    drop(memo);
+    let solution = solve(alloc, rt, plan, executor, workers, gate, caches, memo);
     let text = match solution {
         Ok(solution) => solution_text(alloc, solution),
         Err(Memory) => Ok(String::from_str(alloc, "out of memory")?),
