@@ -121,6 +121,22 @@ def patterns_and_names(count):
     return bundle_of(lines_of("COPY " + " ".join(f"f{k:05}*" for k in range(count)) + " /d/"), context=files(f"f{k:05}" for k in range(count)))
 
 
+def stars_and_names(count):
+    """So many patterns that begin with `*` in a folder of 100,000 names, each pattern for one of them."""
+    return bundle_of(lines_of("COPY " + " ".join(f"*{k:05}" for k in range(count)) + " /d/"), context=files(f"f{k:05}" for k in range(100000)))
+
+
+def files_onto_files(count):
+    """A folder of 60,000 files, copied so many times onto one folder, which the second time fails."""
+    return bundle_of(lines_of("COPY" + " a/" * count + " /d/"), context=files(f"a/f{k}" for k in range(60000)))
+
+
+def folders_onto_folders(count):
+    """A folder of 100,000 folders, copied so many times onto one folder."""
+    context = [{"path": f"/a/f{k}", "dir": True} for k in range(100000)]
+    return bundle_of(lines_of("COPY" + " a" * count + " /d/"), context=context)
+
+
 def ignore_lines(count):
     """So many ignore lines of 30 `**` against 50 paths of 64 components."""
     lines = "\n".join("**/a/" * 30 + f"b{k}" for k in range(count))
@@ -164,6 +180,11 @@ def one_environment(count):
 def changed_environments(count):
     """So many names on one line of ENV, and then lines of ENV and RUN in turn, a hundredth as many of each."""
     return bundle_of(lines_of("ENV " + " ".join(f"a{k}=" for k in range(count)), *(line for k in range(count // 100) for line in (f"ENV v={k}", "RUN true"))))
+
+
+def pairs_after_names(count):
+    """2,040 pairs of ENV and RUN after so many names."""
+    return bundle_of(lines_of("ENV " + " ".join(f"a{k}=" for k in range(count)), *(line for k in range(2040) for line in (f"ENV v={k}", "RUN true"))))
 
 
 def words_of_shells(count):
@@ -267,6 +288,7 @@ KINDS = {
     long_word_of_shell: (50000, 200000), long_names: (100, 400), values_of_an_environment: (50, 200), environments_of_stages: (10000, 40000),
     doubled_trees: (20, 60), deep_paths: (250, 1000), words_in_words: (500, 2000), continued: (20000, 80000), heredocs: (1500, 6000),
     bumps: (10000, 40000), cats: (8, 32), doubled_trees_laid: (12, 15), doubled_trees_placed: (12, 15), doubled_trees_found: (12, 15),
+    pairs_after_names: (4200, 9000), stars_and_names: (175, 700), files_onto_files: (150, 600), folders_onto_folders: (21, 85),
 }
 DRAWN = {values_drawn, environments}
 # sizes near the limits: a Dockerfile of 1 MiB, 4,096 lines, 256 stages, 8,000 images, a bundle of 64 MiB. Of values of 1 MiB there are fewer than the limits take
@@ -280,6 +302,7 @@ LARGEST = {
     long_word_of_shell: 1000000, long_names: 1000, values_of_an_environment: 100000, environments_of_stages: 100000,
     doubled_trees: 60, deep_paths: 430000, words_in_words: 4000, continued: 110000, heredocs: 50000,
     bumps: 116000, cats: 4000, doubled_trees_laid: 60, doubled_trees_placed: 60, doubled_trees_found: 60,
+    pairs_after_names: 130000, stars_and_names: 100000, files_onto_files: 300000, folders_onto_folders: 300000,
 }
 
 
