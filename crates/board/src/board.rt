@@ -81,7 +81,8 @@ pub struct NoBoard {
 }
 
 impl<'a, E: Executor, P: Place<TreeOrCause>> Board<'a, E, P> {
-    /// A board on which nothing has happened, with a store of which nobody holds anything. `CacheStore::is_idle` tests that.
+    /// A board on which nothing has happened, with a store of which nobody holds anything: `CacheStore::is_idle` tests that. If there is no
+    /// memory, the store comes back as it was.
     pub fn new(
         alloc: Global,
         job: Job<'a, E>,
@@ -111,8 +112,8 @@ impl<'a, E: Executor, P: Place<TreeOrCause>> Board<'a, E, P> {
         })
     }
 
-    /// Claims the ready vertex of least id for a worker, with the places of its inputs' trees and the lease of its caches. It claims nothing where
-    /// no vertex is ready, or where the worker has a claim out. After `Memory` the board is as it was.
+    /// Claims the ready vertex of least id for a worker, with the places of its inputs' trees and the lease of its caches. It claims nothing if
+    /// no vertex is ready, or if the worker has a claim out. After `Memory` the board is as it was.
     pub fn claim(&mut self, alloc: Global, worker: u32) -> Result<Option<Claim<P>>, Memory>
         ensures next { IfOk result (λ claim. IsNextClaim (board_problem E.out self.old) self.old.run.history worker
             (option_map (λ c. c.vertex) claim)) }
@@ -196,8 +197,8 @@ impl<'a, E: Executor, P: Place<TreeOrCause>> Board<'a, E, P> {
         Ok(())
     }
 
-    /// Gives a claim up: its vertex may be claimed again, and the contents of its caches stay as they are. A claim that isn't out any more is
-    /// spent, and nothing else changes. It takes no memory.
+    /// Gives a claim up: its vertex is available again, and the contents of its caches stay as they are. A claim that is no longer out is
+    /// dropped, and the board doesn't change. It takes no memory.
     pub fn abandon(&mut self, claim: Claim<P>)
         ensures out { IsOut self.old.run.state claim → IsStep E.out (Abandoning claim.worker) self.old self.new }
         ensures ended { ¬ IsOut self.old.run.state claim → self.new ≡ self.old }
@@ -265,8 +266,8 @@ impl<'a, E: Executor, P: Place<TreeOrCause>> Board<'a, E, P> {
         self.claims.is_empty()
     }
 
-    /// Whether a vertex may be left to claim: no vertex is ready if not. If so, a vertex is available, and a cache that is held or a failure may still keep
-    /// it from being ready. It looks at no cache, so that it takes no longer where many vertices wait for one.
+    /// Whether a vertex is available. If so, it may still not be ready: a cache may be held, a failure may stop it, or the target may be settled.
+    /// If not, no vertex is ready. It looks at no cache, so that it takes no longer if many vertices wait for one.
     pub fn has_more(&self) -> bool
         ensures more { IsTrue result → (vertex : ℕ) × IsAvailable (board_problem E.out self.now) self.now.run.history vertex }
         ensures none { IsFalse result → (vertex : ℕ) → ¬ IsReady (board_problem E.out self.now) self.now.run.history vertex }
@@ -298,7 +299,7 @@ impl<'a, E: Executor, P: Place<TreeOrCause>> Board<'a, E, P> {
     }
 
     /// Ends the board, and gives its store: the contents are those that the history left. If its settles gave back what runs left, so do those of a
-    /// legal history that leaves these contents. Where no claim is out, no lease is.
+    /// legal history that leaves these contents. If no claim is out, no lease is.
     pub fn into_caches(self) -> CacheStore
         ensures value { result ≡ record { contents = self.entry.contents; holds = self.entry.run.state.holds } }
         ensures idle { self.entry.run.state.claims ≡ [] → result.holds ≡ [] }

@@ -118,7 +118,7 @@ impl<P: Place<TreeOrCause>> Claim<P> {
     }
 }
 
-/// All that a settle took for which there was no memory, given back.
+/// What a settle took, given back since there was no memory for it.
 pub struct Refused<P: Place<TreeOrCause> = TreeOrCause> {
     pub claim: Claim<P>,
     pub value: P,

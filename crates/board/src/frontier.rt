@@ -20,7 +20,7 @@ use trees::TreeOrCause;
 /// them is what says which vertices a settle makes available, and which ones failures stop: those whose line doesn't come before the least failed
 /// line. It has room for every vertex, so that only `new` takes memory.
 ///
-/// A vertex that a failure stops stays stopped. So the first claim that meets it removes it from the set, and later ones don't pass over it.
+/// A vertex that a failure stops stays stopped. So the first claim that meets it removes it from the set, and later claims don't come to it.
 #[derive(Drop)]
 pub(crate) struct Frontier {
     /// For each vertex those that it is an input of, each as often as it is one.
@@ -34,7 +34,7 @@ pub(crate) struct Frontier {
 }
 
 impl Frontier {
-    /// What is available where no vertex was begun.
+    /// The frontier of a board on which nothing was begun.
     pub(crate) fn new(alloc: Global, graph: &Graph) -> Result<Frontier, Memory>
         ensures { IfOk result (IsFrontier graph.now.vertices graph.now.places (replicate (length graph.now.vertices) None) []) }
     {
@@ -71,7 +71,7 @@ impl Frontier {
         None
     }
 
-    /// Whether a vertex is in the set.
+    /// Whether any vertex is in the set.
     pub(crate) fn has_any(&self) -> bool
         ensures some { IsTrue result → (vertex : ℕ) × (has self.now.available vertex ≡ true) }
         ensures none { IsFalse result → HasNone self.now.available 0 }
@@ -133,7 +133,7 @@ fn with_failed(line: u32, failed: Option<u32>) -> u32
     }
 }
 
-/// Lowers the counts of users by one each time that they are in the list, and puts those into the available ones that wait for no input any more.
+/// For each time that a user is in the list, counts one input less for it to wait for. Users that then wait for none become available.
 fn lower(users: &[VertexId], waiting: &mut [usize], available: &mut NumberSet)
     requires waiting { CanLower users.now waiting.old }
     requires room { length available.old ≡ length waiting.old }

@@ -1,4 +1,4 @@
-// What a board knows at a moment, as functions over its job and slices: the methods of `Board` only call them.
+// Tests and look-ups on what a board holds, as functions over its parts, so that each is proved by itself.
 ghost use Rattle.std.specs.Prelude.{◌≡◌, ◌↔◌, ℕ, IsTrue, ◌<◌, true, false, is_some, length, map, IfSome, IfNone, [], vec_len};
 ghost use Rattle.board.specs.Job.{job_problem};
 ghost use Rattle.board.specs.Play.{value_at, claim_of, without, claimable};

@@ -25,9 +25,8 @@ pub trait Executor: Sync {
     ghost leaves: { Self → RunRequest → List TreeMap → List TreeMap → Type 0 } = { λ _ _ _ _. Unit {0} };
 
     /// Runs the command of a request. The tree of each cache that the request uses is lent beside it, in the same order. On
-    /// `Ok` as many trees come back as were lent; what they hold is what the executor may leave (`leaves`), and nothing else is said of
-    /// it. `Memory` says only that a growth was
-    /// refused; the lent trees may then be any, and any number of them.
+    /// `Ok` as many trees come back as were lent; what they hold is what the executor may leave (`leaves`), and nothing else is
+    /// said of it. `Memory` says only that a growth was refused; the lent trees may then be any, and any number of them.
     ///
     /// The mounts of the request have to fit (`fits_request`), as those of each RUN that isn't refused do: no target is the root or lies
     /// at or under another one, and no cache is used twice.

@@ -8,7 +8,7 @@
 // The central definitions are `op_fields` in specs/Op.antt and `definition_fields` in specs/Definition.antt, the fields of an operation and of
 // a definition, and beside each what bytes are read as. `laws` says that what is written is read as it was, so two operations never have
 // one text. Fields stand in the order of their numbers, as BuildKit's own writer has them, so that digests may be BuildKit's. No proof
-// knows BuildKit: `llb_rows` compares bytes with those of another program.
+// knows BuildKit: the table `llb` of `tables` compares bytes with those of another program.
 //
 // ```
 // let end = Op { inputs: one(Input { digest, index: 0 }), kind: OpKind::End, platform: None, constraints: None };

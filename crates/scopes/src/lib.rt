@@ -9,7 +9,7 @@
 // says which declarations the line adds, and what is kept then.
 //
 // A line adds nothing if one of its texts is too long, or is refused since a variable is required: the call says why
-// (`ExpandFault`, of the crate `expand`). Tests are in `language_tests` and `tables`.
+// (`ExpandFault`, of the crate `expand`). Tests are in `tables`.
 //
 // ```
 // scope.declare(alloc, arguments, &args, &outer)?;   // ARG abc=default, with the build arguments and the scope before the first FROM

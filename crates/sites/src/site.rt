@@ -113,8 +113,7 @@ impl<'a, E: Executor, J: Case + Room> Site<'a, E, J> {
         }
     }
 
-    /// A seat for one worker more, under the next number, of which there is one for each that a worker can have but the greatest: so many were given before
-    /// as the seat's own number says. It takes no memory.
+    /// A seat for one worker more, whose number is that of the seats that were given before. Numbers end at 2^32 - 2. It takes no memory.
     pub fn seat(&mut self, alloc: Global) -> Seat<J>
         requires { self.old + 1 < 2 ^ 32 }
         ensures seat { result ≡ record { worker = self.old; out = None; tally = []; lent = [] } }
