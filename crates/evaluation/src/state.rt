@@ -101,7 +101,7 @@ pub(crate) fn begin_source(
     match source {
         Source::Scratch => State::bare(alloc),
         Source::Context => State::bare(alloc),
-        Source::Image(name) => match images.find(name) {
+        Source::Image(name) => match images.find(name.as_str()) {
             Some(image) => State::from_image(alloc, &image.config),
             None => State::bare(alloc),
         },
@@ -115,7 +115,7 @@ fn keep_source_names(images: &Images<BoxedConfig>, source: &Source)
     match source {
         Source::Scratch => {}
         Source::Context => {}
-        Source::Image(name) => match images.find(name) {
+        Source::Image(name) => match images.find(name.as_str()) {
             Some(image) => image.config.get().env.keeps_names(),
             None => {}
         },

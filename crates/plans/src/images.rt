@@ -41,7 +41,7 @@ impl<C> Images<C> {
     }
 
     /// The image of exactly this name; `None` where there is none.
-    pub fn find(&self, name: &Text) -> Option<&Image<C>>
+    pub fn find(&self, name: &str) -> Option<&Image<C>>
         ensures { option_copied result ≡ get self.now name.now }
     {
         self.images.get(name)

@@ -46,7 +46,7 @@ impl<V> Sorted<V> {
     }
 
     /// The value of exactly this name; `None` where there is none.
-    pub(crate) fn get(&self, name: &Text) -> Option<&V>
+    pub(crate) fn get(&self, name: &str) -> Option<&V>
         ensures { option_copied result ≡ get self.now name.now }
     {
         match place(self.rows.as_slice(), name) {
@@ -71,7 +71,7 @@ impl<V: Drop> Sorted<V> {
         ensures ok { OnOk result (self.new ≡ insert self.old name value) }
         ensures err { OnErr result (self.new ≡ self.old) }
     {
-        match place(self.rows.as_slice(), &name) {
+        match place(self.rows.as_slice(), name.as_str()) {
             Ok(at) => Ok(Some(mem::replace(&mut self.rows[at].1, value))),
             Err(at) => {
                 self.rows.insert(at, (name, value))?;
@@ -83,7 +83,7 @@ impl<V: Drop> Sorted<V> {
 
 /// Where a name stands among names that fall, or where it would stand. The last row is looked at first: mostly a name that is added comes
 /// before all that are there, and goes behind it.
-fn place<V>(rows: &[(Text, V)], name: &Text) -> Result<usize, usize>
+fn place<V>(rows: &[(Text, V)], name: &str) -> Result<usize, usize>
     requires { is_sorted falling rows.now ≡ true }
     ensures stands { IfOk result (λ at. StandsAt name.now rows.now at) }
     ensures absent { IfErr result (λ at. GoesAt name.now rows.now at) }
@@ -93,14 +93,14 @@ fn place<V>(rows: &[(Text, V)], name: &Text) -> Result<usize, usize>
     };
     let mut low = 0;
     let mut high = rows.len() - 1;
-    match name.cmp(&last.0) {
+    match name.cmp(last.0.as_str()) {
         Ordering::Less => return Err(high + 1),
         Ordering::Equal => return Ok(high),
         Ordering::Greater => {}
     }
     'seeking: while low < high {
         let middle = low + (high - low) / 2;
-        match name.cmp(&rows[middle].0) {
+        match name.cmp(rows[middle].0.as_str()) {
             Ordering::Less => low = middle + 1,
             Ordering::Equal => return Ok(middle),
             Ordering::Greater => high = middle,

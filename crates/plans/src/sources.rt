@@ -86,7 +86,7 @@ impl Sources {
         match source {
             Source::Scratch => Some(&self.scratch),
             Source::Context => Some(&self.context),
-            Source::Image(name) => self.images.get(name),
+            Source::Image(name) => self.images.get(name.as_str()),
         }
     }
 }

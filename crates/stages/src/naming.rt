@@ -69,7 +69,7 @@ fn is_image_name(text: &Text) -> bool
 fn image_named<C>(alloc: Global, images: &Images<C>, text: &Text) -> Result<Option<Origin>, Memory>
     ensures { IfOk result (λ found. found ≡ image_named (names_in images.now) text.now) }
 {
-    if images.find(text).is_some() && is_image_name(text) {
+    if images.find(text.as_str()).is_some() && is_image_name(text) {
         let name = text.copy(alloc)?;
         Ok(Some(Origin::Source(Source::Image(name))))
     } else {
