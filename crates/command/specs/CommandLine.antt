@@ -71,9 +71,9 @@ pack_to = with_rule pack_with (text_option (codes "output"))
 abbrev pub pack_command : App
 pack_command = with_rule (with_rule pack_to (flag (codes "apply-ignore"))) (flag (codes "names"))
 
--- `dfsolve COMMAND` with no command yet; one has to be given, and the program has a version to tell (own)
+-- `dfsolve COMMAND` with no command yet; one has to be given, the program has a version to tell, and its name isn't among the words (own)
 abbrev pub bare_command : App
-bare_command = on_top (λ top. record top { subcommand_required = true; has_version = true }) (new_app (codes "dfsolve"))
+bare_command = on_top (λ top. record top { subcommand_required = true; has_version = true; no_binary_name = true }) (new_app (codes "dfsolve"))
 
 -- `dfsolve COMMAND` of the commands that read a bundle (own)
 abbrev pub bundle_command : App

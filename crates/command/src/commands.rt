@@ -128,6 +128,7 @@ fn bare_command<'a>(alloc: Global) -> Command<'a>
         .version(VERSION)
         .about("Compiles a Dockerfile and solves it")
         .subcommand_required(true)
+        .no_binary_name(true)
 }
 
 /// The command with a subcommand, where both were made.

@@ -8,7 +8,7 @@
 // taken, `IsTaskOf`, what they ask for, and `faults_of`, what is wrong with them.
 //
 // ```
-// match read_command(alloc, ["dfsolve", "build"].as_slice()) {
+// match read_command(alloc, ["build"].as_slice()) {
 //     Ok(task) => ..,                    // Task::Build, with 4 workers and no file
 //     Err(error) => error.print(rt)?,
 // }

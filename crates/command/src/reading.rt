@@ -21,8 +21,7 @@ use plain::limits::MOST_WORKERS;
 use plain::{Items, Text};
 use std::alloc::{AllocError, Global};
 
-/// The task that the words ask for. The first word is the program's name, as in what `env::args` gives,
-/// and is passed over.
+/// The task that the words ask for: those after the program's name, which `env::args` gives first.
 ///
 /// `graph` is a command with a word FILE that may be left out, and with `--dot` once at most. `build` is one with that word and `--workers N` or `--workers=N` once at most; N is
 /// decimal digits, of which a `+` may stand in front, and its value is 1 to 64; the default is 4. `pack` is one with a word DIR, with

@@ -46,9 +46,13 @@ fn fault_of(error: &io::Error) -> WordsFault {
     }
 }
 
-/// Runs the program on these words.
+/// Runs the program on what follows its name, the first of these words.
 fn run_words(rt: &HostRuntime, threads: &(impl Threads + Wait + Sync), words: &[String]) -> u8 {
-    let lent: Result<Vec<&str>, AllocError> = words
+    let after = match words {
+        [_, after @ ..] => after,
+        [] => words,
+    };
+    let lent: Result<Vec<&str>, AllocError> = after
         .iter()
         .map(|word| word.as_str())
         .collect(rt.alloc());

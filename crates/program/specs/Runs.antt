@@ -218,7 +218,7 @@ pub record Performs (out : Out) (words : List (List ℕ)) (old new : Streams) (s
   pub faultless : faults_of words ≡ []
   pub does : Does out task old new status
 
--- What the program does with the words of a command line, the program's name first, or where there are none: it does the task that
+-- What the program does with the words of a command line, those after its name, or where there are none: it does the task that
 -- they spell; or it says what is wrong with them, or help; or there was no memory to read them.
 abbrev pub Runs : Out → Result (List (List ℕ)) (Fault NotText) → Streams → Streams → ℕ → Type 0
 Runs out (Err (Because fault)) old new status = OnWriters Mistakes old new status

@@ -6,7 +6,7 @@
 // Its central definition is `Runs` in specs/Runs.antt: for every end of every command what is written where, and the status.
 //
 // ```
-// run_program(alloc, &rt, &rt, Ok(["dfsolve", "build"].as_slice()), &mut input, &mut output, &mut errors, &Fixture)    // 0, 1, 2 or 3
+// run_program(alloc, &rt, &rt, Ok(["build"].as_slice()), &mut input, &mut output, &mut errors, &Fixture)    // 0, 1, 2 or 3
 // ```
 #![tactic(auto)]
 

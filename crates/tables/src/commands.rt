@@ -1,6 +1,7 @@
-// `commands`: command lines, whose words are cut at each space, and after `=>` what they ask for, or the kind of fault. After ` | `
-// stands a part of what is told of the fault.
+// `commands`: command lines, whose words are cut at each space, and after `=>` what those after the program's name ask for, or the kind of fault.
+// After ` | ` stands a part of what is told of the fault.
 
+use crate::reading::after_name;
 use clap::Error;
 use command::{
     BuildOptions, CheckOptions, GraphOptions, LlbOptions, MergeName, NetworkName, PackOptions,
@@ -17,7 +18,7 @@ pub fn answer(alloc: Global, case: &str) -> Result<String, Memory> {
 fn answer_to_case(alloc: Global, case: &str) -> Result<String, Memory> {
     let (line, part) = case.split_once(" | ").unwrap_or((case, ""));
     let words: Vec<&str> = line.split(' ').collect(alloc)?;
-    match read_command(alloc, words.as_slice()) {
+    match read_command(alloc, after_name(words.as_slice())) {
         Ok(task) => task_text(alloc, task),
         Err(error) => error_text(alloc, error, part),
     }

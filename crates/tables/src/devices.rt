@@ -1,5 +1,6 @@
 // A reader and writers that move few bytes a call and fail once, and the program run on them.
 
+use crate::reading::after_name;
 use counted::Counted;
 use executor::Fixture;
 use plain::Fault;
@@ -148,7 +149,7 @@ pub fn run<F: Files + AllocGlobal + Clone + Drop>(
     devices: Devices,
 ) -> Ended {
     match words_of(alloc, line) {
-        Ok(words) => run_words(alloc, rt, files, Ok(words.as_slice()), bytes, devices),
+        Ok(words) => run_words(alloc, rt, files, Ok(after_name(words.as_slice())), bytes, devices),
         Err(fault) => run_words(alloc, rt, files, Err(fault), bytes, devices),
     }
 }

@@ -9,6 +9,14 @@ pub fn cut(text: &str) -> (&str, &str) {
     text.split_once(' ').unwrap_or((text, ""))
 }
 
+/// The words of a command line after the program's name.
+pub fn after_name<'a>(words: &'a [&'a str]) -> &'a [&'a str] {
+    match words {
+        [_, after @ ..] => after,
+        [] => words,
+    }
+}
+
 /// A number in decimal digits.
 pub fn number(text: &str) -> Result<u32, Memory> {
     text.parse::<u32>().ok().ok_or(Memory)
