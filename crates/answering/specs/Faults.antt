@@ -13,12 +13,9 @@ abbrev pub of_edge : Fault DeviceFailed → BuildFault
 of_edge fault.Memory = Memory
 of_edge (fault.Because device) = Device
 
--- the status that the program ends with
-abbrev pub exit_status : Result Status BuildFault → ℕ
+-- the status that the program ends with, by what a call answered, whatever its faults are
+abbrev pub exit_status : {F : Type 0} → Result Status F → ℕ
 exit_status (Ok Built) = 0
 exit_status (Ok Failed) = 1
 exit_status (Ok Refused) = 2
-exit_status (Err Memory) = 3
-exit_status (Err Device) = 3
-exit_status (Err Clash) = 3
-exit_status (Err Unspeakable) = 3
+exit_status (Err fault) = 3

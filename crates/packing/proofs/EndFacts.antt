@@ -12,10 +12,10 @@ use Rattle.packing.specs.PrivateFound.{IsFound}
 use Rattle.packing.specs.PrivateImages.{image_rows}
 use Rattle.packing.specs.declared.fault.PackFault.{PackFault}
 use Rattle.packing.specs.declared.fault.PackFault.TheVariants.{Device, Ended, Memory}
-use Rattle.packing.specs.declared.packing.Status.{Status}
-use Rattle.packing.specs.declared.packing.Status.TheVariants.{Built, Refused}
+use Rattle.answering.specs.declared.status.Status.{Status}
+use Rattle.answering.specs.declared.status.Status.TheVariants.{Built, Failed, Refused}
 use Rattle.packing.specs.declared.walking.Found.{Found}
-use Rattle.packing.specs.Ends.{IsBefore, Packs, PacksFolder, of_edge}
+use Rattle.packing.specs.Ends.{IsBefore, IsPacking, Packs, PacksFolder, of_edge}
 
 -- a fault before anything is written
 pub unwritten : (written : Option (List ℕ)) (failed : ℕ) (fault : PackFault) → IsBefore fault → (asked : Asked) → PacksFolder asked written failed written failed (Err fault)
@@ -38,6 +38,14 @@ packed_found asked found old failed new failed_then result is packs =
       are_images = is.are_images;
       packs = packs;
     }))
+
+-- what was found is packed or not, and no build fails
+pub packs_only : (tree : TreeMap) (file : Option (List ℕ)) (given : Given) (old : Option (List ℕ)) (failed : ℕ) (new : Option (List ℕ)) (failed_then : ℕ) (result : Result Status PackFault)
+    → Packs tree file given old failed new failed_then result → IsPacking result
+packs_only tree file given old failed new failed_then (Ok Built) packs = tt
+packs_only tree file given old failed new failed_then (Ok Failed) packs = absurd packs
+packs_only tree file given old failed new failed_then (Ok Refused) packs = absurd packs
+packs_only tree file given old failed new failed_then (Err fault) packs = tt
 
 -- there was no Dockerfile
 pub none_found : (asked : Asked) (written : Option (List ℕ)) (failed : ℕ) → PacksFolder asked written failed written failed (Ok Refused)

@@ -11,8 +11,8 @@ use Rattle.packing.specs.Images.{ImageRow, are_images, names_of}
 use Rattle.packing.specs.Packed.{Asked, Given, IsPlain, bundle_of, given_with, packed_of}
 use Rattle.packing.specs.declared.fault.PackFault.{PackFault}
 use Rattle.packing.specs.declared.fault.PackFault.TheVariants.{Memory, Device, Ended}
-use Rattle.packing.specs.declared.packing.Status.{Status}
-use Rattle.packing.specs.declared.packing.Status.TheVariants.{Built, Refused}
+use Rattle.answering.specs.declared.status.Status.{Status}
+use Rattle.answering.specs.declared.status.Status.TheVariants.{Built, Failed, Refused}
 
 -- what a fault of writing means
 abbrev pub of_edge : Fault DeviceReason → PackFault
@@ -30,6 +30,13 @@ abbrev pub IsBefore : PackFault → Type 0
 IsBefore Memory = ⊤
 IsBefore Device = ⊥
 IsBefore Ended = ⊤
+
+-- packing builds a bundle or is refused, and no instruction fails in it
+abbrev pub IsPacking : Result Status PackFault → Type 0
+IsPacking (Ok Built) = ⊤
+IsPacking (Ok Failed) = ⊥
+IsPacking (Ok Refused) = ⊤
+IsPacking (Err fault) = ⊤
 
 -- the whole bundle of a folder was written, with the LF that ends it; it is read as that bundle's data
 pub record HasPacked (tree : TreeMap) (file : Option (List ℕ)) (given : Given) (old new : Option (List ℕ)) : Type 0 where
@@ -49,6 +56,7 @@ pub record HasBegun (tree : TreeMap) (file : Option (List ℕ)) (given : Given) 
 -- there when it was read; or a write failed.
 abbrev pub Packs : TreeMap → Option (List ℕ) → Given → Option (List ℕ) → ℕ → Option (List ℕ) → ℕ → Result Status PackFault → Type 0
 Packs tree file given old failed new failed_then (Ok Built) = HasPacked tree file given old new × (failed_then ≡ failed)
+Packs tree file given old failed new failed_then (Ok Failed) = ⊥
 Packs tree file given old failed new failed_then (Ok Refused) = ⊥
 Packs tree file given old failed new failed_then (Err Memory) = IsUnwritten old failed new failed_then
 Packs tree file given old failed new failed_then (Err Ended) = (packed_of tree file given ≡ None) × IsUnwritten old failed new failed_then

@@ -8,7 +8,7 @@
 // packing what was found ends, and `image_of` (specs/Images.antt), the image that the text of a file gives.
 //
 // ```
-// let status = run_pack(&rt, alloc, "examples/folder", &mut output)?;   // Built, and the bundle with an LF is written
+// let status = run_pack(alloc, &rt, "examples/folder", &mut output)?;   // Built, and the bundle with an LF is written
 // ```
 #![tactic(auto)]
 
@@ -27,4 +27,4 @@ mod walking;
 
 pub use asked::PackOptions;
 pub use fault::PackFault;
-pub use packing::{Status, run_pack, run_pack_to_file, run_pack_with};
+pub use packing::{run_pack, run_pack_to_file, run_pack_with};

@@ -1,5 +1,5 @@
 ghost use Rattle.std.specs.Prelude.{◌≡◌, ◌<◌, [], ◌∷◌, ◌++◌, IfOk};
-ghost use Rattle.packing.specs.Ends.{Packs, PacksFolder};
+ghost use Rattle.packing.specs.Ends.{IsPacking, Packs, PacksFolder};
 ghost use Rattle.packing.specs.Packed.{given_with, nothing_asked};
 ghost use Rattle.packing.specs.Asked.{asked_of};
 ghost use Rattle.packing.specs.PrivateFound.{IsFound};
@@ -8,6 +8,7 @@ ghost use Rattle.packing.specs.PrivateImages.{image_rows};
 use crate::refusing::{GONE, UNWRITTEN, note_output, refuse, refuse_output};
 use crate::walking::{Found, FoundFiles, find_bundle};
 use crate::{PackFault, PackOptions};
+use answering::Status;
 use counted::{Counted, CountedWrite, write_all};
 use plain::{Items, Memory, Text};
 use std::alloc::Global;
@@ -15,27 +16,18 @@ use std::fs;
 use std::fs::{File, OpenOptions};
 use std::rt::Files;
 
-/// What became of a folder.
-#[derive(Clone, Copy, Debug, PartialEq, Eq)]
-pub enum Status {
-    /// Its bundle was written.
-    Built,
-    /// It has no file `Dockerfile`, and nothing was written.
-    Refused,
-}
-
 /// Writes the bundle of a folder, with an LF: its file `Dockerfile`, and all files and directories in it, that one too, in path order,
 /// 0644 and 0755.
 ///
-/// It is `Refused` where the folder has no file `Dockerfile`, which is asked first; a link is none. The folder may be given by a link, and no
+/// It is `Built` where that was written, and `Refused` where the folder has no file `Dockerfile`, which is asked first; a link is none. The folder may be given by a link, and no
 /// link in it is followed: what is neither a file nor a directory ends it, and so does what can't be read, lies deeper than 64 components, or
 /// has a name that isn't UTF-8 or longer than 255 bytes. After `Ended` and `Memory` nothing was written; after `Device` a beginning of the
 /// bundle was.
 ///
 /// The count of failed calls is a machine number, so a caller has to know that there is room for one more in it.
 pub fn run_pack<R: Files + AllocGlobal + Clone + Drop, W: CountedWrite>(
-    rt: &R,
     alloc: Global,
+    rt: &R,
     folder: &str,
     output: &mut W,
 ) -> Result<Status, PackFault>
@@ -53,7 +45,7 @@ pub fn run_pack<R: Files + AllocGlobal + Clone + Drop, W: CountedWrite>(
         names: false,
     };
     let mut why = Text::from_string(String::new(alloc));
-    run_pack_with(rt, alloc, folder, options, output, &mut why)
+    run_pack_with(alloc, rt, folder, options, output, &mut why)
 }
 
 /// Writes the bundle of a folder as `run_pack` does, with what is given beside it: a target and build arguments stand in the bundle, and the
@@ -76,8 +68,8 @@ pub fn run_pack<R: Files + AllocGlobal + Clone + Drop, W: CountedWrite>(
 ///
 /// After `Ended` it is noted in `why` what can't be packed: its place on the machine, what it is, and the remedy.
 pub fn run_pack_with<R: Files + AllocGlobal + Clone + Drop, W: CountedWrite>(
-    rt: &R,
     alloc: Global,
+    rt: &R,
     folder: &str,
     options: PackOptions<'_>,
     output: &mut W,
@@ -123,20 +115,22 @@ fn write_found<W: CountedWrite>(
 ///
 /// What the machine does with a file is in no contract.
 pub fn run_pack_to_file<R: Files + AllocGlobal + Clone + Drop>(
-    rt: &R,
     alloc: Global,
+    rt: &R,
     folder: &str,
     options: PackOptions<'_>,
     name: &str,
     why: &mut Text,
-) -> Result<Status, PackFault> {
+) -> Result<Status, PackFault>
+    ensures { IsPacking result }
+{
     let Some(found) = find_bundle(rt, alloc, folder, options, why)? else {
         return Ok(Status::Refused);
     };
     if may_be_replaced(rt, name) {
-        write_file(rt, alloc, found, options, name, why)
+        write_file(alloc, rt, found, options, name, why)
     } else {
-        write_into(rt, alloc, found, options, name, why)
+        write_into(alloc, rt, found, options, name, why)
     }
 }
 
@@ -149,15 +143,17 @@ fn may_be_replaced<R: Files>(rt: &R, name: &str) -> bool {
 }
 
 /// Writes the bundle of what was found into what has this name.
+#[tactic(auto, using(crate::proofs::EndFacts::packs_only))]
 fn write_into<R: Files + AllocGlobal>(
-    rt: &R,
     alloc: Global,
+    rt: &R,
     found: Found,
     options: PackOptions<'_>,
     name: &str,
     why: &mut Text,
 ) -> Result<Status, PackFault>
     requires found { IsFound (asked_of options) found }
+    ensures { IsPacking result }
 {
     match File::create(rt, name) {
         Ok(file) => {
@@ -171,15 +167,17 @@ fn write_into<R: Files + AllocGlobal>(
 }
 
 /// Writes the bundle of what was found to a file that is put in place whole.
+#[tactic(auto, using(crate::proofs::EndFacts::packs_only))]
 fn write_file<R: Files + AllocGlobal>(
-    rt: &R,
     alloc: Global,
+    rt: &R,
     found: Found,
     options: PackOptions<'_>,
     name: &str,
     why: &mut Text,
 ) -> Result<Status, PackFault>
     requires found { IsFound (asked_of options) found }
+    ensures { IsPacking result }
 {
     let mut part = String::from_str(alloc, name)?;
     part.push_str(".part")?;
@@ -191,7 +189,7 @@ fn write_file<R: Files + AllocGlobal>(
             let ended = write_found(alloc, found, options, &mut output, why);
             drop(output);
             note_device(alloc, why, part.as_str(), &ended);
-            put_in_place(rt, alloc, part.as_str(), name, ended, why)
+            put_in_place(alloc, rt, part.as_str(), name, ended, why)
         }
         Err(error) => Err(refuse_output(alloc, why, part.as_str(), &error)),
     }
@@ -206,13 +204,16 @@ fn note_device(alloc: Global, why: &mut Text, name: &str, ended: &Result<Status,
 
 /// Gives the file of a bundle that was written its name, or removes it.
 fn put_in_place<R: Files>(
-    rt: &R,
     alloc: Global,
+    rt: &R,
     part: &str,
     name: &str,
     ended: Result<Status, PackFault>,
     why: &mut Text,
-) -> Result<Status, PackFault> {
+) -> Result<Status, PackFault>
+    requires { IsPacking ended }
+    ensures { IsPacking result }
+{
     let ended = match ended {
         Ok(status) => match fs::rename(rt, part, name) {
             Ok(()) => return Ok(status),

@@ -14,17 +14,16 @@ use Rattle.command.specs.declared.task.Task.{Task}
 use Rattle.command.specs.declared.task.Task.TheVariants.{Build, Graph, Pack, Why, Llb, Config, Check, Explain}
 use Rattle.plans.specs.Value.{Out}
 use Rattle.answering.specs.declared.status.Status.{Status}
+use Rattle.answering.specs.declared.status.Status.TheVariants.{Built, Failed, Refused}
 use Rattle.answering.specs.declared.status.BuildFault.{BuildFault}
 use Rattle.answering.specs.declared.status.BuildFault.TheVariants.{Clash, Device, Memory as NoMemory, Unspeakable}
 use Rattle.build.specs.Ends.{Devices, Ends, devices}
 use Rattle.answering.specs.Faults.{exit_status}
 use Rattle.answering.specs.Messages.{fault_text}
-use Rattle.packing.specs.Ends.{PacksFolder, fault_text as pack_fault_text}
+use Rattle.packing.specs.Ends.{IsPacking, PacksFolder, fault_text as pack_fault_text}
 use Rattle.packing.specs.Packed.{Asked}
 use Rattle.packing.specs.declared.fault.PackFault.{PackFault}
 use Rattle.packing.specs.declared.fault.PackFault.TheVariants.{Device as PackDevice, Ended}
-use Rattle.packing.specs.declared.packing.Status.{Status as PackStatus}
-use Rattle.packing.specs.declared.packing.Status.TheVariants.{Built as Packed, Refused as Unpacked}
 use Rattle.program.specs.declared.arguments.NotText.{NotText}
 use Rattle.program.specs.Check.{CheckEnds, form_by}
 use Rattle.program.specs.Config.{ConfigEnds}
@@ -122,16 +121,11 @@ SaysFault false PackDevice old new = SaysWhy PackDevice old new
 SaysFault bare fault old new = Says (line_of (pack_fault_text fault)) old new
 
 -- what is said on the stream for errors of how packing ended: nothing where a bundle was written, else why there is none
-abbrev pub SaysPack : Bool → Result PackStatus PackFault → Stream → Stream → Type 0
-SaysPack bare (Ok Packed) old new = new ≡ old
-SaysPack bare (Ok Unpacked) old new = Says (line_of (codes "no Dockerfile")) old new
+abbrev pub SaysPack : Bool → Result Status PackFault → Stream → Stream → Type 0
+SaysPack bare (Ok Built) old new = new ≡ old
+SaysPack bare (Ok Failed) old new = new ≡ old
+SaysPack bare (Ok Refused) old new = Says (line_of (codes "no Dockerfile")) old new
 SaysPack bare (Err fault) old new = SaysFault bare fault old new
-
--- the exit status after packing
-abbrev pub pack_status : Result PackStatus PackFault → ℕ
-pack_status (Ok Packed) = 0
-pack_status (Ok Unpacked) = 2
-pack_status (Err fault) = 3
 
 -- what is asked for beside a folder, by the words of `pack`
 abbrev pub asked_by : PackOptions → Asked
@@ -143,17 +137,17 @@ asked_by options = record {
 }
 
 -- where a bundle goes to: where answers are written, or to a file of the machine, of which nothing is known; then nothing is written there
-abbrev pub PacksInto : Option (List ℕ) → PackOptions → Stream → Stream → Result PackStatus PackFault → Type 0
+abbrev pub PacksInto : Option (List ℕ) → PackOptions → Stream → Stream → Result Status PackFault → Type 0
 PacksInto None options output new_output ended =
     PacksFolder (asked_by options) output.written output.failed new_output.written new_output.failed ended
-PacksInto (Some file) options output new_output ended = new_output ≡ output
+PacksInto (Some file) options output new_output ended = (new_output ≡ output) × IsPacking ended
 
 -- a folder was packed, of which nothing is known, and the program ends with its status
 pub record Packs (options : PackOptions) (output new_output errors new_errors : Stream) (status : ℕ) : Type 0 where
-  pub ended : Result PackStatus PackFault
+  pub ended : Result Status PackFault
   pub packs : PacksInto options.output options output new_output ended
   pub says : SaysPack (is_bare options) ended errors new_errors
-  pub is : status ≡ pack_status ended
+  pub is : status ≡ exit_status ended
 
 -- what clap says where answers are written, and not as a fault
 abbrev pub IsHelp : ErrorKind → Type 0

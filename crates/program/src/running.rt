@@ -4,8 +4,9 @@ ghost use Rattle.clap.specs.Kinds.{HasKind};
 ghost use Rattle.command.specs.Tasks.{faults_of};
 ghost use Rattle.counted.specs.Edges.{LosesBeginning, line_of};
 ghost use Rattle.plain.specs.Limits.{most_bundle_bytes};
+ghost use Rattle.answering.specs.Faults.{exit_status};
 ghost use Rattle.build.specs.Ends.{devices};
-ghost use Rattle.program.specs.Runs.{Runs, streams, texts_in, pack_status, Packs, SaysPack, SaysWhy, is_bare};
+ghost use Rattle.program.specs.Runs.{Runs, streams, texts_in, Packs, SaysPack, SaysWhy, is_bare};
 ghost use Rattle.program.specs.PrivateRuns.{IsRefused};
 ghost use Rattle.packing.specs.Ends.{fault_text as pack_fault_text};
 ghost use Rattle.program.specs.Saying.{stream};
@@ -16,6 +17,7 @@ use crate::bundles::{
 };
 use crate::saying::{NO_MEMORY_LINE, say};
 use crate::{NotText, WordsFault};
+use build::{Status, status_code};
 use clap::Error;
 use clap::error::ErrorKind;
 use command::{PackOptions, Task, read_command};
@@ -34,15 +36,9 @@ const BAD_COMMAND: u8 = 2;
 /// The status after want of memory.
 const NO_MEMORY: u8 = 3;
 
-/// The status where the folder to be packed has no Dockerfile.
-const NO_DOCKERFILE: u8 = 2;
-
-/// The status where a folder was not packed whole.
-const NO_BUNDLE: u8 = 3;
-
 /// Does what the words of a command line ask for, and gives the status to end with.
 ///
-/// The first word is the program's name. Where the system gave no words, it is handed why. The context of a build is filtered in several
+/// The words are those after the program's name. Where the system gave none, it is handed why. The context of a build is filtered in several
 /// threads, its graph is solved by as many workers as the words say, and all else is done in the caller's. `files` is what a bundle is read
 /// from whose file the words name, and a folder that is to be packed, and where its bundle is written to, if the words name a file for it. If they
 /// name a bundle's file, nothing is read from `input`. No more than one byte past the limit of bundles is read.
@@ -156,8 +152,8 @@ fn pack<F: Files + AllocGlobal + Clone + Drop, W: CountedWrite, S: CountedWrite>
     };
     let mut why = Text::from_string(String::new(alloc));
     let ended = match &options.output {
-        Some(name) => run_pack_to_file(files, alloc, folder, given, name.as_str(), &mut why),
-        None => run_pack_with(files, alloc, folder, given, output, &mut why),
+        Some(name) => run_pack_to_file(alloc, files, folder, given, name.as_str(), &mut why),
+        None => run_pack_with(alloc, files, folder, given, output, &mut why),
     };
     if is_bare(options) {
         finish_pack(errors, ended)
@@ -190,43 +186,39 @@ fn text_in(text: &Option<Text>) -> Option<&str>
 }
 
 /// Says why there is no whole bundle, where there is none, and gives the status to end with.
-fn finish_pack<S: CountedWrite>(errors: &mut S, ended: Result<packing::Status, PackFault>) -> u8
+fn finish_pack<S: CountedWrite>(errors: &mut S, ended: Result<Status, PackFault>) -> u8
     requires says { S.failures errors.old < u64.MAX }
     ensures says { SaysPack true ended (stream (S.contents errors.old) (S.failures errors.old)) (stream (S.contents errors.new) (S.failures errors.new)) }
-    ensures is { result ≡ pack_status ended }
+    ensures is { result ≡ exit_status ended }
 {
-    match ended {
-        Ok(packing::Status::Built) => 0,
-        Ok(packing::Status::Refused) => {
-            say(errors, "no Dockerfile\n");
-            NO_DOCKERFILE
-        }
-        Err(fault) => {
-            say(errors, pack_fault_line(fault));
-            NO_BUNDLE
-        }
+    match &ended {
+        Ok(Status::Built) => {}
+        Ok(Status::Failed) => {}
+        Ok(Status::Refused) => say(errors, "no Dockerfile\n"),
+        Err(fault) => say(errors, pack_fault_line(*fault)),
     }
+    status_code(ended)
 }
 
 /// The same, naming what can't be packed, or the file that can't be written.
 fn finish_named<S: CountedWrite>(
     alloc: Global,
     errors: &mut S,
-    ended: Result<packing::Status, PackFault>,
+    ended: Result<Status, PackFault>,
     why: &str,
 ) -> u8
     requires says { S.failures errors.old < u64.MAX }
     ensures says { SaysPack false ended (stream (S.contents errors.old) (S.failures errors.old)) (stream (S.contents errors.new) (S.failures errors.new)) }
-    ensures is { result ≡ pack_status ended }
+    ensures is { result ≡ exit_status ended }
 {
-    match ended {
+    match &ended {
         Err(PackFault::Ended) => {
             say_why(alloc, errors, PackFault::Ended, why);
-            NO_BUNDLE
+            status_code(ended)
         }
         Err(PackFault::Device) => {
             say_why(alloc, errors, PackFault::Device, why);
-            NO_BUNDLE
+            status_code(ended)
         }
         _ => finish_pack(errors, ended),
     }
