@@ -8,7 +8,7 @@ use Rattle.counted.specs.Edges.{AppendsBeginning, CountsFault, IsDevice, line_of
 use Rattle.counted.specs.Gathering.{IsWritten}
 use Rattle.answering.specs.declared.status.Status.{Status}
 use Rattle.answering.specs.declared.status.BuildFault.{BuildFault}
-use Rattle.answering.specs.declared.status.BuildFault.TheVariants.{Memory, Device, Clash, Unspeakable}
+use Rattle.answering.specs.declared.status.BuildFault.TheVariants.{Memory, Device, Clash}
 use Rattle.answering.specs.declared.told.Told.{Told}
 use Rattle.answering.specs.Told.{TellsText, IsTold}
 
@@ -19,7 +19,6 @@ told_of These Those more old new before after (Ok status) is = (is.0, more is.0 
 told_of These Those more old new before after (Err Memory) is = is
 told_of These Those more old new before after (Err Device) is = (is.0, more is.0 is.1, is.2, is.3)
 told_of These Those more old new before after (Err Clash) is = absurd is
-told_of These Those more old new before after (Err Unspeakable) is = absurd is
 
 -- ---- what was written
 

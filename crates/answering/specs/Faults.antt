@@ -6,7 +6,7 @@ use Rattle.counted.specs.declared.fault.Device.{Device as DeviceFailed}
 use Rattle.answering.specs.declared.status.Status.{Status}
 use Rattle.answering.specs.declared.status.Status.TheVariants.{Built, Failed, Refused}
 use Rattle.answering.specs.declared.status.BuildFault.{BuildFault}
-use Rattle.answering.specs.declared.status.BuildFault.TheVariants.{Memory, Device, Clash, Unspeakable}
+use Rattle.answering.specs.declared.status.BuildFault.TheVariants.{Memory, Device, Clash}
 
 -- a fault of an edge
 abbrev pub of_edge : Fault DeviceFailed → BuildFault

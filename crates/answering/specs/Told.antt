@@ -4,7 +4,7 @@ use Rattle.std.specs.Io.KnownBytes.{Appends}
 use Rattle.counted.specs.Edges.{AppendsBeginning, line_of}
 use Rattle.answering.specs.declared.status.Status.{Status}
 use Rattle.answering.specs.declared.status.BuildFault.{BuildFault}
-use Rattle.answering.specs.declared.status.BuildFault.TheVariants.{Memory, Device, Clash, Unspeakable}
+use Rattle.answering.specs.declared.status.BuildFault.TheVariants.{Memory, Device, Clash}
 use Rattle.answering.specs.declared.told.Told.{Told}
 
 -- a line of this status and this text
@@ -18,4 +18,3 @@ IsTold Says old before new after (Ok status) = (told : Told) × Says told × (to
 IsTold Says old before new after (Err Memory) = (new ≡ old) × (after ≡ before)
 IsTold Says old before new after (Err Device) = (told : Told) × Says told × AppendsBeginning old new told.line × (after ≡ before + 1)
 IsTold Says old before new after (Err Clash) = ⊥
-IsTold Says old before new after (Err Unspeakable) = ⊥

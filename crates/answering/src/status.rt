@@ -23,9 +23,6 @@ pub enum BuildFault {
     Device,
     /// Two different operations of a graph have the same address, so it has no definition. Nothing was written. Only a graph's drawing tells it.
     Clash,
-    /// BuildKit can't be told which files of the context are left out: the path of one has control characters, or others beyond ASCII. Nothing was
-    /// written. Only what writes a definition for BuildKit tells it.
-    Unspeakable,
 }
 
 impl fmt::Display for BuildFault {
@@ -39,12 +36,6 @@ impl fmt::Display for BuildFault {
             BuildFault::Memory => write!(f, "out of memory"),
             BuildFault::Device => write!(f, "device failed"),
             BuildFault::Clash => write!(f, "address clash"),
-            BuildFault::Unspeakable => {
-                write!(
-                    f,
-                    "a path that the ignore file leaves out isn't printable ASCII"
-                )
-            }
         }
     }
 }

@@ -20,7 +20,7 @@ use Rattle.plans.specs.Value.{Out}
 use Rattle.answering.specs.declared.status.Status.{Status}
 use Rattle.answering.specs.declared.told.Told.{Told}
 use Rattle.answering.specs.declared.status.BuildFault.{BuildFault}
-use Rattle.answering.specs.declared.status.BuildFault.TheVariants.{Memory, Device as FailedDevice, Clash, Unspeakable}
+use Rattle.answering.specs.declared.status.BuildFault.TheVariants.{Memory, Device as FailedDevice, Clash}
 use Rattle.answering.specs.Faults.{of_edge}
 use Rattle.evaluation.specs.declared.evaluated.Evaluated.{Evaluated}
 use Rattle.build.specs.Meaning.{Asks, Answers}
@@ -145,7 +145,6 @@ has_told out old new bytes (Err FailedDevice) read ended reads = inr (record {
   failed_writes = ended.3;
 })
 has_told out old new bytes (Err Clash) read ended reads = absurd ended
-has_told out old new bytes (Err Unspeakable) read ended reads = absurd ended
 
 -- the same of a graph
 pub graph_answered : (old new : Devices) (bytes line : List ℕ) (told : Told)
@@ -166,7 +165,6 @@ pub graph_faulted : (old new : Devices) (bytes : List ℕ) (fault : BuildFault)
     → GraphEnds old new (Err fault)
 graph_faulted old new bytes Memory read told written reads writes = ((written, writes), reads)
 graph_faulted old new bytes FailedDevice read told written reads writes = absurd told
-graph_faulted old new bytes Unspeakable read told written reads writes = absurd told
 graph_faulted old new bytes Clash read told written reads writes = record {
   bundle = read.bundle;
   is = read.is;

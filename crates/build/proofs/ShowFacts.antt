@@ -15,7 +15,7 @@ use Rattle.bundle.specs.Answer.{refused_text}
 use Rattle.answering.specs.declared.status.Status.{Status}
 use Rattle.answering.specs.declared.status.Status.TheVariants.{Built, Refused}
 use Rattle.answering.specs.declared.status.BuildFault.{BuildFault}
-use Rattle.answering.specs.declared.status.BuildFault.TheVariants.{Memory, Device, Clash, Unspeakable}
+use Rattle.answering.specs.declared.status.BuildFault.TheVariants.{Memory, Device, Clash}
 use Rattle.answering.specs.declared.told.Told.{Told}
 use Rattle.counted.specs.Edges.{line_of}
 use Rattle.build.specs.Meaning.{Asks}
@@ -64,7 +64,6 @@ pub bundle_shown : (bytes : List ℕ) (made : Evaluated) (result : Result Told B
 bundle_shown bytes made (Ok told) asks shown = (shown.0, record { asked = Ok made; asks = asks; shows = shown.1 }, shown.2)
 bundle_shown bytes made (Err Memory) asks shown = tt
 bundle_shown bytes made (Err Device) asks shown = absurd shown
-bundle_shown bytes made (Err Unspeakable) asks shown = absurd shown
 bundle_shown bytes made (Err Clash) asks clash = record { made = made; asks = asks; plan = clash.0; is = clash.1; means = clash.2; stands = clash.3; clashes = clash.4 }
 
 -- a refusal that is told

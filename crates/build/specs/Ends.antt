@@ -5,7 +5,7 @@ use Rattle.counted.specs.Edges.{AppendsBeginning, IsUnwritten, line_of}
 use Rattle.plans.specs.Value.{Out}
 use Rattle.answering.specs.declared.status.Status.{Status}
 use Rattle.answering.specs.declared.status.BuildFault.{BuildFault}
-use Rattle.answering.specs.declared.status.BuildFault.TheVariants.{Memory, Device, Clash, Unspeakable}
+use Rattle.answering.specs.declared.status.BuildFault.TheVariants.{Memory, Device, Clash}
 use Rattle.build.specs.Meaning.{Answers}
 use Rattle.build.specs.Graph.{GraphAnswers, GraphClashes}
 
@@ -73,7 +73,6 @@ EndsBy Said Collides old new (Ok status) = HasAnswered Said old new status
 EndsBy Said Collides old new (Err Memory) = LeavesWriter old new × (new.failed_reads ≡ old.failed_reads)
 EndsBy Said Collides old new (Err Device) = (LeavesWriter old new × (new.failed_reads ≡ old.failed_reads + 1)) ⊎ HasBegun Said old new
 EndsBy Said Collides old new (Err Clash) = HasClashed Collides old new
-EndsBy Said Collides old new (Err Unspeakable) = ⊥
 
 -- the answers to a bundle under an executor
 abbrev pub AnswersUnder : Out → Answering

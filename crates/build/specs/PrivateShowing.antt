@@ -7,7 +7,7 @@ use Rattle.evaluation.specs.declared.evaluated.Evaluated.{Evaluated}
 use Rattle.lowering.specs.Means.{Means, StandsFor}
 use Rattle.drawing.specs.Drawn.{Clashes}
 use Rattle.answering.specs.declared.status.BuildFault.{BuildFault}
-use Rattle.answering.specs.declared.status.BuildFault.TheVariants.{Memory, Device, Clash, Unspeakable}
+use Rattle.answering.specs.declared.status.BuildFault.TheVariants.{Memory, Device, Clash}
 use Rattle.answering.specs.declared.told.Told.{Told}
 use Rattle.counted.specs.Edges.{line_of}
 use Rattle.build.specs.Graph.{Shows, GraphAnswers, GraphClashes}
@@ -26,7 +26,6 @@ IsFileShown made (Ok told) = ShowsAsked (Ok made) told
 IsFileShown made (Err Memory) = Unit {0}
 IsFileShown made (Err Device) = ⊥
 IsFileShown made (Err Clash) = PlanClashes made
-IsFileShown made (Err Unspeakable) = ⊥
 
 -- what is told of a bundle's bytes
 abbrev pub IsShown : List ℕ → Result Told BuildFault → Type 0
@@ -34,4 +33,3 @@ IsShown bytes (Ok told) = (text : List ℕ) × GraphAnswers bytes told.status te
 IsShown bytes (Err Memory) = Unit {0}
 IsShown bytes (Err Device) = ⊥
 IsShown bytes (Err Clash) = GraphClashes bytes
-IsShown bytes (Err Unspeakable) = ⊥

@@ -20,8 +20,8 @@ use Rattle.exported.specs.declared.fault.Obstacle.{Obstacle}
 use Rattle.exported.specs.declared.fault.Obstacle.TheVariants as way
 use Rattle.bundle.specs.Answer.{refused_text}
 use Rattle.answering.specs.declared.status.Status.TheVariants.{Refused}
-use Rattle.answering.specs.declared.status.BuildFault.{BuildFault}
-use Rattle.answering.specs.declared.status.BuildFault.TheVariants.{Memory, Device, Clash, Unspeakable}
+use Rattle.program.specs.declared.fault.TellFault.{TellFault}
+use Rattle.program.specs.declared.fault.TellFault.TheVariants.{Memory, Device, Clash, Unspeakable}
 use Rattle.build.specs.Meaning.{Asks}
 use Rattle.build.specs.Telling.{IsAsked}
 use Rattle.program.specs.declared.exporting.Beside.{Beside}
@@ -68,11 +68,11 @@ drawn made plan (Err memory) is means stands sources simple_is keeps = keeps
 -- ---- what is told
 
 -- a plan has no definition
-stopped : (options : LlbOptions) (made : Evaluated) (beside : Beside) (plan : PlanValue Config) (obstacle : Obstacle) (fault : BuildFault) → fault_of obstacle ≡ fault
+stopped : (options : LlbOptions) (made : Evaluated) (beside : Beside) (plan : PlanValue Config) (obstacle : Obstacle) (fault : TellFault) → fault_of obstacle ≡ fault
     → IsDrawnPlan made plan → IsPlanTold options plan beside (Err (Because obstacle)) → HasObstacle options fault made beside
 stopped options made beside plan obstacle fault of is told = record { plan = plan; drawn = is; obstacle = obstacle; is = of; told = told }
 
-pub obstacle_told : (options : LlbOptions) (made : Evaluated) (beside : Beside) (plan : PlanValue Config) (obstacle : Obstacle) (fault : BuildFault) → fault ≡ fault_of obstacle
+pub obstacle_told : (options : LlbOptions) (made : Evaluated) (beside : Beside) (plan : PlanValue Config) (obstacle : Obstacle) (fault : TellFault) → fault ≡ fault_of obstacle
     → IsDrawnPlan made plan → IsPlanTold options plan beside (Err (Because obstacle)) → IsFileTold options made beside (Err fault)
 obstacle_told options made beside plan (way.Unspeakable vertex) fault of is told =
     subst (λ f. IsFileTold options made beside (Err f)) (sym of) (stopped options made beside plan (way.Unspeakable vertex) Unspeakable refl is told)
@@ -80,7 +80,7 @@ obstacle_told options made beside plan (way.Clash vertex) fault of is told =
     subst (λ f. IsFileTold options made beside (Err f)) (sym of) (stopped options made beside plan (way.Clash vertex) Clash refl is told)
 
 -- what is told of a file's stages is told of the bundle that asks for them
-pub file_told : (options : LlbOptions) (bytes : List ℕ) (made : Evaluated) (beside : Beside) (result : Result Told BuildFault) → Asks bytes (Ok made)
+pub file_told : (options : LlbOptions) (bytes : List ℕ) (made : Evaluated) (beside : Beside) (result : Result Told TellFault) → Asks bytes (Ok made)
     → IsBeside bytes beside → IsFileTold options made beside result → IsLlbTold options bytes result
 file_told options bytes made beside (Ok told) asked has is = subst (λ s. TellsLlb options bytes s told.text) (sym is.0) (made, asked, (beside, has, is.1))
 file_told options bytes made beside (Err Memory) asked has is = tt

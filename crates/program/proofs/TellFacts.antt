@@ -16,9 +16,9 @@ use Rattle.flaws.specs.declared.flaw.Flaw.TheVariants.{TooLong}
 use Rattle.flaws.proofs.WholeFacts.{flaw-long}
 use Rattle.checks.specs.Images.{image_names, image_names_within}
 use Rattle.answering.specs.declared.status.Status.{Status}
-use Rattle.answering.specs.declared.status.BuildFault.{BuildFault}
-use Rattle.answering.specs.declared.status.BuildFault.TheVariants as end
-use Rattle.answering.specs.Faults.{of_edge}
+use Rattle.program.specs.declared.fault.TellFault.{TellFault}
+use Rattle.program.specs.declared.fault.TellFault.TheVariants as end
+use Rattle.program.specs.Faults.{of_edge}
 use Rattle.build.specs.Ends.{Answering, Devices, IsAllLeft}
 use Rattle.program.specs.Telling.{HasStopped, HasTold, Stops, TellingEnds}
 use Rattle.program.specs.PrivateTelling.{held, HoldsSame, IsToldBy, Moves, MovesStops}
@@ -98,7 +98,7 @@ has_begun Tells Stopped moves old new bytes line text status (edge.Because faile
   failed_writes = writes;
 })
 
-has_stopped : (Tells : Answering) (IsStopped : Stops) → MovesStops IsStopped → (old new : Devices) (bytes : List ℕ) (fault : BuildFault) → IsReadOf old.left bytes
+has_stopped : (Tells : Answering) (IsStopped : Stops) → MovesStops IsStopped → (old new : Devices) (bytes : List ℕ) (fault : TellFault) → IsReadOf old.left bytes
     → IsStopped fault bytes → new.written ≡ old.written → new.failed_reads ≡ old.failed_reads → new.failed_writes ≡ old.failed_writes
     → HasStopped (IsStopped fault) old new
 has_stopped Tells IsStopped moves old new bytes fault read stops written reads writes = record {
@@ -110,7 +110,7 @@ has_stopped Tells IsStopped moves old new bytes fault read stops written reads w
 }
 
 -- nothing was told, and nothing was written
-pub faulted : (Tells : Answering) (IsStopped : Stops) → MovesStops IsStopped → (old new : Devices) (bytes : List ℕ) (fault : BuildFault) → IsReadOf old.left bytes
+pub faulted : (Tells : Answering) (IsStopped : Stops) → MovesStops IsStopped → (old new : Devices) (bytes : List ℕ) (fault : TellFault) → IsReadOf old.left bytes
     → IsToldBy Tells IsStopped bytes (Err fault) → new.written ≡ old.written → new.failed_reads ≡ old.failed_reads → new.failed_writes ≡ old.failed_writes
     → TellingEnds Tells IsStopped old new (Err fault)
 faulted Tells IsStopped moves old new bytes end.Memory read told written reads writes = ((written, writes), reads)

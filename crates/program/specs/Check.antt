@@ -6,7 +6,7 @@ use Rattle.checks.specs.declared.form.Form.{Form}
 use Rattle.checks.specs.declared.form.Form.TheVariants.{Plain, Json}
 use Rattle.answering.specs.declared.status.Status.{Status}
 use Rattle.answering.specs.declared.status.Status.TheVariants.{Built, Failed, Refused}
-use Rattle.answering.specs.declared.status.BuildFault.{BuildFault}
+use Rattle.program.specs.declared.fault.TellFault.{TellFault}
 use Rattle.build.specs.Ends.{Devices}
 use Rattle.program.specs.Telling.{TellingEnds, never}
 
@@ -23,5 +23,5 @@ TellsFaults form bytes Failed text = (checked : Checked) × IsCheckOf bytes form
 TellsFaults form bytes Refused text = ⊥
 
 -- how writing it ends; it never stops
-abbrev pub CheckEnds : Form → Devices → Devices → Result Status BuildFault → Type 0
+abbrev pub CheckEnds : Form → Devices → Devices → Result Status TellFault → Type 0
 CheckEnds form old new ended = TellingEnds (TellsFaults form) never old new ended

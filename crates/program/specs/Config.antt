@@ -8,7 +8,7 @@ use Rattle.evaluation.specs.declared.evaluated.Evaluated.{Evaluated}
 use Rattle.bundle.specs.Answer.{refused_text}
 use Rattle.answering.specs.declared.status.Status.{Status}
 use Rattle.answering.specs.declared.status.Status.TheVariants.{Built, Failed, Refused}
-use Rattle.answering.specs.declared.status.BuildFault.{BuildFault}
+use Rattle.program.specs.declared.fault.TellFault.{TellFault}
 use Rattle.build.specs.Meaning.{Asks}
 use Rattle.build.specs.Ends.{Devices}
 use Rattle.program.specs.Telling.{TellingEnds, never}
@@ -21,5 +21,5 @@ TellsConfig bytes Failed text = ⊥
 TellsConfig bytes Refused text = (refusal : Rejection) × Asks bytes (Err refusal) × (text ≡ line_of (refused_text refusal))
 
 -- how writing it ends; it never stops
-abbrev pub ConfigEnds : Devices → Devices → Result Status BuildFault → Type 0
+abbrev pub ConfigEnds : Devices → Devices → Result Status TellFault → Type 0
 ConfigEnds old new ended = TellingEnds TellsConfig never old new ended

@@ -9,10 +9,11 @@ use Rattle.dot.specs.Drawn.{drawing}
 use Rattle.bundle.specs.Answer.{refused_text}
 use Rattle.answering.specs.declared.status.Status.{Status}
 use Rattle.answering.specs.declared.status.Status.TheVariants.{Built, Failed, Refused}
-use Rattle.answering.specs.declared.status.BuildFault.{BuildFault}
+use Rattle.program.specs.declared.fault.TellFault.{TellFault}
 use Rattle.build.specs.Meaning.{Asks}
 use Rattle.build.specs.Titled.{HasTitlesOf}
 use Rattle.build.specs.Ends.{Devices, GraphEnds}
+use Rattle.program.specs.Faults.{EndsAs}
 use Rattle.program.specs.Llb.{IsDrawnPlan}
 use Rattle.program.specs.Telling.{TellingEnds, never}
 
@@ -31,10 +32,10 @@ TellsDot bytes Failed text = ⊥
 TellsDot bytes Refused text = (refusal : Rejection) × Asks bytes (Err refusal) × (text ≡ line_of (refused_text refusal))
 
 -- how writing it ends; it never stops, since no operation is named by an address
-abbrev pub DotEnds : Devices → Devices → Result Status BuildFault → Type 0
+abbrev pub DotEnds : Devices → Devices → Result Status TellFault → Type 0
 DotEnds old new ended = TellingEnds TellsDot never old new ended
 
 -- how writing a graph ends: in the DOT language, or by content addresses
-abbrev pub DrawingEnds : Bool → Devices → Devices → Result Status BuildFault → Type 0
+abbrev pub DrawingEnds : Bool → Devices → Devices → Result Status TellFault → Type 0
 DrawingEnds true old new ended = DotEnds old new ended
-DrawingEnds false old new ended = GraphEnds old new ended
+DrawingEnds false old new ended = EndsAs GraphEnds old new ended

@@ -2,11 +2,11 @@
 use Rattle.std.specs.Prelude.{Result}
 use Rattle.plans.specs.Value.{Out}
 use Rattle.answering.specs.declared.status.Status.{Status}
-use Rattle.answering.specs.declared.status.BuildFault.{BuildFault}
+use Rattle.program.specs.declared.fault.TellFault.{TellFault}
 use Rattle.build.specs.Ends.{Devices}
 use Rattle.explains.specs.Explained.{Explains}
 use Rattle.program.specs.Telling.{TellingEnds, never}
 
 -- how writing it ends; it never stops
-abbrev pub ExplainEnds : Out → Devices → Devices → Result Status BuildFault → Type 0
+abbrev pub ExplainEnds : Out → Devices → Devices → Result Status TellFault → Type 0
 ExplainEnds out old new ended = TellingEnds (Explains out) never old new ended

@@ -2,6 +2,7 @@ pub mod Check
 pub mod Config
 pub mod Dot
 pub mod Explain
+pub mod Faults
 pub mod Llb
 pub mod PrivateFiles
 pub mod PrivateLlb

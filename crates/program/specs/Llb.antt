@@ -29,8 +29,8 @@ use Rattle.exported.specs.Exporting.{exported, IsExported}
 use Rattle.bundle.specs.Answer.{refused_text}
 use Rattle.answering.specs.declared.status.Status.{Status}
 use Rattle.answering.specs.declared.status.Status.TheVariants.{Built, Failed, Refused}
-use Rattle.answering.specs.declared.status.BuildFault.{BuildFault}
-use Rattle.answering.specs.declared.status.BuildFault.TheVariants.{Clash, Unspeakable}
+use Rattle.program.specs.declared.fault.TellFault.{TellFault}
+use Rattle.program.specs.declared.fault.TellFault.TheVariants.{Clash, Unspeakable}
 use Rattle.build.specs.Meaning.{Asks}
 use Rattle.build.specs.Titled.{HasTitlesOf, HasLeftOut, HasDigests}
 use Rattle.build.specs.Ends.{Devices}
@@ -101,12 +101,12 @@ TellsLlb options bytes Failed text = ⊥
 TellsLlb options bytes Refused text = (refusal : Rejection) × Asks bytes (Err refusal) × (text ≡ line_of (refused_text refusal))
 
 -- with which fault an obstacle ends it
-abbrev pub fault_of : Obstacle → BuildFault
+abbrev pub fault_of : Obstacle → TellFault
 fault_of (way.Unspeakable vertex) = Unspeakable
 fault_of (way.Clash vertex) = Clash
 
 -- the plan that is drawn of what a file's stages give, whose lines have these titles, has no definition, for which this is the fault
-pub record HasObstacle (options : LlbOptions) (fault : BuildFault) (made : Evaluated) (beside : Beside) : Type 0 where
+pub record HasObstacle (options : LlbOptions) (fault : TellFault) (made : Evaluated) (beside : Beside) : Type 0 where
   pub plan : PlanValue Config
   pub drawn : IsDrawnPlan made plan
   pub obstacle : Obstacle
@@ -119,5 +119,5 @@ LlbStops options fault bytes =
     (made : Evaluated) × Asks bytes (Ok made) × ((beside : Beside) × IsBeside bytes beside × HasObstacle options fault made beside)
 
 -- how writing it ends
-abbrev pub LlbEnds : LlbOptions → Devices → Devices → Result Status BuildFault → Type 0
+abbrev pub LlbEnds : LlbOptions → Devices → Devices → Result Status TellFault → Type 0
 LlbEnds options old new ended = TellingEnds (TellsLlb options) (LlbStops options) old new ended

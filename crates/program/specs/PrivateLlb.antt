@@ -7,8 +7,8 @@ use Rattle.evaluation.specs.declared.evaluated.Evaluated.{Evaluated}
 use Rattle.exported.specs.declared.fault.Obstacle.{Obstacle}
 use Rattle.plain.specs.declared.fault.Fault.{Fault}
 use Rattle.answering.specs.declared.status.Status.TheVariants.{Built}
-use Rattle.answering.specs.declared.status.BuildFault.{BuildFault}
-use Rattle.answering.specs.declared.status.BuildFault.TheVariants.{Memory, Device, Clash, Unspeakable}
+use Rattle.program.specs.declared.fault.TellFault.{TellFault}
+use Rattle.program.specs.declared.fault.TellFault.TheVariants.{Memory, Device, Clash, Unspeakable}
 use Rattle.exported.specs.Exporting.{exported, IsExported}
 use Rattle.program.specs.declared.exporting.Beside.{Beside}
 use Rattle.program.specs.declared.told.Told.{Told}
@@ -16,7 +16,7 @@ use Rattle.program.specs.Llb.{chosen, IsDefinitionOf, HasObstacle, TellsLlb, Llb
 use Rattle.program.specs.PrivateTelling.{IsToldBy}
 
 -- what is written of a file's stages, whose lines have these titles
-abbrev pub IsFileTold : LlbOptions → Evaluated → Beside → Result Told BuildFault → Type 0
+abbrev pub IsFileTold : LlbOptions → Evaluated → Beside → Result Told TellFault → Type 0
 IsFileTold options made beside (Ok told) = (told.status ≡ Built) × IsDefinitionOf options made beside told.text
 IsFileTold options made beside (Err Memory) = Unit {0}
 IsFileTold options made beside (Err Device) = ⊥
@@ -28,5 +28,5 @@ abbrev pub IsPlanTold : LlbOptions → PlanValue Config → Beside → Result (L
 IsPlanTold options plan beside result = IsExported (exported (chosen options beside.left beside.digests plan) beside.titles plan.graph plan.target) result
 
 -- what is written of a bundle's bytes
-abbrev pub IsLlbTold : LlbOptions → List ℕ → Result Told BuildFault → Type 0
+abbrev pub IsLlbTold : LlbOptions → List ℕ → Result Told TellFault → Type 0
 IsLlbTold options bytes result = IsToldBy (TellsLlb options) (LlbStops options) bytes result

@@ -7,8 +7,8 @@ use Rattle.bundle.specs.declared.parts.Parts.{Parts}
 use Rattle.flaws.specs.Flaws.{flaw_in}
 use Rattle.checks.specs.Images.{image_names}
 use Rattle.answering.specs.declared.status.Status.{Status}
-use Rattle.answering.specs.declared.status.BuildFault.{BuildFault}
-use Rattle.answering.specs.declared.status.BuildFault.TheVariants.{Memory, Device, Clash, Unspeakable}
+use Rattle.program.specs.declared.fault.TellFault.{TellFault}
+use Rattle.program.specs.declared.fault.TellFault.TheVariants.{Memory, Device, Clash, Unspeakable}
 use Rattle.build.specs.Ends.{Answering}
 use Rattle.program.specs.declared.told.Told.{Told}
 use Rattle.program.specs.Telling.{Stops}
@@ -29,10 +29,10 @@ Moves Tells = (bytes bundle : List ℕ) (status : Status) (text : List ℕ) → 
 
 -- and so is that nothing is due of them
 abbrev pub MovesStops : Stops → Type 0
-MovesStops IsStopped = (fault : BuildFault) (bytes bundle : List ℕ) → HoldsSame bytes bundle → IsStopped fault bytes → IsStopped fault bundle
+MovesStops IsStopped = (fault : TellFault) (bytes bundle : List ℕ) → HoldsSame bytes bundle → IsStopped fault bytes → IsStopped fault bundle
 
 -- what is answered to a bundle's bytes: what is due of them, or that nothing is; want of memory says nothing
-abbrev pub IsToldBy : Answering → Stops → List ℕ → Result Told BuildFault → Type 0
+abbrev pub IsToldBy : Answering → Stops → List ℕ → Result Told TellFault → Type 0
 IsToldBy Tells IsStopped bytes (Ok told) = Tells bytes told.status told.text
 IsToldBy Tells IsStopped bytes (Err Memory) = Unit {0}
 IsToldBy Tells IsStopped bytes (Err Device) = ⊥

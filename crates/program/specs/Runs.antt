@@ -15,11 +15,11 @@ use Rattle.command.specs.declared.task.Task.TheVariants.{Build, Graph, Pack, Why
 use Rattle.plans.specs.Value.{Out}
 use Rattle.answering.specs.declared.status.Status.{Status}
 use Rattle.answering.specs.declared.status.Status.TheVariants.{Built, Failed, Refused}
-use Rattle.answering.specs.declared.status.BuildFault.{BuildFault}
-use Rattle.answering.specs.declared.status.BuildFault.TheVariants.{Clash, Device, Memory as NoMemory, Unspeakable}
+use Rattle.program.specs.declared.fault.TellFault.{TellFault}
+use Rattle.program.specs.declared.fault.TellFault.TheVariants.{Clash, Device, Memory as NoMemory, Unspeakable}
 use Rattle.build.specs.Ends.{Devices, Ends, devices}
 use Rattle.answering.specs.Faults.{exit_status}
-use Rattle.answering.specs.Messages.{fault_text}
+use Rattle.program.specs.Faults.{EndsAs, fault_text}
 use Rattle.packing.specs.Ends.{IsPacking, PacksFolder, fault_text as pack_fault_text}
 use Rattle.packing.specs.Packed.{Asked}
 use Rattle.packing.specs.declared.fault.PackFault.{PackFault}
@@ -46,32 +46,32 @@ abbrev pub output_of : Streams → Stream
 output_of now = record { written = now.devices.written; failed = now.devices.failed_writes }
 
 -- what is said on the stream for errors of how a build ended: nothing where an answer was written, else why there is none
-abbrev pub SaysEnd : Result Status BuildFault → Stream → Stream → Type 0
+abbrev pub SaysEnd : Result Status TellFault → Stream → Stream → Type 0
 SaysEnd (Ok status) old new = new ≡ old
 SaysEnd (Err fault) old new = Says (line_of (fault_text fault)) old new
 
 -- a call that ends so was made, and the program ends with its status
-pub record Calls (EndsSo : Devices → Devices → Result Status BuildFault → Type 0) (old new : Streams) (status : ℕ) : Type 0 where
-  pub ended : Result Status BuildFault
+pub record Calls (EndsSo : Devices → Devices → Result Status TellFault → Type 0) (old new : Streams) (status : ℕ) : Type 0 where
+  pub ended : Result Status TellFault
   pub ends : EndsSo old.devices new.devices ended
   pub says : SaysEnd ended old.errors new.errors
   pub is : status ≡ exit_status ended
 
 -- why a file can't be opened
-abbrev pub IsOpenFault : BuildFault → Type 0
+abbrev pub IsOpenFault : TellFault → Type 0
 IsOpenFault NoMemory = ⊤
 IsOpenFault Device = ⊤
 IsOpenFault Clash = ⊥
 IsOpenFault Unspeakable = ⊥
 
 -- a file of the machine wasn't opened, and nothing was written
-pub record IsUnopened (output new_output : Stream) (ended : Result Status BuildFault) : Type 0 where
+pub record IsUnopened (output new_output : Stream) (ended : Result Status TellFault) : Type 0 where
   pub fault : IsErrAnd ended IsOpenFault
   pub unwritten : new_output ≡ output
 
 -- A call was made on a file of the machine, none of whose reads had failed. What the file holds is in no contract: what ended so is said for
 -- some bytes that it has left, or for bytes that aren't known.
-pub record HasOpened (EndsSo : Devices → Devices → Result Status BuildFault → Type 0) (output new_output : Stream) (ended : Result Status BuildFault) : Type 0 where
+pub record HasOpened (EndsSo : Devices → Devices → Result Status TellFault → Type 0) (output new_output : Stream) (ended : Result Status TellFault) : Type 0 where
   pub left : Option (List ℕ)
   pub left_then : Option (List ℕ)
   pub failed_reads : ℕ
@@ -88,12 +88,12 @@ pub record SaysNamed (name : List ℕ) (old new : Stream) : Type 0 where
   pub says : Says (line_of (fault_text Device ++ told)) old new
 
 -- what is said of how a call on a file of this name ended: what is said of one on the reader, and where a device failed, the file's name too
-abbrev pub SaysFileEnd : List ℕ → Result Status BuildFault → Stream → Stream → Type 0
+abbrev pub SaysFileEnd : List ℕ → Result Status TellFault → Stream → Stream → Type 0
 SaysFileEnd name ended old new = SaysEnd ended old new ⊎ ((ended ≡ Err Device) × SaysNamed name old new)
 
 -- a call that ends so was made on the file of this name, if it could be opened, and the program ends with its status
-pub record CallsFile (name : List ℕ) (EndsSo : Devices → Devices → Result Status BuildFault → Type 0) (output new_output errors new_errors : Stream) (status : ℕ) : Type 0 where
-  pub ended : Result Status BuildFault
+pub record CallsFile (name : List ℕ) (EndsSo : Devices → Devices → Result Status TellFault → Type 0) (output new_output errors new_errors : Stream) (status : ℕ) : Type 0 where
+  pub ended : Result Status TellFault
   pub ends : IsUnopened output new_output ended ⊎ HasOpened EndsSo output new_output ended
   pub says : SaysFileEnd name ended errors new_errors
   pub is : status ≡ exit_status ended
@@ -177,14 +177,14 @@ abbrev pub OnWriters : (Stream → Stream → Stream → Stream → ℕ → Type
 OnWriters Said old new status = IsUnread old new × Said (output_of old) (output_of new) old.errors new.errors status
 
 -- a call that ends so was made: on the reader, or on the file that is named, and then nothing was read from the reader
-abbrev pub CallsBy : Option (List ℕ) → (Devices → Devices → Result Status BuildFault → Type 0) → Streams → Streams → ℕ → Type 0
+abbrev pub CallsBy : Option (List ℕ) → (Devices → Devices → Result Status TellFault → Type 0) → Streams → Streams → ℕ → Type 0
 CallsBy None EndsSo old new status = Calls EndsSo old new status
 CallsBy (Some name) EndsSo old new status = OnWriters (CallsFile name EndsSo) old new status
 
 -- a task was done: a build was run, a graph was drawn or written for BuildKit, a folder was packed, or the target's configuration was printed, all
 -- faults of a bundle, which instruction fails, or why paths are kept or left out
 abbrev pub Does : Out → Task → Streams → Streams → ℕ → Type 0
-Does out (Build options) old new status = CallsBy options.file (Ends out) old new status
+Does out (Build options) old new status = CallsBy options.file (EndsAs (Ends out)) old new status
 Does out (Graph options) old new status = CallsBy options.file (DrawingEnds options.dot) old new status
 Does out (Pack options) old new status = OnWriters (Packs options) old new status
 Does out (Why options) old new status = CallsBy options.file (WhyEnds options.paths) old new status

@@ -3,8 +3,8 @@ use Rattle.std.specs.Prelude.{◌≡◌, ◌⊎◌, ℕ, ◌+◌, List, Result, 
 use Rattle.std.specs.Io.KnownBytes.{Appends}
 use Rattle.counted.specs.Edges.{AppendsBeginning}
 use Rattle.answering.specs.declared.status.Status.{Status}
-use Rattle.answering.specs.declared.status.BuildFault.{BuildFault}
-use Rattle.answering.specs.declared.status.BuildFault.TheVariants.{Memory, Device, Clash, Unspeakable}
+use Rattle.program.specs.declared.fault.TellFault.{TellFault}
+use Rattle.program.specs.declared.fault.TellFault.TheVariants.{Memory, Device, Clash, Unspeakable}
 use Rattle.build.specs.Ends.{Answering, Devices, IsAllLeft, LeavesWriter}
 
 -- what is due of a bundle was written, and no call failed
@@ -30,7 +30,7 @@ pub record HasBegunTelling (Tells : Answering) (old new : Devices) : Type 0 wher
 
 -- which bundles have nothing that is due, so that a call ends with a fault
 abbrev pub Stops : Type 1
-Stops = BuildFault → List ℕ → Type 0
+Stops = TellFault → List ℕ → Type 0
 
 -- none has
 abbrev pub never : Stops
@@ -47,7 +47,7 @@ pub record HasStopped (IsStopped : List ℕ → Type 0) (old new : Devices) : Ty
 -- How such a call ends, by its result: what is due of the bundle was written; there was no memory, and nothing was written; a read failed, and
 -- nothing was written, or a write failed; or nothing is due, since two operations clash or something can't be said to BuildKit, and nothing was
 -- written. Unlike a build's answer, what is written gets no LF at its end.
-abbrev pub TellingEnds : Answering → Stops → Devices → Devices → Result Status BuildFault → Type 0
+abbrev pub TellingEnds : Answering → Stops → Devices → Devices → Result Status TellFault → Type 0
 TellingEnds Tells IsStopped old new (Ok status) = HasTold Tells old new status
 TellingEnds Tells IsStopped old new (Err Memory) = LeavesWriter old new × (new.failed_reads ≡ old.failed_reads)
 TellingEnds Tells IsStopped old new (Err Device) = (LeavesWriter old new × (new.failed_reads ≡ old.failed_reads + 1)) ⊎ HasBegunTelling Tells old new

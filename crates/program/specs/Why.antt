@@ -9,7 +9,7 @@ use Rattle.bundle.specs.Answer.{refused_text}
 use Rattle.reasons.specs.Reasons.{TellsReasons}
 use Rattle.answering.specs.declared.status.Status.{Status}
 use Rattle.answering.specs.declared.status.Status.TheVariants.{Built, Failed, Refused}
-use Rattle.answering.specs.declared.status.BuildFault.{BuildFault}
+use Rattle.program.specs.declared.fault.TellFault.{TellFault}
 use Rattle.build.specs.Ends.{Devices}
 use Rattle.program.specs.Telling.{TellingEnds, never}
 
@@ -21,5 +21,5 @@ TellsWhy paths bytes Refused text =
     (refusal : Refusal) × TellsReasons config_in bytes paths (Err (Because refusal)) × (text ≡ line_of (refused_text (rejection_of refusal)))
 
 -- how writing it ends; it never stops
-abbrev pub WhyEnds : List (List ℕ) → Devices → Devices → Result Status BuildFault → Type 0
+abbrev pub WhyEnds : List (List ℕ) → Devices → Devices → Result Status TellFault → Type 0
 WhyEnds paths old new ended = TellingEnds (TellsWhy paths) never old new ended

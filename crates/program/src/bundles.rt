@@ -5,8 +5,8 @@ ghost use Rattle.counted.specs.Edges.{LosesBeginning, line_of};
 ghost use Rattle.plain.specs.Limits.{most_bundle_bytes, most_workers};
 ghost use Rattle.build.specs.Ends.{Ends, GraphEnds, devices};
 ghost use Rattle.answering.specs.Faults.{exit_status};
-ghost use Rattle.answering.specs.Messages.{fault_text};
-ghost use Rattle.answering.specs.declared.status.BuildFault.TheVariants.{Device};
+ghost use Rattle.program.specs.Faults.{EndsAs, fault_text};
+ghost use Rattle.program.specs.declared.fault.TellFault.TheVariants.{Device};
 ghost use Rattle.program.specs.Check.{CheckEnds, form_by};
 ghost use Rattle.program.specs.Config.{ConfigEnds};
 ghost use Rattle.program.specs.Dot.{DrawingEnds};
@@ -22,11 +22,12 @@ use crate::checking::FaultTeller;
 use crate::config::ConfigTeller;
 use crate::explaining::explain_bundle;
 use crate::exporting::DefinitionTeller;
+use crate::fault::{TellFault, as_told};
 use crate::picturing::PictureTeller;
 use crate::saying::{NO_MEMORY_LINE, say};
 use crate::telling::{Teller, tell_bundle};
 use crate::why::PathTeller;
-use build::{BuildFault, Remains, Status, run_build_keeping, run_graph, status_code};
+use build::{Remains, Status, run_build_keeping, run_graph, status_code};
 use checks::Form;
 use command::{BuildOptions, CheckOptions, GraphOptions, LlbOptions, WhyOptions};
 use counted::{CountedRead, CountedWrite};
@@ -57,7 +58,7 @@ pub(crate) fn build_bundle<F: Files, R: CountedRead, W: CountedWrite, S: Counted
     requires reads { R.failures input.old < u64.MAX }
     requires writes { W.failures output.old < u64.MAX }
     requires says { S.failures errors.old < u64.MAX }
-    ensures calls { CallsBy options.now.file (Ends (E.out executor.now))
+    ensures calls { CallsBy options.now.file (EndsAs (Ends (E.out executor.now)))
         (streams (devices (R.remaining input.old) (R.failures input.old) (W.contents output.old) (W.failures output.old)) (stream (S.contents errors.old) (S.failures errors.old)))
         (streams (devices (R.remaining input.new) (R.failures input.new) (W.contents output.new) (W.failures output.new)) (stream (S.contents errors.new) (S.failures errors.new)))
         result }
@@ -90,11 +91,11 @@ fn build_anew<R: CountedRead, W: CountedWrite, E: Executor>(
     output: &mut W,
     executor: &E,
     workers: u32,
-) -> Result<Status, BuildFault>
+) -> Result<Status, TellFault>
     requires workers { (0 < workers) × (workers ≤ most_workers) }
     requires reads { R.failures input.old < u64.MAX }
     requires writes { W.failures output.old < u64.MAX }
-    ensures ends { Ends (E.out executor.now)
+    ensures ends { EndsAs (Ends (E.out executor.now))
         (devices (R.remaining input.old) (R.failures input.old) (W.contents output.old) (W.failures output.old))
         (devices (R.remaining input.new) (R.failures input.new) (W.contents output.new) (W.failures output.new))
         result }
@@ -115,7 +116,7 @@ fn build_anew<R: CountedRead, W: CountedWrite, E: Executor>(
     );
     drop(memo);
     leave(remains);
-    ended
+    as_told(ended)
 }
 
 /// Leaves what a build held to the system, which takes it back at once where letting it go would take a step for each file.
@@ -337,7 +338,7 @@ fn build_file<F: Files, W: CountedWrite, S: CountedWrite, E: Executor>(
     requires workers { (0 < workers) × (workers ≤ most_workers) }
     requires writes { W.failures output.old < u64.MAX }
     requires says { S.failures errors.old < u64.MAX }
-    ensures { CallsFile name.now (Ends (E.out executor.now))
+    ensures { CallsFile name.now (EndsAs (Ends (E.out executor.now)))
         (stream (W.contents output.old) (W.failures output.old)) (stream (W.contents output.new) (W.failures output.new))
         (stream (S.contents errors.old) (S.failures errors.old)) (stream (S.contents errors.new) (S.failures errors.new)) result }
 {
@@ -394,7 +395,7 @@ fn graph_bundle<F: Files, R: CountedRead, W: CountedWrite, S: CountedWrite>(
     requires reads { R.failures input.old < u64.MAX }
     requires writes { W.failures output.old < u64.MAX }
     requires says { S.failures errors.old < u64.MAX }
-    ensures calls { CallsBy file.now GraphEnds
+    ensures calls { CallsBy file.now (EndsAs GraphEnds)
         (streams (devices (R.remaining input.old) (R.failures input.old) (W.contents output.old) (W.failures output.old)) (stream (S.contents errors.old) (S.failures errors.old)))
         (streams (devices (R.remaining input.new) (R.failures input.new) (W.contents output.new) (W.failures output.new)) (stream (S.contents errors.new) (S.failures errors.new)))
         result }
@@ -403,10 +404,28 @@ fn graph_bundle<F: Files, R: CountedRead, W: CountedWrite, S: CountedWrite>(
     match file {
         Some(name) => graph_file(alloc, rt, files, name.as_str(), output, errors),
         None => {
-            let ended = run_graph(alloc, rt, input, output);
+            let ended = draw_anew(alloc, rt, input, output);
             finish(errors, ended)
         }
     }
+}
+
+/// Draws the graph of a bundle that is read from here.
+fn draw_anew<R: CountedRead, W: CountedWrite>(
+    alloc: Global,
+    rt: &(impl Threads + Sync),
+    input: &mut R,
+    output: &mut W,
+) -> Result<Status, TellFault>
+    requires reads { R.failures input.old < u64.MAX }
+    requires writes { W.failures output.old < u64.MAX }
+    ensures ends { EndsAs GraphEnds
+        (devices (R.remaining input.old) (R.failures input.old) (W.contents output.old) (W.failures output.old))
+        (devices (R.remaining input.new) (R.failures input.new) (W.contents output.new) (W.failures output.new))
+        result }
+    ensures taken { LosesBeginning (most_bundle_bytes + 1) (R.remaining input.old) (R.remaining input.new) }
+{
+    as_told(run_graph(alloc, rt, input, output))
 }
 
 /// Draws the graph of the bundle of a file.
@@ -420,13 +439,13 @@ fn graph_file<F: Files, W: CountedWrite, S: CountedWrite>(
 ) -> u8
     requires writes { W.failures output.old < u64.MAX }
     requires says { S.failures errors.old < u64.MAX }
-    ensures { CallsFile name.now GraphEnds
+    ensures { CallsFile name.now (EndsAs GraphEnds)
         (stream (W.contents output.old) (W.failures output.old)) (stream (W.contents output.new) (W.failures output.new))
         (stream (S.contents errors.old) (S.failures errors.old)) (stream (S.contents errors.new) (S.failures errors.new)) result }
 {
     match open_bundle(files, name) {
         Ok(mut file) => {
-            let ended = run_graph(alloc, rt, &mut file, output);
+            let ended = draw_anew(alloc, rt, &mut file, output);
             finish_file(alloc, errors, ended, name, file.why)
         }
         Err(error) => {
@@ -494,7 +513,7 @@ fn tell_file<T: Teller, F: Files, W: CountedWrite, S: CountedWrite>(
 }
 
 /// Says why there is no whole answer, where there is none, and gives the status to end with.
-fn finish<S: CountedWrite>(errors: &mut S, ended: Result<Status, BuildFault>) -> u8
+fn finish<S: CountedWrite>(errors: &mut S, ended: Result<Status, TellFault>) -> u8
     requires says { S.failures errors.old < u64.MAX }
     ensures says { SaysEnd ended (stream (S.contents errors.old) (S.failures errors.old)) (stream (S.contents errors.new) (S.failures errors.new)) }
     ensures is { result ≡ exit_status ended }
@@ -509,7 +528,7 @@ fn finish<S: CountedWrite>(errors: &mut S, ended: Result<Status, BuildFault>) ->
 fn finish_file<S: CountedWrite>(
     alloc: Global,
     errors: &mut S,
-    ended: Result<Status, BuildFault>,
+    ended: Result<Status, TellFault>,
     name: &str,
     why: &str,
 ) -> u8
@@ -518,7 +537,7 @@ fn finish_file<S: CountedWrite>(
     ensures is { result ≡ exit_status ended }
 {
     match &ended {
-        Err(BuildFault::Device) => {
+        Err(TellFault::Device) => {
             say_named(alloc, errors, name, why);
             status_code(ended)
         }
@@ -527,13 +546,13 @@ fn finish_file<S: CountedWrite>(
 }
 
 /// Why a file couldn't be opened: the device, or want of memory.
-fn open_fault(error: &io::Error) -> BuildFault
+fn open_fault(error: &io::Error) -> TellFault
     ensures { IsOpenFault result }
 {
     if error.kind() == ErrorKind::OutOfMemory {
-        BuildFault::Memory
+        TellFault::Memory
     } else {
-        BuildFault::Device
+        TellFault::Device
     }
 }
 
@@ -544,7 +563,7 @@ fn say_named<S: CountedWrite>(alloc: Global, errors: &mut S, name: &str, why: &s
 {
     match named_line(alloc, name, why) {
         Ok(line) => say(errors, line.as_str()),
-        Err(_) => say(errors, fault_line(BuildFault::Device)),
+        Err(_) => say(errors, fault_line(TellFault::Device)),
     }
 }
 
@@ -564,13 +583,13 @@ fn named_line(alloc: Global, name: &str, why: &str) -> Result<Text, AllocError>
 }
 
 /// Why a build wrote no whole answer, as a line.
-fn fault_line(fault: BuildFault) -> &'static str
+fn fault_line(fault: TellFault) -> &'static str
     ensures { result.now ≡ line_of (fault_text fault) }
 {
     match fault {
-        BuildFault::Memory => NO_MEMORY_LINE,
-        BuildFault::Device => "device failed\n",
-        BuildFault::Clash => "address clash\n",
-        BuildFault::Unspeakable => "a path that the ignore file leaves out isn't printable ASCII\n",
+        TellFault::Memory => NO_MEMORY_LINE,
+        TellFault::Device => "device failed\n",
+        TellFault::Clash => "address clash\n",
+        TellFault::Unspeakable => "a path that the ignore file leaves out isn't printable ASCII\n",
     }
 }

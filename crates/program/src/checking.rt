@@ -2,9 +2,10 @@
 ghost use Rattle.std.specs.Prelude.{IfOk};
 ghost use Rattle.program.specs.Check.{TellsFaults};
 
+use crate::fault::TellFault;
 use crate::telling::Teller;
 use crate::told::Told;
-use build::{BuildFault, Status};
+use build::Status;
 use checks::{Checked, Form, check};
 use plain::{Bytes, Memory};
 use std::alloc::Global;
@@ -35,7 +36,7 @@ impl Teller for FaultTeller {
         alloc: Global,
         rt: &H,
         bundle: &[u8],
-    ) -> Result<Told, BuildFault> {
+    ) -> Result<Told, TellFault> {
         Ok(tell_faults(alloc, rt, bundle, self.form)?)
     }
 }

@@ -7,9 +7,10 @@ ghost use Rattle.imageconfig.specs.Writing.{config_data};
 ghost use Rattle.answering.specs.declared.status.Status.TheVariants.{Built};
 ghost use Rattle.program.specs.Config.{TellsConfig};
 
+use crate::fault::TellFault;
 use crate::telling::Teller;
 use crate::told::{Told, tell_refusal};
-use build::{BuildFault, Status, ask};
+use build::{Status, ask};
 use imageconfig::Config;
 use plain::{Bytes, Fault, Memory};
 use std::alloc::Global;
@@ -37,7 +38,7 @@ impl Teller for ConfigTeller {
         alloc: Global,
         rt: &H,
         bundle: &[u8],
-    ) -> Result<Told, BuildFault> {
+    ) -> Result<Told, TellFault> {
         Ok(tell_config(alloc, rt, bundle)?)
     }
 }

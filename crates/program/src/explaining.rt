@@ -10,8 +10,9 @@ ghost use Rattle.program.specs.Explain.{ExplainEnds};
 ghost use Rattle.program.specs.Telling.{never};
 ghost use Rattle.program.specs.PrivateTelling.{IsToldBy};
 
+use crate::fault::TellFault;
 use crate::told::Told;
-use build::{BuildFault, Status};
+use build::Status;
 use counted::{CountedRead, CountedWrite, read_all, write_all};
 use executor::Executor;
 use explains::{Explained, explain};
@@ -35,7 +36,7 @@ pub(crate) fn explain_bundle<R: CountedRead, W: CountedWrite, E: Executor>(
     input: &mut R,
     output: &mut W,
     executor: &E,
-) -> Result<Status, BuildFault>
+) -> Result<Status, TellFault>
     requires reads { R.failures input.old < u64.MAX }
     requires writes { W.failures output.old < u64.MAX }
     ensures ends { ExplainEnds (E.out executor.now)
@@ -55,7 +56,7 @@ fn explain_within<R: CountedRead, W: CountedWrite, E: Executor>(
     input: &mut R,
     output: &mut W,
     executor: &E,
-) -> Result<Status, BuildFault>
+) -> Result<Status, TellFault>
     requires limit { most ≡ most_bundle_bytes }
     requires room { most < usize.MAX }
     requires reads { R.failures input.old < u64.MAX }
@@ -82,7 +83,7 @@ fn tell_build<E: Executor>(
     rt: &(impl Threads + Wait + Sync),
     bundle: &[u8],
     executor: &E,
-) -> Result<Told, BuildFault>
+) -> Result<Told, TellFault>
     ensures { IsToldBy (Explains (E.out executor.now)) never bundle.now result }
 {
     Ok(tell_explained(alloc, rt, bundle, executor)?)

@@ -7,9 +7,10 @@ ghost use Rattle.build.specs.Lowerable.{IsLowerable};
 ghost use Rattle.program.specs.Llb.{IsDrawnPlan, chosen, fault_of, followed, merging_of, network_of, platform_of};
 ghost use Rattle.program.specs.PrivateLlb.{IsFileTold, IsLlbTold, IsPlanTold};
 
+use crate::fault::TellFault;
 use crate::telling::Teller;
 use crate::told::{Told, tell_refusal};
-use build::{Asked, BuildFault, Status, Titled, ask_titled};
+use build::{Asked, Status, Titled, ask_titled};
 use command::{LlbOptions, MergeName, NetworkName, PlatformName};
 use evaluation::Evaluated;
 use exported::{ExportFault, Merging, Obstacle, Options, exclude_list, export, follow_list};
@@ -63,7 +64,7 @@ impl<'a> Teller for DefinitionTeller<'a> {
         alloc: Global,
         rt: &H,
         bundle: &[u8],
-    ) -> Result<Told, BuildFault> {
+    ) -> Result<Told, TellFault> {
         tell_llb(alloc, rt, bundle, self.options)
     }
 }
@@ -74,7 +75,7 @@ fn tell_llb(
     rt: &(impl Threads + Sync),
     bundle: &[u8],
     options: &LlbOptions,
-) -> Result<Told, BuildFault>
+) -> Result<Told, TellFault>
     ensures { IsLlbTold options.now bundle.now result }
 {
     match ask_titled(alloc, rt, bundle) {
@@ -97,7 +98,7 @@ fn tell_llb(
             tell_file(alloc, evaluated, &beside, options)
         }
         Err(Fault::Because(refusal)) => Ok(tell_refusal(alloc, refusal)?),
-        Err(Fault::Memory) => Err(BuildFault::Memory),
+        Err(Fault::Memory) => Err(TellFault::Memory),
     }
 }
 
@@ -107,7 +108,7 @@ fn tell_file(
     evaluated: Evaluated,
     beside: &Beside,
     options: &LlbOptions,
-) -> Result<Told, BuildFault>
+) -> Result<Told, TellFault>
     requires { IsLowerable evaluated }
     ensures { IsFileTold options.now evaluated beside.now result }
 {
@@ -120,17 +121,17 @@ fn tell_file(
             text,
         }),
         Err(Fault::Because(obstacle)) => Err(fault_of(obstacle)),
-        Err(Fault::Memory) => Err(BuildFault::Memory),
+        Err(Fault::Memory) => Err(TellFault::Memory),
     }
 }
 
 /// The fault with which an obstacle ends.
-fn fault_of(obstacle: Obstacle) -> BuildFault
+fn fault_of(obstacle: Obstacle) -> TellFault
     ensures { result ≡ fault_of obstacle }
 {
     match obstacle {
-        Obstacle::Unspeakable(_) => BuildFault::Unspeakable,
-        Obstacle::Clash(_) => BuildFault::Clash,
+        Obstacle::Unspeakable(_) => TellFault::Unspeakable,
+        Obstacle::Clash(_) => TellFault::Clash,
     }
 }
 

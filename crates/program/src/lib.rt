@@ -17,6 +17,7 @@ mod checking;
 mod config;
 mod explaining;
 mod exporting;
+mod fault;
 pub mod laws;
 mod picturing;
 mod running;

@@ -6,9 +6,10 @@ ghost use Rattle.dot.specs.Drawn.{drawing};
 ghost use Rattle.program.specs.Dot.{IsPictureOf, TellsDot};
 
 use crate::exporting::drawn_plan;
+use crate::fault::TellFault;
 use crate::telling::Teller;
 use crate::told::{Told, tell_refusal};
-use build::{Asked, BuildFault, Status, Titled, ask_titled};
+use build::{Asked, Status, Titled, ask_titled};
 use dot::write;
 use evaluation::Evaluated;
 use imageconfig::Config;
@@ -40,7 +41,7 @@ impl Teller for PictureTeller {
         alloc: Global,
         rt: &H,
         bundle: &[u8],
-    ) -> Result<Told, BuildFault> {
+    ) -> Result<Told, TellFault> {
         Ok(tell_dot(alloc, rt, bundle)?)
     }
 }

@@ -5,8 +5,9 @@ ghost use Rattle.plain.specs.Limits.{most_bundle_bytes};
 ghost use Rattle.build.specs.Ends.{devices};
 ghost use Rattle.program.specs.Telling.{TellingEnds};
 
+use crate::fault::TellFault;
 use crate::told::Told;
-use build::{BuildFault, Status};
+use build::Status;
 use counted::{CountedRead, CountedWrite, read_all, write_all};
 use plain::limits::MOST_BUNDLE_BYTES;
 use std::alloc::Global;
@@ -32,7 +33,7 @@ pub(crate) trait Teller {
         alloc: Global,
         rt: &H,
         bundle: &[u8],
-    ) -> Result<Told, BuildFault>
+    ) -> Result<Told, TellFault>
         requires { IsSync H.row }
         ensures { IsToldBy (tells self.now) (stops self.now) bundle.now result };
 
@@ -53,7 +54,7 @@ pub(crate) fn tell_bundle<T: Teller, R: CountedRead, W: CountedWrite>(
     teller: &T,
     input: &mut R,
     output: &mut W,
-) -> Result<Status, BuildFault>
+) -> Result<Status, TellFault>
     requires reads { R.failures input.old < u64.MAX }
     requires writes { W.failures output.old < u64.MAX }
     ensures ends { TellingEnds (T.tells teller.now) (T.stops teller.now)
@@ -73,7 +74,7 @@ fn tell_within<T: Teller, R: CountedRead, W: CountedWrite>(
     teller: &T,
     input: &mut R,
     output: &mut W,
-) -> Result<Status, BuildFault>
+) -> Result<Status, TellFault>
     requires limit { most ≡ most_bundle_bytes }
     requires room { most < usize.MAX }
     requires reads { R.failures input.old < u64.MAX }

@@ -2,9 +2,10 @@
 ghost use Rattle.std.specs.Prelude.{IfOk};
 ghost use Rattle.program.specs.Why.{TellsWhy};
 
+use crate::fault::TellFault;
 use crate::telling::Teller;
 use crate::told::{Told, tell_refusal};
-use build::{BuildFault, Status};
+use build::Status;
 use expand::Rejection;
 use imageconfig::Config;
 use plain::{Fault, Memory, Text};
@@ -37,7 +38,7 @@ impl<'a> Teller for PathTeller<'a> {
         alloc: Global,
         rt: &H,
         bundle: &[u8],
-    ) -> Result<Told, BuildFault> {
+    ) -> Result<Told, TellFault> {
         Ok(tell_paths(alloc, rt, bundle, self.paths)?)
     }
 }

@@ -1,15 +1,15 @@
 use Rattle.std.proofs.Common.{◌≡◌, ℕ, List, Option, Result, refl, Err, inl, inr, subst}
 use Rattle.build.specs.Ends.{Devices, devices}
 use Rattle.answering.specs.declared.status.Status.{Status}
-use Rattle.answering.specs.declared.status.BuildFault.{BuildFault}
+use Rattle.program.specs.declared.fault.TellFault.{TellFault}
 use Rattle.program.specs.Runs.{HasOpened}
 use Rattle.program.specs.Saying.{Stream}
 use Rattle.program.specs.Telling.{TellingEnds}
 use Rattle.program.proofs.bundles.tell_file.Goals as goal
 
 -- a file was opened, none of whose reads had failed
-opened : (EndsSo : Devices → Devices → Result Status BuildFault → Type 0) (left left_then : Option (List ℕ)) (failed failed_then : ℕ) (output new_output : Stream)
-    (ended : Result Status BuildFault) → failed ≡ 0
+opened : (EndsSo : Devices → Devices → Result Status TellFault → Type 0) (left left_then : Option (List ℕ)) (failed failed_then : ℕ) (output new_output : Stream)
+    (ended : Result Status TellFault) → failed ≡ 0
     → EndsSo (devices left failed output.written output.failed) (devices left_then failed_then new_output.written new_output.failed) ended
     → HasOpened EndsSo output new_output ended
 opened EndsSo left left_then failed failed_then output new_output ended none ends = record {

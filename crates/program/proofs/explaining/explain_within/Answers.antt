@@ -1,5 +1,5 @@
 use Rattle.std.proofs.Common.{◌+◌, refl, sym, ap, subst}
-use Rattle.answering.specs.Faults.{of_edge}
+use Rattle.program.specs.Faults.{of_edge}
 use Rattle.build.specs.Ends.{Answering, Devices, devices}
 use Rattle.explains.specs.Explained.{Explains}
 use Rattle.program.specs.Telling.{Stops, TellingEnds, never}

@@ -1,5 +1,5 @@
 use Rattle.std.proofs.Common.{◌+◌, refl, sym, ap, subst}
-use Rattle.answering.specs.Faults.{of_edge}
+use Rattle.program.specs.Faults.{of_edge}
 use Rattle.build.specs.Ends.{Devices, devices}
 use Rattle.program.specs.Telling.{TellingEnds}
 use Rattle.program.proofs.TellFacts.{read_of, loses_at_most, has_told, has_begun, faulted, err_and}
