@@ -46,7 +46,7 @@ pub fn tell_refusal<W: CountedWrite>(
     ensures { IsTold (TellsText Refused (refused_text refusal))
         (W.contents output.old) (W.failures output.old) (W.contents output.new) (W.failures output.new) result }
 {
-    let text = refused_answer(alloc, refusal)?;
+    let text = refused_answer(alloc, &refusal)?;
     let told = line_of(alloc, Status::Refused, text)?;
     write_told(output, told)
 }

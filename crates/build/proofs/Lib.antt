@@ -1,4 +1,5 @@
 mod AnswerFacts
+mod AnswerOfFacts
 mod AskFacts
 mod BoardFacts
 mod BuildingFacts

@@ -1,3 +1,4 @@
+pub mod AnswerOf
 pub mod Ends
 pub mod Graph
 pub mod Interleaving

@@ -8,10 +8,13 @@ ghost use Rattle.rewrite.specs.Flat.{IsFlattened};
 ghost use Rattle.rewrite.specs.Pruned.{IsPruned};
 ghost use Rattle.evaluation.specs.declared.evaluated.Evaluated.{Evaluated};
 ghost use Rattle.imageconfig.specs.declared.config.Config.{Config as ConfigValue};
+ghost use Rattle.solver.specs.declared.answer.Answer.{Answer};
+ghost use Rattle.answering.specs.Text.{answer_text, answer_status};
+ghost use Rattle.build.specs.AnswerOf.{IsAnswerTo};
 ghost use Rattle.build.specs.Graph.{GraphAnswers};
 ghost use Rattle.build.specs.Interleaving.{FindsFirst};
 ghost use Rattle.build.specs.Lowerable.{IsLowerable};
-ghost use Rattle.build.specs.Meaning.{Asks, Answers};
+ghost use Rattle.build.specs.Meaning.{Asks, Answers, Tells};
 ghost use Rattle.answering.specs.declared.status.Status.{Status};
 
 use imageconfig::Config;
@@ -47,6 +50,15 @@ pub fn every_bundle_has_an_answer()
     evaluation::laws::what_is_evaluated_is_whole();
     lowering::laws::every_file_has_an_outcome();
 }
+
+/// A build tells the text of an answer, whether that text is made whole or said in pieces: what is told of what is asked for is the text of the answer
+/// to it, and the text of each answer to it is told.
+pub fn a_build_tells_the_text_of_its_answer()
+    ensures told { (out : Out) (asked : Result Evaluated Rejection) (status : Status) (text : List ℕ) → Tells out asked status text
+        → (answer : Result (Answer ConfigValue) Rejection) × IsAnswerTo out asked answer × (status ≡ answer_status answer) × (text ≡ answer_text answer) }
+    ensures tells { (out : Out) (asked : Result Evaluated Rejection) (answer : Result (Answer ConfigValue) Rejection) → IsAnswerTo out asked answer
+        → Tells out asked (answer_status answer) (answer_text answer) }
+{}
 
 /// A bundle has one graph at most, status and text: the definition of its operations, or its refusal.
 pub fn a_bundle_has_one_graph()

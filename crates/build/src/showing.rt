@@ -29,7 +29,7 @@ pub(crate) fn show_bundle(
             show_file(alloc, evaluated)
         }
         Err(Fault::Because(refusal)) => {
-            let text = refused_answer(alloc, refusal)?;
+            let text = refused_answer(alloc, &refusal)?;
             Ok(line_of(alloc, Status::Refused, text)?)
         }
         Err(Fault::Memory) => Err(BuildFault::Memory),

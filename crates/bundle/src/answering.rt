@@ -18,8 +18,8 @@ pub fn failed_answer(alloc: Global, line: u32, cause: Cause) -> Result<Text, Mem
 }
 
 /// The answer for an input that is refused; by R21 with the text that the line is refused with.
-pub fn refused_answer(alloc: Global, refusal: Rejection) -> Result<Text, Memory>
-    ensures { IfOk result (λ text. text ≡ refused_text refusal) }
+pub fn refused_answer(alloc: Global, refusal: &Rejection) -> Result<Text, Memory>
+    ensures { IfOk result (λ text. text ≡ refused_text refusal.now) }
 {
     let answer = refused_value(alloc, refusal)?;
     let text = answer.to_string(alloc)?;
@@ -37,13 +37,12 @@ fn failed_value(alloc: Global, line: u32, cause: Cause) -> Result<Value, Memory>
 }
 
 /// The answer for an input that is refused, as JSON.
-fn refused_value(alloc: Global, refusal: Rejection) -> Result<Value, Memory>
-    ensures { IfOk result (λ v. view v ≡ refused_data refusal) }
+fn refused_value(alloc: Global, refusal: &Rejection) -> Result<Value, Memory>
+    ensures { IfOk result (λ v. view v ≡ refused_data refusal.now) }
 {
-    let Rejection { reason, line } = refusal;
-    match reason {
-        Reason::Coded(code) => coded_value(alloc, code, line),
-        Reason::Required(text) => required_value(alloc, text, line),
+    match &refusal.reason {
+        Reason::Coded(code) => coded_value(alloc, *code, refusal.line),
+        Reason::Required(text) => required_value(alloc, text, refusal.line),
     }
 }
 
@@ -59,10 +58,10 @@ fn coded_value(alloc: Global, code: Code, line: u32) -> Result<Value, Memory>
 
 /// The answer for an input with a variable that is required, as JSON.
 #[tactic(auto, unfolding(crate::specs::Answer::required_data))]
-fn required_value(alloc: Global, text: Text, line: u32) -> Result<Value, Memory>
-    ensures { IfOk result (λ v. view v ≡ required_data text line) }
+fn required_value(alloc: Global, text: &Text, line: u32) -> Result<Value, Memory>
+    ensures { IfOk result (λ v. view v ≡ required_data text.now line) }
 {
     let line = u64::from(line);
-    let text = text.into_string(alloc)?;
+    let text = String::from_str(alloc, text.as_str())?;
     Ok(json!(in alloc; {"code": "R21", "line": line, "result": "refused", "text": text})?)
 }

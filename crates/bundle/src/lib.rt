@@ -2,7 +2,8 @@
 //
 // A bundle is one JSON object with the Dockerfile and all that the build may look at; an answer is one
 // line of compact JSON. The crate knows nothing of graphs, executors or workers, and not what an image's configuration is: it is read by
-// what the caller names. So the answer of a build that gave a tree is only defined here: `build` says it, piece by piece.
+// what the caller names. So the answer of a build that gave a tree is only defined here: `answering` makes its text whole (`answer_text`) or says it
+// piece by piece.
 //
 // The central definitions are `ReadsBundle` in specs/Reading.antt, what the bytes of a bundle give, and `built_text`, `failed_text` and
 // `refused_text` in specs/Answer.antt, the texts of the answers.

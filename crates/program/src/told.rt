@@ -21,7 +21,7 @@ pub(crate) fn tell_refusal(alloc: Global, refusal: Rejection) -> Result<Told, Me
     ensures status { IfOk result (λ told. told.status ≡ Refused) }
     ensures text { IfOk result (λ told. told.text ≡ line_of (refused_text refusal)) }
 {
-    let answer = refused_answer(alloc, refusal)?;
+    let answer = refused_answer(alloc, &refusal)?;
     let mut line = answer.into_string(alloc)?;
     line.push('\n')?;
     Ok(Told {

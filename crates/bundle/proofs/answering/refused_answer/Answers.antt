@@ -7,6 +7,6 @@ use Rattle.bundle.proofs.answering.refused_answer.Goals as goal
 
 pub returns : goal.returns
 returns c =
-    let answer : view c.in_ok-answer.answer ≡ refused_data c.args.refusal = c.in_ok-answer.ensures in
-    let plain : has_float (view c.in_ok-answer.answer) ≡ false = ap has_float answer ∙ refused_is_plain c.args.refusal in
+    let answer : view c.in_ok-answer.answer ≡ refused_data c.args.refusal.now = c.in_ok-answer.ensures in
+    let plain : has_float (view c.in_ok-answer.answer) ≡ false = ap has_float answer ∙ refused_is_plain c.args.refusal.now in
     c.from_string.ensures ∙ (c.in_ok-text.ensures.text plain ∙ ap compact_text answer)
