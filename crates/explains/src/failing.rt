@@ -19,7 +19,7 @@ use std::alloc::Global;
 use std::sync::Wait;
 use std::thread::Threads;
 use trees::Cause;
-use workers::solve;
+use workers::solve_together;
 
 /// The line and the cause of the first instruction that fails of what a bundle asks for, if one does.
 pub(crate) fn failure_of<E: Executor>(
@@ -66,7 +66,7 @@ fn failure_in<E: Executor>(
     ensures { IfOk result (λ failure. (solution : Solution) × IsSolution (problem_of (E.out executor.now) plan.now) solution × (failure ≡ failure_in solution)) }
 {
     let mut memo = Memo::for_one_build(alloc, executor);
-    let solved = solve(
+    let solved = solve_together(
         alloc, rt, plan, executor, workers, &OpenGate, caches, &mut memo,
     );
     drop(memo);

@@ -105,11 +105,11 @@ fn solve_with(
     memo: &mut Memo<Fixture>,
 ) -> Result<(), Memory> {
     let mut caches = CacheStore::new(alloc);
-    let solution = solve(alloc, rt, plan, &Fixture, 2, &OpenGate, &mut caches, memo);
+    let answer = solve(alloc, rt, plan, &Fixture, 2, &OpenGate, &mut caches, memo);
     drop(caches);
-    match solution {
-        Ok(solution) => {
-            drop(solution);
+    match answer {
+        Ok(answer) => {
+            drop(answer);
             Ok(())
         }
         Err(memory) => Err(memory),

@@ -7,6 +7,7 @@ ghost use Rattle.board.specs.Leaving.{LeaveTheSame, GivesBackWhatIsLeft, AreLeft
 ghost use Rattle.board.specs.Legal.{IsReady};
 ghost use Rattle.runs.specs.declared.run.RunRequest.{RunRequest};
 ghost use Rattle.memo.specs.Memo.{Grows, Knows};
+ghost use Rattle.solver.specs.Answer.{IsAnswer};
 ghost use Rattle.solver.specs.Recall.{AreOf, MayStay, leaves_or_stays};
 ghost use Rattle.solver.specs.Solution.{IsSolution};
 
@@ -17,11 +18,11 @@ use cachemounts::CacheStore;
 use cells::Place;
 use executor::Executor;
 use memo::Memo;
-use plain::{Memory, growth};
+use plain::{Exact, Memory, growth};
 use plans::Plan;
 use rolls::{Opened, Room};
 use sites::{Case, Known, Results, Site};
-use solver::{Gate, Numbering, Recall, Recalling, Solution, finish_recalled, remember};
+use solver::{Answer, Gate, Numbering, Recall, Recalling, Solution, finish_recalled, remember};
 use std::alloc::Global;
 use std::marker::Brand;
 use std::mem;
@@ -29,17 +30,53 @@ use std::sync::{Condvar, Wait};
 use std::thread::Threads;
 use trees::TreeOrCause;
 
-/// The solution of a plan's problem under an executor, by this many workers, with a store of caches of which nobody holds anything
+/// The answer to a plan under an executor, by this many workers, with a store of caches of which nobody holds anything
 /// (`CacheStore::is_idle` tests that). The gate is asked around the run of each command: by the workers from 0 on, and by the caller's thread, which
 /// does what they have left, as worker 64. A thread that can't be started is no fault: its work is done by the others. It may never return. If it does, no lease
 /// is out, whatever the result, and the caches hold what a legal history of the plan's problem left of what they held: which one is the order of settles. Each
-/// content is as it was, or what the last settle that gave it back brought, which the run of its vertex left of what it was lent. If there is a solution,
+/// content is as it was, or what the last settle that gave it back brought, which the run of its vertex left of what it was lent. If there is an answer,
 /// that history is over: after it no vertex is ready.
 ///
 /// A memo of the executor is asked for the result of each claim, and what it has is run by nobody; then the claim's caches get back what was taken, which
-/// only befalls a request that the memo knows. If there is a solution, the memo gets what the vertices gave, after the workers have left. What there is no
+/// only befalls a request that the memo knows. If there is an answer, the memo gets what the vertices gave, after the workers have left. What there is no
 /// memory for is left out, and so is all by one that is for one build.
-pub fn solve<C, E: Executor, G: Gate, R: Threads + Wait + Sync>(
+pub fn solve<C: Exact + Drop, E: Executor, G: Gate, R: Threads + Wait + Sync>(
+    alloc: Global,
+    rt: &R,
+    plan: &Plan<C>,
+    executor: &E,
+    workers: u32,
+    gate: &G,
+    caches: &mut CacheStore,
+    memo: &mut Memo<E>,
+) -> Result<Answer<C>, Memory>
+    requires executor { E.out memo.old.executor ≡ E.out executor.now }
+    requires workers { (0 < workers) × (workers ≤ most_workers) }
+    requires idle { caches.old.holds ≡ [] }
+    ensures answer { IfOk result (IsAnswer (E.out executor.now) plan.now) }
+    ensures idle { caches.new.holds ≡ [] }
+    ensures left { AreLeft (problem_of (E.out executor.now) plan.now) caches.old.contents caches.new.contents }
+    ensures runs { AreLeftByRuns (leaves_or_stays (Knows memo.old) (E.leaves executor.now)) (problem_of (E.out executor.now) plan.now)
+        caches.old.contents caches.new.contents }
+    ensures ended { OnOk result (AreLeftAtEnd (leaves_or_stays (Knows memo.old) (E.leaves executor.now)) (problem_of (E.out executor.now) plan.now)
+        caches.old.contents caches.new.contents) }
+    ensures memo { Grows memo.old memo.new }
+    ensures one { IsTrue memo.old.is_for_one_build → memo.new ≡ memo.old }
+    ensures err { OnErr result (memo.new ≡ memo.old) }
+{
+    // The configuration is copied before anybody works: want of memory for it then changes nothing.
+    let config = plan.config().copy(alloc)?;
+    match solve_together(alloc, rt, plan, executor, workers, gate, caches, memo) {
+        Ok(solution) => Ok(Answer::of(solution, config)),
+        Err(memory) => {
+            drop(config);
+            Err(memory)
+        }
+    }
+}
+
+/// Does what [`solve`] does, without the configuration, which the plan still has, and with the vertex of a failure.
+pub fn solve_together<C, E: Executor, G: Gate, R: Threads + Wait + Sync>(
     alloc: Global,
     rt: &R,
     plan: &Plan<C>,
@@ -79,7 +116,7 @@ pub fn solve<C, E: Executor, G: Gate, R: Threads + Wait + Sync>(
     solution
 }
 
-/// Does what [`solve`] does, and adds to what is left over the trees that it made, as far as there is memory for that. Nothing else is said of them.
+/// Does what [`solve_together`] does, and adds to what is left over the trees that it made, as far as there is memory for that. Nothing else is said of them.
 pub fn solve_keeping<C, E: Executor, G: Gate, R: Threads + Wait + Sync>(
     alloc: Global,
     rt: &R,
