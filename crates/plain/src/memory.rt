@@ -1,11 +1,11 @@
 use std::alloc::{AllocError, AllocFailed};
-use std::error::Error;
 use std::fmt;
+use thiserror::Error;
 
 /// There was no memory for a growth: a growth was asked for and refused.
 ///
 /// It is the one such error of the whole workspace. Both of std's errors become it by `?`.
-#[derive(Clone, Copy, Debug, PartialEq, Eq)]
+#[derive(Clone, Copy, Debug, PartialEq, Eq, Error)]
 pub struct Memory;
 
 impl fmt::Display for Memory {
@@ -17,8 +17,6 @@ impl fmt::Display for Memory {
         write!(f, "out of memory")
     }
 }
-
-impl Error for Memory {}
 
 impl From<AllocError> for Memory {
     fn from(_error: AllocError) -> Memory {

@@ -2,10 +2,11 @@ ghost use Rattle.std.specs.Prelude.{◌≡◌};
 ghost use Rattle.plain.specs.Codes.{number_of};
 
 use std::fmt;
+use thiserror::Error;
 
 /// Why a build's input is refused, as the `07` of `R07`. Where an input has several faults, the crates that find them say which one is
 /// answered.
-#[derive(Clone, Copy, Debug, PartialEq, Eq)]
+#[derive(Clone, Copy, Debug, PartialEq, Eq, Error)]
 pub enum Code {
     /// The text is not UTF-8.
     R01,
@@ -91,7 +92,8 @@ impl fmt::Display for Code {
 }
 
 /// A refusal of an input: its code, and the line that it is about, counted from 1; line 0 where it is about none.
-#[derive(Clone, Copy, Debug, PartialEq, Eq)]
+#[derive(Clone, Copy, Debug, PartialEq, Eq, Error)]
+#[error("{code}, line {line}")]
 pub struct Refusal {
     pub code: Code,
     pub line: u32,
