@@ -1,7 +1,7 @@
 use counted::{Device, EdgeFault};
 use plain::{Fault, Memory};
-use std::error::Error;
 use std::fmt;
+use thiserror::Error;
 
 /// What an answer that was written says.
 #[derive(Clone, Copy, Debug, PartialEq, Eq)]
@@ -15,7 +15,7 @@ pub enum Status {
 }
 
 /// Why a build, or a graph's drawing, wrote no whole answer.
-#[derive(Clone, Copy, Debug, PartialEq, Eq)]
+#[derive(Clone, Copy, Debug, PartialEq, Eq, Error)]
 pub enum BuildFault {
     /// There was no memory. Nothing was written.
     Memory,
@@ -39,8 +39,6 @@ impl fmt::Display for BuildFault {
         }
     }
 }
-
-impl Error for BuildFault {}
 
 impl From<EdgeFault> for BuildFault {
     ghost use Rattle.std.specs.Prelude.{◌≡◌};

@@ -3,19 +3,23 @@ ghost use Rattle.expand.specs.Reasons.{reason_of, reason_number, rejection_of};
 
 use crate::fault::Unexpanded;
 use plain::{Code, Fault, Refusal, Text};
+use thiserror::Error;
 
 /// Why a line is refused whose texts are expanded.
-#[derive(Debug, PartialEq, Eq, Drop)]
+#[derive(Debug, PartialEq, Eq, Drop, Error)]
 pub enum Reason {
     /// By a code alone.
+    #[error(transparent)]
     Coded(Code),
     /// By R21: a variable that is required doesn't pass its test. With the value of the word after its `?`.
+    #[error("R21 ({})", .0.as_str())]
     Required(Text),
 }
 
 /// A refusal of an input whose texts are expanded: why, and the line that it is about, counted from 1; line 0 if it is about
 /// none.
-#[derive(Debug, PartialEq, Eq, Drop)]
+#[derive(Debug, PartialEq, Eq, Drop, Error)]
+#[error("{reason}, line {line}")]
 pub struct Rejection {
     pub reason: Reason,
     pub line: u32,

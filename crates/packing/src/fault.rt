@@ -2,12 +2,12 @@ use counted::{Device, EdgeFault};
 use paths::PathFault;
 use plain::{Fault, Memory};
 use std::alloc::{AllocError, AllocFailed};
-use std::error::Error;
 use std::fmt;
+use thiserror::Error;
 use trees::TreeFault;
 
 /// Why a folder's bundle wasn't written.
-#[derive(Clone, Copy, Debug, PartialEq, Eq)]
+#[derive(Clone, Copy, Debug, PartialEq, Eq, Error)]
 pub enum PackFault {
     /// There was no memory. Nothing was written.
     Memory,
@@ -32,8 +32,6 @@ impl fmt::Display for PackFault {
         }
     }
 }
-
-impl Error for PackFault {}
 
 impl From<Memory> for PackFault {
     ghost use Rattle.std.specs.Prelude.{◌≡◌};

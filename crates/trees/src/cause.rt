@@ -2,9 +2,10 @@ use crate::Tree;
 use plain::{Exact, Fault, Memory};
 use std::alloc::Global;
 use std::fmt;
+use thiserror::Error;
 
 /// Why an instruction of a build fails. The names are those that an answer prints.
-#[derive(Clone, Copy, Debug, PartialEq, Eq)]
+#[derive(Clone, Copy, Debug, PartialEq, Eq, Error)]
 pub enum Cause {
     /// A source isn't there: a COPY's pattern has no match, or the folder that a RUN binds is missing.
     F1,

@@ -8,9 +8,11 @@ use std::alloc::Global;
 use std::cmp::Ordering;
 use std::collections::BTreeMap;
 use std::marker::Model;
+use thiserror::Error;
 
 /// A key isn't after the keys of a map.
-#[derive(Clone, Copy, Debug, PartialEq, Eq)]
+#[derive(Clone, Copy, Debug, PartialEq, Eq, Error)]
+#[error("the key isn't after the keys of the map")]
 pub struct Unordered;
 
 /// A map from texts. Contracts see the list of its entries, which are in the order of their keys' bytes.
