@@ -12,6 +12,7 @@ mod changing;
 mod commands;
 mod definitions;
 mod devices;
+mod errors;
 mod failing;
 mod files;
 mod flattening;
@@ -58,6 +59,7 @@ enum Table {
     Language,
     Patterns,
     IgnoreFiles,
+    Errors,
     Graphs,
     Plans,
     Histories,
@@ -117,6 +119,7 @@ fn table_of(name: &str) -> Table {
         "language" => Table::Language,
         "patterns" => Table::Patterns,
         "ignore files" => Table::IgnoreFiles,
+        "errors" => Table::Errors,
         "graphs" => Table::Graphs,
         "plans" => Table::Plans,
         "histories" => Table::Histories,
@@ -154,6 +157,7 @@ fn answer<F: Files + AllocGlobal + Clone + Drop>(
         Table::Language => language::answer(alloc, case),
         Table::Patterns => patterns::answer_of_pattern(alloc, case),
         Table::IgnoreFiles => patterns::answer_of_ignore_file(alloc, case),
+        Table::Errors => errors::answer(alloc, case),
         Table::Graphs => graphs::answer(alloc, case),
         Table::Plans => flattening::answer(alloc, case),
         Table::Histories => histories::answer(alloc, rt, case),
