@@ -1,1 +1,1 @@
-mod PlaceFacts
+mod RowFacts

@@ -1,14 +1,24 @@
-use Rattle.std.proofs.Common.{not, sym, ap, rules}
-use Rattle.named.specs.PrivatePlaces.{IsPlace}
-use Rattle.named.proofs.PlaceFacts.{has-there, when_some}
+use Rattle.std.proofs.Common.{not, sym, ap, ◌∙◌}
+use Rattle.named.specs.Rows.{has_row, add_row}
+use Rattle.named.proofs.RowFacts.{found-row, add-new, add-old}
 use Rattle.named.proofs.rows.NamedRows.add.Goals as goal
 
-pub returns-in-Some-clause-added : goal.returns-in-Some-clause-added
-returns-in-Some-clause-added g c =
-    let found = when_some (IsPlace c.as_slice.result.now c.as_str.result.now) c.in_ok-place.place c.in-Some.field-0 (search rules) c.in_ok-place.ensures.found in
-    sym (ap not (has-there c.as_slice.result.now c.self.inside.rows.items c.args.self.now c.as_str.result.now c.args.name c.in-Some.field-0 c.as_slice.ensures.value c.self.view_is c.as_str.ensures found))
+pub returns-then-contains_key-clause-added : goal.returns-then-contains_key-clause-added
+returns-then-contains_key-clause-added g c =
+    ap not (sym c.if-contains_key.true ∙ c.contains_key.ensures ∙ found-row c.args.name c.self.inside.rows.entries ∙ ap (has_row c.args.name) c.self.view_is)
 
-pub returns-in-Some-clause-ok : goal.returns-in-Some-clause-ok
-returns-in-Some-clause-ok g c =
-    let found = when_some (IsPlace c.as_slice.result.now c.as_str.result.now) c.in_ok-place.place c.in-Some.field-0 (search rules) c.in_ok-place.ensures.found in
-    rw (has-there c.as_slice.result.now c.self.inside.rows.items c.args.self.now c.as_str.result.now c.args.name c.in-Some.field-0 c.as_slice.ensures.value c.self.view_is c.as_str.ensures found) (search rules)
+pub returns-then-contains_key-clause-ok : goal.returns-then-contains_key-clause-ok
+returns-then-contains_key-clause-ok g c =
+    add-old c.args.self.now c.args.name c.args.value
+    (sym (sym c.if-contains_key.true ∙ c.contains_key.ensures ∙ found-row c.args.name c.self.inside.rows.entries ∙ ap (has_row c.args.name) c.self.view_is))
+
+pub returns-clause-added : goal.returns-clause-added
+returns-clause-added g c =
+    ap not (sym c.if-contains_key.false ∙ c.contains_key.ensures ∙ found-row c.args.name c.self.inside.rows.entries ∙ ap (has_row c.args.name) c.self.view_is)
+
+pub returns-clause-ok : goal.returns-clause-ok
+returns-clause-ok g c =
+    c.in_ok-insert.ensures.entries
+    ∙ add-new c.self.inside.rows.entries c.args.name c.args.value
+    (sym (found-row c.args.name c.self.inside.rows.entries) ∙ sym c.contains_key.ensures ∙ c.if-contains_key.false)
+    ∙ ap (λ rows. add_row rows c.args.name c.args.value) c.self.view_is

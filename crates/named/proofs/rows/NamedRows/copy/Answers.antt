@@ -1,9 +1,12 @@
-use Rattle.std.proofs.Common.{arith, ◌∙◌}
-use Rattle.std.proofs.lemmas.List.{take_all}
-use Rattle.named.proofs.PlaceFacts.{clone-indexed}
+use Rattle.std.proofs.Common.{[], sym, ap, ◌∙◌}
+use Rattle.named.specs.Rows.{put_rows}
+use Rattle.named.proofs.RowFacts.{put-apart}
 use Rattle.named.proofs.rows.NamedRows.copy.Goals as goal
 
-pub invariant_of-result : goal.invariant_of-result
-invariant_of-result g c =
-    clone-indexed c.self.inside.rows.items c.loop-name.rows.items c.self.inside.places.entries c.in_ok-places.places.entries
-    (c.loop-name.invariant.rows ∙ take_all _ _ (omega (arith, c.loop-name-test.false)) ∙ c.as_slice-name-items.ensures.value) c.in_ok-places.ensures.cases c.self.invariant
+pub returns : goal.returns
+returns g c =
+    sym (ap (put_rows c.loop-name.rows.entries) c.in-None.ensures.steps.0)
+    ∙ c.loop-name.invariant
+    ∙ ap (put_rows []) (c.into_iter-name-iterator.ensures.into_iter_gives ∙ c.iter-name-items.ensures.rest)
+    ∙ put-apart [] c.self.inside.rows.entries c.len.ensures.unique
+    ∙ c.self.view_is

@@ -1,7 +1,6 @@
-use Rattle.std.proofs.Common.{◌≡◌, take}
+use Rattle.std.proofs.Common.{◌≡◌, []}
+use Rattle.named.specs.Rows.{put_rows}
 use Rattle.named.proofs.rows.NamedRows.copy.Given as goal
 
 abbrev pub invariant-loop-name : goal.invariant-loop-name
-invariant-loop-name g l = record {
-  rows : l.rows.items ≡ take l.name-index l.name-items;
-}
+invariant-loop-name g l = put_rows l.rows.entries l.name-iterator ≡ put_rows [] l.initial.name-iterator
