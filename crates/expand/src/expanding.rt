@@ -135,7 +135,7 @@ fn expand_variable<S: Lookup>(
 ) -> Result<Text, ExpandFault>
     ensures { IsWithin limit (text_of (S.value_of scope.now name.now)) result }
 {
-    match scope.find(name.as_str()) {
+    match scope.find(name) {
         Some(text) => copy_within(alloc, text, limit),
         None => Ok(Text::from_str(alloc, "")?),
     }
@@ -193,7 +193,7 @@ fn push_tokens<S: Lookup>(
 fn choice<S: Lookup>(scope: &S, operator: Operator, test: Test, name: &Text) -> Choice
     ensures { result ≡ choice_of operator (passes test (S.value_of scope.now name.now)) }
 {
-    let passes = match (test, scope.find(name.as_str())) {
+    let passes = match (test, scope.find(name)) {
         (_, None) => false,
         (Test::IsSet, Some(_)) => true,
         (Test::IsFilled, Some(text)) => text.len() > 0,
@@ -205,7 +205,7 @@ fn choice<S: Lookup>(scope: &S, operator: Operator, test: Test, name: &Text) -> 
 fn value_at<'a, S: Lookup>(scope: &'a S, name: &Text) -> &'a str
     ensures { result.now ≡ text_of (S.value_of scope.now name.now) }
 {
-    match scope.find(name.as_str()) {
+    match scope.find(name) {
         Some(text) => text.as_str(),
         None => "",
     }

@@ -8,6 +8,6 @@ pub trait Lookup {
     ghost value_of: { Self → List ℕ → Option (List ℕ) };
 
     /// The value of a name; none where it is unset.
-    fn find(&self, name: &str) -> Option<&Text>
+    fn find(&self, name: &Text) -> Option<&Text>
         ensures { option_map (λ text. text.now) result ≡ value_of self.now name.now };
 }

@@ -5,6 +5,7 @@ use expand::Lookup;
 use named::NamedRows;
 use plain::{Memory, Text};
 use std::alloc::Global;
+use std::hash::RandomState;
 use std::marker::Model;
 
 /// The build arguments: a value for each name that has one.
@@ -28,12 +29,12 @@ impl Model for Args {
 }
 
 impl Args {
-    /// No build arguments. It takes no memory.
-    pub fn new(alloc: Global) -> Args
+    /// No build arguments, whose names are found by a hash with these keys. It takes no memory.
+    pub fn new(alloc: Global, keys: RandomState) -> Args
         ensures { result ≡ map.empty }
     {
         Args {
-            values: NamedRows::new(alloc),
+            values: NamedRows::new(alloc, keys),
         }
     }
 
@@ -45,11 +46,11 @@ impl Args {
         let name = Text::from_str(alloc, name)?;
         let copied = Text::from_str(alloc, value)?;
         let value = copied.shared(alloc)?;
-        self.values.set(alloc, name, value)
+        self.values.set(name, value)
     }
 
     /// The value of a name; none where it has none.
-    pub fn get(&self, name: &str) -> Option<&Text>
+    pub fn get(&self, name: &Text) -> Option<&Text>
         ensures { option_map (λ text. text.now) result ≡ map.get self.now name.now }
     {
         self.values.get(name)
@@ -61,7 +62,7 @@ impl Lookup for Args {
 
     ghost value_of = { map.get };
 
-    fn find(&self, name: &str) -> Option<&Text> {
+    fn find(&self, name: &Text) -> Option<&Text> {
         self.get(name)
     }
 }

@@ -147,15 +147,14 @@ fn argument_value(
     ensures fault { IfOk result (λ found. found.1 ≡ worse fault (default_fault (value_in before.now) (arg_value args.now argument.now.name) argument.now.default)) }
     ensures value { IfOk result (λ found. found.1 ≡ None → found.0 ≡ or_else (arg_value args.now argument.now.name) (fallback (value_in before.now) (value_in outer.now argument.now.name) argument.now.default)) }
 {
-    let name = argument.name.as_str();
-    if let Some(value) = args.get(name) {
+    if let Some(value) = args.get(&argument.name) {
         let value = value.copy(alloc)?;
         return Ok((Some(value), fault));
     }
     if let Some(word) = &argument.default {
         return expand_next(alloc, word, before, fault);
     }
-    match outer.get(name) {
+    match outer.get(&argument.name) {
         Some(value) => {
             let value = value.copy(alloc)?;
             Ok((Some(value), fault))

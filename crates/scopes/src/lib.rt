@@ -13,10 +13,9 @@
 //
 // ```
 // scope.declare(alloc, arguments, &args, &outer)?;   // ARG abc=default, with the build arguments and the scope before the first FROM
-// let variables = scope.variables(alloc, assignments)?;   // what ENV abc=hello sets
-// scope.set_variables(alloc, variables.as_slice())?;
-// scope.get("abc")                                  // hello
-// scope.run_env(alloc)?                             // abc=hello
+// scope.set_env(alloc, assignments)?;                // ENV abc=hello
+// scope.get(&name)                                   // of abc: hello
+// scope.run_env(alloc)?                              // abc=hello
 // ```
 #![tactic(auto)]
 

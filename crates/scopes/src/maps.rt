@@ -11,11 +11,11 @@ use std::alloc::Global;
 pub(crate) fn push_variables(
     alloc: Global,
     rows: &mut Items<Variable>,
-    variables: &[(Text, Text)],
+    variables: &NamedRows<Text>,
 ) -> Result<(), Memory>
     ensures { OnOk result (rows.new ≡ rows.old ++ variable_rows variables.now) }
 {
-    for (name, value) in variables {
+    for (name, value) in variables.as_slice().iter() {
         push_row(alloc, rows, name, value)?;
     }
     Ok(())
@@ -25,12 +25,12 @@ pub(crate) fn push_variables(
 pub(crate) fn push_arguments(
     alloc: Global,
     rows: &mut Items<Variable>,
-    arguments: &[(Text, Option<Text>)],
+    arguments: &NamedRows<Option<Text>>,
     variables: &NamedRows<Text>,
 ) -> Result<(), Memory>
     ensures { OnOk result (rows.new ≡ rows.old ++ argument_rows variables.now arguments.now) }
 {
-    for (name, value) in arguments {
+    for (name, value) in arguments.as_slice().iter() {
         push_argument(alloc, rows, name, value, variables)?;
     }
     Ok(())
@@ -47,7 +47,7 @@ fn push_argument(
     ensures { OnOk result (rows.new ≡ rows.old ++ argument_rows variables.now ((name.now, value.now) ∷ [])) }
 {
     match value {
-        Some(value) if !variables.has(name.as_str()) => push_row(alloc, rows, name, value),
+        Some(value) if !variables.has(name) => push_row(alloc, rows, name, value),
         _ => Ok(()),
     }
 }
@@ -67,9 +67,9 @@ fn push_row(
 }
 
 /// How many arguments have a value.
-pub(crate) fn valued(arguments: &[(Text, Option<Text>)]) -> usize {
+pub(crate) fn valued(arguments: &NamedRows<Option<Text>>) -> usize {
     let mut count: usize = 0;
-    for (_, value) in arguments {
+    for (_, value) in arguments.as_slice().iter() {
         if value.is_some() {
             count = count.saturating_add(1);
         }

@@ -5,7 +5,7 @@ ghost use Rattle.ascii.specs.Names.{is_name};
 ghost use Rattle.instructions.specs.Instruction.{assignment_names};
 ghost use Rattle.scopes.specs.Scope.{value_in, kept, run_env, names_of, is_environment_name};
 ghost use Rattle.scopes.specs.PrivateMaps.{env_row_of, arg_row_of};
-ghost use Rattle.scopes.specs.Evaluate.{declaration_of, env_variables, env_fault, arg_line, arg_fault, Says, Declares};
+ghost use Rattle.scopes.specs.Evaluate.{declaration_of, env_variables, env_fault, env_line, arg_line, arg_fault, Says, Declares};
 
 use crate::args::Args;
 use crate::evaluate::{argument_rows, assigned_variables, variable_rows};
@@ -15,6 +15,7 @@ use instructions::{Argument, Assignment};
 use named::NamedRows;
 use plain::{Exact, Items, Memory, Text, Variable, Variables};
 use std::alloc::Global;
+use std::hash::RandomState;
 use std::marker::Model;
 
 /// What names have values by the ENV and ARG lines so far.
@@ -44,13 +45,13 @@ impl Model for Scope {
 }
 
 impl Scope {
-    /// The scope before any ENV or ARG. It takes no memory.
-    pub fn new(alloc: Global) -> Scope
+    /// The scope before any ENV or ARG, whose names are found by a hash with these keys. It takes no memory.
+    pub fn new(alloc: Global, keys: RandomState) -> Scope
         ensures { result ≡ [] }
     {
         Scope {
-            variables: NamedRows::new(alloc),
-            arguments: NamedRows::new(alloc),
+            variables: NamedRows::new(alloc, keys),
+            arguments: NamedRows::new(alloc, keys),
             env: None,
         }
     }
@@ -72,7 +73,7 @@ impl Scope {
         ensures { Declares self.old (arg_line (value_in self.old) (arg_value args.now) (value_in outer.now) arguments.now) (arg_fault (value_in self.old) (arg_value args.now) arguments.now) self.new result }
     {
         let rows = argument_rows(alloc, arguments, self, args, outer)?;
-        self.give(alloc, rows)?;
+        self.give(rows)?;
         Ok(())
     }
 
@@ -100,29 +101,39 @@ impl Scope {
         ensures err { OnErr result (self.new ≡ self.old) }
     {
         let rows = variable_rows(alloc, variables)?;
-        self.set(alloc, rows)
+        self.set(rows)
+    }
+
+    /// Adds an ENV line: each variable has the value of its word under this scope, the one before the line (Dockerfile reference, environment
+    /// replacement). After a fault the scope is as it was.
+    pub fn set_env(&mut self, alloc: Global, assignments: &[Assignment]) -> Result<(), ExpandFault>
+        ensures { Declares self.old (env_line (value_in self.old) assignments.now) (env_fault (value_in self.old) assignments.now) self.new result }
+    {
+        let variables = self.variables(alloc, assignments)?;
+        self.set_variables(alloc, variables.as_slice())?;
+        Ok(())
     }
 
     /// Adds an ENV for each row. After `Memory` the scope is as it was.
-    fn set(&mut self, alloc: Global, rows: Items<(Text, Text)>) -> Result<(), Memory>
+    fn set(&mut self, rows: Items<(Text, Text)>) -> Result<(), Memory>
         ensures ok { OnOk result (self.new ≡ kept (self.old ++ map env_row_of rows)) }
         ensures err { OnErr result (self.new ≡ self.old) }
     {
         drop(self.env.take());
-        self.variables.set_all(alloc, rows)
+        self.variables.set_all(rows)
     }
 
     /// Adds an ARG for each row. After `Memory` the scope is as it was.
-    fn give(&mut self, alloc: Global, rows: Items<(Text, Option<Text>)>) -> Result<(), Memory>
+    fn give(&mut self, rows: Items<(Text, Option<Text>)>) -> Result<(), Memory>
         ensures ok { OnOk result (self.new ≡ kept (self.old ++ map arg_row_of rows)) }
         ensures err { OnErr result (self.new ≡ self.old) }
     {
         drop(self.env.take());
-        self.arguments.give_all(alloc, rows)
+        self.arguments.give_all(rows)
     }
 
     /// The value of a name: that of its last ENV, else of the last ARG that gives it one; none where it is unset.
-    pub fn get(&self, name: &str) -> Option<&Text>
+    pub fn get(&self, name: &Text) -> Option<&Text>
         ensures { option_map (λ text. text.now) result ≡ value_in self.now name.now }
     {
         match self.variables.get(name) {
@@ -165,11 +176,11 @@ impl Scope {
     fn env_rows(&self, alloc: Global) -> Result<Items<Variable>, Memory>
         ensures { IfOk result (λ rows. rows ≡ run_env self.now) }
     {
-        let with_value = valued(self.arguments.as_slice());
+        let with_value = valued(&self.arguments);
         let most = self.variables.len().saturating_add(with_value);
         let mut rows = no_rows(alloc, most)?;
-        push_variables(alloc, &mut rows, self.variables.as_slice())?;
-        push_arguments(alloc, &mut rows, self.arguments.as_slice(), &self.variables)?;
+        push_variables(alloc, &mut rows, &self.variables)?;
+        push_arguments(alloc, &mut rows, &self.arguments, &self.variables)?;
         Ok(rows)
     }
 
@@ -199,7 +210,7 @@ fn no_rows(alloc: Global, most: usize) -> Result<Items<Variable>, Memory>
 impl Lookup for Scope {
     ghost value_of = { λ scope name. value_in scope name };
 
-    fn find(&self, name: &str) -> Option<&Text> {
+    fn find(&self, name: &Text) -> Option<&Text> {
         self.get(name)
     }
 }
