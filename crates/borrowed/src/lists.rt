@@ -6,11 +6,12 @@ ghost use Rattle.strict.specs.Strict.{members_in, rows_in};
 ghost use Rattle.borrowed.specs.Seen.{data_of, seen_members};
 ghost use Rattle.borrowed.specs.PrivateRows.{rows_data};
 
-use crate::reading::FromLent;
+use crate::reading::{FromLent, FromLentKeyed};
 use json::Value;
 use plain::{Fault, Items, Memory, Text};
 use std::alloc::Global;
 use std::collections::BTreeMap;
+use std::hash::RandomState;
 use strict::{NotRead, ReadFault};
 
 /// The keys of an object with their values, which are of one kind, in the order of the keys' bytes; of a key that stands twice the last
@@ -27,6 +28,22 @@ pub fn read_rows<T: FromLent>(
     };
     let sorted = sort_members(alloc, members.as_slice())?;
     read_members(alloc, &sorted)
+}
+
+/// The same of values whose names are found by a hash with these keys.
+#[tactic(auto, unfolding(strict::specs::Strict::rows_in))]
+pub fn keyed_rows<T: FromLentKeyed>(
+    alloc: Global,
+    keys: RandomState,
+    value: &Value<'_>,
+) -> Result<Items<(Text, T)>, ReadFault>
+    ensures { Gives result (rows_in T.reading (data_of value.now)) }
+{
+    let Value::Object(members) = value else {
+        return Err(Fault::Because(NotRead));
+    };
+    let sorted = sort_members(alloc, members.as_slice())?;
+    keyed_members(alloc, keys, &sorted)
 }
 
 /// An object's members in the order of their keys, of each key the last.
@@ -54,6 +71,23 @@ fn read_members<T: FromLent>(
     for (key, value) in members.iter() {
         let key = Text::from_str(alloc, key)?;
         let value = T::from_lent(alloc, value)?;
+        rows.push((key, value))?;
+    }
+    Ok(rows)
+}
+
+/// The same of values whose names are found by a hash with these keys.
+fn keyed_members<T: FromLentKeyed>(
+    alloc: Global,
+    keys: RandomState,
+    members: &BTreeMap<&str, &Value<'_>>,
+) -> Result<Items<(Text, T)>, ReadFault>
+    ensures { Gives result (members_in T.reading (rows_data members.now.entries)) }
+{
+    let mut rows = Items::new(alloc);
+    for (key, value) in members.iter() {
+        let key = Text::from_str(alloc, key)?;
+        let value = T::from_lent_keyed(alloc, keys, value)?;
         rows.push((key, value))?;
     }
     Ok(rows)

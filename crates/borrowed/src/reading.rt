@@ -12,6 +12,7 @@ use json::Value;
 use paths::Path;
 use plain::{Fault, Text};
 use std::alloc::Global;
+use std::hash::RandomState;
 use strict::{NotRead, ReadFault, read_path};
 
 /// Values of a kind that is read from JSON that is lent.
@@ -23,6 +24,22 @@ pub trait FromLent: Sized + Drop {
 
     /// What a value is. `NotRead` where it is nothing of this kind.
     fn from_lent(alloc: Global, value: &Value<'_>) -> Result<Self, ReadFault>
+        ensures { Gives result (reading (data_of value.now)) };
+}
+
+/// Values of a kind that is read from JSON that is lent, and whose names are found by a hash with keys of the caller's.
+pub trait FromLentKeyed: Sized + Drop {
+    ghost use Rattle.std.specs.Prelude.{Option};
+    ghost use Rattle.serde_json.specs.Data.{Data};
+
+    ghost reading: { Data → Option Self };
+
+    /// What a value is. `NotRead` where it is nothing of this kind.
+    fn from_lent_keyed(
+        alloc: Global,
+        keys: RandomState,
+        value: &Value<'_>,
+    ) -> Result<Self, ReadFault>
         ensures { Gives result (reading (data_of value.now)) };
 }
 
@@ -90,6 +107,20 @@ pub fn one_of<T: FromLent>(alloc: Global, value: Option<&Value<'_>>) -> Result<T
 {
     match value {
         Some(value) => T::from_lent(alloc, value),
+        None => Err(Fault::Because(NotRead)),
+    }
+}
+
+/// What a value is that has to be there. `NotRead` where there is none, or nothing of this kind.
+pub fn keyed_of<T: FromLentKeyed>(
+    alloc: Global,
+    keys: RandomState,
+    value: Option<&Value<'_>>,
+) -> Result<T, ReadFault>
+    ensures { Gives result (option_and_then T.reading (lent_data value.entry)) }
+{
+    match value {
+        Some(value) => T::from_lent_keyed(alloc, keys, value),
         None => Err(Fault::Because(NotRead)),
     }
 }
