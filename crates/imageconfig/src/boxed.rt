@@ -5,13 +5,14 @@ ghost use Rattle.scopes.specs.Scope.{value_in, is_environment_name, names_of as 
 ghost use Rattle.imageconfig.specs.Steps.{child_of, with_variables, IsApplied};
 
 use crate::config::Config;
-use borrowed::FromLent;
+use borrowed::FromLentKeyed;
 use expand::RejectionFault;
 use instructions::Instruction;
 use json::Value as Lent;
 use plain::{Memory, Variable};
 use scopes::Scope;
 use std::alloc::Global;
+use std::hash::RandomState;
 use std::marker::Model;
 use strict::ReadFault;
 
@@ -94,14 +95,18 @@ impl BoxedConfig {
     }
 }
 
-impl FromLent for BoxedConfig {
+impl FromLentKeyed for BoxedConfig {
     ghost use Rattle.imageconfig.specs.Reading.{config_in};
 
     ghost reading = { config_in };
 
-    /// The configuration that a value is, as `Config::from_lent`.
-    fn from_lent(alloc: Global, value: &Lent<'_>) -> Result<BoxedConfig, ReadFault> {
-        let config = Config::from_lent(alloc, value)?;
+    /// The configuration that a value is, as `Config::from_lent_keyed`.
+    fn from_lent_keyed(
+        alloc: Global,
+        keys: RandomState,
+        value: &Lent<'_>,
+    ) -> Result<BoxedConfig, ReadFault> {
+        let config = Config::from_lent_keyed(alloc, keys, value)?;
         Ok(BoxedConfig::new(alloc, config)?)
     }
 }

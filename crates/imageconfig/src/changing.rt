@@ -74,7 +74,7 @@ fn set_labels(
     ensures { IsChanged config.old (value_in before.now) (spelled.Label labels.now) config.new result }
 {
     let rows = label_rows(alloc, labels.as_slice(), before)?;
-    config.labels.set_all(alloc, rows)?;
+    config.labels.set_all(rows)?;
     Ok(())
 }
 

@@ -16,7 +16,7 @@ use crate::names::Names;
 use crate::reading::read_config;
 use crate::rows::Rows;
 use crate::writing::config_value;
-use borrowed::FromLent;
+use borrowed::FromLentKeyed;
 use expand::{Rejection, RejectionFault};
 use instructions::Instruction;
 use json::Value as Lent;
@@ -25,6 +25,7 @@ use plain::{Exact, Fault, Items, Memory, Text, Variable};
 use scopes::Scope;
 use serde_json::Value;
 use std::alloc::Global;
+use std::hash::RandomState;
 use strict::ReadFault;
 
 /// The configuration of an image, or of a stage at a line. A list, an object or a text that is empty isn't set: no rule tells the two apart.
@@ -49,13 +50,14 @@ pub struct Config {
 }
 
 impl Config {
-    /// The configuration that a stage from `scratch` begins with: `amd64` and `linux`, and nothing set.
-    pub fn plain(alloc: Global) -> Result<Config, Memory>
+    /// The configuration that a stage from `scratch` begins with: `amd64` and `linux`, and nothing set. Its names are
+    /// found by a hash with these keys.
+    pub fn plain(alloc: Global, keys: RandomState) -> Result<Config, Memory>
         ensures { IfOk result (λ config. config ≡ plain) }
     {
         let architecture = Text::from_str(alloc, "amd64")?;
         let os = Text::from_str(alloc, "linux")?;
-        bare(alloc, architecture, os)
+        bare(alloc, keys, architecture, os)
     }
 
     /// The configuration as JSON (OCI image specification): the fields that are set, and no layers. No number in it is a float.
@@ -138,7 +140,7 @@ impl Config {
     }
 }
 
-impl FromLent for Config {
+impl FromLentKeyed for Config {
     ghost use Rattle.imageconfig.specs.Reading.{config_in};
 
     ghost reading = { config_in };
@@ -147,7 +149,11 @@ impl FromLent for Config {
     /// value has a wrong type, as a `config` that is `null` has, while a field of it that is `null` counts as absent; `rootfs` has another `type`
     /// than `layers`, or a key beside `type` and `diff_ids`; a variable has no `=`, no name, or one that is there before; a working directory
     /// that isn't the empty text isn't absolute, or breaks a limit.
-    fn from_lent(alloc: Global, value: &Lent<'_>) -> Result<Config, ReadFault> {
-        read_config(alloc, value)
+    fn from_lent_keyed(
+        alloc: Global,
+        keys: RandomState,
+        value: &Lent<'_>,
+    ) -> Result<Config, ReadFault> {
+        read_config(alloc, keys, value)
     }
 }

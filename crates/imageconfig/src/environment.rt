@@ -10,9 +10,11 @@ ghost use Rattle.imageconfig.specs.Rows.{names_of, put_rows};
 ghost use Rattle.imageconfig.specs.Writing.{variable_data};
 
 use crate::rows::{Rows, variable_rows};
+use indexmap::map::Slice;
 use plain::{Items, Memory, Text, Variable};
 use serde_json::Value;
 use std::alloc::Global;
+use std::hash::RandomState;
 use std::marker::Model;
 use strict::ReadFault;
 
@@ -38,12 +40,12 @@ impl Model for Environment {
 }
 
 impl Environment {
-    /// The empty environment. It takes no memory.
-    pub fn new(alloc: Global) -> Environment
+    /// The empty environment, whose names are found by a hash with these keys. It takes no memory.
+    pub fn new(alloc: Global, keys: RandomState) -> Environment
         ensures { result ≡ [] }
     {
         Environment {
-            rows: Rows::new(alloc),
+            rows: Rows::new(alloc, keys),
         }
     }
 
@@ -66,8 +68,8 @@ impl Environment {
     }
 
     /// The variables as rows, lent.
-    pub fn as_slice(&self) -> &[(Text, Text)]
-        ensures { result.now ≡ self.now }
+    pub fn as_slice(&self) -> Slice<'_, Text, Text>
+        ensures { result ≡ self.now }
     {
         self.rows.as_slice()
     }
@@ -82,7 +84,7 @@ impl Environment {
         ensures err { OnErr result (self.new ≡ self.old) }
     {
         let rows = variable_rows(alloc, variables)?;
-        self.rows.set_all(alloc, rows)
+        self.rows.set_all(rows)
     }
 
     /// An equal environment of its own.
@@ -101,11 +103,15 @@ impl Environment {
     }
 
     /// The environment of these rows, of which none may have another one's name. `NotRead` where two have the same.
-    pub(crate) fn once(alloc: Global, rows: Items<(Text, Text)>) -> Result<Environment, ReadFault>
+    pub(crate) fn once(
+        alloc: Global,
+        keys: RandomState,
+        rows: Items<(Text, Text)>,
+    ) -> Result<Environment, ReadFault>
         requires { list_all is_environment_name (names_of rows) ≡ true }
         ensures { Gives result (if_they_differ rows) }
     {
-        let rows = Rows::once(alloc, rows)?;
+        let rows = Rows::once(alloc, keys, rows)?;
         Ok(Environment { rows })
     }
 

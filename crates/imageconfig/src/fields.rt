@@ -9,6 +9,7 @@ use crate::rows::Rows;
 use paths::Path;
 use plain::{Items, Memory, Text};
 use std::alloc::Global;
+use std::hash::RandomState;
 
 /// The fields of a configuration that are always set.
 #[derive(Drop)]
@@ -99,24 +100,29 @@ pub(crate) fn default_shell(alloc: Global) -> Result<Items<Text>, Memory>
     Ok(words)
 }
 
-/// The configuration with nothing set.
-pub(crate) fn bare(alloc: Global, architecture: Text, os: Text) -> Result<Config, Memory>
+/// The configuration with nothing set, whose names are found by a hash with these keys.
+pub(crate) fn bare(
+    alloc: Global,
+    keys: RandomState,
+    architecture: Text,
+    os: Text,
+) -> Result<Config, Memory>
     ensures { IfOk result (λ config. config ≡ bare architecture os) }
 {
     let shell = default_shell(alloc)?;
     Ok(Config {
         architecture,
         os,
-        env: Environment::new(alloc),
+        env: Environment::new(alloc, keys),
         user: Text::from_string(String::new(alloc)),
         stop_signal: Text::from_string(String::new(alloc)),
         working_dir: None,
         cmd: Items::new(alloc),
         cmd_is_own: false,
         entrypoint: Items::new(alloc),
-        labels: Rows::new(alloc),
-        exposed_ports: Names::new(alloc),
-        volumes: Names::new(alloc),
+        labels: Rows::new(alloc, keys),
+        exposed_ports: Names::new(alloc, keys),
+        volumes: Names::new(alloc, keys),
         shell,
     })
 }

@@ -11,6 +11,7 @@ use named::{NamedRows, Present};
 use plain::{Items, Memory, Text};
 use serde_json::{Map, Value};
 use std::alloc::Global;
+use std::hash::RandomState;
 use std::marker::Model;
 use strict::put;
 
@@ -33,12 +34,12 @@ impl Model for Names {
 }
 
 impl Names {
-    /// No names. It takes no memory.
-    pub fn new(alloc: Global) -> Names
+    /// No names, which are found by a hash with these keys. It takes no memory.
+    pub fn new(alloc: Global, keys: RandomState) -> Names
         ensures { result ≡ [] }
     {
         Names {
-            names: NamedRows::new(alloc),
+            names: NamedRows::new(alloc, keys),
         }
     }
 
@@ -63,7 +64,7 @@ impl Names {
         ensures err { OnErr result (self.new ≡ self.old) }
     {
         let rows = present(alloc, names)?;
-        self.names.set_all(alloc, rows)
+        self.names.set_all(rows)
     }
 
     /// The names as an object whose values are empty objects.
@@ -71,7 +72,7 @@ impl Names {
     pub(crate) fn to_json(&self, alloc: Global) -> Result<Value, Memory>
         ensures { IfOk result (λ v. view v ≡ names_data self.now) }
     {
-        let members = members(alloc, self.names.as_slice())?;
+        let members = members(alloc, &self.names)?;
         Ok(Value::Object(members))
     }
 
@@ -97,11 +98,11 @@ fn present(alloc: Global, names: Items<Text>) -> Result<Items<(Text, Present)>, 
 }
 
 /// The members of an object, one for each name.
-fn members(alloc: Global, names: &[(Text, Present)]) -> Result<Map<String, Value>, Memory>
+fn members(alloc: Global, names: &NamedRows<Present>) -> Result<Map<String, Value>, Memory>
     ensures { IfOk result (λ m. members_view m.entries ≡ put_names (of_names names.now) no_members) }
 {
     let mut members = Map::new(alloc);
-    for (name, _) in names {
+    for (name, _) in names.as_slice().iter() {
         put(
             alloc,
             &mut members,

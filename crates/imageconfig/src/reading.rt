@@ -20,6 +20,7 @@ use json::Value;
 use paths::Path;
 use plain::{Fault, Items, Memory, Text};
 use std::alloc::Global;
+use std::hash::RandomState;
 use strict::{NotRead, ReadFault};
 
 /// What stands at a key; `null` is as absent.
@@ -123,21 +124,26 @@ fn cut_rows(alloc: Global, texts: &[Text]) -> Result<Items<(Text, Text)>, ReadFa
 
 /// An environment: a list of texts `NAME=VALUE`, no name twice.
 #[tactic(auto, unfolding(crate::specs::Reading::env_in))]
-fn read_env(alloc: Global, value: &Value<'_>) -> Result<Environment, ReadFault>
+fn read_env(alloc: Global, keys: RandomState, value: &Value<'_>) -> Result<Environment, ReadFault>
     ensures { Gives result (env_in (data_of value.now)) }
 {
     let texts = shared_list(alloc, value)?;
     let rows = cut_rows(alloc, texts.as_slice())?;
-    Environment::once(alloc, rows)
+    Environment::once(alloc, keys, rows)
 }
 
 /// An environment that stands at a key, empty where none does.
-fn env_at(alloc: Global, value: &Value<'_>, key: &str) -> Result<Environment, ReadFault>
+fn env_at(
+    alloc: Global,
+    keys: RandomState,
+    value: &Value<'_>,
+    key: &str,
+) -> Result<Environment, ReadFault>
     ensures { Gives result (field [] env_in key.now (data_of value.now)) }
 {
     match set_at(value, key) {
-        Some(value) => read_env(alloc, value),
-        None => Ok(Environment::new(alloc)),
+        Some(value) => read_env(alloc, keys, value),
+        None => Ok(Environment::new(alloc, keys)),
     }
 }
 
@@ -167,54 +173,68 @@ fn keys_of(alloc: Global, rows: Items<(Text, Forgotten)>) -> Result<Items<Text>,
 }
 
 /// The names that are the keys of rows.
-fn names_of(alloc: Global, rows: Items<(Text, Forgotten)>) -> Result<Names, Memory>
+fn names_of(
+    alloc: Global,
+    keys: RandomState,
+    rows: Items<(Text, Forgotten)>,
+) -> Result<Names, Memory>
     ensures { IfOk result (λ names. names ≡ add_names [] (map (λ row. row.0) rows)) }
 {
-    let keys = keys_of(alloc, rows)?;
-    let mut names = Names::new(alloc);
-    names.add_all(alloc, keys)?;
+    let listed = keys_of(alloc, rows)?;
+    let mut names = Names::new(alloc, keys);
+    names.add_all(alloc, listed)?;
     Ok(names)
 }
 
 /// The keys of an object, whose values are forgotten.
-fn read_names(alloc: Global, value: &Value<'_>) -> Result<Names, ReadFault>
+fn read_names(alloc: Global, keys: RandomState, value: &Value<'_>) -> Result<Names, ReadFault>
     ensures { Gives result (names_in (data_of value.now)) }
 {
     match read_rows::<Forgotten>(alloc, value) {
-        Ok(rows) => Ok(names_of(alloc, rows)?),
+        Ok(rows) => Ok(names_of(alloc, keys, rows)?),
         Err(fault) => Err(fault),
     }
 }
 
 /// The keys of an object that stands at a key, none where none does.
-fn names_at(alloc: Global, value: &Value<'_>, key: &str) -> Result<Names, ReadFault>
+fn names_at(
+    alloc: Global,
+    keys: RandomState,
+    value: &Value<'_>,
+    key: &str,
+) -> Result<Names, ReadFault>
     ensures { Gives result (field [] names_in key.now (data_of value.now)) }
 {
     match set_at(value, key) {
-        Some(value) => read_names(alloc, value),
-        None => Ok(Names::new(alloc)),
+        Some(value) => read_names(alloc, keys, value),
+        None => Ok(Names::new(alloc, keys)),
     }
 }
 
 /// Labels: an object of texts.
 #[tactic(auto, unfolding(crate::specs::Reading::labels_in))]
-fn read_labels(alloc: Global, value: &Value<'_>) -> Result<Rows, ReadFault>
+fn read_labels(alloc: Global, keys: RandomState, value: &Value<'_>) -> Result<Rows, ReadFault>
     ensures { Gives result (labels_in (data_of value.now)) }
 {
     let texts = read_rows::<Text>(alloc, value)?;
     let texts = shared_rows(alloc, texts)?;
-    let mut rows = Rows::new(alloc);
-    rows.set_all(alloc, texts)?;
+    let mut rows = Rows::new(alloc, keys);
+    rows.set_all(texts)?;
     Ok(rows)
 }
 
 /// Labels that stand at a key, none where none do.
-fn labels_at(alloc: Global, value: &Value<'_>, key: &str) -> Result<Rows, ReadFault>
+fn labels_at(
+    alloc: Global,
+    keys: RandomState,
+    value: &Value<'_>,
+    key: &str,
+) -> Result<Rows, ReadFault>
     ensures { Gives result (field [] labels_in key.now (data_of value.now)) }
 {
     match set_at(value, key) {
-        Some(value) => read_labels(alloc, value),
-        None => Ok(Rows::new(alloc)),
+        Some(value) => read_labels(alloc, keys, value),
+        None => Ok(Rows::new(alloc, keys)),
     }
 }
 
@@ -268,12 +288,12 @@ fn dir_at(alloc: Global, value: &Value<'_>, key: &str) -> Result<Option<Path>, R
 
 /// The fields of `config` that are lists.
 #[tactic(auto, unfolding(crate::specs::Reading::lists_in))]
-fn read_lists(alloc: Global, value: &Value<'_>) -> Result<Lists, ReadFault>
+fn read_lists(alloc: Global, keys: RandomState, value: &Value<'_>) -> Result<Lists, ReadFault>
     ensures { Gives result (lists_in (data_of value.now)) }
 {
     let cmd = texts_at(alloc, value, "Cmd")?;
     let entrypoint = texts_at(alloc, value, "Entrypoint")?;
-    let env = env_at(alloc, value, "Env")?;
+    let env = env_at(alloc, keys, value, "Env")?;
     Ok(Lists {
         cmd,
         entrypoint,
@@ -283,12 +303,12 @@ fn read_lists(alloc: Global, value: &Value<'_>) -> Result<Lists, ReadFault>
 
 /// The fields of `config` that are objects.
 #[tactic(auto, unfolding(crate::specs::Reading::objects_in))]
-fn read_objects(alloc: Global, value: &Value<'_>) -> Result<Objects, ReadFault>
+fn read_objects(alloc: Global, keys: RandomState, value: &Value<'_>) -> Result<Objects, ReadFault>
     ensures { Gives result (objects_in (data_of value.now)) }
 {
-    let exposed_ports = names_at(alloc, value, "ExposedPorts")?;
-    match labels_at(alloc, value, "Labels") {
-        Ok(labels) => match names_at(alloc, value, "Volumes") {
+    let exposed_ports = names_at(alloc, keys, value, "ExposedPorts")?;
+    match labels_at(alloc, keys, value, "Labels") {
+        Ok(labels) => match names_at(alloc, keys, value, "Volumes") {
             Ok(volumes) => Ok(Objects {
                 exposed_ports,
                 labels,
@@ -356,6 +376,7 @@ fn joined(
 /// The configuration whose `config` this is.
 fn read_settings(
     alloc: Global,
+    keys: RandomState,
     architecture: Text,
     os: Text,
     value: &Value<'_>,
@@ -363,18 +384,22 @@ fn read_settings(
     ensures { Gives result (settings_in architecture os (data_of value.now)) }
 {
     match value {
-        Value::Object(_) => read_fields(alloc, architecture, os, value),
+        Value::Object(_) => read_fields(alloc, keys, architecture, os, value),
         _ => Err(Fault::Because(NotRead)),
     }
 }
 
 /// The fields of `config`, in their groups.
 #[tactic(auto, unfolding(crate::specs::Reading::groups_in))]
-fn read_groups(alloc: Global, value: &Value<'_>) -> Result<(Lists, Objects, Texts), ReadFault>
+fn read_groups(
+    alloc: Global,
+    keys: RandomState,
+    value: &Value<'_>,
+) -> Result<(Lists, Objects, Texts), ReadFault>
     ensures { Gives result (groups_in (data_of value.now)) }
 {
-    let lists = read_lists(alloc, value)?;
-    match read_objects(alloc, value) {
+    let lists = read_lists(alloc, keys, value)?;
+    match read_objects(alloc, keys, value) {
         Ok(objects) => match read_texts(alloc, value) {
             Ok(texts) => Ok((lists, objects, texts)),
             Err(fault) => {
@@ -394,13 +419,14 @@ fn read_groups(alloc: Global, value: &Value<'_>) -> Result<(Lists, Objects, Text
 #[tactic(auto, unfolding(crate::specs::Reading::fields_in))]
 fn read_fields(
     alloc: Global,
+    keys: RandomState,
     architecture: Text,
     os: Text,
     value: &Value<'_>,
 ) -> Result<Config, ReadFault>
     ensures { Gives result (fields_in architecture os (data_of value.now)) }
 {
-    match read_groups(alloc, value) {
+    match read_groups(alloc, keys, value) {
         Ok((lists, objects, texts)) => joined(alloc, architecture, os, lists, objects, texts),
         Err(fault) => {
             drop(architecture);
@@ -441,14 +467,18 @@ fn rootfs_at(alloc: Global, value: &Value<'_>) -> Result<Items<Text>, ReadFault>
 
 /// The configuration that a value is.
 #[tactic(auto, unfolding(crate::specs::Reading::config_in))]
-pub(crate) fn read_config(alloc: Global, value: &Value<'_>) -> Result<Config, ReadFault>
+pub(crate) fn read_config(
+    alloc: Global,
+    keys: RandomState,
+    value: &Value<'_>,
+) -> Result<Config, ReadFault>
     ensures { Gives result (config_in (data_of value.now)) }
 {
     let architecture = one_at::<Text>(alloc, value, "architecture")?;
     let os = one_at::<Text>(alloc, value, "os")?;
     let _layers = rootfs_at(alloc, value)?;
     match at(value, "config") {
-        Some(settings) => read_settings(alloc, architecture, os, settings),
-        None => Ok(bare(alloc, architecture, os)?),
+        Some(settings) => read_settings(alloc, keys, architecture, os, settings),
+        None => Ok(bare(alloc, keys, architecture, os)?),
     }
 }

@@ -9,10 +9,12 @@ ghost use Rattle.imageconfig.specs.Reading.{if_they_differ};
 ghost use Rattle.imageconfig.specs.Rows.{put_rows};
 ghost use Rattle.imageconfig.specs.Writing.{variable_data, put_texts_of, rows_data};
 
+use indexmap::map::Slice;
 use named::NamedRows;
 use plain::{Exact, Fault, Items, Memory, Text, Variable};
 use serde_json::{Map, Value};
 use std::alloc::Global;
+use std::hash::RandomState;
 use std::marker::Model;
 use strict::{NotRead, ReadFault, put};
 
@@ -34,12 +36,12 @@ impl Model for Rows {
 }
 
 impl Rows {
-    /// No rows. It takes no memory.
-    pub fn new(alloc: Global) -> Rows
+    /// No rows, whose names are found by a hash with these keys. It takes no memory.
+    pub fn new(alloc: Global, keys: RandomState) -> Rows
         ensures { result ≡ [] }
     {
         Rows {
-            rows: NamedRows::new(alloc),
+            rows: NamedRows::new(alloc, keys),
         }
     }
 
@@ -51,8 +53,8 @@ impl Rows {
     }
 
     /// The rows, lent.
-    pub fn as_slice(&self) -> &[(Text, Text)]
-        ensures { result.now ≡ self.now }
+    pub fn as_slice(&self) -> Slice<'_, Text, Text>
+        ensures { result ≡ self.now }
     {
         self.rows.as_slice()
     }
@@ -66,19 +68,23 @@ impl Rows {
     }
 
     /// Rows of which none may have another one's name. `NotRead` where two have the same.
-    pub(crate) fn once(alloc: Global, rows: Items<(Text, Text)>) -> Result<Rows, ReadFault>
+    pub(crate) fn once(
+        alloc: Global,
+        keys: RandomState,
+        rows: Items<(Text, Text)>,
+    ) -> Result<Rows, ReadFault>
         ensures { Gives result (if_they_differ rows) }
     {
-        Rows::added(alloc, rows)
+        Rows::added(alloc, keys, rows)
     }
 
     /// The same, as the rows are taken one after another.
-    fn added(alloc: Global, rows: Items<(Text, Text)>) -> Result<Rows, ReadFault>
+    fn added(alloc: Global, keys: RandomState, rows: Items<(Text, Text)>) -> Result<Rows, ReadFault>
         ensures { Gives result (add_rows [] rows) }
     {
-        let mut once = NamedRows::new(alloc);
+        let mut once = NamedRows::new(alloc, keys);
         for (name, value) in rows.into_vec() {
-            if !once.add(alloc, name, value)? {
+            if !once.add(name, value)? {
                 return Err(Fault::Because(NotRead));
             }
         }
@@ -86,25 +92,25 @@ impl Rows {
     }
 
     /// Gives names values. After `Memory` the rows are as they were.
-    pub(crate) fn set_all(&mut self, alloc: Global, rows: Items<(Text, Text)>) -> Result<(), Memory>
+    pub(crate) fn set_all(&mut self, rows: Items<(Text, Text)>) -> Result<(), Memory>
         ensures ok { OnOk result (self.new ≡ put_rows self.old rows) }
         ensures err { OnErr result (self.new ≡ self.old) }
     {
-        self.rows.set_all(alloc, rows)
+        self.rows.set_all(rows)
     }
 
     /// The rows as variables.
     pub(crate) fn variables(&self, alloc: Global) -> Result<Items<Variable>, Memory>
         ensures { IfOk result (λ variables. variables ≡ variables_of self.now) }
     {
-        variables(alloc, self.rows.as_slice())
+        variables(alloc, &self.rows)
     }
 
     /// The rows as a list of texts `NAME=VALUE`.
     pub(crate) fn to_list(&self, alloc: Global) -> Result<Value, Memory>
         ensures { IfOk result (λ v. view v ≡ list_data variable_data self.now) }
     {
-        let values = texts(alloc, self.rows.as_slice())?;
+        let values = texts(alloc, &self.rows)?;
         Ok(Value::Array(values))
     }
 
@@ -113,7 +119,7 @@ impl Rows {
     pub(crate) fn to_json(&self, alloc: Global) -> Result<Value, Memory>
         ensures { IfOk result (λ v. view v ≡ rows_data self.now) }
     {
-        let members = members(alloc, self.rows.as_slice())?;
+        let members = members(alloc, &self.rows)?;
         Ok(Value::Object(members))
     }
 }
@@ -145,22 +151,22 @@ fn variable_value(alloc: Global, name: &str, value: &str) -> Result<Value, Memor
 }
 
 /// A text `NAME=VALUE` for each row.
-fn texts(alloc: Global, rows: &[(Text, Text)]) -> Result<Vec<Value>, Memory>
+fn texts(alloc: Global, rows: &NamedRows<Text>) -> Result<Vec<Value>, Memory>
     ensures { IfOk result (λ values. items_view values.items ≡ items_of (map variable_data rows.now)) }
 {
     let mut values = Vec::new(alloc);
-    for (name, value) in rows {
+    for (name, value) in rows.as_slice().iter() {
         values.push(variable_value(alloc, name.as_str(), value.as_str())?)?;
     }
     Ok(values)
 }
 
 /// The members of an object, one for each row.
-fn members(alloc: Global, rows: &[(Text, Text)]) -> Result<Map<String, Value>, Memory>
+fn members(alloc: Global, rows: &NamedRows<Text>) -> Result<Map<String, Value>, Memory>
     ensures { IfOk result (λ m. members_view m.entries ≡ put_texts_of rows.now no_members) }
 {
     let mut members = Map::new(alloc);
-    for (name, value) in rows {
+    for (name, value) in rows.as_slice().iter() {
         let text = Value::String(String::from_str(alloc, value.as_str())?);
         put(alloc, &mut members, name.as_str(), text)?;
     }
@@ -168,11 +174,11 @@ fn members(alloc: Global, rows: &[(Text, Text)]) -> Result<Map<String, Value>, M
 }
 
 /// The rows as variables.
-fn variables(alloc: Global, rows: &[(Text, Text)]) -> Result<Items<Variable>, Memory>
+fn variables(alloc: Global, rows: &NamedRows<Text>) -> Result<Items<Variable>, Memory>
     ensures { IfOk result (λ variables. variables ≡ variables_of rows.now) }
 {
     let mut variables = Items::new(alloc);
-    for (name, value) in rows {
+    for (name, value) in rows.as_slice().iter() {
         let name = name.copy(alloc)?;
         let value = value.copy(alloc)?;
         variables.push(Variable { name, value })?;
