@@ -44,12 +44,17 @@ variable-text said_name said_value name value first second =
 pub drop-item : {A : Type 0} (xs : List A) (x : A) (i : ℕ) → i < length xs → x ≡ get_or xs i x → drop i xs ≡ x ∷ drop (i + 1) xs
 drop-item xs x i lt is = drop_more xs i x lt ∙ ap (λ y. y ∷ drop (i + 1) xs) (sym is)
 
+-- the items that are left, the next one first
+pub items-next : {A : Type 0} (f : A → Data) (later : Bool) (left rest : List A) (x : A) (said : List ℕ) → left ≡ x ∷ rest → said ≡ compact_text (f x)
+    → comma_if later ++ (said ++ items_text true (items_of (map f rest))) ≡ items_text later (items_of (map f left))
+items-next f later left rest x said next same =
+    ap (λ t. comma_if later ++ (t ++ items_text true (items_of (map f rest)))) same
+    ∙ sym (ap (λ ys. items_text later (items_of (map f ys))) next)
+
 -- the items from one on, that item first
 pub items-from : {A : Type 0} (f : A → Data) (later : Bool) (xs : List A) (x : A) (said : List ℕ) (i : ℕ) → i < length xs → x ≡ get_or xs i x → said ≡ compact_text (f x)
     → comma_if later ++ (said ++ items_text true (items_of (map f (drop (i + 1) xs)))) ≡ items_text later (items_of (map f (drop i xs)))
-items-from f later xs x said i lt is same =
-    ap (λ t. comma_if later ++ (t ++ items_text true (items_of (map f (drop (i + 1) xs))))) same
-    ∙ sym (ap (λ ys. items_text later (items_of (map f ys))) (drop-item xs x i lt is))
+items-from f later xs x said i lt is same = items-next f later (drop i xs) (drop (i + 1) xs) x said (drop-item xs x i lt is) same
 
 -- ---- the order of the keys
 

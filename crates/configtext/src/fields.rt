@@ -12,6 +12,7 @@ ghost use Rattle.configtext.specs.PrivateLabels.{label_members};
 use crate::keys::{put_comma, put_key};
 use crate::labels::put_members;
 use counted::{CountedWrite, Gathered, gather};
+use imageconfig::Environment;
 use plain::Text;
 use quoted::{put_quoted, put_text};
 use std::collections::BTreeMap;
@@ -65,7 +66,7 @@ pub(crate) fn put_variables<W: CountedWrite>(
     gathered: &mut Gathered,
     later: bool,
     key: &str,
-    rows: &[(Text, Text)],
+    rows: &Environment,
 ) -> bool
     requires room { HasRoom (W.failures output.old) gathered.old }
     ensures says { Says
@@ -85,7 +86,7 @@ pub(crate) fn put_variables<W: CountedWrite>(
 }
 
 /// Says variables as the items of a list, with the bracket behind them.
-fn put_rows<W: CountedWrite>(output: &mut W, gathered: &mut Gathered, rows: &[(Text, Text)])
+fn put_rows<W: CountedWrite>(output: &mut W, gathered: &mut Gathered, rows: &Environment)
     requires room { HasRoom (W.failures output.old) gathered.old }
     ensures says { Says
         (sink (W.contents output.old) (W.failures output.old) gathered.old)
@@ -94,9 +95,9 @@ fn put_rows<W: CountedWrite>(output: &mut W, gathered: &mut Gathered, rows: &[(T
     ensures room { HasRoom (W.failures output.new) gathered.new }
 {
     let mut later = false;
-    for row in rows {
+    for (name, value) in rows.as_slice().iter() {
         put_comma(output, gathered, later);
-        put_variable(output, gathered, row.0.as_str(), row.1.as_str());
+        put_variable(output, gathered, name.as_str(), value.as_str());
         later = true;
     }
     gather(output, gathered, b"]");

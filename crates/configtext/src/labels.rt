@@ -8,7 +8,8 @@ ghost use Rattle.configtext.specs.PrivateLabels.{label_members};
 
 use crate::keys::put_key;
 use counted::{CountedWrite, Gathered, gather};
-use plain::{Memory, Text};
+use imageconfig::Rows;
+use plain::Memory;
 use quoted::put_quoted;
 use std::alloc::Global;
 use std::collections::BTreeMap;
@@ -16,13 +17,13 @@ use std::collections::BTreeMap;
 /// Labels in the order of their keys' bytes, in which an object is written. The configuration has them in the order in which they came.
 pub(crate) fn sort_labels<'a>(
     alloc: Global,
-    rows: &'a [(Text, Text)],
+    rows: &'a Rows,
 ) -> Result<BTreeMap<&'a str, &'a str>, Memory>
     ensures { IfOk result (λ labels. label_members labels.entries ≡ put_texts_of rows.now no_members) }
 {
     let mut sorted = BTreeMap::new(alloc);
-    for row in rows {
-        sorted.insert(row.0.as_str(), row.1.as_str())?;
+    for (key, value) in rows.as_slice().iter() {
+        sorted.insert(key.as_str(), value.as_str())?;
     }
     Ok(sorted)
 }

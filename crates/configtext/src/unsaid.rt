@@ -58,7 +58,7 @@ impl<'a> UnsaidConfig<'a> {
         let ports = config.exposed_ports.to_text(alloc)?;
         let volumes = config.volumes.to_text(alloc)?;
         let working_dir = text_of_dir(alloc, &config.working_dir)?;
-        let labels = sort_labels(alloc, config.labels.as_slice())?;
+        let labels = sort_labels(alloc, &config.labels)?;
         Ok(UnsaidConfig {
             config,
             ports,
@@ -144,7 +144,7 @@ fn put_first<W: CountedWrite>(output: &mut W, gathered: &mut Gathered, config: &
         "Entrypoint",
         config.entrypoint.as_slice(),
     );
-    put_variables(output, gathered, later, "Env", config.env.as_slice())
+    put_variables(output, gathered, later, "Env", &config.env)
 }
 
 /// Says ExposedPorts, Labels and StopSignal, as far as they are set, and tells whether a field has been said by now.
