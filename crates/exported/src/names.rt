@@ -155,10 +155,10 @@ pub(crate) fn whole_name(alloc: Global, name: &str) -> Result<String, Memory>
 
 /// The digest that a name is given, unless it has one itself.
 #[tactic(auto, unfolding(crate::specs::Names::digest_for))]
-fn digest_for<'a>(digests: &'a NamedRows<Text>, name: &str) -> Option<&'a Text>
+fn digest_for<'a>(digests: &'a NamedRows<Text>, name: &Text) -> Option<&'a Text>
     ensures { option_map (λ digest. digest.now) result ≡ digest_for digests.now name.now }
 {
-    if has_byte(b'@', name.as_bytes()) {
+    if has_byte(b'@', name.as_str().as_bytes()) {
         return None;
     }
     digests.get(name)
@@ -179,11 +179,11 @@ fn with_digest(whole: String, digest: &str) -> Result<String, Memory>
 pub(crate) fn pinned_name(
     alloc: Global,
     digests: &NamedRows<Text>,
-    name: &str,
+    name: &Text,
 ) -> Result<String, Memory>
     ensures { IfOk result (λ pinned. string_bytes pinned ≡ pinned_name digests.now name.now) }
 {
-    let whole = whole_name(alloc, name)?;
+    let whole = whole_name(alloc, name.as_str())?;
     match digest_for(digests, name) {
         Some(digest) => with_digest(whole, digest.as_str()),
         None => Ok(whole),

@@ -17,7 +17,7 @@ use std::alloc::Global;
 use wire::{Map, Unordered};
 
 /// How BuildKit is told of an image.
-fn identifier(alloc: Global, digests: &NamedRows<Text>, name: &str) -> Result<String, Memory>
+fn identifier(alloc: Global, digests: &NamedRows<Text>, name: &Text) -> Result<String, Memory>
     ensures { IfOk result (λ text. string_bytes text ≡ codes "docker-image://" ++ pinned_name digests.now name.now) }
 {
     let name = pinned_name(alloc, digests, name)?;
@@ -36,7 +36,7 @@ pub fn image_op(
 ) -> Result<Op, Memory>
     ensures { IfOk result (λ op. op ≡ op_on (Some platform.now) [] (SourceKind (image_source (pinned_name digests.now name.now)))) }
 {
-    let identifier = Text::from_string(identifier(alloc, digests, name.as_str())?);
+    let identifier = Text::from_string(identifier(alloc, digests, name)?);
     let attrs = Map::new(alloc);
     let source = SourceOp { identifier, attrs };
     op_for(alloc, platform, &[], OpKind::Source(source))
