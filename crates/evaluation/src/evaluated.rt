@@ -28,6 +28,7 @@ use scopes::laws::{
 };
 use stages::StageTable;
 use std::alloc::Global;
+use std::hash::RandomState;
 use trees::Tree;
 
 /// The needed stages of a file, evaluated.
@@ -61,7 +62,7 @@ fn state_at(states: Vec<Option<State>>, number: u32) -> Option<State>
 }
 
 /// The configuration of what a stage leaves.
-fn config_of(alloc: Global, state: Option<State>) -> Result<Config, Memory>
+fn config_of(alloc: Global, keys: RandomState, state: Option<State>) -> Result<Config, Memory>
     ensures { IfOk result (λ config. config ≡ config_of state) }
 {
     match state {
@@ -70,15 +71,20 @@ fn config_of(alloc: Global, state: Option<State>) -> Result<Config, Memory>
             drop(scope);
             Ok(config.into_config())
         }
-        None => Config::plain(alloc),
+        None => Config::plain(alloc, keys),
     }
 }
 
 /// The configuration at the end of a stage.
-fn config_at(alloc: Global, states: Vec<Option<State>>, number: u32) -> Result<Config, Memory>
+fn config_at(
+    alloc: Global,
+    keys: RandomState,
+    states: Vec<Option<State>>,
+    number: u32,
+) -> Result<Config, Memory>
     ensures { IfOk result (λ config. config ≡ config_at states.items number) }
 {
-    config_of(alloc, state_at(states, number))
+    config_of(alloc, keys, state_at(states, number))
 }
 
 /// These rows, with this configuration and the trees of what they name.
@@ -113,6 +119,7 @@ fn make_with(
 /// What the stages give, with the target's configuration and the trees of what they name.
 fn make(
     alloc: Global,
+    keys: RandomState,
     walk: Walk,
     images: Images<BoxedConfig>,
     context: Tree,
@@ -125,7 +132,7 @@ fn make(
         states,
         names,
     } = walk;
-    match config_at(alloc, states.into_vec(), target) {
+    match config_at(alloc, keys, states.into_vec(), target) {
         Ok(config) => make_with(alloc, rows, names, config, images, context, target),
         Err(_) => {
             drop(rows);
@@ -140,6 +147,7 @@ fn make(
 /// What a table gives of which just these stages are needed.
 fn evaluate_needed(
     alloc: Global,
+    keys: RandomState,
     table: StageTable,
     images: Images<BoxedConfig>,
     context: Tree,
@@ -158,12 +166,13 @@ fn evaluate_needed(
     let (outer, stages, target) = table.into_parts();
     keep_names(&images, stages.as_slice());
     let given = Given {
+        keys,
         args,
         outer: &outer,
         images: &images,
     };
     match evaluate_stages(alloc, &given, needed, target, stages.into_vec()) {
-        Ok(walk) => make(alloc, walk, images, context, target),
+        Ok(walk) => make(alloc, keys, walk, images, context, target),
         Err(fault) => {
             drop(images);
             drop(context);
@@ -185,6 +194,7 @@ fn evaluate_needed(
 /// just these images. Their lines ascend, and the target needs each stage that isn't left out.
 pub fn evaluate(
     alloc: Global,
+    keys: RandomState,
     table: StageTable,
     images: Images<BoxedConfig>,
     context: Tree,
@@ -200,7 +210,7 @@ pub fn evaluate(
     ensures needs { IfOk result (λ made. NeedsAllStages made.rows made.target) }
 {
     match table.needed(alloc) {
-        Ok(needed) => evaluate_needed(alloc, table, images, context, args, needed.as_slice()),
+        Ok(needed) => evaluate_needed(alloc, keys, table, images, context, args, needed.as_slice()),
         Err(_) => {
             drop(table);
             drop(images);

@@ -24,6 +24,7 @@ use rows::{Origin, Stage};
 use scopes::Args;
 use stages::{ResolvedStage, StageTable};
 use std::alloc::Global;
+use std::hash::RandomState;
 
 /// The stages so far, of which some may be lost, and the refusals of those that are refused.
 #[derive(Drop)]
@@ -59,6 +60,7 @@ fn is_base_lost(needed: &[bool], states: &[Option<State>], base: &Origin) -> boo
 /// What was judged so far, with one refused stage more.
 fn refuse_stage(
     alloc: Global,
+    keys: RandomState,
     rows: Items<Option<Stage>>,
     states: Items<Option<State>>,
     faults: Items<Rejection>,
@@ -76,7 +78,7 @@ fn refuse_stage(
             return Err(memory);
         }
     }
-    let names = NamedImages::new(alloc);
+    let names = NamedImages::new(alloc, keys);
     leave_out(Judged {
         walk: Walk {
             rows,
@@ -168,7 +170,7 @@ fn judge_opened(
         }
         Err(Fault::Because(refusal)) => {
             drop(base);
-            refuse_stage(alloc, rows, states, faults, refusal)
+            refuse_stage(alloc, given.keys, rows, states, faults, refusal)
         }
         Err(Fault::Memory) => {
             drop(rows);
@@ -192,7 +194,7 @@ fn judge_needed_stage(
     ensures { IsNeededJudged (arg_value given.now.args.now) (value_in given.now.outer.now) given.now.images.now (is_wanted users.now) judged stage result }
 {
     let Judged { walk, faults } = judged;
-    match open(alloc, given.images, users, walk, &stage.base) {
+    match open(alloc, given.keys, given.images, users, walk, &stage.base) {
         Ok(opened) => judge_opened(alloc, given, users, opened, faults, stage),
         Err(memory) => {
             drop(faults);
@@ -241,7 +243,7 @@ fn judge_in_turn(
         walk: Walk {
             rows: Items::new(alloc),
             states: Items::new(alloc),
-            names: NamedImages::new(alloc),
+            names: NamedImages::new(alloc, given.keys),
         },
         faults: Items::new(alloc),
     };
@@ -279,6 +281,7 @@ fn judge_stages(
 /// The refusals of a table of which just these stages are needed.
 fn list_needed(
     alloc: Global,
+    keys: RandomState,
     table: StageTable,
     images: &Images<BoxedConfig>,
     args: &Args,
@@ -289,6 +292,7 @@ fn list_needed(
 {
     let (outer, stages, target) = table.into_parts();
     let given = Given {
+        keys,
         args,
         outer: &outer,
         images,
@@ -305,6 +309,7 @@ fn list_needed(
 /// The first of them is what `evaluate` refuses the table for, and there is none exactly if it evaluates it.
 pub fn list_faults(
     alloc: Global,
+    keys: RandomState,
     table: StageTable,
     images: &Images<BoxedConfig>,
     args: &Args,
@@ -312,7 +317,7 @@ pub fn list_faults(
     ensures { IfOk result (λ faults. AreTableFaults images.now (arg_value args.now) table faults) }
 {
     match table.needed(alloc) {
-        Ok(needed) => list_needed(alloc, table, images, args, needed.as_slice()),
+        Ok(needed) => list_needed(alloc, keys, table, images, args, needed.as_slice()),
         Err(memory) => {
             drop(table);
             Err(memory)

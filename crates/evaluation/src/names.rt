@@ -8,6 +8,7 @@ use plain::limits::MOST_IMAGES;
 use plain::{Exact, Memory, Text};
 use rows::Origin;
 use std::alloc::Global;
+use std::hash::RandomState;
 use std::marker::Model;
 
 /// The names of the images that were named so far.
@@ -30,12 +31,12 @@ impl Model for NamedImages {
 }
 
 impl NamedImages {
-    /// No name. It takes no memory.
-    pub fn new(alloc: Global) -> NamedImages
+    /// No name, found by a hash with these keys. It takes no memory.
+    pub fn new(alloc: Global, keys: RandomState) -> NamedImages
         ensures { result ≡ [] }
     {
         NamedImages {
-            names: NamedRows::new(alloc),
+            names: NamedRows::new(alloc, keys),
         }
     }
 
@@ -50,7 +51,7 @@ impl NamedImages {
     pub fn has(&self, name: &Text) -> bool
         ensures { result ≡ is_among self.now name.now }
     {
-        self.names.has(name.as_str())
+        self.names.has(name)
     }
 
     /// Adds a name, unless it is there. After `Memory` nothing has changed.
@@ -58,7 +59,7 @@ impl NamedImages {
         ensures ok { OnOk result (self.new ≡ with_name self.old name.now) }
         ensures err { OnErr result (self.new ≡ self.old) }
     {
-        self.names.add(alloc, name.copy(alloc)?, Present)?;
+        self.names.add(name.copy(alloc)?, Present)?;
         Ok(())
     }
 

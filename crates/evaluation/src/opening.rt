@@ -11,6 +11,7 @@ use plain::{Items, Memory};
 use plans::Images;
 use rows::Origin;
 use std::alloc::Global;
+use std::hash::RandomState;
 
 /// What a stage begins with, and the stages before it, of which what isn't wanted after that was let go.
 #[derive(Drop)]
@@ -22,13 +23,14 @@ pub struct Opened {
 /// A stage from a source.
 fn open_source(
     alloc: Global,
+    keys: RandomState,
     images: &Images<BoxedConfig>,
     walk: Walk,
     source: &Source,
 ) -> Result<Opened, Memory>
     ensures { IfOk result (λ begun. begun ≡ record { walk = walk; state = source_state images.now source.now }) }
 {
-    match begin_source(alloc, images, source) {
+    match begin_source(alloc, keys, images, source) {
         Ok(state) => Ok(Opened { walk, state }),
         Err(memory) => {
             drop(walk);
@@ -39,21 +41,31 @@ fn open_source(
 
 /// What a stage begins with from one that leaves this, which is lent. A stage that a needed one is from is needed and stands before it, so
 /// the cases without a state don't come.
-fn copied_end(alloc: Global, states: &[Option<State>], number: usize) -> Result<State, Memory>
+fn copied_end(
+    alloc: Global,
+    keys: RandomState,
+    states: &[Option<State>],
+    number: usize,
+) -> Result<State, Memory>
     ensures { IfOk result (λ state. state ≡ ended_state (slice_index_or states.now number NoneOf)) }
 {
     match states.get(number) {
         Some(Some(state)) => state.child(alloc),
-        Some(None) => State::bare(alloc),
-        None => State::bare(alloc),
+        Some(None) => State::bare(alloc, keys),
+        None => State::bare(alloc, keys),
     }
 }
 
 /// A stage from a stage whose end is wanted after it too.
-fn open_copied(alloc: Global, walk: Walk, number: usize) -> Result<Opened, Memory>
+fn open_copied(
+    alloc: Global,
+    keys: RandomState,
+    walk: Walk,
+    number: usize,
+) -> Result<Opened, Memory>
     ensures { IfOk result (λ begun. begun ≡ record { walk = walk; state = ended_state (slice_index_or walk.states number NoneOf) }) }
 {
-    match copied_end(alloc, walk.states.as_slice(), number) {
+    match copied_end(alloc, keys, walk.states.as_slice(), number) {
         Ok(state) => Ok(Opened { walk, state }),
         Err(memory) => {
             drop(walk);
@@ -77,17 +89,17 @@ fn take_state(states: Items<Option<State>>, number: usize) -> (Option<State>, It
 }
 
 /// What a stage begins with from one that leaves this, which is handed over.
-fn taken_end(alloc: Global, state: Option<State>) -> Result<State, Memory>
+fn taken_end(alloc: Global, keys: RandomState, state: Option<State>) -> Result<State, Memory>
     ensures { IfOk result (λ begun. begun ≡ ended_state state) }
 {
     match state {
         Some(state) => Ok(state.into_child()),
-        None => State::bare(alloc),
+        None => State::bare(alloc, keys),
     }
 }
 
 /// A stage from a stage whose end isn't wanted after it: it takes that over, so nothing is copied.
-fn open_taken(alloc: Global, walk: Walk, number: usize) -> Result<Opened, Memory>
+fn open_taken(alloc: Global, keys: RandomState, walk: Walk, number: usize) -> Result<Opened, Memory>
     ensures { IfOk result (λ begun. begun ≡ record { walk = without_state walk number; state = ended_state (slice_index_or walk.states number NoneOf) }) }
 {
     let Walk {
@@ -101,7 +113,7 @@ fn open_taken(alloc: Global, walk: Walk, number: usize) -> Result<Opened, Memory
         states,
         names,
     };
-    match taken_end(alloc, state) {
+    match taken_end(alloc, keys, state) {
         Ok(state) => Ok(Opened { walk, state }),
         Err(memory) => {
             drop(walk);
@@ -113,6 +125,7 @@ fn open_taken(alloc: Global, walk: Walk, number: usize) -> Result<Opened, Memory
 /// The next stage of a file, which begins with this.
 pub(crate) fn open(
     alloc: Global,
+    keys: RandomState,
     images: &Images<BoxedConfig>,
     users: &Users,
     walk: Walk,
@@ -121,13 +134,13 @@ pub(crate) fn open(
     ensures { IfOk result (λ begun. begun ≡ opened images.now (is_wanted users.now) walk base.now) }
 {
     match base {
-        Origin::Source(source) => open_source(alloc, images, walk, source),
+        Origin::Source(source) => open_source(alloc, keys, images, walk, source),
         Origin::Stage(number) => {
             let number = *number as usize;
             if users.is_wanted(walk.rows.len(), number) {
-                open_copied(alloc, walk, number)
+                open_copied(alloc, keys, walk, number)
             } else {
-                open_taken(alloc, walk, number)
+                open_taken(alloc, keys, walk, number)
             }
         }
     }

@@ -14,6 +14,7 @@ use rows::Origin;
 use scopes::Scope;
 use stages::ResolvedStage;
 use std::alloc::Global;
+use std::hash::RandomState;
 
 /// What the instructions of a stage so far leave to those after them.
 #[derive(Drop)]
@@ -26,20 +27,20 @@ pub struct State {
 
 impl State {
     /// What a stage from the empty tree begins with.
-    pub(crate) fn bare(alloc: Global) -> Result<State, Memory>
+    pub(crate) fn bare(alloc: Global, keys: RandomState) -> Result<State, Memory>
         ensures { IfOk result (λ state. state ≡ bare_state) }
     {
-        let config = BoxedConfig::new(alloc, Config::plain(alloc)?)?;
-        let scope = Scope::new(alloc);
+        let config = BoxedConfig::new(alloc, Config::plain(alloc, keys)?)?;
+        let scope = Scope::new(alloc, keys);
         Ok(State { scope, config })
     }
 
     /// What a stage from an image with this configuration begins with.
-    fn from_image(alloc: Global, config: &BoxedConfig) -> Result<State, Memory>
+    fn from_image(alloc: Global, keys: RandomState, config: &BoxedConfig) -> Result<State, Memory>
         ensures { IfOk result (λ state. state ≡ image_state config.now) }
     {
         let variables = config.get().env.variables(alloc)?;
-        let scope = inherited(alloc, variables.as_slice())?;
+        let scope = inherited(alloc, keys, variables.as_slice())?;
         match config.child(alloc) {
             Ok(config) => Ok(State { scope, config }),
             Err(memory) => {
@@ -76,10 +77,10 @@ impl State {
 }
 
 /// The scope in which each of these variables was set.
-fn inherited(alloc: Global, variables: &[Variable]) -> Result<Scope, Memory>
+fn inherited(alloc: Global, keys: RandomState, variables: &[Variable]) -> Result<Scope, Memory>
     ensures { IfOk result (λ scope. scope ≡ kept (map declaration_of variables.now)) }
 {
-    let mut scope = Scope::new(alloc);
+    let mut scope = Scope::new(alloc, keys);
     match scope.set_variables(alloc, variables) {
         Ok(()) => Ok(scope),
         Err(memory) => {
@@ -93,17 +94,18 @@ fn inherited(alloc: Global, variables: &[Variable]) -> Result<Scope, Memory>
 /// nothing here, so that the call is total.
 pub(crate) fn begin_source(
     alloc: Global,
+    keys: RandomState,
     images: &Images<BoxedConfig>,
     source: &Source,
 ) -> Result<State, Memory>
     ensures { IfOk result (λ state. state ≡ source_state images.now source.now) }
 {
     match source {
-        Source::Scratch => State::bare(alloc),
-        Source::Context => State::bare(alloc),
+        Source::Scratch => State::bare(alloc, keys),
+        Source::Context => State::bare(alloc, keys),
         Source::Image(name) => match images.find(name.as_str()) {
-            Some(image) => State::from_image(alloc, &image.config),
-            None => State::bare(alloc),
+            Some(image) => State::from_image(alloc, keys, &image.config),
+            None => State::bare(alloc, keys),
         },
     }
 }

@@ -247,7 +247,7 @@ fn evaluate_needed_stage(
     requires { AreWhole stage }
     ensures { IsStageAdded (arg_value given.now.args.now) (value_in given.now.outer.now) given.now.images.now (is_wanted users.now) walk stage result }
 {
-    match open(alloc, given.images, users, walk, &stage.base) {
+    match open(alloc, given.keys, given.images, users, walk, &stage.base) {
         Ok(opened) => evaluate_opened(alloc, given, users, opened, stage),
         Err(_) => {
             drop(stage);
@@ -323,7 +323,7 @@ fn evaluate_in_turn(
     let mut walk = Walk {
         rows: Items::new(alloc),
         states: Items::new(alloc),
-        names: NamedImages::new(alloc),
+        names: NamedImages::new(alloc, given.keys),
     };
     for stage in stages {
         match evaluate_next_stage(alloc, given, needed, users, walk, stage) {

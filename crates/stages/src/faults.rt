@@ -20,6 +20,7 @@ use plain::{Code, Exact, Fault, Items, Memory, Text};
 use plans::Images;
 use scopes::{Args, Scope};
 use std::alloc::Global;
+use std::hash::RandomState;
 
 /// The reason for which nothing was made, if that is so.
 fn reason_of<X: Drop>(made: Result<X, ReasonFault>) -> Result<Option<Reason>, Memory>
@@ -102,13 +103,14 @@ fn inner_reason<C>(
 /// The reason to refuse an ARG before the first FROM, which is declared if there is none.
 fn argument_reason(
     alloc: Global,
+    keys: RandomState,
     args: &Args,
     outer: &mut Scope,
     arguments: &[Argument],
 ) -> Result<Option<Reason>, Memory>
     ensures { IfOk result (Judges (argument_due (arg_fault (value_in outer.old) (arg_value args.now) arguments.now)) (arg_fault (value_in outer.old) (arg_value args.now) arguments.now) (kept (outer.old ++ arg_line (value_in outer.old) (arg_value args.now) (λ name. None) arguments.now)) outer.old outer.new) }
 {
-    let empty = Scope::new(alloc);
+    let empty = Scope::new(alloc, keys);
     let declared = outer.declare(alloc, arguments, args, &empty);
     drop(empty);
     match declared {
@@ -121,6 +123,7 @@ fn argument_reason(
 /// The reason to refuse an instruction other than FROM before the first FROM.
 fn outer_reason(
     alloc: Global,
+    keys: RandomState,
     args: &Args,
     outer: &mut Scope,
     kind: &InstructionKind,
@@ -128,7 +131,7 @@ fn outer_reason(
     ensures { IfOk result (Judges (outer_due (arg_value args.now) outer.old (declared_by kind.now)) (outer_fault (arg_value args.now) outer.old (declared_by kind.now)) (outer_with (arg_value args.now) outer.old (declared_by kind.now)) outer.old outer.new) }
 {
     match declared_by(kind) {
-        Some(arguments) => argument_reason(alloc, args, outer, arguments),
+        Some(arguments) => argument_reason(alloc, keys, args, outer, arguments),
         None => Ok(Some(Reason::Coded(Code::R05))),
     }
 }
@@ -136,6 +139,7 @@ fn outer_reason(
 /// The reason to refuse an instruction other than FROM after stages of these names.
 fn other_reason<C>(
     alloc: Global,
+    keys: RandomState,
     images: &Images<C>,
     args: &Args,
     outer: &mut Scope,
@@ -146,7 +150,7 @@ fn other_reason<C>(
     ensures { IfOk result (Judges (other_due (names_in images.now) (arg_value args.now) outer.old names.now kind.now) (other_fault (arg_value args.now) outer.old names.now kind.now) (outer_other (arg_value args.now) outer.old names.now (declared_by kind.now)) outer.old outer.new) }
 {
     if names.is_empty() {
-        outer_reason(alloc, args, outer, kind)
+        outer_reason(alloc, keys, args, outer, kind)
     } else {
         inner_reason(alloc, images, names, kind)
     }
@@ -155,6 +159,7 @@ fn other_reason<C>(
 /// The reason to refuse an instruction, and what is known after it.
 fn kind_reason<C>(
     alloc: Global,
+    keys: RandomState,
     images: &Images<C>,
     args: &Args,
     outer: &mut Scope,
@@ -167,7 +172,7 @@ fn kind_reason<C>(
 {
     match begun(kind) {
         Some((image, name)) => begin_reason(alloc, images, outer, names, image, name),
-        None => other_reason(alloc, images, args, outer, names.as_slice(), kind),
+        None => other_reason(alloc, keys, images, args, outer, names.as_slice(), kind),
     }
 }
 
@@ -225,6 +230,7 @@ fn tell(
 /// Some refusals, and after them those of a file's instructions.
 fn with_line_refusals<C>(
     alloc: Global,
+    keys: RandomState,
     images: &Images<C>,
     args: &Args,
     instructions: &[Instruction],
@@ -234,12 +240,12 @@ fn with_line_refusals<C>(
     ensures { IfOk result (λ all. all ≡ refusals ++ refusals_after (names_in images.now) (arg_value args.now) [] instructions.now) }
 {
     let mut refusals = refusals;
-    let mut outer = Scope::new(alloc);
+    let mut outer = Scope::new(alloc, keys);
     let mut names = Items::new(alloc);
     for instruction in instructions {
         let kind = &instruction.kind;
         let is_outer = is_outer_argument(names.as_slice(), kind);
-        let reason = kind_reason(alloc, images, args, &mut outer, &mut names, kind)?;
+        let reason = kind_reason(alloc, keys, images, args, &mut outer, &mut names, kind)?;
         let is_last = tell(&mut refusals, instruction.line, reason, is_outer)?;
         if is_last {
             return Ok(refusals);
@@ -251,6 +257,7 @@ fn with_line_refusals<C>(
 /// All refusals of a file.
 pub(crate) fn all_refusals<C>(
     alloc: Global,
+    keys: RandomState,
     images: &Images<C>,
     args: &Args,
     instructions: &[Instruction],
@@ -260,5 +267,5 @@ pub(crate) fn all_refusals<C>(
     ensures { IfOk result (λ refusals. refusals ≡ stage_refusals (names_in images.now) (arg_value args.now) (option_map (λ t. t.now) target.entry) instructions.now) }
 {
     let refusals = whole_refusals(alloc, instructions, target)?;
-    with_line_refusals(alloc, images, args, instructions, refusals)
+    with_line_refusals(alloc, keys, images, args, instructions, refusals)
 }

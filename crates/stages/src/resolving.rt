@@ -20,6 +20,7 @@ use plans::Images;
 use rows::Origin;
 use scopes::{Args, Scope};
 use std::alloc::Global;
+use std::hash::RandomState;
 
 /// What is known of a file after some of its instructions.
 #[derive(Drop)]
@@ -250,13 +251,14 @@ fn begin<C>(
 /// The scope with what an ARG before the first FROM declares.
 fn with_arguments(
     alloc: Global,
+    keys: RandomState,
     outer: Scope,
     arguments: &[Argument],
     args: &Args,
 ) -> Result<Scope, ReasonFault>
     ensures { Evaluates (Some (kept (outer ++ arg_line (value_in outer) (arg_value args.now) (λ name. None) arguments.now))) (argument_due (arg_fault (value_in outer) (arg_value args.now) arguments.now)) (arg_fault (value_in outer) (arg_value args.now) arguments.now) result }
 {
-    let empty = Scope::new(alloc);
+    let empty = Scope::new(alloc, keys);
     let mut outer = outer;
     let declared = outer.declare(alloc, arguments, args, &empty);
     drop(empty);
@@ -276,6 +278,7 @@ fn with_arguments(
 /// What is known after an ARG before the first FROM.
 fn declare_arguments(
     alloc: Global,
+    keys: RandomState,
     draft: Draft,
     arguments: &[Argument],
     args: &Args,
@@ -288,7 +291,7 @@ fn declare_arguments(
         stages,
         last,
     } = draft;
-    match with_arguments(alloc, outer, arguments, args) {
+    match with_arguments(alloc, keys, outer, arguments, args) {
         Ok(outer) => Ok(Draft {
             outer,
             names,
@@ -307,6 +310,7 @@ fn declare_arguments(
 /// An instruction before the first FROM.
 fn declare(
     alloc: Global,
+    keys: RandomState,
     draft: Draft,
     kind: &InstructionKind,
     args: &Args,
@@ -314,7 +318,7 @@ fn declare(
     ensures { Evaluates (Some (draft_outer (arg_value args.now) draft (declared_by kind.now))) (outer_due (arg_value args.now) draft.outer (declared_by kind.now)) (outer_fault (arg_value args.now) draft.outer (declared_by kind.now)) result }
 {
     match declared_by(kind) {
-        Some(arguments) => declare_arguments(alloc, draft, arguments, args),
+        Some(arguments) => declare_arguments(alloc, keys, draft, arguments, args),
         None => {
             drop(draft);
             Err(Fault::Because(Reason::Coded(Code::R05)))
@@ -459,6 +463,7 @@ fn with_instruction(
 /// An instruction other than FROM.
 fn add_other<C>(
     alloc: Global,
+    keys: RandomState,
     draft: Draft,
     images: &Images<C>,
     args: &Args,
@@ -468,7 +473,7 @@ fn add_other<C>(
     ensures { Evaluates (Some (draft_other (names_in images.now) (arg_value args.now) draft draft.names instruction)) (other_due (names_in images.now) (arg_value args.now) draft.outer draft.names instruction.kind) (other_fault (arg_value args.now) draft.outer draft.names instruction.kind) result }
 {
     if draft.names.is_empty() {
-        let declared = declare(alloc, draft, &instruction.kind, args);
+        let declared = declare(alloc, keys, draft, &instruction.kind, args);
         drop(instruction);
         declared
     } else {
@@ -479,6 +484,7 @@ fn add_other<C>(
 /// One more instruction.
 fn add<C>(
     alloc: Global,
+    keys: RandomState,
     draft: Draft,
     images: &Images<C>,
     args: &Args,
@@ -493,13 +499,14 @@ fn add<C>(
             drop(instruction);
             begun
         }
-        None => add_other(alloc, draft, images, args, instruction),
+        None => add_other(alloc, keys, draft, images, args, instruction),
     }
 }
 
 /// All instructions of a file, one after another, up to the first that is refused.
 pub(crate) fn add_all<C>(
     alloc: Global,
+    keys: RandomState,
     images: &Images<C>,
     args: &Args,
     instructions: Vec<Instruction>,
@@ -507,14 +514,14 @@ pub(crate) fn add_all<C>(
     ensures { Drafts (names_in images.now) (arg_value args.now) instructions.items result }
 {
     let mut draft = Draft {
-        outer: Scope::new(alloc),
+        outer: Scope::new(alloc, keys),
         names: Items::new(alloc),
         stages: Items::new(alloc),
         last: None,
     };
     for instruction in instructions {
         let line = instruction.line;
-        draft = match add(alloc, draft, images, args, instruction) {
+        draft = match add(alloc, keys, draft, images, args, instruction) {
             Ok(draft) => draft,
             Err(Fault::Because(reason)) => return Err(Fault::Because(Rejection { reason, line })),
             Err(Fault::Memory) => return Err(Fault::Memory),

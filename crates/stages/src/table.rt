@@ -20,6 +20,7 @@ use plain::{Code, Items, Memory, Text};
 use plans::Images;
 use scopes::{Args, Scope};
 use std::alloc::Global;
+use std::hash::RandomState;
 use std::marker::Model;
 
 /// The stages of a file, with what their names lead to, and the stage that is wanted.
@@ -56,6 +57,7 @@ impl StageTable {
     /// whose text has no value isn't tested for what it leads to. The empty text and `scratch` are never names of images.
     pub fn resolve<C>(
         alloc: Global,
+        keys: RandomState,
         file: Dockerfile,
         images: &Images<C>,
         args: &Args,
@@ -72,7 +74,7 @@ impl StageTable {
         if are_arguments(instructions.as_slice()) {
             return Err(refused(Code::R05, 1));
         }
-        let draft = match add_all(alloc, images, args, instructions.into_vec()) {
+        let draft = match add_all(alloc, keys, images, args, instructions.into_vec()) {
             Ok(draft) => draft,
             Err(fault) => return Err(fault),
         };
@@ -88,6 +90,7 @@ impl StageTable {
     /// `the_first_fault_is_the_refusal` says.
     pub fn faults<C>(
         alloc: Global,
+        keys: RandomState,
         file: &Dockerfile,
         images: &Images<C>,
         args: &Args,
@@ -95,7 +98,7 @@ impl StageTable {
     ) -> Result<Items<Rejection>, Memory>
         ensures { IfOk result (λ faults. faults ≡ stage_refusals (names_in images.now) (arg_value args.now) (option_map (λ t. t.now) target.entry) file.now) }
     {
-        all_refusals(alloc, images, args, file.instructions(), target)
+        all_refusals(alloc, keys, images, args, file.instructions(), target)
     }
 
     /// The table of all that is known after a file's last instruction.
