@@ -6,11 +6,12 @@ ghost use Rattle.bundle.specs.PrivateLeftOut.{CompletesFiltered};
 
 use crate::parts::Parts;
 use crate::whole::{Bundle, complete, no_bundle, parts_of};
-use borrowed::FromLent;
+use borrowed::FromLentKeyed;
 use contexts::left_out;
 use paths::Path;
 use plain::{Exact, Fault, Items, Memory, Refusal};
 use std::alloc::Global;
+use std::hash::RandomState;
 use std::thread::Threads;
 use strict::ReadFault;
 use trees::Entry;
@@ -65,14 +66,15 @@ fn complete_filtered<C: Drop>(
 
 /// Reads a bundle as [`read_bundle`](crate::read_bundle) does, and answers with it what its ignore file leaves out: of the paths that its context
 /// lists, those that the filtered context hasn't, and of these the shortest, all below which is left out with them.
-pub fn read_with_left_out<C: FromLent>(
+pub fn read_with_left_out<C: FromLentKeyed>(
     alloc: Global,
+    keys: RandomState,
     rt: &(impl Threads + Sync),
     bytes: &[u8],
 ) -> Result<(Bundle<C>, Items<Path>), Fault<Refusal>>
     ensures { LeavesOut C.reading bytes.now result }
 {
-    let parts: Result<Parts<C>, ReadFault> = parts_of(alloc, rt, bytes);
+    let parts: Result<Parts<C>, ReadFault> = parts_of(alloc, keys, rt, bytes);
     match parts {
         Ok(parts) => complete_filtered(alloc, rt, parts),
         Err(Fault::Because(_)) => Err(Fault::Because(no_bundle())),

@@ -15,7 +15,9 @@ ghost use Rattle.bundle.specs.Digest.{digest_in};
 ghost use Rattle.bundle.specs.Parts.{or_none, dockerfile_in, files_in, is_image_name, images_of, images_with, with_digest, digests_of, read_with, images_in, no_images, args_in, cache_row, caches_in, named_in, parts_in};
 
 use crate::digest::read_digest;
-use borrowed::{FromLent, at, is_strict, one_at, optional_at, read_rows};
+use borrowed::{
+    FromLent, FromLentKeyed, at, is_strict, keyed_of, keyed_rows, one_at, optional_at, read_rows,
+};
 use entries::{ListedTree, Listing, read_content};
 use json::Value;
 use named::NamedRows;
@@ -23,6 +25,7 @@ use plain::{Bytes, Exact, Fault, Items, Memory, Text};
 use plans::{Image, Images};
 use scopes::Args;
 use std::alloc::Global;
+use std::hash::RandomState;
 use strict::{NotRead, ReadFault};
 use trees::Tree;
 
@@ -72,17 +75,21 @@ pub struct ReadImages<C> {
     pub digests: NamedRows<Text>,
 }
 
-impl<C: FromLent> FromLent for ListedImage<C> {
+impl<C: FromLentKeyed> FromLentKeyed for ListedImage<C> {
     ghost use Rattle.bundle.specs.Parts.{image_in};
 
     ghost reading = { image_in C.reading };
 
     #[tactic(auto, unfolding(crate::specs::Parts::image_in))]
-    fn from_lent(alloc: Global, value: &Value<'_>) -> Result<ListedImage<C>, ReadFault> {
+    fn from_lent_keyed(
+        alloc: Global,
+        keys: RandomState,
+        value: &Value<'_>,
+    ) -> Result<ListedImage<C>, ReadFault> {
         if !is_strict(value, &["config", "digest", "tree"]) {
             return Err(Fault::Because(NotRead));
         }
-        let config: C = one_at(alloc, value, "config")?;
+        let config: C = keyed_of(alloc, keys, at(value, "config"))?;
         let digest = digest_of(alloc, at(value, "digest"))?;
         let tree: ListedTree = one_at(alloc, value, "tree")?;
         Ok(ListedImage {
@@ -203,14 +210,18 @@ fn put_digest(
     };
     let name = name.copy(alloc)?;
     let digest = digest.copy(alloc)?;
-    digests.set(alloc, name, digest)
+    digests.set(name, digest)
 }
 
 /// The digests of images by the images' names, of those that have one.
-fn digests_of<C>(alloc: Global, rows: &[(Text, ListedImage<C>)]) -> Result<NamedRows<Text>, Memory>
+fn digests_of<C>(
+    alloc: Global,
+    keys: RandomState,
+    rows: &[(Text, ListedImage<C>)],
+) -> Result<NamedRows<Text>, Memory>
     ensures { IfOk result (λ digests. digests ≡ digests_of rows.now) }
 {
-    let mut digests = NamedRows::new(alloc);
+    let mut digests = NamedRows::new(alloc, keys);
     for row in rows {
         put_digest(alloc, &mut digests, &row.0, &row.1.digest)?;
     }
@@ -220,11 +231,12 @@ fn digests_of<C>(alloc: Global, rows: &[(Text, ListedImage<C>)]) -> Result<Named
 /// The images of these rows, with their digests.
 fn read_with<C: Drop>(
     alloc: Global,
+    keys: RandomState,
     rows: Items<(Text, ListedImage<C>)>,
 ) -> Result<ReadImages<C>, Memory>
     ensures { IfOk result (λ read. read ≡ read_with rows) }
 {
-    let digests = digests_of(alloc, rows.as_slice())?;
+    let digests = digests_of(alloc, keys, rows.as_slice())?;
     match images_of(alloc, rows) {
         Ok(images) => Ok(ReadImages { images, digests }),
         Err(memory) => {
@@ -237,6 +249,7 @@ fn read_with<C: Drop>(
 /// The images of these rows, if each has a name that an image may have.
 pub(crate) fn images_with<C: Drop>(
     alloc: Global,
+    keys: RandomState,
     rows: Items<(Text, ListedImage<C>)>,
 ) -> Result<ReadImages<C>, ReadFault>
     ensures { Gives result (images_with rows) }
@@ -245,34 +258,38 @@ pub(crate) fn images_with<C: Drop>(
         drop(rows);
         return Err(Fault::Because(NotRead));
     }
-    Ok(read_with(alloc, rows)?)
+    Ok(read_with(alloc, keys, rows)?)
 }
 
 /// No image.
-pub(crate) fn no_images<C: Drop>(alloc: Global) -> ReadImages<C>
+pub(crate) fn no_images<C: Drop>(alloc: Global, keys: RandomState) -> ReadImages<C>
     ensures { result ≡ no_images }
 {
     ReadImages {
         images: Images::new(alloc),
-        digests: NamedRows::new(alloc),
+        digests: NamedRows::new(alloc, keys),
     }
 }
 
 /// The images that a value is, each under its name.
 #[tactic(auto, unfolding(crate::specs::Parts::images_in))]
-fn read_images<C: FromLent>(alloc: Global, value: &Value<'_>) -> Result<ReadImages<C>, ReadFault>
+fn read_images<C: FromLentKeyed>(
+    alloc: Global,
+    keys: RandomState,
+    value: &Value<'_>,
+) -> Result<ReadImages<C>, ReadFault>
     ensures { Gives result (images_in C.reading (data_of value.now)) }
 {
-    let rows: Items<(Text, ListedImage<C>)> = read_rows(alloc, value)?;
-    images_with(alloc, rows)
+    let rows: Items<(Text, ListedImage<C>)> = keyed_rows(alloc, keys, value)?;
+    images_with(alloc, keys, rows)
 }
 
 /// Build arguments by their names.
-fn args_of(alloc: Global, rows: Items<(Text, Text)>) -> Result<Args, Memory>
+fn args_of(alloc: Global, keys: RandomState, rows: Items<(Text, Text)>) -> Result<Args, Memory>
     ensures { IfOk result (λ args. args ≡ from_entries rows) }
 {
     let mut left = rows.into_vec();
-    let mut args = Args::new(alloc);
+    let mut args = Args::new(alloc, keys);
     while let Some((name, value)) = left.pop() {
         args.set(alloc, name.as_str(), value.as_str())?;
     }
@@ -281,11 +298,11 @@ fn args_of(alloc: Global, rows: Items<(Text, Text)>) -> Result<Args, Memory>
 
 /// The build arguments that a value is.
 #[tactic(auto, unfolding(crate::specs::Parts::args_in))]
-fn read_args(alloc: Global, value: &Value<'_>) -> Result<Args, ReadFault>
+fn read_args(alloc: Global, keys: RandomState, value: &Value<'_>) -> Result<Args, ReadFault>
     ensures { Gives result (args_in (data_of value.now)) }
 {
     let rows: Items<(Text, Text)> = read_rows(alloc, value)?;
-    Ok(args_of(alloc, rows)?)
+    Ok(args_of(alloc, keys, rows)?)
 }
 
 /// The trees of lists of entries, under the ids that these have.
@@ -312,22 +329,30 @@ fn read_caches(alloc: Global, value: &Value<'_>) -> Result<Items<(Text, Tree)>, 
 }
 
 /// The images that stand in an object, none where there is no such key.
-fn images_at<C: FromLent>(alloc: Global, value: &Value<'_>) -> Result<ReadImages<C>, ReadFault>
+fn images_at<C: FromLentKeyed>(
+    alloc: Global,
+    keys: RandomState,
+    value: &Value<'_>,
+) -> Result<ReadImages<C>, ReadFault>
     ensures { Gives result (or_none no_images (images_in C.reading) (get (codes "images") (data_of value.now))) }
 {
     match at(value, "images") {
-        Some(value) => read_images(alloc, value),
-        None => Ok(no_images(alloc)),
+        Some(value) => read_images(alloc, keys, value),
+        None => Ok(no_images(alloc, keys)),
     }
 }
 
 /// The build arguments, none where they are missing.
-pub(crate) fn args_or_none(alloc: Global, value: Option<&Value<'_>>) -> Result<Args, ReadFault>
+pub(crate) fn args_or_none(
+    alloc: Global,
+    keys: RandomState,
+    value: Option<&Value<'_>>,
+) -> Result<Args, ReadFault>
     ensures { Gives result (or_none empty args_in (lent_data value.entry)) }
 {
     match value {
-        Some(value) => read_args(alloc, value),
-        None => Ok(Args::new(alloc)),
+        Some(value) => read_args(alloc, keys, value),
+        None => Ok(Args::new(alloc, keys)),
     }
 }
 
@@ -343,11 +368,15 @@ fn caches_at(alloc: Global, value: &Value<'_>) -> Result<Items<(Text, Tree)>, Re
 
 /// What a build may name.
 #[tactic(auto, unfolding(crate::specs::Parts::named_in))]
-fn read_named<C: FromLent>(alloc: Global, value: &Value<'_>) -> Result<Named<C>, ReadFault>
+fn read_named<C: FromLentKeyed>(
+    alloc: Global,
+    keys: RandomState,
+    value: &Value<'_>,
+) -> Result<Named<C>, ReadFault>
     ensures { Gives result (named_in C.reading (data_of value.now)) }
 {
-    let ReadImages { images, digests } = images_at(alloc, value)?;
-    let args = args_or_none(alloc, at(value, "args"))?;
+    let ReadImages { images, digests } = images_at(alloc, keys, value)?;
+    let args = args_or_none(alloc, keys, at(value, "args"))?;
     let caches = caches_at(alloc, value)?;
     Ok(Named {
         images,
@@ -359,8 +388,9 @@ fn read_named<C: FromLent>(alloc: Global, value: &Value<'_>) -> Result<Named<C>,
 
 /// The bundle that a value is.
 #[tactic(auto, unfolding(crate::specs::Parts::parts_in))]
-pub(crate) fn read_parts<C: FromLent>(
+pub(crate) fn read_parts<C: FromLentKeyed>(
     alloc: Global,
+    keys: RandomState,
     value: &Value<'_>,
 ) -> Result<Parts<C>, ReadFault>
     ensures { Gives result (parts_in C.reading (data_of value.now)) }
@@ -379,7 +409,7 @@ pub(crate) fn read_parts<C: FromLent>(
         return Err(Fault::Because(NotRead));
     }
     match read_files(alloc, value) {
-        Ok(files) => match read_named(alloc, value) {
+        Ok(files) => match read_named(alloc, keys, value) {
             Ok(named) => Ok(Parts { files, named }),
             Err(fault) => {
                 drop(files);

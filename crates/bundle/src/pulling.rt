@@ -16,14 +16,15 @@ use crate::parts::{
     dockerfile_of, images_with, no_images,
 };
 use borrowed::{
-    FromLent, MAX_DEPTH, inner_depth, next_key, one_of, open_object, optional_of, owned_rows,
-    pull_value,
+    FromLentKeyed, MAX_DEPTH, inner_depth, keyed_of, next_key, open_object, optional_of,
+    owned_rows, pull_value,
 };
 use entries::{ListedTree, Listing};
 use json::{Reader, Scratch, Value};
 use plain::{Fault, Items, Memory, Text};
 use std::alloc::Global;
 use std::collections::BTreeMap;
+use std::hash::RandomState;
 use std::thread::Threads;
 use strict::{NotRead, ReadFault};
 use trees::Tree;
@@ -109,13 +110,14 @@ fn pull_image<'a>(
 }
 
 /// The image of what was found, from which its tree is taken.
-fn image_of<C: FromLent>(
+fn image_of<C: FromLentKeyed>(
     alloc: Global,
+    keys: RandomState,
     found: &mut FoundImage<'_>,
 ) -> Result<ListedImage<C>, ReadFault>
     ensures { IfOk result (λ image. (members : Members) → FindsImage found.old members → image_in C.reading (object members) ≡ Some image) }
 {
-    let config: C = one_of(alloc, found.config.as_ref())?;
+    let config: C = keyed_of(alloc, keys, found.config.as_ref())?;
     let digest = digest_of(alloc, found.digest.as_ref())?;
     match found.tree.take() {
         Some(tree) => Ok(ListedImage {
@@ -132,8 +134,9 @@ fn image_of<C: FromLent>(
 }
 
 /// The image that comes next.
-fn pull_listed_image<C: FromLent>(
+fn pull_listed_image<C: FromLentKeyed>(
     alloc: Global,
+    keys: RandomState,
     rt: &(impl Threads + Sync),
     reader: &mut Reader<'_>,
     depth: usize,
@@ -142,14 +145,15 @@ fn pull_listed_image<C: FromLent>(
     ensures { IfOk result (λ image. Pulls depth (image_in C.reading) reader.old reader.new image) }
 {
     let mut found = pull_image(alloc, rt, reader, depth, in_order)?;
-    let image = image_of(alloc, &mut found);
+    let image = image_of(alloc, keys, &mut found);
     drop(found);
     image
 }
 
 /// The images that come next, each by its name; of a name that stands twice the last image counts.
-fn pull_images<C: FromLent>(
+fn pull_images<C: FromLentKeyed>(
     alloc: Global,
+    keys: RandomState,
     rt: &(impl Threads + Sync),
     reader: &mut Reader<'_>,
     depth: usize,
@@ -161,7 +165,7 @@ fn pull_images<C: FromLent>(
     open_object(reader)?;
     let mut images: BTreeMap<&str, ListedImage<C>> = BTreeMap::new(alloc);
     while let Some(name) = next_key(reader)? {
-        let image = pull_listed_image(alloc, rt, reader, inner, in_order)?;
+        let image = pull_listed_image(alloc, keys, rt, reader, inner, in_order)?;
         drop(images.insert(name, image)?);
     }
     Ok(owned_rows(alloc, images)?)
@@ -211,7 +215,7 @@ impl<'a, C: Drop> Drop for Found<'a, C> {
     }
 }
 
-impl<'a, C: FromLent> Found<'a, C> {
+impl<'a, C: FromLentKeyed> Found<'a, C> {
     /// Nothing was found yet.
     fn none() -> Found<'a, C>
         ensures { Finds C.reading result no_members }
@@ -230,6 +234,7 @@ impl<'a, C: FromLent> Found<'a, C> {
     fn pull(
         &mut self,
         alloc: Global,
+        keys: RandomState,
         rt: &(impl Threads + Sync),
         reader: &mut Reader<'a>,
         depth: usize,
@@ -256,7 +261,7 @@ impl<'a, C: FromLent> Found<'a, C> {
                 drop(self.dockerfile.replace(dockerfile));
             }
             "images" => {
-                let images = pull_images(alloc, rt, reader, depth, in_order)?;
+                let images = pull_images(alloc, keys, rt, reader, depth, in_order)?;
                 drop(self.images.replace(images));
             }
             "target" => {
@@ -270,8 +275,9 @@ impl<'a, C: FromLent> Found<'a, C> {
 }
 
 /// What stands at the keys of the bundle that comes next.
-fn pull_bundle<'a, C: FromLent>(
+fn pull_bundle<'a, C: FromLentKeyed>(
     alloc: Global,
+    keys: RandomState,
     rt: &(impl Threads + Sync),
     reader: &mut Reader<'a>,
     depth: usize,
@@ -283,7 +289,7 @@ fn pull_bundle<'a, C: FromLent>(
     open_object(reader)?;
     let mut found = Found::none();
     while let Some(key) = next_key(reader)? {
-        found.pull(alloc, rt, reader, inner, in_order, key)?;
+        found.pull(alloc, keys, rt, reader, inner, in_order, key)?;
     }
     Ok(found)
 }
@@ -310,13 +316,14 @@ fn files_of(
 /// The images of what stands at their key.
 fn images_or_none<C: Drop>(
     alloc: Global,
+    keys: RandomState,
     rows: Option<Items<(Text, ListedImage<C>)>>,
 ) -> Result<ReadImages<C>, ReadFault>
     ensures { IfOk result (λ read. (config : Data → Option C) (images : Option Data) → at_most_one (rows_in (image_in config)) images ≡ Some rows → or_none no_images (images_in config) images ≡ Some read) }
 {
     match rows {
-        Some(rows) => images_with(alloc, rows),
-        None => Ok(no_images(alloc)),
+        Some(rows) => images_with(alloc, keys, rows),
+        None => Ok(no_images(alloc, keys)),
     }
 }
 
@@ -336,6 +343,7 @@ fn caches_or_none(
 /// What a build may name, of what stands at the keys.
 fn named_of<C: Drop>(
     alloc: Global,
+    keys: RandomState,
     images: Option<Items<(Text, ListedImage<C>)>>,
     args: Option<&Value<'_>>,
     caches: Option<Items<(Text, ListedTree)>>,
@@ -343,9 +351,9 @@ fn named_of<C: Drop>(
     ensures { IfOk result (λ named. (config : Data → Option C) (i c : Option Data) → at_most_one (rows_in (image_in config)) i ≡ Some images → at_most_one (rows_in listing_in) c ≡ Some caches
         → named_at config i (lent_data args.entry) c ≡ Some named) }
 {
-    let args = args_or_none(alloc, args)?;
+    let args = args_or_none(alloc, keys, args)?;
     let caches = caches_or_none(alloc, caches)?;
-    let read = images_or_none(alloc, images)?;
+    let read = images_or_none(alloc, keys, images)?;
     Ok(Named {
         images: read.images,
         digests: read.digests,
@@ -355,8 +363,9 @@ fn named_of<C: Drop>(
 }
 
 /// The bundle of what was found, from which its lists are taken.
-fn parts_of_found<C: FromLent>(
+fn parts_of_found<C: FromLentKeyed>(
     alloc: Global,
+    keys: RandomState,
     found: &mut Found<'_, C>,
 ) -> Result<Parts<C>, ReadFault>
     ensures { IfOk result (λ parts. (members : Members) → Finds C.reading found.old members → parts_in C.reading (object members) ≡ Some parts) }
@@ -370,7 +379,7 @@ fn parts_of_found<C: FromLent>(
         context,
         found.target.as_ref(),
     ) {
-        Ok(files) => match named_of(alloc, images, found.args.as_ref(), caches) {
+        Ok(files) => match named_of(alloc, keys, images, found.args.as_ref(), caches) {
             Ok(named) => Ok(Parts { files, named }),
             Err(fault) => {
                 drop(files);
@@ -386,8 +395,9 @@ fn parts_of_found<C: FromLent>(
 }
 
 /// The parts of the bundle that comes next.
-fn pull_parts<C: FromLent>(
+fn pull_parts<C: FromLentKeyed>(
     alloc: Global,
+    keys: RandomState,
     rt: &(impl Threads + Sync),
     reader: &mut Reader<'_>,
     depth: usize,
@@ -395,16 +405,17 @@ fn pull_parts<C: FromLent>(
 ) -> Result<Parts<C>, ReadFault>
     ensures { IfOk result (λ parts. Pulls depth (parts_in C.reading) reader.old reader.new parts) }
 {
-    let mut found: Found<'_, C> = pull_bundle(alloc, rt, reader, depth, in_order)?;
-    let parts = parts_of_found(alloc, &mut found);
+    let mut found: Found<'_, C> = pull_bundle(alloc, keys, rt, reader, depth, in_order)?;
+    let parts = parts_of_found(alloc, keys, &mut found);
     drop(found);
     parts
 }
 
 /// The parts of a bundle's text, read token by token. After `NotRead` it may still be a bundle's. If `in_order`, it is `NotRead` also where
 /// the rows of an image or a cache don't come in the order of a walk.
-pub(crate) fn pull_text<C: FromLent>(
+pub(crate) fn pull_text<C: FromLentKeyed>(
     alloc: Global,
+    keys: RandomState,
     rt: &(impl Threads + Sync),
     text: &str,
     in_order: bool,
@@ -415,7 +426,7 @@ pub(crate) fn pull_text<C: FromLent>(
     let Ok(mut reader) = Reader::new(text, &mut scratch) else {
         return Err(Fault::Memory);
     };
-    let parts = pull_parts(alloc, rt, &mut reader, MAX_DEPTH, in_order)?;
+    let parts = pull_parts(alloc, keys, rt, &mut reader, MAX_DEPTH, in_order)?;
     if reader.next().is_none() {
         return Ok(parts);
     }

@@ -11,7 +11,7 @@ ghost use Rattle.bundle.specs.PrivateIgnore.{FindsIgnore};
 
 use crate::parts::{Files, Named, Parts, read_parts};
 use crate::pulling::pull_text;
-use borrowed::FromLent;
+use borrowed::FromLentKeyed;
 use cachemounts::CacheStore;
 use contexts::Context;
 use entries::Listing;
@@ -24,6 +24,7 @@ use plain::{Bytes, Code, Fault, Memory, Refusal, Text};
 use plans::Images;
 use scopes::Args;
 use std::alloc::Global;
+use std::hash::RandomState;
 use std::thread::Threads;
 use strict::{NotRead, ReadFault};
 use trees::{Entry, Tree};
@@ -205,44 +206,50 @@ fn ignore_in(alloc: Global, context: &Listing) -> Result<IgnoreFile, Fault<Refus
 
 /// The parts of a bundle's text. In most bundles the rows of each image and cache come in the order of a walk, so it is first read as if they
 /// did.
-fn parts_in_text<C: FromLent>(
+fn parts_in_text<C: FromLentKeyed>(
     alloc: Global,
+    keys: RandomState,
     rt: &(impl Threads + Sync),
     text: &str,
 ) -> Result<Parts<C>, ReadFault>
     ensures { Gives result (option_and_then (parts_in C.reading) (read text.now)) }
 {
-    match pull_text(alloc, rt, text, true) {
+    match pull_text(alloc, keys, rt, text, true) {
         Ok(parts) => Ok(parts),
         Err(Fault::Memory) => Err(Fault::Memory),
-        Err(Fault::Because(_)) => parts_in_any_order(alloc, rt, text),
+        Err(Fault::Because(_)) => parts_in_any_order(alloc, keys, rt, text),
     }
 }
 
 /// The parts of a bundle's text, in which rows may come in any order. Most bundles are read token by token; what can't be told so is read as
 /// a value.
-fn parts_in_any_order<C: FromLent>(
+fn parts_in_any_order<C: FromLentKeyed>(
     alloc: Global,
+    keys: RandomState,
     rt: &(impl Threads + Sync),
     text: &str,
 ) -> Result<Parts<C>, ReadFault>
     ensures { Gives result (option_and_then (parts_in C.reading) (read text.now)) }
 {
-    match pull_text(alloc, rt, text, false) {
+    match pull_text(alloc, keys, rt, text, false) {
         Ok(parts) => Ok(parts),
         Err(Fault::Memory) => Err(Fault::Memory),
-        Err(Fault::Because(_)) => parts_in_value(alloc, text),
+        Err(Fault::Because(_)) => parts_in_value(alloc, keys, text),
     }
 }
 
 /// The parts of a bundle's text, which is read as a value. What is lent of it ends here.
-fn parts_in_value<C: FromLent>(alloc: Global, text: &str) -> Result<Parts<C>, ReadFault>
+fn parts_in_value<C: FromLentKeyed>(
+    alloc: Global,
+    keys: RandomState,
+    text: &str,
+) -> Result<Parts<C>, ReadFault>
     ensures { Gives result (option_and_then (parts_in C.reading) (read text.now)) }
 {
     let mut scratch = Scratch::new(alloc);
     match borrowed::read(alloc, text, &mut scratch) {
         Ok(value) => {
-            let parts = read_parts(alloc, &value);
+            let parts = read_parts(alloc, keys, &value);
             drop(value);
             parts
         }
@@ -251,8 +258,9 @@ fn parts_in_value<C: FromLent>(alloc: Global, text: &str) -> Result<Parts<C>, Re
 }
 
 /// The parts of a bundle of at most so many bytes.
-fn parts_within<C: FromLent>(
+fn parts_within<C: FromLentKeyed>(
     alloc: Global,
+    keys: RandomState,
     rt: &(impl Threads + Sync),
     most: usize,
     bytes: &[u8],
@@ -263,21 +271,22 @@ fn parts_within<C: FromLent>(
         return Err(Fault::Because(NotRead));
     }
     match str::from_utf8(bytes) {
-        Ok(text) => parts_in_text(alloc, rt, text),
+        Ok(text) => parts_in_text(alloc, keys, rt, text),
         Err(_) => Err(Fault::Because(NotRead)),
     }
 }
 
 /// The parts of a bundle.
 #[tactic(auto, unfolding(plain::specs::Limits::most_bundle_bytes))]
-pub(crate) fn parts_of<C: FromLent>(
+pub(crate) fn parts_of<C: FromLentKeyed>(
     alloc: Global,
+    keys: RandomState,
     rt: &(impl Threads + Sync),
     bytes: &[u8],
 ) -> Result<Parts<C>, ReadFault>
     ensures { Gives result (parts_of C.reading bytes.now) }
 {
-    parts_within(alloc, rt, MOST_BUNDLE_BYTES, bytes)
+    parts_within(alloc, keys, rt, MOST_BUNDLE_BYTES, bytes)
 }
 
 /// The refusal of bytes that are no bundle.
@@ -295,14 +304,15 @@ pub(crate) fn no_bundle() -> Refusal
 ///
 /// R20 without a line where the bytes are no bundle: they aren't JSON, a key is missing that has to be there, or is there that isn't known,
 /// or a value has a wrong type or is out of range; else R19 with the first bad line of the ignore file.
-pub fn read_bundle<C: FromLent>(
+pub fn read_bundle<C: FromLentKeyed>(
     alloc: Global,
+    keys: RandomState,
     rt: &(impl Threads + Sync),
     bytes: &[u8],
 ) -> Result<Bundle<C>, Fault<Refusal>>
     ensures { ReadsBundle C.reading bytes.now result }
 {
-    match parts_of(alloc, rt, bytes) {
+    match parts_of(alloc, keys, rt, bytes) {
         Ok(parts) => complete(alloc, rt, parts),
         Err(Fault::Because(_)) => Err(Fault::Because(no_bundle())),
         Err(Fault::Memory) => Err(Fault::Memory),
@@ -310,14 +320,15 @@ pub fn read_bundle<C: FromLent>(
 }
 
 /// Reads the ignore file of a bundle. The bundle is read whole, and its context isn't filtered. The refusals are those of `read_bundle`.
-pub fn read_ignore_file<C: FromLent>(
+pub fn read_ignore_file<C: FromLentKeyed>(
     alloc: Global,
+    keys: RandomState,
     rt: &(impl Threads + Sync),
     bytes: &[u8],
 ) -> Result<IgnoreFile, Fault<Refusal>>
     ensures { ReadsIgnoreFile C.reading bytes.now result }
 {
-    let parts: Result<Parts<C>, ReadFault> = parts_of(alloc, rt, bytes);
+    let parts: Result<Parts<C>, ReadFault> = parts_of(alloc, keys, rt, bytes);
     match parts {
         Ok(parts) => {
             let found = ignore_in(alloc, &parts.files.context);
@@ -331,14 +342,15 @@ pub fn read_ignore_file<C: FromLent>(
 
 /// Reads the bytes of the ignore file of a bundle, none where it has none. Unlike for `read_ignore_file`, its lines may be bad: they are not
 /// looked at, so the line that a refusal with R19 is about can be shown. `NotRead` where the bytes are no bundle.
-pub fn read_ignore_bytes<C: FromLent>(
+pub fn read_ignore_bytes<C: FromLentKeyed>(
     alloc: Global,
+    keys: RandomState,
     rt: &(impl Threads + Sync),
     bytes: &[u8],
 ) -> Result<Bytes, ReadFault>
     ensures { Gives result (ignore_bytes_of C.reading bytes.now) }
 {
-    let parts: Result<Parts<C>, ReadFault> = parts_of(alloc, rt, bytes);
+    let parts: Result<Parts<C>, ReadFault> = parts_of(alloc, keys, rt, bytes);
     match parts {
         Ok(parts) => {
             let found = Bytes::from_slice(alloc, ignore_bytes(parts.files.context.rows()));

@@ -16,6 +16,7 @@ use json::Value;
 use paths::Path;
 use plain::{Fault, Items, Memory};
 use std::alloc::Global;
+use std::hash::RandomState;
 
 /// Whether a character is a digit from 0 to 7.
 fn is_octal(digit: u8) -> bool
@@ -52,7 +53,11 @@ impl Look for ModeText {
     ghost looks = { read_as mode_in };
 
     #[tactic(auto, unfolding(entries::specs::Reading::mode_in))]
-    fn look(alloc: Global, value: &Value<'_>) -> Result<Option<Items<Step>>, Memory> {
+    fn look(
+        alloc: Global,
+        _keys: RandomState,
+        value: &Value<'_>,
+    ) -> Result<Option<Items<Step>>, Memory> {
         let Some(text) = text_of(value) else {
             return Ok(Some(Items::new(alloc)));
         };
@@ -73,7 +78,11 @@ impl Look for Mark {
 
     ghost looks = { whole is_mark };
 
-    fn look(alloc: Global, value: &Value<'_>) -> Result<Option<Items<Step>>, Memory> {
+    fn look(
+        alloc: Global,
+        _keys: RandomState,
+        value: &Value<'_>,
+    ) -> Result<Option<Items<Step>>, Memory> {
         match bool::from_lent(alloc, value) {
             Ok(true) => Ok(None),
             Ok(false) | Err(Fault::Because(_)) => Ok(Some(Items::new(alloc))),
@@ -91,7 +100,11 @@ impl Look for PathText {
 
     ghost looks = { read_as path_in };
 
-    fn look(alloc: Global, value: &Value<'_>) -> Result<Option<Items<Step>>, Memory> {
+    fn look(
+        alloc: Global,
+        _keys: RandomState,
+        value: &Value<'_>,
+    ) -> Result<Option<Items<Step>>, Memory> {
         read_as::<Path>(alloc, value)
     }
 }
@@ -105,7 +118,11 @@ impl Look for Owner {
 
     ghost looks = { read_as short_number_in };
 
-    fn look(alloc: Global, value: &Value<'_>) -> Result<Option<Items<Step>>, Memory> {
+    fn look(
+        alloc: Global,
+        _keys: RandomState,
+        value: &Value<'_>,
+    ) -> Result<Option<Items<Step>>, Memory> {
         read_as::<u32>(alloc, value)
     }
 }
@@ -137,45 +154,54 @@ pub(crate) fn content(alloc: Global, value: &Value<'_>) -> Result<Option<Items<S
 }
 
 /// Where the mode or the owner of an entry is wrong.
-fn meta(alloc: Global, value: &Value<'_>) -> Result<Option<Items<Step>>, Memory>
+fn meta(alloc: Global, keys: RandomState, value: &Value<'_>) -> Result<Option<Items<Step>>, Memory>
     ensures { IfOk result (λ found. found ≡ meta_flaw (data_of value.now)) }
 {
-    if let Some(way) = optional::<ModeText>(alloc, value, "mode")? {
+    if let Some(way) = optional::<ModeText>(alloc, keys, value, "mode")? {
         return Ok(Some(way));
     }
-    if let Some(way) = optional::<Owner>(alloc, value, "uid")? {
+    if let Some(way) = optional::<Owner>(alloc, keys, value, "uid")? {
         return Ok(Some(way));
     }
-    optional::<Owner>(alloc, value, "gid")
+    optional::<Owner>(alloc, keys, value, "gid")
 }
 
 /// Where a directory with its path is wrong.
-fn directory(alloc: Global, value: &Value<'_>) -> Result<Option<Items<Step>>, Memory>
+fn directory(
+    alloc: Global,
+    keys: RandomState,
+    value: &Value<'_>,
+) -> Result<Option<Items<Step>>, Memory>
     ensures { IfOk result (λ found. found ≡ directory_flaw (data_of value.now)) }
 {
-    if let Some(way) = no_other(alloc, value, &["dir", "gid", "mode", "path", "uid"])? {
+    if let Some(way) = no_other(alloc, keys, value, &["dir", "gid", "mode", "path", "uid"])? {
         return Ok(Some(way));
     }
-    if let Some(way) = required::<Mark>(alloc, value, "dir")? {
+    if let Some(way) = required::<Mark>(alloc, keys, value, "dir")? {
         return Ok(Some(way));
     }
-    if let Some(way) = required::<PathText>(alloc, value, "path")? {
+    if let Some(way) = required::<PathText>(alloc, keys, value, "path")? {
         return Ok(Some(way));
     }
-    meta(alloc, value)
+    meta(alloc, keys, value)
 }
 
 /// Where a file with its path is wrong.
-fn file(alloc: Global, value: &Value<'_>) -> Result<Option<Items<Step>>, Memory>
+fn file(alloc: Global, keys: RandomState, value: &Value<'_>) -> Result<Option<Items<Step>>, Memory>
     ensures { IfOk result (λ found. found ≡ file_flaw (data_of value.now)) }
 {
-    if let Some(way) = no_other(alloc, value, &["gid", "hex", "mode", "path", "text", "uid"])? {
+    if let Some(way) = no_other(
+        alloc,
+        keys,
+        value,
+        &["gid", "hex", "mode", "path", "text", "uid"],
+    )? {
         return Ok(Some(way));
     }
-    if let Some(way) = required::<PathText>(alloc, value, "path")? {
+    if let Some(way) = required::<PathText>(alloc, keys, value, "path")? {
         return Ok(Some(way));
     }
-    if let Some(way) = meta(alloc, value)? {
+    if let Some(way) = meta(alloc, keys, value)? {
         return Ok(Some(way));
     }
     content(alloc, value)
@@ -189,10 +215,14 @@ impl Look for EntryObject {
 
     ghost looks = { entry_flaw };
 
-    fn look(alloc: Global, value: &Value<'_>) -> Result<Option<Items<Step>>, Memory> {
+    fn look(
+        alloc: Global,
+        keys: RandomState,
+        value: &Value<'_>,
+    ) -> Result<Option<Items<Step>>, Memory> {
         match at(value, "dir") {
-            Some(_) => directory(alloc, value),
-            None => file(alloc, value),
+            Some(_) => directory(alloc, keys, value),
+            None => file(alloc, keys, value),
         }
     }
 }
@@ -205,8 +235,12 @@ impl Look for EntryList {
 
     ghost looks = { listing_flaw };
 
-    fn look(alloc: Global, value: &Value<'_>) -> Result<Option<Items<Step>>, Memory> {
-        match items::<EntryObject>(alloc, value)? {
+    fn look(
+        alloc: Global,
+        keys: RandomState,
+        value: &Value<'_>,
+    ) -> Result<Option<Items<Step>>, Memory> {
+        match items::<EntryObject>(alloc, keys, value)? {
             Some(way) => Ok(Some(way)),
             None => read_as::<Listing>(alloc, value),
         }

@@ -7,10 +7,11 @@ ghost use Rattle.flaws.specs.Looks.{first_key, keys, is_among, no_other};
 
 use crate::flaw::Step;
 use crate::looking::{Look, Looked, to_key};
-use borrowed::{is_strict, read_rows};
+use borrowed::{is_strict, keyed_rows};
 use json::Value;
 use plain::{Fault, Items, Memory, Text};
 use std::alloc::Global;
+use std::hash::RandomState;
 use strict::is_among;
 
 /// Values of any kind.
@@ -21,7 +22,11 @@ impl Look for Any {
 
     ghost looks = { λ d. None };
 
-    fn look(_alloc: Global, _value: &Value<'_>) -> Result<Option<Items<Step>>, Memory> {
+    fn look(
+        _alloc: Global,
+        _keys: RandomState,
+        _value: &Value<'_>,
+    ) -> Result<Option<Items<Step>>, Memory> {
         Ok(None)
     }
 }
@@ -55,6 +60,7 @@ fn first_other<L>(
 #[tactic(auto, using(crate::proofs::RowFacts::strict_keys))]
 pub(crate) fn no_other(
     alloc: Global,
+    keys: RandomState,
     value: &Value<'_>,
     known: &[&str],
 ) -> Result<Option<Items<Step>>, Memory>
@@ -63,7 +69,7 @@ pub(crate) fn no_other(
     if is_strict(value, known) {
         return Ok(None);
     }
-    match read_rows::<Looked<Any>>(alloc, value) {
+    match keyed_rows::<Looked<Any>>(alloc, keys, value) {
         Ok(rows) => first_other(alloc, rows.as_slice(), known),
         Err(Fault::Because(_)) => Ok(Some(Items::new(alloc))),
         Err(Fault::Memory) => Err(Memory),
@@ -94,10 +100,14 @@ fn first_bad_name<L>(
 }
 
 /// Where an object is wrong whose keys are the names of images: the first that is none.
-pub(crate) fn image_names(alloc: Global, value: &Value<'_>) -> Result<Option<Items<Step>>, Memory>
+pub(crate) fn image_names(
+    alloc: Global,
+    keys: RandomState,
+    value: &Value<'_>,
+) -> Result<Option<Items<Step>>, Memory>
     ensures { IfOk result (λ found. found ≡ keys is_image_name (data_of value.now)) }
 {
-    match read_rows::<Looked<Any>>(alloc, value) {
+    match keyed_rows::<Looked<Any>>(alloc, keys, value) {
         Ok(rows) => first_bad_name(alloc, rows.as_slice()),
         Err(Fault::Because(_)) => Ok(Some(Items::new(alloc))),
         Err(Fault::Memory) => Err(Memory),

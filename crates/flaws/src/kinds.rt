@@ -7,12 +7,13 @@ ghost use Rattle.flaws.specs.Flaws.{files_flaw, named_flaw, bundle_flaw};
 use crate::entry::{EntryList, content};
 use crate::flaw::Step;
 use crate::keys::{image_names, no_other};
-use crate::looking::{Look, optional, read_as, required, rows};
-use borrowed::FromLent;
+use crate::looking::{Look, optional, read_as, read_keyed, required, rows};
+use borrowed::FromLentKeyed;
 use bundle::read_digest;
 use json::Value;
 use plain::{Fault, Items, Memory, Text};
 use std::alloc::Global;
+use std::hash::RandomState;
 use std::marker::PhantomData;
 
 /// A text.
@@ -24,7 +25,11 @@ impl Look for AnyText {
 
     ghost looks = { read_as as_str };
 
-    fn look(alloc: Global, value: &Value<'_>) -> Result<Option<Items<Step>>, Memory> {
+    fn look(
+        alloc: Global,
+        _keys: RandomState,
+        value: &Value<'_>,
+    ) -> Result<Option<Items<Step>>, Memory> {
         read_as::<Text>(alloc, value)
     }
 }
@@ -37,8 +42,12 @@ impl Look for DockerfileObject {
 
     ghost looks = { dockerfile_flaw };
 
-    fn look(alloc: Global, value: &Value<'_>) -> Result<Option<Items<Step>>, Memory> {
-        match no_other(alloc, value, &["hex", "text"])? {
+    fn look(
+        alloc: Global,
+        keys: RandomState,
+        value: &Value<'_>,
+    ) -> Result<Option<Items<Step>>, Memory> {
+        match no_other(alloc, keys, value, &["hex", "text"])? {
             Some(way) => Ok(Some(way)),
             None => content(alloc, value),
         }
@@ -50,13 +59,17 @@ struct Configuration<C> {
     kind: PhantomData<C>,
 }
 
-impl<C: FromLent> Look for Configuration<C> {
+impl<C: FromLentKeyed> Look for Configuration<C> {
     ghost use Rattle.flaws.specs.Looks.{read_as};
 
     ghost looks = { read_as C.reading };
 
-    fn look(alloc: Global, value: &Value<'_>) -> Result<Option<Items<Step>>, Memory> {
-        read_as::<C>(alloc, value)
+    fn look(
+        alloc: Global,
+        keys: RandomState,
+        value: &Value<'_>,
+    ) -> Result<Option<Items<Step>>, Memory> {
+        read_keyed::<C>(alloc, keys, value)
     }
 }
 
@@ -69,7 +82,11 @@ impl Look for Digest {
 
     ghost looks = { read_as digest_in };
 
-    fn look(alloc: Global, value: &Value<'_>) -> Result<Option<Items<Step>>, Memory> {
+    fn look(
+        alloc: Global,
+        _keys: RandomState,
+        value: &Value<'_>,
+    ) -> Result<Option<Items<Step>>, Memory> {
         match read_digest(alloc, value) {
             Ok(digest) => {
                 drop(digest);
@@ -86,22 +103,26 @@ struct ImageObject<C> {
     kind: PhantomData<C>,
 }
 
-impl<C: FromLent> Look for ImageObject<C> {
+impl<C: FromLentKeyed> Look for ImageObject<C> {
     ghost use Rattle.flaws.specs.Flaws.{image_flaw};
 
     ghost looks = { image_flaw C.reading };
 
-    fn look(alloc: Global, value: &Value<'_>) -> Result<Option<Items<Step>>, Memory> {
-        if let Some(way) = no_other(alloc, value, &["config", "digest", "tree"])? {
+    fn look(
+        alloc: Global,
+        keys: RandomState,
+        value: &Value<'_>,
+    ) -> Result<Option<Items<Step>>, Memory> {
+        if let Some(way) = no_other(alloc, keys, value, &["config", "digest", "tree"])? {
             return Ok(Some(way));
         }
-        if let Some(way) = required::<Configuration<C>>(alloc, value, "config")? {
+        if let Some(way) = required::<Configuration<C>>(alloc, keys, value, "config")? {
             return Ok(Some(way));
         }
-        if let Some(way) = optional::<Digest>(alloc, value, "digest")? {
+        if let Some(way) = optional::<Digest>(alloc, keys, value, "digest")? {
             return Ok(Some(way));
         }
-        required::<EntryList>(alloc, value, "tree")
+        required::<EntryList>(alloc, keys, value, "tree")
     }
 }
 
@@ -110,15 +131,19 @@ struct ImageRows<C> {
     kind: PhantomData<C>,
 }
 
-impl<C: FromLent> Look for ImageRows<C> {
+impl<C: FromLentKeyed> Look for ImageRows<C> {
     ghost use Rattle.flaws.specs.Flaws.{images_flaw};
 
     ghost looks = { images_flaw C.reading };
 
-    fn look(alloc: Global, value: &Value<'_>) -> Result<Option<Items<Step>>, Memory> {
-        match image_names(alloc, value)? {
+    fn look(
+        alloc: Global,
+        keys: RandomState,
+        value: &Value<'_>,
+    ) -> Result<Option<Items<Step>>, Memory> {
+        match image_names(alloc, keys, value)? {
             Some(way) => Ok(Some(way)),
-            None => rows::<ImageObject<C>>(alloc, value),
+            None => rows::<ImageObject<C>>(alloc, keys, value),
         }
     }
 }
@@ -132,8 +157,12 @@ impl Look for ArgumentRows {
 
     ghost looks = { rows (read_as as_str) };
 
-    fn look(alloc: Global, value: &Value<'_>) -> Result<Option<Items<Step>>, Memory> {
-        rows::<AnyText>(alloc, value)
+    fn look(
+        alloc: Global,
+        keys: RandomState,
+        value: &Value<'_>,
+    ) -> Result<Option<Items<Step>>, Memory> {
+        rows::<AnyText>(alloc, keys, value)
     }
 }
 
@@ -146,46 +175,56 @@ impl Look for CacheRows {
 
     ghost looks = { rows listing_flaw };
 
-    fn look(alloc: Global, value: &Value<'_>) -> Result<Option<Items<Step>>, Memory> {
-        rows::<EntryList>(alloc, value)
+    fn look(
+        alloc: Global,
+        keys: RandomState,
+        value: &Value<'_>,
+    ) -> Result<Option<Items<Step>>, Memory> {
+        rows::<EntryList>(alloc, keys, value)
     }
 }
 
 /// Where the Dockerfile, the context or the target of a bundle is wrong.
-fn files(alloc: Global, value: &Value<'_>) -> Result<Option<Items<Step>>, Memory>
+fn files(alloc: Global, keys: RandomState, value: &Value<'_>) -> Result<Option<Items<Step>>, Memory>
     ensures { IfOk result (λ found. found ≡ files_flaw (data_of value.now)) }
 {
-    if let Some(way) = required::<DockerfileObject>(alloc, value, "dockerfile")? {
+    if let Some(way) = required::<DockerfileObject>(alloc, keys, value, "dockerfile")? {
         return Ok(Some(way));
     }
-    if let Some(way) = optional::<EntryList>(alloc, value, "context")? {
+    if let Some(way) = optional::<EntryList>(alloc, keys, value, "context")? {
         return Ok(Some(way));
     }
-    optional::<AnyText>(alloc, value, "target")
+    optional::<AnyText>(alloc, keys, value, "target")
 }
 
 /// Where what a build may name is wrong.
-fn named<C: FromLent>(alloc: Global, value: &Value<'_>) -> Result<Option<Items<Step>>, Memory>
+fn named<C: FromLentKeyed>(
+    alloc: Global,
+    keys: RandomState,
+    value: &Value<'_>,
+) -> Result<Option<Items<Step>>, Memory>
     ensures { IfOk result (λ found. found ≡ named_flaw C.reading (data_of value.now)) }
 {
-    if let Some(way) = optional::<ImageRows<C>>(alloc, value, "images")? {
+    if let Some(way) = optional::<ImageRows<C>>(alloc, keys, value, "images")? {
         return Ok(Some(way));
     }
-    if let Some(way) = optional::<ArgumentRows>(alloc, value, "args")? {
+    if let Some(way) = optional::<ArgumentRows>(alloc, keys, value, "args")? {
         return Ok(Some(way));
     }
-    optional::<CacheRows>(alloc, value, "caches")
+    optional::<CacheRows>(alloc, keys, value, "caches")
 }
 
 /// Where the JSON of a bundle is wrong.
-pub(crate) fn bundle<C: FromLent>(
+pub(crate) fn bundle<C: FromLentKeyed>(
     alloc: Global,
+    keys: RandomState,
     value: &Value<'_>,
 ) -> Result<Option<Items<Step>>, Memory>
     ensures { IfOk result (λ found. found ≡ bundle_flaw C.reading (data_of value.now)) }
 {
     if let Some(way) = no_other(
         alloc,
+        keys,
         value,
         &[
             "args",
@@ -198,8 +237,8 @@ pub(crate) fn bundle<C: FromLent>(
     )? {
         return Ok(Some(way));
     }
-    match files(alloc, value)? {
+    match files(alloc, keys, value)? {
         Some(way) => Ok(Some(way)),
-        None => named::<C>(alloc, value),
+        None => named::<C>(alloc, keys, value),
     }
 }

@@ -7,10 +7,11 @@ ghost use Rattle.flaws.specs.Looks.{below, read_as, optional, required, among_it
 ghost use Rattle.flaws.specs.PrivateRows.{first_found};
 
 use crate::flaw::Step;
-use borrowed::{FromLent, at, list_of, read_rows};
+use borrowed::{FromLent, FromLentKeyed, at, keyed_rows, list_of};
 use json::Value;
 use plain::{Fault, Items, Memory, Text};
 use std::alloc::Global;
+use std::hash::RandomState;
 use std::marker::PhantomData;
 use strict::ReadFault;
 
@@ -23,7 +24,11 @@ pub(crate) trait Look {
     ghost looks: { Data → Option (List Step) };
 
     /// The way to where a value is wrong; none if it is of this kind.
-    fn look(alloc: Global, value: &Value<'_>) -> Result<Option<Items<Step>>, Memory>
+    fn look(
+        alloc: Global,
+        keys: RandomState,
+        value: &Value<'_>,
+    ) -> Result<Option<Items<Step>>, Memory>
         ensures { IfOk result (λ found. found ≡ looks (data_of value.now)) };
 }
 
@@ -72,13 +77,14 @@ fn below_key(
 /// Where a value is wrong that stands at a key which may be missing.
 pub(crate) fn optional<L: Look>(
     alloc: Global,
+    keys: RandomState,
     value: &Value<'_>,
     key: &str,
 ) -> Result<Option<Items<Step>>, Memory>
     ensures { IfOk result (λ found. found ≡ optional key.now L.looks (data_of value.now)) }
 {
     match at(value, key) {
-        Some(value) => below_key(alloc, key, L::look(alloc, value)?),
+        Some(value) => below_key(alloc, key, L::look(alloc, keys, value)?),
         None => Ok(None),
     }
 }
@@ -86,13 +92,14 @@ pub(crate) fn optional<L: Look>(
 /// Where a value is wrong that stands at a key which may not be missing.
 pub(crate) fn required<L: Look>(
     alloc: Global,
+    keys: RandomState,
     value: &Value<'_>,
     key: &str,
 ) -> Result<Option<Items<Step>>, Memory>
     ensures { IfOk result (λ found. found ≡ required key.now L.looks (data_of value.now)) }
 {
     match at(value, key) {
-        Some(value) => below_key(alloc, key, L::look(alloc, value)?),
+        Some(value) => below_key(alloc, key, L::look(alloc, keys, value)?),
         None => Ok(Some(to_key(alloc, key)?)),
     }
 }
@@ -114,12 +121,34 @@ pub(crate) fn read_as<T: FromLent>(
     }
 }
 
+/// The same of what is read with these keys.
+pub(crate) fn read_keyed<T: FromLentKeyed>(
+    alloc: Global,
+    keys: RandomState,
+    value: &Value<'_>,
+) -> Result<Option<Items<Step>>, Memory>
+    ensures { IfOk result (λ found. found ≡ read_as T.reading (data_of value.now)) }
+{
+    match T::from_lent_keyed(alloc, keys, value) {
+        Ok(read) => {
+            drop(read);
+            Ok(None)
+        }
+        Err(Fault::Because(_)) => Ok(Some(Items::new(alloc))),
+        Err(Fault::Memory) => Err(Memory),
+    }
+}
+
 /// Where the first of some values is wrong that is.
-fn among_items<L: Look>(alloc: Global, values: &[Value<'_>]) -> Result<Option<Items<Step>>, Memory>
+fn among_items<L: Look>(
+    alloc: Global,
+    keys: RandomState,
+    values: &[Value<'_>],
+) -> Result<Option<Items<Step>>, Memory>
     ensures { IfOk result (λ found. found ≡ among_items L.looks 0 (items_data values.now)) }
 {
     for (place, value) in values.iter().enumerate() {
-        if let Some(way) = L::look(alloc, value)? {
+        if let Some(way) = L::look(alloc, keys, value)? {
             return Ok(Some(after_step(Step::Item(place), way)?));
         }
     }
@@ -129,12 +158,13 @@ fn among_items<L: Look>(alloc: Global, values: &[Value<'_>]) -> Result<Option<It
 /// Where a list is wrong.
 pub(crate) fn items<L: Look>(
     alloc: Global,
+    keys: RandomState,
     value: &Value<'_>,
 ) -> Result<Option<Items<Step>>, Memory>
     ensures { IfOk result (λ found. found ≡ items L.looks (data_of value.now)) }
 {
     match list_of(value) {
-        Some(values) => among_items::<L>(alloc, values),
+        Some(values) => among_items::<L>(alloc, keys, values),
         None => Ok(Some(Items::new(alloc))),
     }
 }
@@ -146,14 +176,18 @@ pub(crate) struct Looked<L> {
     pub(crate) kind: PhantomData<L>,
 }
 
-impl<L: Look> FromLent for Looked<L> {
+impl<L: Look> FromLentKeyed for Looked<L> {
     ghost use Rattle.std.specs.Prelude.{Some};
     ghost use Rattle.flaws.specs.PrivateRows.{looked};
 
     ghost reading = { λ d. Some (looked (L.looks d)) };
 
-    fn from_lent(alloc: Global, value: &Value<'_>) -> Result<Looked<L>, ReadFault> {
-        let found = L::look(alloc, value)?;
+    fn from_lent_keyed(
+        alloc: Global,
+        keys: RandomState,
+        value: &Value<'_>,
+    ) -> Result<Looked<L>, ReadFault> {
+        let found = L::look(alloc, keys, value)?;
         Ok(Looked {
             found,
             kind: PhantomData,
@@ -175,10 +209,14 @@ fn first_found<L>(rows: Items<(Text, Looked<L>)>) -> Result<Option<Items<Step>>,
 
 /// Where an object of any keys is wrong.
 #[tactic(auto, using(crate::proofs::RowFacts::rows_found))]
-pub(crate) fn rows<L: Look>(alloc: Global, value: &Value<'_>) -> Result<Option<Items<Step>>, Memory>
+pub(crate) fn rows<L: Look>(
+    alloc: Global,
+    keys: RandomState,
+    value: &Value<'_>,
+) -> Result<Option<Items<Step>>, Memory>
     ensures { IfOk result (λ found. found ≡ rows L.looks (data_of value.now)) }
 {
-    match read_rows::<Looked<L>>(alloc, value) {
+    match keyed_rows::<Looked<L>>(alloc, keys, value) {
         Ok(rows) => first_found(rows),
         Err(Fault::Because(_)) => Ok(Some(Items::new(alloc))),
         Err(Fault::Memory) => Err(Memory),

@@ -4,20 +4,25 @@ ghost use Rattle.flaws.specs.Flaws.{json_flaw, flaw_within, flaw_in};
 
 use crate::flaw::Flaw;
 use crate::kinds::bundle;
-use borrowed::FromLent;
+use borrowed::FromLentKeyed;
 use json::Scratch;
 use plain::limits::MOST_BUNDLE_BYTES;
 use plain::{Fault, Memory};
 use std::alloc::Global;
+use std::hash::RandomState;
 
 /// Where a text is wrong as a bundle. What is lent of it ends here.
-fn find_in_text<C: FromLent>(alloc: Global, text: &str) -> Result<Option<Flaw>, Memory>
+fn find_in_text<C: FromLentKeyed>(
+    alloc: Global,
+    keys: RandomState,
+    text: &str,
+) -> Result<Option<Flaw>, Memory>
     ensures { IfOk result (λ found. found ≡ json_flaw C.reading (read text.now)) }
 {
     let mut scratch = Scratch::new(alloc);
     match borrowed::read(alloc, text, &mut scratch) {
         Ok(value) => {
-            let found = bundle::<C>(alloc, &value);
+            let found = bundle::<C>(alloc, keys, &value);
             drop(value);
             Ok(found?.map(Flaw::At))
         }
@@ -28,8 +33,9 @@ fn find_in_text<C: FromLent>(alloc: Global, text: &str) -> Result<Option<Flaw>, 
 
 /// Where bytes of which there may be so many are wrong as a bundle.
 #[tactic(auto, unfolding(crate::specs::Flaws::flaw_within))]
-fn find_within<C: FromLent>(
+fn find_within<C: FromLentKeyed>(
     alloc: Global,
+    keys: RandomState,
     most: usize,
     bytes: &[u8],
 ) -> Result<Option<Flaw>, Memory>
@@ -39,7 +45,7 @@ fn find_within<C: FromLent>(
         return Ok(Some(Flaw::TooLong));
     }
     match str::from_utf8(bytes) {
-        Ok(text) => find_in_text::<C>(alloc, text),
+        Ok(text) => find_in_text::<C>(alloc, keys, text),
         Err(error) => Ok(Some(Flaw::NoText(error.valid_up_to()))),
     }
 }
@@ -49,8 +55,12 @@ fn find_within<C: FromLent>(
 /// Of several faults it is the first: of all JSON the keys that aren't known, and then the values in the order of the table in docs/FORMATS.md. It
 /// takes no more than twice the time of a reading.
 #[tactic(auto, unfolding(plain::specs::Limits::most_bundle_bytes))]
-pub fn find<C: FromLent>(alloc: Global, bytes: &[u8]) -> Result<Option<Flaw>, Memory>
+pub fn find<C: FromLentKeyed>(
+    alloc: Global,
+    keys: RandomState,
+    bytes: &[u8],
+) -> Result<Option<Flaw>, Memory>
     ensures { IfOk result (λ found. found ≡ flaw_in C.reading bytes.now) }
 {
-    find_within::<C>(alloc, MOST_BUNDLE_BYTES, bytes)
+    find_within::<C>(alloc, keys, MOST_BUNDLE_BYTES, bytes)
 }

@@ -14,7 +14,7 @@ ghost use Rattle.packing.specs.Images.{given_in, if_image, image_data, image_of}
 ghost use Rattle.packing.specs.PrivateImages.{GivesConfig, GivesDigest, GivesJson, IsDigestRead, if_even, is_among};
 
 use crate::even::is_even;
-use borrowed::{FromLent, at, is_strict, owned};
+use borrowed::{FromLent, FromLentKeyed, at, is_strict, owned};
 use bundle::read_digest;
 use entries::Listing;
 use imageconfig::Config;
@@ -22,6 +22,7 @@ use json::{Scratch, Value as Lent};
 use plain::{Fault, Memory, Text};
 use serde_json::{Map, Value};
 use std::alloc::Global;
+use std::hash::RandomState;
 use strict::{NotRead, ReadFault, put};
 
 /// How deep the JSON of an image may nest. It stands two deep in a bundle, of which 127 are read.
@@ -29,13 +30,13 @@ const MOST_DEPTH: usize = 125;
 
 /// The JSON of the image that the text of a file gives. `NotRead` where it gives none.
 #[tactic(auto, unfolding(crate::specs::Images::image_of))]
-pub(crate) fn read_image(alloc: Global, text: &str) -> Result<Value, ReadFault>
+pub(crate) fn read_image(alloc: Global, keys: RandomState, text: &str) -> Result<Value, ReadFault>
     ensures { GivesJson result (image_of text.now) }
 {
     let mut scratch = Scratch::new(alloc);
     match borrowed::read(alloc, text, &mut scratch) {
         Ok(value) => {
-            let image = image_given(alloc, &value);
+            let image = image_given(alloc, keys, &value);
             drop(value);
             image
         }
@@ -60,7 +61,7 @@ pub(crate) fn is_json(alloc: Global, text: &str) -> Result<bool, Memory>
 
 /// The image that a file's JSON gives: by its key `tree` it is told whether it has a tree, or is a configuration.
 #[tactic(auto, unfolding(crate::specs::Images::given_in))]
-fn image_given(alloc: Global, value: &Lent<'_>) -> Result<Value, ReadFault>
+fn image_given(alloc: Global, keys: RandomState, value: &Lent<'_>) -> Result<Value, ReadFault>
     ensures { GivesJson result (option_and_then if_image (given_in (data_of value.now))) }
 {
     match at(value, "tree") {
@@ -69,17 +70,18 @@ fn image_given(alloc: Global, value: &Lent<'_>) -> Result<Value, ReadFault>
                 return Err(Fault::Because(NotRead));
             }
             match at(value, "config") {
-                Some(config) => image_with_members(alloc, value, config, tree),
+                Some(config) => image_with_members(alloc, keys, value, config, tree),
                 None => Err(Fault::Because(NotRead)),
             }
         }
-        None => image_without_tree(alloc, value),
+        None => image_without_tree(alloc, keys, value),
     }
 }
 
 /// The image of a configuration and a tree, with the digest that stands beside them, if one does.
 fn image_with_members(
     alloc: Global,
+    keys: RandomState,
     value: &Lent<'_>,
     config: &Lent<'_>,
     tree: &Lent<'_>,
@@ -87,7 +89,7 @@ fn image_with_members(
     ensures { GivesJson result (if_image (image_data (data_of config.now) (get (codes "digest") (data_of value.now)) (data_of tree.now))) }
 {
     match digest_given(alloc, value) {
-        Ok(digest) => image_with_tree(alloc, config, digest, tree),
+        Ok(digest) => image_with_tree(alloc, keys, config, digest, tree),
         Err(fault) => Err(fault),
     }
 }
@@ -108,6 +110,7 @@ fn digest_given(alloc: Global, value: &Lent<'_>) -> Result<Option<Value>, ReadFa
 /// The image of a configuration, of a digest that is read, if there is one, and of a tree.
 fn image_with_tree(
     alloc: Global,
+    keys: RandomState,
     config: &Lent<'_>,
     digest: Option<Value>,
     tree: &Lent<'_>,
@@ -119,7 +122,7 @@ fn image_with_tree(
     match listing {
         Ok(listing) => {
             drop(listing);
-            image_of_lent(alloc, config, digest, tree)
+            image_of_lent(alloc, keys, config, digest, tree)
         }
         Err(fault) => {
             drop(digest);
@@ -131,6 +134,7 @@ fn image_with_tree(
 /// The image of a configuration and a tree that is read, both lent, and of a digest that is read, if there is one.
 fn image_of_lent(
     alloc: Global,
+    keys: RandomState,
     config: &Lent<'_>,
     digest: Option<Value>,
     tree: &Lent<'_>,
@@ -140,7 +144,7 @@ fn image_of_lent(
     ensures { GivesJson result (if_image (image_data (data_of config.now) (option_map view digest) (data_of tree.now))) }
 {
     match owned(alloc, tree) {
-        Ok(tree) => image_of_parts(alloc, config, digest, tree),
+        Ok(tree) => image_of_parts(alloc, keys, config, digest, tree),
         Err(Memory) => {
             drop(digest);
             Err(Fault::Memory)
@@ -149,15 +153,20 @@ fn image_of_lent(
 }
 
 /// The image of a configuration, without a digest and with the empty tree.
-fn image_without_tree(alloc: Global, config: &Lent<'_>) -> Result<Value, ReadFault>
+fn image_without_tree(
+    alloc: Global,
+    keys: RandomState,
+    config: &Lent<'_>,
+) -> Result<Value, ReadFault>
     ensures { GivesJson result (if_image (image_data (data_of config.now) None (array no_items))) }
 {
-    image_of_parts(alloc, config, None, Value::Array(Vec::new(alloc)))
+    image_of_parts(alloc, keys, config, None, Value::Array(Vec::new(alloc)))
 }
 
 /// The image of a configuration, and of a digest and a tree that are read.
 fn image_of_parts(
     alloc: Global,
+    keys: RandomState,
     config: &Lent<'_>,
     digest: Option<Value>,
     tree: Value,
@@ -166,7 +175,7 @@ fn image_of_parts(
     requires tree { is_some (listing_in (view tree)) ≡ true }
     ensures { GivesJson result (if_image (image_data (data_of config.now) (option_map view digest) (view tree))) }
 {
-    match read_owned(alloc, config) {
+    match read_owned(alloc, keys, config) {
         Ok(config) => even_image(alloc, config, digest, tree),
         Err(fault) => {
             drop(digest);
@@ -177,10 +186,10 @@ fn image_of_parts(
 }
 
 /// A copy of a configuration that is read. `NotRead` where it is none.
-fn read_owned(alloc: Global, config: &Lent<'_>) -> Result<Value, ReadFault>
+fn read_owned(alloc: Global, keys: RandomState, config: &Lent<'_>) -> Result<Value, ReadFault>
     ensures { GivesConfig result (data_of config.now) }
 {
-    let read: Config = Config::from_lent(alloc, config)?;
+    let read: Config = Config::from_lent_keyed(alloc, keys, config)?;
     drop(read);
     Ok(owned(alloc, config)?)
 }

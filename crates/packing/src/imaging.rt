@@ -18,12 +18,14 @@ use plain::{Bytes, Fault, Items, Text};
 use serde_json::Value;
 use std::alloc::Global;
 use std::fs;
+use std::hash::RandomState;
 use std::rt::Files;
 
 /// The JSON of these images, each a name and its file, in their order. After `Ended` it is noted in `why` what is wrong with which file.
 pub(crate) fn read_images<R: Files + AllocGlobal>(
     rt: &R,
     alloc: Global,
+    keys: RandomState,
     images: &[(Text, Text)],
     why: &mut Text,
 ) -> Result<Items<(Text, Value)>, PackFault>
@@ -32,7 +34,7 @@ pub(crate) fn read_images<R: Files + AllocGlobal>(
     ensures images { IfOk result (λ found. are_images (image_rows found) ≡ true) }
 {
     check_names(alloc, images, why)?;
-    read_files(rt, alloc, images, why)
+    read_files(rt, alloc, keys, images, why)
 }
 
 /// Looks whether each name is that of an image, and none is there twice.
@@ -57,6 +59,7 @@ fn check_names(alloc: Global, images: &[(Text, Text)], why: &mut Text) -> Result
 fn read_files<R: Files + AllocGlobal>(
     rt: &R,
     alloc: Global,
+    keys: RandomState,
     images: &[(Text, Text)],
     why: &mut Text,
 ) -> Result<Items<(Text, Value)>, PackFault>
@@ -66,7 +69,7 @@ fn read_files<R: Files + AllocGlobal>(
 {
     let mut found = Items::new(alloc);
     for (name, file) in images {
-        let row = read_row(rt, alloc, name, file, why)?;
+        let row = read_row(rt, alloc, keys, name, file, why)?;
         found.push(row)?;
     }
     Ok(found)
@@ -76,6 +79,7 @@ fn read_files<R: Files + AllocGlobal>(
 fn read_row<R: Files + AllocGlobal>(
     rt: &R,
     alloc: Global,
+    keys: RandomState,
     name: &Text,
     file: &Text,
     why: &mut Text,
@@ -85,7 +89,7 @@ fn read_row<R: Files + AllocGlobal>(
     ensures image { IfOk result (λ row. is_image (view row.1) ≡ true) }
 {
     let name = Text::from_str(alloc, name.as_str())?;
-    match read_file(rt, alloc, file, why) {
+    match read_file(rt, alloc, keys, file, why) {
         Ok(image) => Ok((name, image)),
         Err(fault) => {
             drop(name);
@@ -98,6 +102,7 @@ fn read_row<R: Files + AllocGlobal>(
 fn read_file<R: Files + AllocGlobal>(
     rt: &R,
     alloc: Global,
+    keys: RandomState,
     file: &Text,
     why: &mut Text,
 ) -> Result<Value, PackFault>
@@ -112,7 +117,7 @@ fn read_file<R: Files + AllocGlobal>(
         }
         Ok(_) => {
             let bytes = bytes_of(rt, alloc, file.as_str(), why)?;
-            let image = image_of_bytes(alloc, place, &bytes, why);
+            let image = image_of_bytes(alloc, keys, place, &bytes, why);
             drop(bytes);
             image
         }
@@ -132,6 +137,7 @@ fn place_of(file: &Text) -> &str {
 /// The JSON of the image that a file of these bytes holds.
 fn image_of_bytes(
     alloc: Global,
+    keys: RandomState,
     place: &str,
     bytes: &Bytes,
     why: &mut Text,
@@ -140,7 +146,7 @@ fn image_of_bytes(
     ensures image { IfOk result (λ image. is_image (view image) ≡ true) }
 {
     match str::from_utf8(bytes.as_slice()) {
-        Ok(text) => match read_image(alloc, text) {
+        Ok(text) => match read_image(alloc, keys, text) {
             Ok(image) => Ok(image),
             Err(Fault::Memory) => Err(PackFault::Memory),
             Err(Fault::Because(_)) => match is_json(alloc, text) {

@@ -8,7 +8,7 @@
 // packing what was found ends, and `image_of` (specs/Images.antt), the image that the text of a file gives.
 //
 // ```
-// let status = run_pack(alloc, &rt, "examples/folder", &mut output)?;   // Built, and the bundle with an LF is written
+// let status = run_pack(alloc, keys, &rt, "examples/folder", &mut output)?;   // Built, and the bundle with an LF is written
 // ```
 #![tactic(auto)]
 

@@ -14,6 +14,7 @@ use plain::{Items, Memory, Text};
 use std::alloc::Global;
 use std::fs;
 use std::fs::{File, OpenOptions};
+use std::hash::RandomState;
 use std::rt::Files;
 
 /// Writes the bundle of a folder, with an LF: its file `Dockerfile`, and all files and directories in it, that one too, in path order,
@@ -27,6 +28,7 @@ use std::rt::Files;
 /// The count of failed calls is a machine number, so a caller has to know that there is room for one more in it.
 pub fn run_pack<R: Files + AllocGlobal + Clone + Drop, W: CountedWrite>(
     alloc: Global,
+    keys: RandomState,
     rt: &R,
     folder: &str,
     output: &mut W,
@@ -45,7 +47,7 @@ pub fn run_pack<R: Files + AllocGlobal + Clone + Drop, W: CountedWrite>(
         names: false,
     };
     let mut why = Text::from_string(String::new(alloc));
-    run_pack_with(alloc, rt, folder, options, output, &mut why)
+    run_pack_with(alloc, keys, rt, folder, options, output, &mut why)
 }
 
 /// Writes the bundle of a folder as `run_pack` does, with what is given beside it: a target and build arguments stand in the bundle, and the
@@ -69,6 +71,7 @@ pub fn run_pack<R: Files + AllocGlobal + Clone + Drop, W: CountedWrite>(
 /// After `Ended` it is noted in `why` what can't be packed: its place on the machine, what it is, and the remedy.
 pub fn run_pack_with<R: Files + AllocGlobal + Clone + Drop, W: CountedWrite>(
     alloc: Global,
+    keys: RandomState,
     rt: &R,
     folder: &str,
     options: PackOptions<'_>,
@@ -78,7 +81,7 @@ pub fn run_pack_with<R: Files + AllocGlobal + Clone + Drop, W: CountedWrite>(
     requires writes { W.failures output.old < u64.MAX }
     ensures { PacksFolder (asked_of options.entry) (W.contents output.old) (W.failures output.old) (W.contents output.new) (W.failures output.new) result }
 {
-    match find_bundle(rt, alloc, folder, options, why) {
+    match find_bundle(rt, alloc, keys, folder, options, why) {
         Ok(Some(found)) => write_found(alloc, found, options, output, why),
         Ok(None) => Ok(Status::Refused),
         Err(fault) => Err(fault),
@@ -116,6 +119,7 @@ fn write_found<W: CountedWrite>(
 /// What the machine does with a file is in no contract.
 pub fn run_pack_to_file<R: Files + AllocGlobal + Clone + Drop>(
     alloc: Global,
+    keys: RandomState,
     rt: &R,
     folder: &str,
     options: PackOptions<'_>,
@@ -124,7 +128,7 @@ pub fn run_pack_to_file<R: Files + AllocGlobal + Clone + Drop>(
 ) -> Result<Status, PackFault>
     ensures { IsPacking result }
 {
-    let Some(found) = find_bundle(rt, alloc, folder, options, why)? else {
+    let Some(found) = find_bundle(rt, alloc, keys, folder, options, why)? else {
         return Ok(Status::Refused);
     };
     if may_be_replaced(rt, name) {

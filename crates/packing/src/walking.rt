@@ -20,6 +20,7 @@ use serde_json::Value;
 use std::alloc::Global;
 use std::fs;
 use std::fs::DirEntry;
+use std::hash::RandomState;
 use std::io::ErrorKind;
 use std::rt::Files;
 
@@ -52,6 +53,7 @@ pub(crate) struct Found {
 pub(crate) fn find_bundle<R: Files + AllocGlobal + Clone + Drop>(
     rt: &R,
     alloc: Global,
+    keys: RandomState,
     folder: &str,
     options: PackOptions<'_>,
     why: &mut Text,
@@ -59,7 +61,7 @@ pub(crate) fn find_bundle<R: Files + AllocGlobal + Clone + Drop>(
     ensures before { IfErr result IsBefore }
     ensures found { IfOk result (λ found. IfSome found (IsFound (asked_of options.entry))) }
 {
-    let images = read_images(rt, alloc, options.images, why)?;
+    let images = read_images(rt, alloc, keys, options.images, why)?;
     match find_files(rt, alloc, folder, options, why) {
         Ok(Some(files)) => Ok(Some(Found { files, images })),
         Ok(None) => {

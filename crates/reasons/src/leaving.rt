@@ -6,12 +6,13 @@ ghost use Rattle.reasons.specs.PrivateReasons.{IsCut, IsLineAt};
 
 use crate::cutting::cut_lines;
 use crate::telling::known_line;
-use borrowed::FromLent;
+use borrowed::FromLentKeyed;
 use bundle::{IgnoreFile, read_ignore_file};
 use ignorefile::line_numbers;
 use paths::Path;
 use plain::{Bytes, Fault, Memory, Refusal};
 use std::alloc::Global;
+use std::hash::RandomState;
 use std::thread::Threads;
 
 /// A line of an ignore file that leaves a path out.
@@ -116,15 +117,16 @@ fn leaving_word(alloc: Global, file: &IgnoreFile, word: &str) -> Result<Option<L
 /// the context doesn't matter.
 ///
 /// The refusals are those of `reasons`.
-pub fn leaving_line<C: FromLent>(
+pub fn leaving_line<C: FromLentKeyed>(
     alloc: Global,
+    keys: RandomState,
     rt: &(impl Threads + Sync),
     bundle: &[u8],
     word: &str,
 ) -> Result<Option<LeavingLine>, Fault<Refusal>>
     ensures { LeavesWord C.reading bundle.now word.now result }
 {
-    match read_ignore_file::<C>(alloc, rt, bundle) {
+    match read_ignore_file::<C>(alloc, keys, rt, bundle) {
         Ok(file) => Ok(leaving_word(alloc, &file, word)?),
         Err(fault) => Err(fault),
     }

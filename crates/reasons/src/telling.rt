@@ -5,12 +5,13 @@ ghost use Rattle.reasons.specs.Reasons.{verdict, undecided, no_path, numbered, d
 ghost use Rattle.reasons.specs.PrivateReasons.{IsCut, IsKnownLine, IsLineAt, TellsNames};
 
 use crate::cutting::cut_lines;
-use borrowed::FromLent;
+use borrowed::FromLentKeyed;
 use bundle::{IgnoreFile, read_ignore_file};
 use ignorefile::line_numbers;
 use paths::Path;
 use plain::{Bytes, Fault, Memory, Refusal, Text};
 use std::alloc::Global;
+use std::hash::RandomState;
 use std::thread::Threads;
 
 /// What is told first of a path that a line decides, which is an exception or not.
@@ -175,15 +176,16 @@ fn reasons_by(alloc: Global, file: &IgnoreFile, words: &[Text]) -> Result<Bytes,
 /// there doesn't matter. Nothing is filtered: it takes the reading of the bundle, and for each word what `Ignore::deciding` takes.
 ///
 /// The refusals are those of `bundle::read_bundle`: R20 where the bytes are no bundle, else R19 with the first bad line of its ignore file.
-pub fn reasons<C: FromLent>(
+pub fn reasons<C: FromLentKeyed>(
     alloc: Global,
+    keys: RandomState,
     rt: &(impl Threads + Sync),
     bundle: &[u8],
     words: &[Text],
 ) -> Result<Bytes, Fault<Refusal>>
     ensures { TellsReasons C.reading bundle.now words.now result }
 {
-    match read_ignore_file::<C>(alloc, rt, bundle) {
+    match read_ignore_file::<C>(alloc, keys, rt, bundle) {
         Ok(file) => Ok(reasons_by(alloc, &file, words)?),
         Err(fault) => Err(fault),
     }

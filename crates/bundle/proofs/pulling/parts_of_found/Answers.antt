@@ -5,7 +5,7 @@ use Rattle.bundle.proofs.pulling.parts_of_found.Goals as goal
 
 pub returns-in-Ok-named_of : goal.returns-in-Ok-named_of
 returns-in-Ok-named_of g c ms h =
-    let reading = g.C.FromLent.reading in
+    let reading = g.C.FromLentKeyed.reading in
     let found = c.args.found.now in
     let dockerfile = lent_is_owned c.as_ref.result found.dockerfile c.as_ref.ensures.value in
     let target = lent_is_owned c.as_ref-2.result found.target c.as_ref-2.ensures.value in

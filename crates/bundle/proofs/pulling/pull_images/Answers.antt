@@ -25,7 +25,7 @@ loop-images-preserved g c =
     let pulled = c.in_ok-image.ensures in (
       put c.in-Some.name.now pulled.0 found,
       goes_on c.in_ok-inner.inner c.open_object.new.reader _ _ _ c.in-Some.name.now pulled.0 found c.loop-images.invariant.1 key pulled.1,
-      members_in-put (image_in g.C.FromLent.reading) found c.loop-images.images.entries c.in-Some.name pulled.0 c.in_ok-image.image c.loop-images.invariant.2 pulled.2 ∙ ap (λ es. Some (owned_rows es)) (sym c.in_ok-insert.ensures.entries),
+      members_in-put (image_in g.C.FromLentKeyed.reading) found c.loop-images.images.entries c.in-Some.name pulled.0 c.in_ok-image.image c.loop-images.invariant.2 pulled.2 ∙ ap (λ es. Some (owned_rows es)) (sym c.in_ok-insert.ensures.entries),
     )
 
 pub returns : goal.returns

@@ -8,7 +8,7 @@ use Rattle.bundle.proofs.pulling.pull_images.Given as goal
 
 -- some members were found, and they are read as the rows that were made
 abbrev pub invariant-loop-images : goal.invariant-loop-images
-invariant-loop-images g l = (found : Members) × GoesOn l.inner l.initial.reader l.reader found × (members_in (image_in g.C.FromLent.reading) found ≡ Some (owned_rows l.images.entries))
+invariant-loop-images g l = (found : Members) × GoesOn l.inner l.initial.reader l.reader found × (members_in (image_in g.C.FromLentKeyed.reading) found ≡ Some (owned_rows l.images.entries))
 
 abbrev pub decreases-loop-images : goal.decreases-loop-images
 decreases-loop-images g l = length l.reader
