@@ -18,6 +18,7 @@ use lines::LineFault;
 use plain::Fault;
 use stages::StageTable;
 use std::alloc::Global;
+use std::hash::RandomState;
 use std::thread::Threads;
 
 /// What a bundle asks for.
@@ -34,14 +35,19 @@ pub struct Asked {
 /// A refusal is reported exactly if they are refused: the least by phase, line and number, the phases being the bundle (R20), its ignore file
 /// (R19), the Dockerfile's text (R01, R18), its lines (R02, R03, R08, R18), its instructions (R04, R06 to R10, R16 to R18), its stages (R05, R11 to R13,
 /// R18, R21), and the evaluation of those that the target needs (R06, R10, R14 to R18, R21). `Memory` says nothing of them.
-pub fn ask(alloc: Global, rt: &(impl Threads + Sync), bytes: &[u8]) -> Result<Asked, RejectionFault>
+pub fn ask(
+    alloc: Global,
+    keys: RandomState,
+    rt: &(impl Threads + Sync),
+    bytes: &[u8],
+) -> Result<Asked, RejectionFault>
     ensures asked { IsAsked bytes.now result }
     ensures lowerable { IfOk result (λ asked. IsLowerable asked.evaluated) }
     ensures caches { IfOk result (λ asked. asked.caches.holds ≡ []) }
     ensures store { IfOk result (λ asked. HasStoreOf bytes.now asked.caches) }
 {
-    match read_bundle(alloc, rt, bytes) {
-        Ok(bundle) => ask_file(alloc, bundle),
+    match read_bundle(alloc, keys, rt, bytes) {
+        Ok(bundle) => ask_file(alloc, keys, bundle),
         Err(fault) => Err(rejection_fault(fault)),
     }
 }
@@ -49,6 +55,7 @@ pub fn ask(alloc: Global, rt: &(impl Threads + Sync), bytes: &[u8]) -> Result<As
 /// The same of bytes that end here.
 pub(crate) fn ask_once(
     alloc: Global,
+    keys: RandomState,
     rt: &(impl Threads + Sync),
     bytes: Vec<u8>,
 ) -> Result<Asked, RejectionFault>
@@ -56,7 +63,7 @@ pub(crate) fn ask_once(
     ensures lowerable { IfOk result (λ asked. IsLowerable asked.evaluated) }
     ensures caches { IfOk result (λ asked. asked.caches.holds ≡ []) }
 {
-    let asked = ask(alloc, rt, bytes.as_slice());
+    let asked = ask(alloc, keys, rt, bytes.as_slice());
     drop(bytes);
     asked
 }
@@ -72,7 +79,11 @@ pub(crate) fn rejection_fault(fault: LineFault) -> RejectionFault
 }
 
 /// What a bundle asks for.
-fn ask_file(alloc: Global, bundle: Bundle<BoxedConfig>) -> Result<Asked, RejectionFault>
+fn ask_file(
+    alloc: Global,
+    keys: RandomState,
+    bundle: Bundle<BoxedConfig>,
+) -> Result<Asked, RejectionFault>
     requires { bundle.caches.holds ≡ [] }
     ensures asked { IsFileAsked bundle result }
     ensures lowerable { IfOk result (λ asked. IsLowerable asked.evaluated) }
@@ -80,7 +91,7 @@ fn ask_file(alloc: Global, bundle: Bundle<BoxedConfig>) -> Result<Asked, Rejecti
     ensures caches { IfOk result (λ asked. asked.caches.holds ≡ []) }
 {
     match Dockerfile::read(alloc, bundle.dockerfile.as_slice()) {
-        Ok(file) => ask_stages(alloc, bundle, file),
+        Ok(file) => ask_stages(alloc, keys, bundle, file),
         Err(fault) => {
             drop(bundle);
             Err(rejection_fault(fault))
@@ -91,6 +102,7 @@ fn ask_file(alloc: Global, bundle: Bundle<BoxedConfig>) -> Result<Asked, Rejecti
 /// What the stages of a bundle's Dockerfile ask for.
 fn ask_stages(
     alloc: Global,
+    keys: RandomState,
     bundle: Bundle<BoxedConfig>,
     file: Dockerfile,
 ) -> Result<Asked, RejectionFault>
@@ -100,8 +112,8 @@ fn ask_stages(
     ensures store { IfOk result (λ asked. asked.caches ≡ bundle.caches) }
     ensures caches { IfOk result (λ asked. asked.caches.holds ≡ []) }
 {
-    match table_of(alloc, &bundle, file) {
-        Ok(table) => ask_table(alloc, bundle, table),
+    match table_of(alloc, keys, &bundle, file) {
+        Ok(table) => ask_table(alloc, keys, bundle, table),
         Err(fault) => {
             drop(bundle);
             Err(fault)
@@ -112,6 +124,7 @@ fn ask_stages(
 /// What the names in a bundle's Dockerfile lead to.
 pub(crate) fn table_of(
     alloc: Global,
+    keys: RandomState,
     bundle: &Bundle<BoxedConfig>,
     file: Dockerfile,
 ) -> Result<StageTable, RejectionFault>
@@ -120,6 +133,7 @@ pub(crate) fn table_of(
 {
     StageTable::resolve(
         alloc,
+        keys,
         file,
         &bundle.images,
         &bundle.args,
@@ -130,6 +144,7 @@ pub(crate) fn table_of(
 /// What the stages in a table ask for.
 pub(crate) fn ask_table(
     alloc: Global,
+    keys: RandomState,
     bundle: Bundle<BoxedConfig>,
     table: StageTable,
 ) -> Result<Asked, RejectionFault>
@@ -152,7 +167,7 @@ pub(crate) fn ask_table(
     drop(dockerfile);
     drop(digests);
     drop(target);
-    let evaluated = evaluate(alloc, table, images, context, &args);
+    let evaluated = evaluate(alloc, keys, table, images, context, &args);
     drop(args);
     match evaluated {
         Ok(evaluated) => Ok(Asked { evaluated, caches }),

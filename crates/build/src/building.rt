@@ -13,6 +13,7 @@ use memo::Memo;
 use plain::limits::MOST_BUNDLE_BYTES;
 use solver::Gate;
 use std::alloc::Global;
+use std::hash::RandomState;
 use std::sync::Wait;
 use std::thread::Threads;
 
@@ -35,6 +36,7 @@ use std::thread::Threads;
 /// The counts of failed calls are machine numbers, so a caller has to know that there is room for one more in each.
 pub fn run_build<R: CountedRead, W: CountedWrite, E: Executor, G: Gate>(
     alloc: Global,
+    keys: RandomState,
     rt: &(impl Threads + Wait + Sync),
     input: &mut R,
     output: &mut W,
@@ -57,6 +59,7 @@ pub fn run_build<R: CountedRead, W: CountedWrite, E: Executor, G: Gate>(
     let mut remains = Remains::none(alloc);
     let ended = run_build_keeping(
         alloc,
+        keys,
         rt,
         input,
         output,
@@ -75,6 +78,7 @@ pub fn run_build<R: CountedRead, W: CountedWrite, E: Executor, G: Gate>(
 #[tactic(auto, unfolding(plain::specs::Limits::most_bundle_bytes))]
 pub fn run_build_keeping<R: CountedRead, W: CountedWrite, E: Executor, G: Gate>(
     alloc: Global,
+    keys: RandomState,
     rt: &(impl Threads + Wait + Sync),
     input: &mut R,
     output: &mut W,
@@ -97,6 +101,7 @@ pub fn run_build_keeping<R: CountedRead, W: CountedWrite, E: Executor, G: Gate>(
 {
     build_within(
         alloc,
+        keys,
         rt,
         MOST_BUNDLE_BYTES,
         input,
@@ -112,6 +117,7 @@ pub fn run_build_keeping<R: CountedRead, W: CountedWrite, E: Executor, G: Gate>(
 /// The same, the limit of bundles being a value and no number that is written out.
 fn build_within<R: CountedRead, W: CountedWrite, E: Executor, G: Gate>(
     alloc: Global,
+    keys: RandomState,
     rt: &(impl Threads + Wait + Sync),
     most: usize,
     input: &mut R,
@@ -137,6 +143,6 @@ fn build_within<R: CountedRead, W: CountedWrite, E: Executor, G: Gate>(
 {
     let bytes = read_all(alloc, input, most + 1)?;
     tell_bundle(
-        alloc, rt, bytes, output, executor, workers, gate, memo, remains,
+        alloc, keys, rt, bytes, output, executor, workers, gate, memo, remains,
     )
 }

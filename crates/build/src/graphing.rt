@@ -8,6 +8,7 @@ use crate::{BuildFault, Status};
 use counted::{CountedRead, CountedWrite, read_all, write_all};
 use plain::limits::MOST_BUNDLE_BYTES;
 use std::alloc::Global;
+use std::hash::RandomState;
 use std::thread::Threads;
 
 /// Reads a bundle, and writes the graph of what it asks for, as a definition, or its refusal: a line with the LF that ends it.
@@ -22,6 +23,7 @@ use std::thread::Threads;
 #[tactic(auto, unfolding(plain::specs::Limits::most_bundle_bytes))]
 pub fn run_graph<R: CountedRead, W: CountedWrite>(
     alloc: Global,
+    keys: RandomState,
     rt: &(impl Threads + Sync),
     input: &mut R,
     output: &mut W,
@@ -34,12 +36,13 @@ pub fn run_graph<R: CountedRead, W: CountedWrite>(
         result }
     ensures taken { LosesBeginning (most_bundle_bytes + 1) (R.remaining input.old) (R.remaining input.new) }
 {
-    graph_within(alloc, rt, MOST_BUNDLE_BYTES, input, output)
+    graph_within(alloc, keys, rt, MOST_BUNDLE_BYTES, input, output)
 }
 
 /// The same, the limit of bundles being a value and no number that is written out.
 fn graph_within<R: CountedRead, W: CountedWrite>(
     alloc: Global,
+    keys: RandomState,
     rt: &(impl Threads + Sync),
     most: usize,
     input: &mut R,
@@ -56,7 +59,7 @@ fn graph_within<R: CountedRead, W: CountedWrite>(
     ensures taken { LosesBeginning (most + 1) (R.remaining input.old) (R.remaining input.new) }
 {
     let bytes = read_all(alloc, input, most + 1)?;
-    match show_bundle(alloc, rt, bytes.as_slice()) {
+    match show_bundle(alloc, keys, rt, bytes.as_slice()) {
         Ok(told) => {
             write_all(output, told.line.as_str().as_bytes())?;
             Ok(told.status)

@@ -12,7 +12,7 @@
 // let mut input = Counted::new(rt.stdin());
 // let mut output = Counted::new(rt.stdout());
 // let mut memo = Memo::new(alloc, &Fixture);
-// let ended = run_build(alloc, &rt, &mut input, &mut output, &Fixture, 4, &OpenGate, &mut memo);
+// let ended = run_build(alloc, keys, &rt, &mut input, &mut output, &Fixture, 4, &OpenGate, &mut memo);
 // let code = status_code(ended);
 // ```
 #![tactic(auto)]

@@ -10,17 +10,19 @@ use evaluation::Evaluated;
 use lowering::lower_program;
 use plain::Fault;
 use std::alloc::Global;
+use std::hash::RandomState;
 use std::thread::Threads;
 
 /// What is shown of a bundle's bytes: the graph of what they ask for, or their refusal.
 pub(crate) fn show_bundle(
     alloc: Global,
+    keys: RandomState,
     rt: &(impl Threads + Sync),
     bytes: &[u8],
 ) -> Result<Told, BuildFault>
     ensures { IsShown bytes.now result }
 {
-    match ask(alloc, rt, bytes) {
+    match ask(alloc, keys, rt, bytes) {
         Ok(asked) => {
             let Asked {
                 evaluated,

@@ -18,6 +18,7 @@ use plain::Fault;
 use plans::Plan;
 use solver::{Gate, Solution};
 use std::alloc::Global;
+use std::hash::RandomState;
 use std::sync::Wait;
 use std::thread::Threads;
 use workers::solve_keeping;
@@ -25,6 +26,7 @@ use workers::solve_keeping;
 /// Tells of a bundle's bytes: writes one answer. The bytes end as soon as the bundle is read, so that a build has their memory.
 pub(crate) fn tell_bundle<W: CountedWrite, E: Executor, G: Gate>(
     alloc: Global,
+    keys: RandomState,
     rt: &(impl Threads + Wait + Sync),
     bytes: Vec<u8>,
     output: &mut W,
@@ -41,7 +43,7 @@ pub(crate) fn tell_bundle<W: CountedWrite, E: Executor, G: Gate>(
         (W.contents output.old) (W.failures output.old) (W.contents output.new) (W.failures output.new) result }
     ensures memo { Grows memo.old memo.new }
 {
-    match ask_once(alloc, rt, bytes) {
+    match ask_once(alloc, keys, rt, bytes) {
         Ok(asked) => tell_asked(
             alloc, rt, asked, output, executor, workers, gate, memo, remains,
         ),

@@ -25,6 +25,7 @@ use paths::Path;
 use plain::{Fault, Items, Memory, Text};
 use stages::{StageTable, stage_names};
 use std::alloc::Global;
+use std::hash::RandomState;
 use std::thread::Threads;
 use titles::titles_of;
 
@@ -46,6 +47,7 @@ pub struct Titled {
 /// The refusals are those of `ask`.
 pub fn ask_titled(
     alloc: Global,
+    keys: RandomState,
     rt: &(impl Threads + Sync),
     bytes: &[u8],
 ) -> Result<Titled, RejectionFault>
@@ -55,8 +57,8 @@ pub fn ask_titled(
     ensures left_out { IfOk result (λ titled. HasLeftOut bytes.now titled.left_out) }
     ensures digests { IfOk result (λ titled. HasDigests bytes.now titled.digests) }
 {
-    match read_with_left_out(alloc, rt, bytes) {
-        Ok((bundle, left_out)) => titled_bundle(alloc, bundle, left_out),
+    match read_with_left_out(alloc, keys, rt, bytes) {
+        Ok((bundle, left_out)) => titled_bundle(alloc, keys, bundle, left_out),
         Err(fault) => Err(rejection_fault(fault)),
     }
 }
@@ -64,6 +66,7 @@ pub fn ask_titled(
 /// What a bundle asks for, with the titles of its Dockerfile, what its ignore file leaves out, and its digests.
 fn titled_bundle(
     alloc: Global,
+    keys: RandomState,
     bundle: Bundle<BoxedConfig>,
     left_out: Items<Path>,
 ) -> Result<Titled, RejectionFault>
@@ -82,7 +85,7 @@ fn titled_bundle(
             return Err(Fault::Memory);
         }
     };
-    match titled_file(alloc, bundle) {
+    match titled_file(alloc, keys, bundle) {
         Ok((asked, titles)) => Ok(Titled {
             asked,
             titles,
@@ -100,6 +103,7 @@ fn titled_bundle(
 /// What a bundle asks for, with the titles of its Dockerfile.
 fn titled_file(
     alloc: Global,
+    keys: RandomState,
     bundle: Bundle<BoxedConfig>,
 ) -> Result<(Asked, Items<Option<Text>>), RejectionFault>
     requires { bundle.caches.holds ≡ [] }
@@ -109,7 +113,7 @@ fn titled_file(
 {
     match Dockerfile::read_with_lines(alloc, bundle.dockerfile.as_slice()) {
         Ok((file, lines)) => {
-            let titled = titled_stages(alloc, bundle, file, lines.as_slice());
+            let titled = titled_stages(alloc, keys, bundle, file, lines.as_slice());
             drop(lines);
             titled
         }
@@ -123,6 +127,7 @@ fn titled_file(
 /// What the stages of a bundle's Dockerfile ask for, with their titles.
 fn titled_stages(
     alloc: Global,
+    keys: RandomState,
     bundle: Bundle<BoxedConfig>,
     file: Dockerfile,
     lines: &[Line],
@@ -142,9 +147,9 @@ fn titled_stages(
             return Err(Fault::Memory);
         }
     };
-    match table_of(alloc, &bundle, file) {
+    match table_of(alloc, keys, &bundle, file) {
         Ok(table) => {
-            let titled = titled_table(alloc, bundle, table, lines, names.as_slice());
+            let titled = titled_table(alloc, keys, bundle, table, lines, names.as_slice());
             drop(names);
             titled
         }
@@ -159,6 +164,7 @@ fn titled_stages(
 /// What the stages in a table ask for, with the titles of these lines, the stages having these names.
 fn titled_table(
     alloc: Global,
+    keys: RandomState,
     bundle: Bundle<BoxedConfig>,
     table: StageTable,
     lines: &[Line],
@@ -178,7 +184,7 @@ fn titled_table(
             return Err(Fault::Memory);
         }
     };
-    match ask_table(alloc, bundle, table) {
+    match ask_table(alloc, keys, bundle, table) {
         Ok(asked) => Ok((asked, titles)),
         Err(fault) => {
             drop(titles);

@@ -7,6 +7,7 @@ use crate::images::images_for;
 use crate::showing::shown_check;
 use plain::{Memory, Text};
 use std::alloc::Global;
+use std::hash::RandomState;
 use std::thread::Threads;
 
 /// What checking a bundle gives.
@@ -23,6 +24,7 @@ pub struct Checked {
 /// The file of a fault of the ignore file is called `.dockerignore`. Bytes that are no bundle are shown with where they are wrong.
 pub fn check(
     alloc: Global,
+    keys: RandomState,
     rt: &(impl Threads + Sync),
     bytes: &[u8],
     form: Form,
@@ -34,7 +36,7 @@ pub fn check(
         text,
         target,
         flaw,
-    } = check_bundle(alloc, rt, bytes)?;
+    } = check_bundle(alloc, keys, rt, bytes)?;
     let images = images_for(alloc, bytes, faults.as_slice())?;
     let text = shown_check(
         alloc,

@@ -21,6 +21,7 @@ use imageconfig::{BoxedConfig, Config};
 use plain::{Bytes, Exact, Fault, Items, Memory, Refusal, Text};
 use stages::StageTable;
 use std::alloc::Global;
+use std::hash::RandomState;
 use std::thread::Threads;
 
 /// The faults of a bundle, and the text that they are in.
@@ -44,6 +45,7 @@ pub struct Findings {
 /// those of `evaluation::list_faults`. An accepted bundle has none.
 pub fn check_bundle(
     alloc: Global,
+    keys: RandomState,
     rt: &(impl Threads + Sync),
     bytes: &[u8],
 ) -> Result<Findings, Memory>
@@ -53,9 +55,9 @@ pub fn check_bundle(
     ensures flaw { IfOk result (λ found. found.flaw ≡ flaw_in config_in bytes.now) }
 {
     flaws::laws::a_bundle_has_no_flaw::<Config>();
-    match read_bundle(alloc, rt, bytes) {
-        Ok(bundle) => check_whole(alloc, bundle),
-        Err(Fault::Because(refusal)) => refused(alloc, rt, bytes, refusal),
+    match read_bundle(alloc, keys, rt, bytes) {
+        Ok(bundle) => check_whole(alloc, keys, bundle),
+        Err(Fault::Because(refusal)) => refused(alloc, keys, rt, bytes, refusal),
         Err(Fault::Memory) => Err(Memory),
     }
 }
@@ -63,6 +65,7 @@ pub fn check_bundle(
 /// The fault of bytes that are refused before their Dockerfile is read.
 fn refused(
     alloc: Global,
+    keys: RandomState,
     rt: &(impl Threads + Sync),
     bytes: &[u8],
     refusal: Refusal,
@@ -73,8 +76,8 @@ fn refused(
     ensures target { IfOk result (λ found. found.target ≡ asked_target bytes.now) }
     ensures flaw { IfOk result (λ found. found.flaw ≡ flaw_in config_in bytes.now) }
 {
-    let text = ignore_file_or_none(alloc, rt, bytes)?;
-    let flaw = find::<Config>(alloc, bytes)?;
+    let text = ignore_file_or_none(alloc, keys, rt, bytes)?;
+    let flaw = find::<Config>(alloc, keys, bytes)?;
     let faults = alone(alloc, Rejection::of(refusal))?;
     Ok(Findings {
         faults,
@@ -87,12 +90,13 @@ fn refused(
 /// The bytes of a bundle's ignore file; there are none if there is no bundle.
 fn ignore_file_or_none(
     alloc: Global,
+    keys: RandomState,
     rt: &(impl Threads + Sync),
     bytes: &[u8],
 ) -> Result<Bytes, Memory>
     ensures { IfOk result (λ text. text ≡ unwrap_or (ignore_bytes_of config_in bytes.now) []) }
 {
-    match read_ignore_bytes::<Config>(alloc, rt, bytes) {
+    match read_ignore_bytes::<Config>(alloc, keys, rt, bytes) {
         Ok(text) => Ok(text),
         Err(Fault::Because(_)) => Ok(Bytes::from_vec(Vec::new(alloc))),
         Err(Fault::Memory) => Err(Memory),
@@ -110,7 +114,11 @@ fn asked(alloc: Global, bundle: &Bundle<BoxedConfig>) -> Result<(Bytes, Option<T
 }
 
 /// The faults of a bundle's Dockerfile, its text and the bundle's target.
-fn check_whole(alloc: Global, bundle: Bundle<BoxedConfig>) -> Result<Findings, Memory>
+fn check_whole(
+    alloc: Global,
+    keys: RandomState,
+    bundle: Bundle<BoxedConfig>,
+) -> Result<Findings, Memory>
     ensures faults { IfOk result (λ found. AreFileFaults bundle.images (arg_value bundle.args) bundle.target bundle.dockerfile found.faults) }
     ensures text { IfOk result (λ found. found.text ≡ bundle.dockerfile) }
     ensures target { IfOk result (λ found. found.target ≡ bundle.target) }
@@ -118,7 +126,7 @@ fn check_whole(alloc: Global, bundle: Bundle<BoxedConfig>) -> Result<Findings, M
 {
     match asked(alloc, &bundle) {
         Ok((text, target)) => {
-            let faults = check_file(alloc, bundle)?;
+            let faults = check_file(alloc, keys, bundle)?;
             Ok(Findings {
                 faults,
                 text,
@@ -154,11 +162,15 @@ fn rejections(alloc: Global, refusals: &[Refusal]) -> Result<Items<Rejection>, M
 }
 
 /// The faults of a bundle's Dockerfile.
-fn check_file(alloc: Global, bundle: Bundle<BoxedConfig>) -> Result<Items<Rejection>, Memory>
+fn check_file(
+    alloc: Global,
+    keys: RandomState,
+    bundle: Bundle<BoxedConfig>,
+) -> Result<Items<Rejection>, Memory>
     ensures { IfOk result (λ faults. AreFileFaults bundle.images (arg_value bundle.args) bundle.target bundle.dockerfile faults) }
 {
     match Dockerfile::check(alloc, bundle.dockerfile.as_slice()) {
-        Ok(file) => check_stages(alloc, bundle, file),
+        Ok(file) => check_stages(alloc, keys, bundle, file),
         Err(Fault::Because(refusals)) => {
             drop(bundle);
             rejections(alloc, refusals.as_slice())
@@ -173,6 +185,7 @@ fn check_file(alloc: Global, bundle: Bundle<BoxedConfig>) -> Result<Items<Reject
 /// The faults of the stages of a bundle's Dockerfile.
 fn check_stages(
     alloc: Global,
+    keys: RandomState,
     bundle: Bundle<BoxedConfig>,
     file: Dockerfile,
 ) -> Result<Items<Rejection>, Memory>
@@ -180,12 +193,13 @@ fn check_stages(
 {
     match StageTable::faults(
         alloc,
+        keys,
         &file,
         &bundle.images,
         &bundle.args,
         bundle.target.as_ref(),
     ) {
-        Ok(faults) => check_names(alloc, bundle, file, faults),
+        Ok(faults) => check_names(alloc, keys, bundle, file, faults),
         Err(Memory) => {
             drop(bundle);
             drop(file);
@@ -197,6 +211,7 @@ fn check_stages(
 /// The faults of the stages of a file with these refusals of its names.
 fn check_names(
     alloc: Global,
+    keys: RandomState,
     bundle: Bundle<BoxedConfig>,
     file: Dockerfile,
     faults: Items<Rejection>,
@@ -206,7 +221,7 @@ fn check_names(
 {
     if faults.is_empty() {
         drop(faults);
-        check_named(alloc, bundle, file)
+        check_named(alloc, keys, bundle, file)
     } else {
         drop(bundle);
         drop(file);
@@ -217,6 +232,7 @@ fn check_names(
 /// The faults of stages whose names all lead somewhere.
 fn check_named(
     alloc: Global,
+    keys: RandomState,
     bundle: Bundle<BoxedConfig>,
     file: Dockerfile,
 ) -> Result<Items<Rejection>, Memory>
@@ -226,12 +242,13 @@ fn check_named(
     stages::laws::the_first_fault_is_the_refusal();
     match StageTable::resolve(
         alloc,
+        keys,
         file,
         &bundle.images,
         &bundle.args,
         bundle.target.as_ref(),
     ) {
-        Ok(table) => check_table(alloc, bundle, table),
+        Ok(table) => check_table(alloc, keys, bundle, table),
         Err(Fault::Because(_)) => unreachable!(),
         Err(Fault::Memory) => {
             drop(bundle);
@@ -243,12 +260,13 @@ fn check_named(
 /// The faults that the evaluation of the needed stages finds.
 fn check_table(
     alloc: Global,
+    keys: RandomState,
     bundle: Bundle<BoxedConfig>,
     table: StageTable,
 ) -> Result<Items<Rejection>, Memory>
     ensures { IfOk result (λ faults. AreTableFaults bundle.images (arg_value bundle.args) table faults) }
 {
-    let faults = list_faults(alloc, table, &bundle.images, &bundle.args);
+    let faults = list_faults(alloc, keys, table, &bundle.images, &bundle.args);
     drop(bundle);
     faults
 }

@@ -20,6 +20,7 @@ use lacking::{Missed, missed_source};
 use plain::{Bytes, Fault, Memory, Text};
 use reasons::{LeavingLine, leaving_line};
 use std::alloc::Global;
+use std::hash::RandomState;
 use std::sync::Wait;
 use std::thread::Threads;
 use trees::Cause;
@@ -40,6 +41,7 @@ pub struct Explained {
 /// that it returns, since it may wait.
 pub fn explain<E: Executor>(
     alloc: Global,
+    keys: RandomState,
     rt: &(impl Threads + Wait + Sync),
     bytes: &[u8],
     executor: &E,
@@ -48,11 +50,11 @@ pub fn explain<E: Executor>(
     requires { (0 < workers) × (workers ≤ most_workers) }
     ensures { IfOk result (λ explained. Explains (E.out executor.now) bytes.now explained.status explained.text) }
 {
-    match ask(alloc, rt, bytes) {
-        Ok(asked) => explain_asked(alloc, rt, bytes, asked, executor, workers),
+    match ask(alloc, keys, rt, bytes) {
+        Ok(asked) => explain_asked(alloc, keys, rt, bytes, asked, executor, workers),
         Err(Fault::Because(refusal)) => {
             drop(refusal);
-            explain_faults(alloc, rt, bytes)
+            explain_faults(alloc, keys, rt, bytes)
         }
         Err(Fault::Memory) => Err(Memory),
     }
@@ -61,6 +63,7 @@ pub fn explain<E: Executor>(
 /// What a person is told of the build of a bundle that isn't refused.
 fn explain_asked<E: Executor>(
     alloc: Global,
+    keys: RandomState,
     rt: &(impl Threads + Wait + Sync),
     bytes: &[u8],
     asked: Asked,
@@ -74,7 +77,7 @@ fn explain_asked<E: Executor>(
     ensures { IfOk result (λ explained. Explains (E.out executor.now) bytes.now explained.status explained.text) }
 {
     match failure_of(alloc, rt, asked, executor, workers) {
-        Ok(Some((line, cause))) => explain_failure(alloc, rt, bytes, line, cause),
+        Ok(Some((line, cause))) => explain_failure(alloc, keys, rt, bytes, line, cause),
         Ok(None) => Ok(explain_nothing(alloc)),
         Err(memory) => Err(memory),
     }
@@ -94,6 +97,7 @@ fn explain_nothing(alloc: Global) -> Explained
 /// What a person is told of a build that fails.
 fn explain_failure(
     alloc: Global,
+    keys: RandomState,
     rt: &(impl Threads + Sync),
     bytes: &[u8],
     line: u32,
@@ -103,7 +107,7 @@ fn explain_failure(
     ensures status { IfOk result (λ explained. explained.status ≡ Failed) }
     ensures text { IfOk result (λ explained. ShowsFailure bytes.now line cause explained.text) }
 {
-    let text = show_failure(alloc, rt, bytes, line, cause)?;
+    let text = show_failure(alloc, keys, rt, bytes, line, cause)?;
     Ok(Explained {
         status: Status::Failed,
         text,
@@ -113,6 +117,7 @@ fn explain_failure(
 /// What is shown of an instruction of a bundle that isn't refused. The bundle is read again, for its Dockerfile and for what the instruction names.
 fn show_failure(
     alloc: Global,
+    keys: RandomState,
     rt: &(impl Threads + Sync),
     bytes: &[u8],
     line: u32,
@@ -121,17 +126,31 @@ fn show_failure(
     requires { IsAccepted bytes.now }
     ensures { IfOk result (ShowsFailure bytes.now line cause) }
 {
-    let dockerfile = dockerfile_of(alloc, rt, bytes)?;
-    let missed = missed_of(alloc, rt, bytes, line, cause)?;
-    show_missed(alloc, rt, bytes, dockerfile.as_slice(), line, cause, missed)
+    let dockerfile = dockerfile_of(alloc, keys, rt, bytes)?;
+    let missed = missed_of(alloc, keys, rt, bytes, line, cause)?;
+    show_missed(
+        alloc,
+        keys,
+        rt,
+        bytes,
+        dockerfile.as_slice(),
+        line,
+        cause,
+        missed,
+    )
 }
 
 /// The Dockerfile of a bundle that isn't refused.
-fn dockerfile_of(alloc: Global, rt: &(impl Threads + Sync), bytes: &[u8]) -> Result<Bytes, Memory>
+fn dockerfile_of(
+    alloc: Global,
+    keys: RandomState,
+    rt: &(impl Threads + Sync),
+    bytes: &[u8],
+) -> Result<Bytes, Memory>
     requires { IsAccepted bytes.now }
     ensures { IfOk result (IsDockerfileOf bytes.now) }
 {
-    match read_bundle::<Config>(alloc, rt, bytes) {
+    match read_bundle::<Config>(alloc, keys, rt, bytes) {
         Ok(bundle) => {
             let text = Bytes::from_slice(alloc, bundle.dockerfile.as_slice());
             drop(bundle);
@@ -148,6 +167,7 @@ fn dockerfile_of(alloc: Global, rt: &(impl Threads + Sync), bytes: &[u8]) -> Res
 /// The source that an instruction of a bundle that isn't refused misses, if that is known.
 fn missed_of(
     alloc: Global,
+    keys: RandomState,
     rt: &(impl Threads + Sync),
     bytes: &[u8],
     line: u32,
@@ -156,7 +176,7 @@ fn missed_of(
     requires { IsAccepted bytes.now }
     ensures { IfOk result (IsMissedOf bytes.now line cause) }
 {
-    match ask(alloc, rt, bytes) {
+    match ask(alloc, keys, rt, bytes) {
         Ok(asked) => {
             let made = &asked.evaluated;
             let found = missed_source(alloc, &made.sources, made.rows.as_slice(), line, cause);
@@ -175,6 +195,7 @@ fn missed_of(
 #[tactic(auto, using(crate::proofs::FailureFacts::left_known, crate::proofs::FailureFacts::left_none))]
 fn left_out_by(
     alloc: Global,
+    keys: RandomState,
     rt: &(impl Threads + Sync),
     bytes: &[u8],
     source: &str,
@@ -186,7 +207,7 @@ fn left_out_by(
     if !is_path {
         return Ok(None);
     }
-    match leaving_line::<Config>(alloc, rt, bytes, source) {
+    match leaving_line::<Config>(alloc, keys, rt, bytes, source) {
         Ok(left) => Ok(left),
         Err(Fault::Because(_)) => {
             build::laws::a_bundle_asks_for_one_thing();
@@ -199,6 +220,7 @@ fn left_out_by(
 /// What is shown of an instruction, by the source that it misses, if that is known.
 fn show_missed(
     alloc: Global,
+    keys: RandomState,
     rt: &(impl Threads + Sync),
     bytes: &[u8],
     dockerfile: &[u8],
@@ -213,7 +235,7 @@ fn show_missed(
         None => shown_failure(alloc, dockerfile, line, cause),
         Some(missed) => {
             let source = missed.source.as_str();
-            let left = left_out_by(alloc, rt, bytes, source, missed.is_context_path)?;
+            let left = left_out_by(alloc, keys, rt, bytes, source, missed.is_context_path)?;
             show_source(alloc, dockerfile, line, source, left)
         }
     }
@@ -245,13 +267,14 @@ fn show_source(
 /// All faults of a bundle, as what is told of its build.
 fn explain_faults(
     alloc: Global,
+    keys: RandomState,
     rt: &(impl Threads + Sync),
     bytes: &[u8],
 ) -> Result<Explained, Memory>
     ensures status { IfOk result (λ explained. explained.status ≡ Refused) }
     ensures text { IfOk result (λ explained. (checked : Checked) × IsCheckOf bytes.now Plain checked × (explained.text ≡ checked.text)) }
 {
-    let Checked { text, is_sound: _ } = check(alloc, rt, bytes, Form::Plain)?;
+    let Checked { text, is_sound: _ } = check(alloc, keys, rt, bytes, Form::Plain)?;
     Ok(Explained {
         status: Status::Refused,
         text,
