@@ -8,19 +8,28 @@
 use counted::Counted;
 use executor::Fixture;
 use plain::Fault;
-use program::{NotText, WordsFault, run_program};
+use program::{NotText, WordsFault, end_without_keys, run_program};
 use std::alloc::AllocError;
+use std::hash::RandomState;
 use std::process::ExitCode;
 use std::sync::Wait;
 use std::thread::Threads;
 use std::{env, io};
 
 fn main(rt: HostRuntime) -> ExitCode {
-    let code = match own_words(&rt) {
-        Ok(words) => run_words(&rt, &rt, words.as_slice()),
-        Err(fault) => run(&rt, &rt, Err(fault)),
+    let code = match RandomState::new(&rt) {
+        Ok(keys) => run_keyed(&rt, keys, &rt),
+        Err(_) => end_without_keys(&mut Counted::new(rt.stderr())),
     };
     ExitCode::from(code)
+}
+
+/// Runs the program, whose maps find names by a hash with these keys.
+fn run_keyed(rt: &HostRuntime, keys: RandomState, threads: &(impl Threads + Wait + Sync)) -> u8 {
+    match own_words(rt) {
+        Ok(words) => run_words(rt, keys, threads, words.as_slice()),
+        Err(fault) => run(rt, keys, threads, Err(fault)),
+    }
 }
 
 /// The words of the command line, the program's name first, as the system gives them.
@@ -47,7 +56,12 @@ fn fault_of(error: &io::Error) -> WordsFault {
 }
 
 /// Runs the program on what follows its name, the first of these words.
-fn run_words(rt: &HostRuntime, threads: &(impl Threads + Wait + Sync), words: &[String]) -> u8 {
+fn run_words(
+    rt: &HostRuntime,
+    keys: RandomState,
+    threads: &(impl Threads + Wait + Sync),
+    words: &[String],
+) -> u8 {
     let after = match words {
         [_, after @ ..] => after,
         [] => words,
@@ -57,14 +71,15 @@ fn run_words(rt: &HostRuntime, threads: &(impl Threads + Wait + Sync), words: &[
         .map(|word| word.as_str())
         .collect(rt.alloc());
     match lent {
-        Ok(lent) => run(rt, threads, Ok(lent.as_slice())),
-        Err(_) => run(rt, threads, Err(Fault::Memory)),
+        Ok(lent) => run(rt, keys, threads, Ok(lent.as_slice())),
+        Err(_) => run(rt, keys, threads, Err(Fault::Memory)),
     }
 }
 
 /// Runs the program on the system's streams.
 fn run<'a>(
     rt: &HostRuntime,
+    keys: RandomState,
     threads: &(impl Threads + Wait + Sync),
     words: Result<&'a [&'a str], WordsFault>,
 ) -> u8 {
@@ -73,6 +88,7 @@ fn run<'a>(
     let mut errors = Counted::new(rt.stderr());
     run_program(
         rt.alloc(),
+        keys,
         threads,
         rt,
         words,

@@ -1,6 +1,6 @@
 // What is done with a bundle: it is built, its graph is drawn or written for BuildKit, its target's configuration or its faults are printed, or it is
 // said which instruction of it fails, or why paths of its context are kept or left out. It is on the reader, or a file that is named holds it.
-ghost use Rattle.std.specs.Prelude.{◌≡◌, ◌<◌, ◌≤◌, ◌+◌, ◌++◌, ℕ, List, IfOk};
+ghost use Rattle.std.specs.Prelude.{◌≡◌, ◌<◌, ◌≤◌, ◌+◌, ◌++◌, ℕ, List, Err, IfOk};
 ghost use Rattle.counted.specs.Edges.{LosesBeginning, line_of};
 ghost use Rattle.plain.specs.Limits.{most_bundle_bytes, most_workers};
 ghost use Rattle.build.specs.Ends.{Ends, GraphEnds, devices};
@@ -36,6 +36,7 @@ use memo::Memo;
 use plain::Text;
 use solver::OpenGate;
 use std::alloc::{AllocError, Global};
+use std::hash::RandomState;
 use std::io;
 use std::io::ErrorKind;
 use std::mem::ManuallyDrop;
@@ -46,6 +47,7 @@ use std::thread::Threads;
 /// Builds a bundle as the words ask, and gives the status to end with.
 pub(crate) fn build_bundle<F: Files, R: CountedRead, W: CountedWrite, S: CountedWrite, E: Executor>(
     alloc: Global,
+    keys: RandomState,
     rt: &(impl Threads + Wait + Sync),
     files: &F,
     options: &BuildOptions,
@@ -68,6 +70,7 @@ pub(crate) fn build_bundle<F: Files, R: CountedRead, W: CountedWrite, S: Counted
     match &options.file {
         Some(name) => build_file(
             alloc,
+            keys,
             rt,
             files,
             name.as_str(),
@@ -77,7 +80,7 @@ pub(crate) fn build_bundle<F: Files, R: CountedRead, W: CountedWrite, S: Counted
             executor,
         ),
         None => {
-            let ended = build_anew(alloc, rt, input, output, executor, workers);
+            let ended = build_anew(alloc, keys, rt, input, output, executor, workers);
             finish(errors, ended)
         }
     }
@@ -86,6 +89,7 @@ pub(crate) fn build_bundle<F: Files, R: CountedRead, W: CountedWrite, S: Counted
 /// Builds a bundle without anything of earlier builds. What it holds in the end is left to the system: the program ends after it.
 fn build_anew<R: CountedRead, W: CountedWrite, E: Executor>(
     alloc: Global,
+    keys: RandomState,
     rt: &(impl Threads + Wait + Sync),
     input: &mut R,
     output: &mut W,
@@ -105,6 +109,7 @@ fn build_anew<R: CountedRead, W: CountedWrite, E: Executor>(
     let mut remains = Remains::none(alloc);
     let ended = run_build_keeping(
         alloc,
+        keys,
         rt,
         input,
         output,
@@ -127,6 +132,7 @@ fn leave(remains: Remains) {
 /// Draws the graph of a bundle, and gives the status to end with.
 pub(crate) fn draw_bundle<F: Files, R: CountedRead, W: CountedWrite, S: CountedWrite>(
     alloc: Global,
+    keys: RandomState,
     rt: &(impl Threads + Wait + Sync),
     files: &F,
     options: &GraphOptions,
@@ -147,6 +153,7 @@ pub(crate) fn draw_bundle<F: Files, R: CountedRead, W: CountedWrite, S: CountedW
     if options.dot {
         tell_by(
             alloc,
+            keys,
             rt,
             files,
             file,
@@ -156,13 +163,14 @@ pub(crate) fn draw_bundle<F: Files, R: CountedRead, W: CountedWrite, S: CountedW
             errors,
         )
     } else {
-        graph_bundle(alloc, rt, files, file, input, output, errors)
+        graph_bundle(alloc, keys, rt, files, file, input, output, errors)
     }
 }
 
 /// Prints why paths of a bundle's context are kept or left out, and gives the status to end with.
 pub(crate) fn explain_paths<F: Files, R: CountedRead, W: CountedWrite, S: CountedWrite>(
     alloc: Global,
+    keys: RandomState,
     rt: &(impl Threads + Sync),
     files: &F,
     options: &WhyOptions,
@@ -184,6 +192,7 @@ pub(crate) fn explain_paths<F: Files, R: CountedRead, W: CountedWrite, S: Counte
     };
     tell_by(
         alloc,
+        keys,
         rt,
         files,
         &options.file,
@@ -197,6 +206,7 @@ pub(crate) fn explain_paths<F: Files, R: CountedRead, W: CountedWrite, S: Counte
 /// Writes the graph of a bundle for BuildKit, and gives the status to end with.
 pub(crate) fn export_bundle<F: Files, R: CountedRead, W: CountedWrite, S: CountedWrite>(
     alloc: Global,
+    keys: RandomState,
     rt: &(impl Threads + Wait + Sync),
     files: &F,
     options: &LlbOptions,
@@ -216,6 +226,7 @@ pub(crate) fn export_bundle<F: Files, R: CountedRead, W: CountedWrite, S: Counte
     let teller = DefinitionTeller { options };
     tell_by(
         alloc,
+        keys,
         rt,
         files,
         &options.file,
@@ -229,6 +240,7 @@ pub(crate) fn export_bundle<F: Files, R: CountedRead, W: CountedWrite, S: Counte
 /// Prints the configuration of a bundle's target, and gives the status to end with.
 pub(crate) fn tell_config<F: Files, R: CountedRead, W: CountedWrite, S: CountedWrite>(
     alloc: Global,
+    keys: RandomState,
     rt: &(impl Threads + Wait + Sync),
     files: &F,
     file: &Option<Text>,
@@ -245,12 +257,23 @@ pub(crate) fn tell_config<F: Files, R: CountedRead, W: CountedWrite, S: CountedW
         result }
     ensures taken { LosesBeginning (most_bundle_bytes + 1) (R.remaining input.old) (R.remaining input.new) }
 {
-    tell_by(alloc, rt, files, file, &ConfigTeller, input, output, errors)
+    tell_by(
+        alloc,
+        keys,
+        rt,
+        files,
+        file,
+        &ConfigTeller,
+        input,
+        output,
+        errors,
+    )
 }
 
 /// Prints all faults of a bundle, and gives the status to end with.
 pub(crate) fn check_bundle<F: Files, R: CountedRead, W: CountedWrite, S: CountedWrite>(
     alloc: Global,
+    keys: RandomState,
     rt: &(impl Threads + Wait + Sync),
     files: &F,
     options: &CheckOptions,
@@ -272,6 +295,7 @@ pub(crate) fn check_bundle<F: Files, R: CountedRead, W: CountedWrite, S: Counted
     };
     tell_by(
         alloc,
+        keys,
         rt,
         files,
         &options.file,
@@ -291,6 +315,7 @@ pub(crate) fn explain_build<
     E: Executor,
 >(
     alloc: Global,
+    keys: RandomState,
     rt: &(impl Threads + Wait + Sync),
     files: &F,
     file: &Option<Text>,
@@ -309,9 +334,18 @@ pub(crate) fn explain_build<
     ensures taken { LosesBeginning (most_bundle_bytes + 1) (R.remaining input.old) (R.remaining input.new) }
 {
     match file {
-        Some(name) => explain_file(alloc, rt, files, name.as_str(), output, errors, executor),
+        Some(name) => explain_file(
+            alloc,
+            keys,
+            rt,
+            files,
+            name.as_str(),
+            output,
+            errors,
+            executor,
+        ),
         None => {
-            let ended = explain_bundle(alloc, rt, input, output, executor);
+            let ended = explain_bundle(alloc, keys, rt, input, output, executor);
             finish(errors, ended)
         }
     }
@@ -327,6 +361,7 @@ fn form_by(json: bool) -> Form
 /// Builds the bundle of a file.
 fn build_file<F: Files, W: CountedWrite, S: CountedWrite, E: Executor>(
     alloc: Global,
+    keys: RandomState,
     rt: &(impl Threads + Wait + Sync),
     files: &F,
     name: &str,
@@ -344,7 +379,7 @@ fn build_file<F: Files, W: CountedWrite, S: CountedWrite, E: Executor>(
 {
     match open_bundle(files, name) {
         Ok(mut file) => {
-            let ended = build_anew(alloc, rt, &mut file, output, executor, workers);
+            let ended = build_anew(alloc, keys, rt, &mut file, output, executor, workers);
             finish_file(alloc, errors, ended, name, file.why)
         }
         Err(error) => {
@@ -357,6 +392,7 @@ fn build_file<F: Files, W: CountedWrite, S: CountedWrite, E: Executor>(
 /// Prints which instruction fails of the bundle of a file.
 fn explain_file<F: Files, W: CountedWrite, S: CountedWrite, E: Executor>(
     alloc: Global,
+    keys: RandomState,
     rt: &(impl Threads + Wait + Sync),
     files: &F,
     name: &str,
@@ -372,7 +408,7 @@ fn explain_file<F: Files, W: CountedWrite, S: CountedWrite, E: Executor>(
 {
     match open_bundle(files, name) {
         Ok(mut file) => {
-            let ended = explain_bundle(alloc, rt, &mut file, output, executor);
+            let ended = explain_bundle(alloc, keys, rt, &mut file, output, executor);
             finish_file(alloc, errors, ended, name, file.why)
         }
         Err(error) => {
@@ -385,6 +421,7 @@ fn explain_file<F: Files, W: CountedWrite, S: CountedWrite, E: Executor>(
 /// Draws the graph of a bundle by content addresses.
 fn graph_bundle<F: Files, R: CountedRead, W: CountedWrite, S: CountedWrite>(
     alloc: Global,
+    keys: RandomState,
     rt: &(impl Threads + Sync),
     files: &F,
     file: &Option<Text>,
@@ -402,9 +439,9 @@ fn graph_bundle<F: Files, R: CountedRead, W: CountedWrite, S: CountedWrite>(
     ensures taken { LosesBeginning (most_bundle_bytes + 1) (R.remaining input.old) (R.remaining input.new) }
 {
     match file {
-        Some(name) => graph_file(alloc, rt, files, name.as_str(), output, errors),
+        Some(name) => graph_file(alloc, keys, rt, files, name.as_str(), output, errors),
         None => {
-            let ended = draw_anew(alloc, rt, input, output);
+            let ended = draw_anew(alloc, keys, rt, input, output);
             finish(errors, ended)
         }
     }
@@ -413,6 +450,7 @@ fn graph_bundle<F: Files, R: CountedRead, W: CountedWrite, S: CountedWrite>(
 /// Draws the graph of a bundle that is read from here.
 fn draw_anew<R: CountedRead, W: CountedWrite>(
     alloc: Global,
+    keys: RandomState,
     rt: &(impl Threads + Sync),
     input: &mut R,
     output: &mut W,
@@ -425,12 +463,13 @@ fn draw_anew<R: CountedRead, W: CountedWrite>(
         result }
     ensures taken { LosesBeginning (most_bundle_bytes + 1) (R.remaining input.old) (R.remaining input.new) }
 {
-    as_told(run_graph(alloc, rt, input, output))
+    as_told(run_graph(alloc, keys, rt, input, output))
 }
 
 /// Draws the graph of the bundle of a file.
 fn graph_file<F: Files, W: CountedWrite, S: CountedWrite>(
     alloc: Global,
+    keys: RandomState,
     rt: &(impl Threads + Sync),
     files: &F,
     name: &str,
@@ -445,7 +484,7 @@ fn graph_file<F: Files, W: CountedWrite, S: CountedWrite>(
 {
     match open_bundle(files, name) {
         Ok(mut file) => {
-            let ended = draw_anew(alloc, rt, &mut file, output);
+            let ended = draw_anew(alloc, keys, rt, &mut file, output);
             finish_file(alloc, errors, ended, name, file.why)
         }
         Err(error) => {
@@ -458,6 +497,7 @@ fn graph_file<F: Files, W: CountedWrite, S: CountedWrite>(
 /// Prints what a teller tells of a bundle.
 fn tell_by<T: Teller, F: Files, R: CountedRead, W: CountedWrite, S: CountedWrite>(
     alloc: Global,
+    keys: RandomState,
     rt: &(impl Threads + Sync),
     files: &F,
     file: &Option<Text>,
@@ -476,9 +516,18 @@ fn tell_by<T: Teller, F: Files, R: CountedRead, W: CountedWrite, S: CountedWrite
     ensures taken { LosesBeginning (most_bundle_bytes + 1) (R.remaining input.old) (R.remaining input.new) }
 {
     match file {
-        Some(name) => tell_file(alloc, rt, files, name.as_str(), teller, output, errors),
+        Some(name) => tell_file(
+            alloc,
+            keys,
+            rt,
+            files,
+            name.as_str(),
+            teller,
+            output,
+            errors,
+        ),
         None => {
-            let ended = tell_bundle(alloc, rt, teller, input, output);
+            let ended = tell_bundle(alloc, keys, rt, teller, input, output);
             finish(errors, ended)
         }
     }
@@ -487,6 +536,7 @@ fn tell_by<T: Teller, F: Files, R: CountedRead, W: CountedWrite, S: CountedWrite
 /// Prints what a teller tells of the bundle of a file.
 fn tell_file<T: Teller, F: Files, W: CountedWrite, S: CountedWrite>(
     alloc: Global,
+    keys: RandomState,
     rt: &(impl Threads + Sync),
     files: &F,
     name: &str,
@@ -502,7 +552,7 @@ fn tell_file<T: Teller, F: Files, W: CountedWrite, S: CountedWrite>(
 {
     match open_bundle(files, name) {
         Ok(mut file) => {
-            let ended = tell_bundle(alloc, rt, teller, &mut file, output);
+            let ended = tell_bundle(alloc, keys, rt, teller, &mut file, output);
             finish_file(alloc, errors, ended, name, file.why)
         }
         Err(error) => {
@@ -522,6 +572,15 @@ fn finish<S: CountedWrite>(errors: &mut S, ended: Result<Status, TellFault>) -> 
         say(errors, fault_line(*fault));
     }
     status_code(ended)
+}
+
+/// Says that a device failed: the system gave no keys of a hash, so nothing was read. Gives the status to end with.
+pub fn end_without_keys<S: CountedWrite>(errors: &mut S) -> u8
+    requires says { S.failures errors.old < u64.MAX }
+    ensures says { SaysEnd (Err Device) (stream (S.contents errors.old) (S.failures errors.old)) (stream (S.contents errors.new) (S.failures errors.new)) }
+    ensures is { result ≡ 3 }
+{
+    finish(errors, Err(BuildFault::Device))
 }
 
 /// The same for the bundle of a file: a failed device is said with what is known of the file, which follows its name.

@@ -9,6 +9,7 @@ use build::Status;
 use checks::{Checked, Form, check};
 use plain::{Bytes, Memory};
 use std::alloc::Global;
+use std::hash::RandomState;
 use std::thread::Threads;
 
 /// Tells all faults of a bundle in a form.
@@ -34,23 +35,25 @@ impl Teller for FaultTeller {
     fn tell<H: Threads + Sync>(
         &self,
         alloc: Global,
+        keys: RandomState,
         rt: &H,
         bundle: &[u8],
     ) -> Result<Told, TellFault> {
-        Ok(tell_faults(alloc, rt, bundle, self.form)?)
+        Ok(tell_faults(alloc, keys, rt, bundle, self.form)?)
     }
 }
 
 /// The faults of a bundle's bytes, and the status that says whether there is one.
 fn tell_faults(
     alloc: Global,
+    keys: RandomState,
     rt: &(impl Threads + Sync),
     bundle: &[u8],
     form: Form,
 ) -> Result<Told, Memory>
     ensures { IfOk result (λ told. TellsFaults form bundle.now told.status told.text) }
 {
-    let Checked { text, is_sound } = check(alloc, rt, bundle, form)?;
+    let Checked { text, is_sound } = check(alloc, keys, rt, bundle, form)?;
     let text = Bytes::from_vec(text.into_string(alloc)?.into_bytes());
     if is_sound {
         return Ok(Told {

@@ -14,6 +14,7 @@ use build::{Status, ask};
 use imageconfig::Config;
 use plain::{Bytes, Fault, Memory};
 use std::alloc::Global;
+use std::hash::RandomState;
 use std::thread::Threads;
 
 /// Tells the configuration of a bundle's target as a line of JSON, or the bundle's refusal.
@@ -36,18 +37,24 @@ impl Teller for ConfigTeller {
     fn tell<H: Threads + Sync>(
         &self,
         alloc: Global,
+        keys: RandomState,
         rt: &H,
         bundle: &[u8],
     ) -> Result<Told, TellFault> {
-        Ok(tell_config(alloc, rt, bundle)?)
+        Ok(tell_config(alloc, keys, rt, bundle)?)
     }
 }
 
 /// The configuration of what a bundle's bytes ask for, or their refusal.
-fn tell_config(alloc: Global, rt: &(impl Threads + Sync), bundle: &[u8]) -> Result<Told, Memory>
+fn tell_config(
+    alloc: Global,
+    keys: RandomState,
+    rt: &(impl Threads + Sync),
+    bundle: &[u8],
+) -> Result<Told, Memory>
     ensures { IfOk result (λ told. TellsConfig bundle.now told.status told.text) }
 {
-    match ask(alloc, rt, bundle) {
+    match ask(alloc, keys, rt, bundle) {
         Ok(asked) => {
             let told = tell_value(alloc, &asked.evaluated.config);
             drop(asked);

@@ -19,6 +19,7 @@ use explains::{Explained, explain};
 use plain::limits::MOST_BUNDLE_BYTES;
 use plain::{Bytes, Memory};
 use std::alloc::Global;
+use std::hash::RandomState;
 use std::sync::Wait;
 use std::thread::Threads;
 
@@ -32,6 +33,7 @@ const WORKERS: u32 = 4;
 #[tactic(auto, unfolding(plain::specs::Limits::most_bundle_bytes))]
 pub(crate) fn explain_bundle<R: CountedRead, W: CountedWrite, E: Executor>(
     alloc: Global,
+    keys: RandomState,
     rt: &(impl Threads + Wait + Sync),
     input: &mut R,
     output: &mut W,
@@ -45,12 +47,13 @@ pub(crate) fn explain_bundle<R: CountedRead, W: CountedWrite, E: Executor>(
         result }
     ensures taken { LosesBeginning (most_bundle_bytes + 1) (R.remaining input.old) (R.remaining input.new) }
 {
-    explain_within(alloc, rt, MOST_BUNDLE_BYTES, input, output, executor)
+    explain_within(alloc, keys, rt, MOST_BUNDLE_BYTES, input, output, executor)
 }
 
 /// The same, the limit of bundles being a value and no number that is written out.
 fn explain_within<R: CountedRead, W: CountedWrite, E: Executor>(
     alloc: Global,
+    keys: RandomState,
     rt: &(impl Threads + Wait + Sync),
     most: usize,
     input: &mut R,
@@ -68,7 +71,7 @@ fn explain_within<R: CountedRead, W: CountedWrite, E: Executor>(
     ensures taken { LosesBeginning (most + 1) (R.remaining input.old) (R.remaining input.new) }
 {
     let bytes = read_all(alloc, input, most + 1)?;
-    match tell_build(alloc, rt, bytes.as_slice(), executor) {
+    match tell_build(alloc, keys, rt, bytes.as_slice(), executor) {
         Ok(told) => {
             write_all(output, told.text.as_slice())?;
             Ok(told.status)
@@ -80,25 +83,27 @@ fn explain_within<R: CountedRead, W: CountedWrite, E: Executor>(
 /// What is due of a bundle's bytes. It is never that nothing is.
 fn tell_build<E: Executor>(
     alloc: Global,
+    keys: RandomState,
     rt: &(impl Threads + Wait + Sync),
     bundle: &[u8],
     executor: &E,
 ) -> Result<Told, TellFault>
     ensures { IsToldBy (Explains (E.out executor.now)) never bundle.now result }
 {
-    Ok(tell_explained(alloc, rt, bundle, executor)?)
+    Ok(tell_explained(alloc, keys, rt, bundle, executor)?)
 }
 
 /// What is told of the build of a bundle's bytes.
 fn tell_explained<E: Executor>(
     alloc: Global,
+    keys: RandomState,
     rt: &(impl Threads + Wait + Sync),
     bundle: &[u8],
     executor: &E,
 ) -> Result<Told, Memory>
     ensures { IfOk result (λ told. Explains (E.out executor.now) bundle.now told.status told.text) }
 {
-    let Explained { status, text } = explain(alloc, rt, bundle, executor, WORKERS)?;
+    let Explained { status, text } = explain(alloc, keys, rt, bundle, executor, WORKERS)?;
     Ok(Told {
         status,
         text: Bytes::from_vec(text.into_string(alloc)?.into_bytes()),

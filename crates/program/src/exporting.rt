@@ -23,6 +23,7 @@ use plain::{Bytes, Exact, Fault, Items, Memory, Text};
 use plans::Plan;
 use rewrite::{flatten_links, prune};
 use std::alloc::Global;
+use std::hash::RandomState;
 use std::thread::Threads;
 
 /// What a definition has of a bundle beside its graph.
@@ -62,23 +63,25 @@ impl<'a> Teller for DefinitionTeller<'a> {
     fn tell<H: Threads + Sync>(
         &self,
         alloc: Global,
+        keys: RandomState,
         rt: &H,
         bundle: &[u8],
     ) -> Result<Told, TellFault> {
-        tell_llb(alloc, rt, bundle, self.options)
+        tell_llb(alloc, keys, rt, bundle, self.options)
     }
 }
 
 /// The definition of what a bundle's bytes ask for, or their refusal.
 fn tell_llb(
     alloc: Global,
+    keys: RandomState,
     rt: &(impl Threads + Sync),
     bundle: &[u8],
     options: &LlbOptions,
 ) -> Result<Told, TellFault>
     ensures { IsLlbTold options.now bundle.now result }
 {
-    match ask_titled(alloc, rt, bundle) {
+    match ask_titled(alloc, keys, rt, bundle) {
         Ok(titled) => {
             let Titled {
                 asked,

@@ -16,6 +16,7 @@ use imageconfig::Config;
 use plain::{Bytes, Fault, Memory, Text};
 use plans::Plan;
 use std::alloc::Global;
+use std::hash::RandomState;
 use std::thread::Threads;
 
 /// Tells a bundle's graph in the DOT language, or the bundle's refusal.
@@ -39,18 +40,24 @@ impl Teller for PictureTeller {
     fn tell<H: Threads + Sync>(
         &self,
         alloc: Global,
+        keys: RandomState,
         rt: &H,
         bundle: &[u8],
     ) -> Result<Told, TellFault> {
-        Ok(tell_dot(alloc, rt, bundle)?)
+        Ok(tell_dot(alloc, keys, rt, bundle)?)
     }
 }
 
 /// The graph of what a bundle's bytes ask for in the DOT language, or their refusal.
-fn tell_dot(alloc: Global, rt: &(impl Threads + Sync), bundle: &[u8]) -> Result<Told, Memory>
+fn tell_dot(
+    alloc: Global,
+    keys: RandomState,
+    rt: &(impl Threads + Sync),
+    bundle: &[u8],
+) -> Result<Told, Memory>
     ensures { IfOk result (λ told. TellsDot bundle.now told.status told.text) }
 {
-    match ask_titled(alloc, rt, bundle) {
+    match ask_titled(alloc, keys, rt, bundle) {
         Ok(titled) => {
             let Titled {
                 asked,

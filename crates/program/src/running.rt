@@ -26,6 +26,7 @@ use executor::Executor;
 use packing::{PackFault, run_pack_to_file, run_pack_with};
 use plain::{Fault, Text};
 use std::alloc::{AllocError, Global};
+use std::hash::RandomState;
 use std::rt::Files;
 use std::sync::Wait;
 use std::thread::Threads;
@@ -51,6 +52,7 @@ pub fn run_program<
     E: Executor,
 >(
     alloc: Global,
+    keys: RandomState,
     rt: &(impl Threads + Wait + Sync),
     files: &F,
     words: Result<&'a [&'a str], WordsFault>,
@@ -84,42 +86,46 @@ pub fn run_program<
     };
     match read_command(alloc, words) {
         Ok(Task::Build(options)) => {
-            let status = build_bundle(alloc, rt, files, &options, input, output, errors, executor);
+            let status = build_bundle(
+                alloc, keys, rt, files, &options, input, output, errors, executor,
+            );
             drop(options);
             status
         }
         Ok(Task::Graph(options)) => {
-            let status = draw_bundle(alloc, rt, files, &options, input, output, errors);
+            let status = draw_bundle(alloc, keys, rt, files, &options, input, output, errors);
             drop(options);
             status
         }
         Ok(Task::Pack(options)) => {
-            let status = pack(alloc, files, &options, output, errors);
+            let status = pack(alloc, keys, files, &options, output, errors);
             drop(options);
             status
         }
         Ok(Task::Why(options)) => {
-            let status = explain_paths(alloc, rt, files, &options, input, output, errors);
+            let status = explain_paths(alloc, keys, rt, files, &options, input, output, errors);
             drop(options);
             status
         }
         Ok(Task::Llb(options)) => {
-            let status = export_bundle(alloc, rt, files, &options, input, output, errors);
+            let status = export_bundle(alloc, keys, rt, files, &options, input, output, errors);
             drop(options);
             status
         }
         Ok(Task::Config(file)) => {
-            let status = tell_config(alloc, rt, files, &file, input, output, errors);
+            let status = tell_config(alloc, keys, rt, files, &file, input, output, errors);
             drop(file);
             status
         }
         Ok(Task::Check(options)) => {
-            let status = check_bundle(alloc, rt, files, &options, input, output, errors);
+            let status = check_bundle(alloc, keys, rt, files, &options, input, output, errors);
             drop(options);
             status
         }
         Ok(Task::Explain(file)) => {
-            let status = explain_build(alloc, rt, files, &file, input, output, errors, executor);
+            let status = explain_build(
+                alloc, keys, rt, files, &file, input, output, errors, executor,
+            );
             drop(file);
             status
         }
@@ -130,6 +136,7 @@ pub fn run_program<
 /// Packs a folder as the words ask, and gives the status to end with.
 fn pack<F: Files + AllocGlobal + Clone + Drop, W: CountedWrite, S: CountedWrite>(
     alloc: Global,
+    keys: RandomState,
     files: &F,
     options: &PackOptions,
     output: &mut W,
@@ -152,8 +159,8 @@ fn pack<F: Files + AllocGlobal + Clone + Drop, W: CountedWrite, S: CountedWrite>
     };
     let mut why = Text::from_string(String::new(alloc));
     let ended = match &options.output {
-        Some(name) => run_pack_to_file(alloc, files, folder, given, name.as_str(), &mut why),
-        None => run_pack_with(alloc, files, folder, given, output, &mut why),
+        Some(name) => run_pack_to_file(alloc, keys, files, folder, given, name.as_str(), &mut why),
+        None => run_pack_with(alloc, keys, files, folder, given, output, &mut why),
     };
     if is_bare(options) {
         finish_pack(errors, ended)

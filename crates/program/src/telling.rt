@@ -11,6 +11,7 @@ use build::Status;
 use counted::{CountedRead, CountedWrite, read_all, write_all};
 use plain::limits::MOST_BUNDLE_BYTES;
 use std::alloc::Global;
+use std::hash::RandomState;
 use std::thread::Threads;
 
 /// What knows one thing to tell of a bundle, such as its faults.
@@ -31,6 +32,7 @@ pub(crate) trait Teller {
     fn tell<H: Threads + Sync>(
         &self,
         alloc: Global,
+        keys: RandomState,
         rt: &H,
         bundle: &[u8],
     ) -> Result<Told, TellFault>
@@ -50,6 +52,7 @@ pub(crate) trait Teller {
 #[tactic(auto, unfolding(plain::specs::Limits::most_bundle_bytes))]
 pub(crate) fn tell_bundle<T: Teller, R: CountedRead, W: CountedWrite>(
     alloc: Global,
+    keys: RandomState,
     rt: &(impl Threads + Sync),
     teller: &T,
     input: &mut R,
@@ -63,12 +66,13 @@ pub(crate) fn tell_bundle<T: Teller, R: CountedRead, W: CountedWrite>(
         result }
     ensures taken { LosesBeginning (most_bundle_bytes + 1) (R.remaining input.old) (R.remaining input.new) }
 {
-    tell_within(alloc, rt, MOST_BUNDLE_BYTES, teller, input, output)
+    tell_within(alloc, keys, rt, MOST_BUNDLE_BYTES, teller, input, output)
 }
 
 /// The same, the limit of bundles being a value and no number that is written out.
 fn tell_within<T: Teller, R: CountedRead, W: CountedWrite>(
     alloc: Global,
+    keys: RandomState,
     rt: &(impl Threads + Sync),
     most: usize,
     teller: &T,
@@ -86,7 +90,7 @@ fn tell_within<T: Teller, R: CountedRead, W: CountedWrite>(
     ensures taken { LosesBeginning (most + 1) (R.remaining input.old) (R.remaining input.new) }
 {
     let bytes = read_all(alloc, input, most + 1)?;
-    match teller.tell(alloc, rt, bytes.as_slice()) {
+    match teller.tell(alloc, keys, rt, bytes.as_slice()) {
         Ok(told) => {
             write_all(output, told.text.as_slice())?;
             Ok(told.status)

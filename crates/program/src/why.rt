@@ -11,6 +11,7 @@ use imageconfig::Config;
 use plain::{Fault, Memory, Text};
 use reasons::reasons;
 use std::alloc::Global;
+use std::hash::RandomState;
 use std::thread::Threads;
 
 /// Tells of each of these paths whether it is kept in a bundle's context, and which line of the ignore file decided. Or it tells the bundle's refusal.
@@ -36,23 +37,25 @@ impl<'a> Teller for PathTeller<'a> {
     fn tell<H: Threads + Sync>(
         &self,
         alloc: Global,
+        keys: RandomState,
         rt: &H,
         bundle: &[u8],
     ) -> Result<Told, TellFault> {
-        Ok(tell_paths(alloc, rt, bundle, self.paths)?)
+        Ok(tell_paths(alloc, keys, rt, bundle, self.paths)?)
     }
 }
 
 /// What a bundle's bytes tell of these paths, or their refusal.
 fn tell_paths(
     alloc: Global,
+    keys: RandomState,
     rt: &(impl Threads + Sync),
     bundle: &[u8],
     paths: &[Text],
 ) -> Result<Told, Memory>
     ensures { IfOk result (λ told. TellsWhy paths.now bundle.now told.status told.text) }
 {
-    match reasons::<Config>(alloc, rt, bundle, paths) {
+    match reasons::<Config>(alloc, keys, rt, bundle, paths) {
         Ok(text) => Ok(Told {
             status: Status::Built,
             text,
