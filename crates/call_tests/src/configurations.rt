@@ -2,6 +2,7 @@
 use imageconfig::Config;
 use plain::Memory;
 use std::alloc::Global;
+use std::hash::RandomState;
 use std::test::Fail;
 
 /// Whether a configuration has a copy, which is for the same architecture.
@@ -18,7 +19,8 @@ fn is_copied(alloc: Global, config: &Config) -> bool {
 
 #[test]
 fn copies_of_configurations_are_equal(rt: HostRuntime) -> Result<(), Fail> {
-    let config = Config::plain(rt.alloc())?;
+    let keys = RandomState::new(&rt)?;
+    let config = Config::plain(rt.alloc(), keys)?;
     let is_copied = is_copied(rt.alloc(), &config);
     drop(config);
     assert!(rt; is_copied);

@@ -17,6 +17,7 @@ use llbmessages::{
 };
 use plain::{Bytes, Fault, Items, Memory, Text};
 use std::alloc::Global;
+use std::hash::RandomState;
 use wire::{Map, Unordered};
 
 /// A row: an operation on its inputs, or a definition.
@@ -68,10 +69,10 @@ const B: &str = "sha256:bbbbbbbbbbbbbbbbbbbbbbbbbbbbbbbbbbbbbbbbbbbbbbbbbbbbbbbb
 
 const C: &str = "sha256:cccccccccccccccccccccccccccccccccccccccccccccccccccccccccccccccc";
 
-pub fn answer(alloc: Global, case: &str) -> Result<String, Memory> {
+pub fn answer(alloc: Global, keys: RandomState, case: &str) -> Result<String, Memory> {
     match row_of(case) {
         Some(row) => {
-            let bytes = row_bytes(alloc, row)?;
+            let bytes = row_bytes(alloc, keys, row)?;
             let digits = hex::encode(alloc, bytes.as_slice())?;
             Ok(format!(in alloc; "{case} {digits}")?)
         }
@@ -106,14 +107,14 @@ fn row_of(name: &str) -> Option<Row> {
     }
 }
 
-fn row_bytes(alloc: Global, row: Row) -> Result<Bytes, Memory> {
+fn row_bytes(alloc: Global, keys: RandomState, row: Row) -> Result<Bytes, Memory> {
     match row {
         Row::Definition => definition(alloc),
-        Row::VertexImage => bytes(alloc, vertices::image(alloc)),
+        Row::VertexImage => bytes(alloc, vertices::image(alloc, keys)),
         Row::VertexMakeDir => bytes(alloc, vertices::make_dir(alloc)),
         Row::VertexCopy => bytes(alloc, vertices::copy(alloc)),
-        Row::Plan => whole::plan(alloc),
-        Row::EmptyPlan => whole::empty_plan(alloc),
+        Row::Plan => whole::plan(alloc, keys),
+        Row::EmptyPlan => whole::empty_plan(alloc, keys),
         Row::VertexContext => bytes(alloc, vertices::context(alloc)),
         Row::ChainOfTwo => bytes(alloc, vertices::chain(alloc, &[A, B])),
         Row::ChainOfThree => bytes(alloc, vertices::chain(alloc, &[B, C, A])),

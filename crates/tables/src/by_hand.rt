@@ -13,6 +13,7 @@ use plain::Memory;
 use plans::Plan;
 use samples::{add_row, plan_of, tree};
 use std::alloc::Global;
+use std::hash::RandomState;
 use std::thread::Threads;
 
 /// The files of each plan's context.
@@ -21,10 +22,11 @@ const FILES: [(&str, &str); 3] = [("/a/f1", "1"), ("/b/g", "2"), ("/f", "3")];
 /// The plan of a bundle, without what its caches hold.
 pub fn plan_of_bundle(
     alloc: Global,
+    keys: RandomState,
     rt: &(impl Threads + Sync),
     bundle: &str,
 ) -> Result<Plan<Config>, Memory> {
-    match ask(alloc, rt, bundle.as_bytes()) {
+    match ask(alloc, keys, rt, bundle.as_bytes()) {
         Ok(asked) => {
             let Asked { evaluated, caches } = asked;
             drop(caches);

@@ -6,6 +6,7 @@ use executor::Fixture;
 use plain::Fault;
 use program::{NotText, WordsFault, run_program};
 use std::alloc::Global;
+use std::hash::RandomState;
 use std::io;
 use std::io::{ErrorKind, Read, Write};
 use std::rt::Files;
@@ -142,6 +143,7 @@ fn words_of<'a>(alloc: Global, line: &'a str) -> Result<Vec<&'a str>, WordsFault
 /// Runs the program of this command line with such devices, the first of which gives these bytes.
 pub fn run<F: Files + AllocGlobal + Clone + Drop>(
     alloc: Global,
+    keys: RandomState,
     rt: &(impl Threads + Wait + Sync),
     files: &F,
     line: &str,
@@ -149,13 +151,14 @@ pub fn run<F: Files + AllocGlobal + Clone + Drop>(
     devices: Devices,
 ) -> Ended {
     match words_of(alloc, line) {
-        Ok(words) => run_words(alloc, rt, files, Ok(after_name(words.as_slice())), bytes, devices),
-        Err(fault) => run_words(alloc, rt, files, Err(fault), bytes, devices),
+        Ok(words) => run_words(alloc, keys, rt, files, Ok(after_name(words.as_slice())), bytes, devices),
+        Err(fault) => run_words(alloc, keys, rt, files, Err(fault), bytes, devices),
     }
 }
 
 fn run_words<'a, F: Files + AllocGlobal + Clone + Drop>(
     alloc: Global,
+    keys: RandomState,
     rt: &(impl Threads + Wait + Sync),
     files: &F,
     words: Result<&'a [&'a str], WordsFault>,
@@ -178,6 +181,7 @@ fn run_words<'a, F: Files + AllocGlobal + Clone + Drop>(
     });
     let status = run_program(
         alloc,
+        keys,
         rt,
         files,
         words,

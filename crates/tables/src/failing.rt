@@ -12,6 +12,7 @@ use crate::programs::{LONGEST, shown};
 use crate::repeating::spread;
 use plain::Memory;
 use std::alloc::Global;
+use std::hash::RandomState;
 use std::rt::Files;
 use std::sync::Wait;
 use std::thread::Threads;
@@ -79,6 +80,7 @@ impl Failing {
 
 pub fn answer<F: Files + AllocGlobal + Clone + Drop>(
     alloc: Global,
+    keys: RandomState,
     rt: &(impl Threads + Wait + Sync),
     files: &F,
     case: &str,
@@ -89,23 +91,24 @@ pub fn answer<F: Files + AllocGlobal + Clone + Drop>(
     let bytes = spread(alloc, bundle)?;
     let most = most.parse::<usize>().unwrap_or(1);
     let bytes = bytes.as_slice();
-    let ended = ended_text(alloc, rt, files, Run { most, line, bytes })?;
+    let ended = ended_text(alloc, keys, rt, files, Run { most, line, bytes })?;
     Ok(format!(in alloc; "{name}\n{ended}")?)
 }
 
 /// How a run ends, and of how many failures each ended as it has to.
 fn ended_text<F: Files + AllocGlobal + Clone + Drop>(
     alloc: Global,
+    keys: RandomState,
     rt: &(impl Threads + Wait + Sync),
     files: &F,
     case: Run,
 ) -> Result<String, Memory> {
     let devices = Devices::whole(case.most);
-    let whole = run(alloc, rt, files, case.line, case.bytes, devices);
+    let whole = run(alloc, keys, rt, files, case.line, case.bytes, devices);
     let text = shown(alloc, &whole, LONGEST);
-    let reads = tried_text(alloc, rt, files, case, Failing::Input, &whole);
-    let writes = tried_text(alloc, rt, files, case, Failing::Output, &whole);
-    let errors = tried_text(alloc, rt, files, case, Failing::Errors, &whole);
+    let reads = tried_text(alloc, keys, rt, files, case, Failing::Input, &whole);
+    let writes = tried_text(alloc, keys, rt, files, case, Failing::Output, &whole);
+    let errors = tried_text(alloc, keys, rt, files, case, Failing::Errors, &whole);
     drop(whole);
     let (text, reads, writes, errors) = (text?, reads?, writes?, errors?);
     Ok(format!(in alloc; "{text}\n    {reads} reads, {writes} writes, {errors} of errors")?)
@@ -114,6 +117,7 @@ fn ended_text<F: Files + AllocGlobal + Clone + Drop>(
 /// Of how many failures of a device how many ended as they have to.
 fn tried_text<F: Files + AllocGlobal + Clone + Drop>(
     alloc: Global,
+    keys: RandomState,
     rt: &(impl Threads + Wait + Sync),
     files: &F,
     case: Run,
@@ -125,7 +129,7 @@ fn tried_text<F: Files + AllocGlobal + Clone + Drop>(
     for number in 0..count {
         let place = number.saturating_mul(case.most).min(failing.moved(whole));
         let devices = failing.devices(case.most, place);
-        let ended = run(alloc, rt, files, case.line, case.bytes, devices);
+        let ended = run(alloc, keys, rt, files, case.line, case.bytes, devices);
         if failing.is_right(&ended, whole, place) {
             right = right.saturating_add(1);
         }

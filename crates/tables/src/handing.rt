@@ -16,6 +16,7 @@ use memo::Memo;
 use plain::{Exact, Memory};
 use solver::Gate;
 use std::alloc::Global;
+use std::hash::RandomState;
 use std::io::Cursor;
 use std::sync::Wait;
 use std::sync::atomic::{AtomicU64, Ordering};
@@ -86,6 +87,7 @@ impl Gate for Meeting {
 
 pub fn answer(
     alloc: Global,
+    keys: RandomState,
     rt: &(impl Threads + Wait + Sync),
     case: &str,
 ) -> Result<String, Memory> {
@@ -96,7 +98,7 @@ pub fn answer(
     let executor = Watching { lent };
     let seen = AtomicU64::new(0);
     let gate = Meeting { workers, seen };
-    let status = status_of(alloc, rt, bundle, &executor, workers, &gate);
+    let status = status_of(alloc, keys, rt, bundle, &executor, workers, &gate);
     let lent = executor.lent.load(Ordering::SeqCst);
     let seen = gate.count();
     Ok(format!(in alloc; "{name}: status {status}, {lent} lent, {seen} of {workers} workers")?)
@@ -105,6 +107,7 @@ pub fn answer(
 /// The exit status of a build.
 fn status_of(
     alloc: Global,
+    keys: RandomState,
     rt: &(impl Threads + Wait + Sync),
     bundle: &str,
     executor: &Watching,
@@ -118,6 +121,7 @@ fn status_of(
     let mut memo = Memo::new(alloc, executor);
     let ended = run_build(
         alloc,
+        keys,
         rt,
         &mut input,
         &mut output,

@@ -10,9 +10,15 @@ use plain::Memory;
 use plans::Plan;
 use replay::follow;
 use std::alloc::Global;
+use std::hash::RandomState;
 use std::thread::Threads;
 
-pub fn answer(alloc: Global, rt: &(impl Threads + Sync), case: &str) -> Result<String, Memory> {
+pub fn answer(
+    alloc: Global,
+    keys: RandomState,
+    rt: &(impl Threads + Sync),
+    case: &str,
+) -> Result<String, Memory> {
     let (name, rest) = case.split_once(" | ").unwrap_or((case, ""));
     let (plan, events) = rest.rsplit_once(" | ").unwrap_or((rest, ""));
     let events = events_of(alloc, events)?;
@@ -59,7 +65,7 @@ fn of_bundle(
     bundle: &str,
     events: &[Event],
 ) -> Result<String, Memory> {
-    let plan = plan_of_bundle(alloc, rt, bundle)?;
+    let plan = plan_of_bundle(alloc, keys, rt, bundle)?;
     let text = played(alloc, &plan, events);
     drop(plan);
     text

@@ -7,16 +7,17 @@ use crate::stage::{environment_after, reason_text};
 use expand::{Kind, Reason, ReasonFault};
 use plain::{Fault, Memory};
 use std::alloc::Global;
+use std::hash::RandomState;
 use words::TextFault;
 
-pub fn answer(alloc: Global, case: &str) -> Result<String, Memory> {
-    let answer = answer_to_case(alloc, case)?;
+pub fn answer(alloc: Global, keys: RandomState, case: &str) -> Result<String, Memory> {
+    let answer = answer_to_case(alloc, keys, case)?;
     Ok(format!(in alloc; "{case} => {answer}")?)
 }
 
-fn answer_to_case(alloc: Global, case: &str) -> Result<String, Memory> {
+fn answer_to_case(alloc: Global, keys: RandomState, case: &str) -> Result<String, Memory> {
     let unfolded = replaced(alloc, case, '¶', "\n")?;
-    let answer = match answer_unfolded(alloc, unfolded.as_str()) {
+    let answer = match answer_unfolded(alloc, keys, unfolded.as_str()) {
         Ok(answer) => answer,
         Err(fault) => reason_text(alloc, &fault)?,
     };
@@ -24,12 +25,12 @@ fn answer_to_case(alloc: Global, case: &str) -> Result<String, Memory> {
 }
 
 /// The answer to a case as it is meant.
-fn answer_unfolded(alloc: Global, case: &str) -> Result<String, ReasonFault> {
+fn answer_unfolded(alloc: Global, keys: RandomState, case: &str) -> Result<String, ReasonFault> {
     match case.split_once(' ') {
         Some(("spell", text)) => coded(spelling_of(alloc, text)),
         Some(("word", text)) => coded(values_of(alloc, Kind::Quoted, text)),
         Some(("body", text)) => coded(values_of(alloc, Kind::Unquoted, text)),
-        Some(("env", text)) => environment_after(alloc, text),
+        Some(("env", text)) => environment_after(alloc, keys, text),
         _ => Ok(String::from_str(alloc, "no case")?),
     }
 }

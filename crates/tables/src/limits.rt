@@ -7,12 +7,14 @@ use crate::programs::{LONGEST, shown};
 use crate::repeating::spread;
 use plain::Memory;
 use std::alloc::Global;
+use std::hash::RandomState;
 use std::rt::Files;
 use std::sync::Wait;
 use std::thread::Threads;
 
 pub fn answer<F: Files + AllocGlobal + Clone + Drop>(
     alloc: Global,
+    keys: RandomState,
     rt: &(impl Threads + Wait + Sync),
     files: &F,
     case: &str,
@@ -21,7 +23,7 @@ pub fn answer<F: Files + AllocGlobal + Clone + Drop>(
     let (line, bundle) = rest.split_once(" | ").unwrap_or((rest, ""));
     let bytes = spread(alloc, bundle)?;
     let devices = Devices::whole(usize::MAX);
-    let ended = run(alloc, rt, files, line, &bytes, devices);
+    let ended = run(alloc, keys, rt, files, line, &bytes, devices);
     let text = ended_text(alloc, &ended);
     drop(ended);
     let text = text?;

@@ -27,10 +27,10 @@ impl Lookup for Names {
 
     ghost value_of = { λ names name. if bytes_eq name (118 ∷ []) then names.v else (if bytes_eq name (119 ∷ []) then Some names.w else None) };
 
-    fn find(&self, name: &str) -> Option<&Text> {
-        if name == "v" {
+    fn find(&self, name: &Text) -> Option<&Text> {
+        if name.as_str() == "v" {
             self.v.as_ref()
-        } else if name == "w" {
+        } else if name.as_str() == "w" {
             Some(&self.w)
         } else {
             None

@@ -45,6 +45,7 @@ mod watching;
 
 use plain::Memory;
 use std::alloc::Global;
+use std::hash::RandomState;
 use std::io;
 use std::rt::Files;
 use std::sync::Wait;
@@ -83,10 +84,11 @@ enum Table {
 }
 
 fn main(rt: HostRuntime) -> io::Result<()> {
+    let keys = RandomState::new(&rt)?;
     let mut table = Table::Unknown;
     for line in rt.lines(rt.alloc()) {
         let line = line?;
-        match answer_to_line(rt.alloc(), &rt, &rt, &mut table, line.as_str()) {
+        match answer_to_line(rt.alloc(), keys, &rt, &rt, &mut table, line.as_str()) {
             Ok(answer) => println!(rt; "{answer}")?,
             Err(Memory) => println!(rt; "{line}: out of memory, or no case")?,
         }
@@ -97,6 +99,7 @@ fn main(rt: HostRuntime) -> io::Result<()> {
 /// A heading as it stands, and the table that it begins; or the answer to a case.
 fn answer_to_line<F: Files + AllocGlobal + Clone + Drop>(
     alloc: Global,
+    keys: RandomState,
     rt: &(impl Threads + Wait + Sync),
     files: &F,
     table: &mut Table,
@@ -107,7 +110,7 @@ fn answer_to_line<F: Files + AllocGlobal + Clone + Drop>(
             *table = table_of(name);
             Ok(String::from_str(alloc, line)?)
         }
-        None => answer(alloc, rt, files, *table, line),
+        None => answer(alloc, keys, rt, files, *table, line),
     }
 }
 
@@ -145,6 +148,7 @@ fn table_of(name: &str) -> Table {
 /// The answer to a case, with the case or its name before it.
 fn answer<F: Files + AllocGlobal + Clone + Drop>(
     alloc: Global,
+    keys: RandomState,
     rt: &(impl Threads + Wait + Sync),
     files: &F,
     table: Table,
@@ -154,28 +158,28 @@ fn answer<F: Files + AllocGlobal + Clone + Drop>(
         Table::Commands => commands::answer(alloc, case),
         Table::Files => files::answer(alloc, case),
         Table::Pieces => files::answer_in_pieces(alloc, case),
-        Table::Language => language::answer(alloc, case),
+        Table::Language => language::answer(alloc, keys, case),
         Table::Patterns => patterns::answer_of_pattern(alloc, case),
         Table::IgnoreFiles => patterns::answer_of_ignore_file(alloc, case),
         Table::Errors => errors::answer(alloc, case),
         Table::Graphs => graphs::answer(alloc, case),
         Table::Plans => flattening::answer(alloc, case),
-        Table::Histories => histories::answer(alloc, rt, case),
+        Table::Histories => histories::answer(alloc, keys, rt, case),
         Table::Solving => solving::answer(alloc, rt, case),
         Table::Randoms => randoms::answer(alloc, rt, case),
-        Table::Sites => one_site::answer(alloc, rt, case),
+        Table::Sites => one_site::answer(alloc, keys, rt, case),
         Table::OneCell => one_cell::answer(alloc, rt, case),
         Table::Leases => leases::answer(alloc, case),
         Table::Trees => steps::answer(alloc, case),
         Table::Definitions => definitions::answer(alloc, case),
-        Table::Llb => buildkit::answer(alloc, case),
-        Table::Programs => programs::answer(alloc, rt, files, case),
-        Table::FailingDevices => failing::answer(alloc, rt, files, case),
-        Table::Limits => limits::answer(alloc, rt, files, case),
-        Table::Stores => stores::answer(alloc, rt, case),
-        Table::Memos => memos::answer(alloc, rt, case),
+        Table::Llb => buildkit::answer(alloc, keys, case),
+        Table::Programs => programs::answer(alloc, keys, rt, files, case),
+        Table::FailingDevices => failing::answer(alloc, keys, rt, files, case),
+        Table::Limits => limits::answer(alloc, keys, rt, files, case),
+        Table::Stores => stores::answer(alloc, keys, rt, case),
+        Table::Memos => memos::answer(alloc, keys, rt, case),
         Table::Remembering => remembering::answer(alloc, rt, case),
-        Table::Handing => handing::answer(alloc, rt, case),
+        Table::Handing => handing::answer(alloc, keys, rt, case),
         Table::Unknown => Err(Memory),
     }
 }

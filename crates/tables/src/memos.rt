@@ -11,6 +11,7 @@ use memo::Memo;
 use plain::Memory;
 use solver::OpenGate;
 use std::alloc::Global;
+use std::hash::RandomState;
 use std::io::Cursor;
 use std::sync::Wait;
 use std::sync::atomic::{AtomicU64, Ordering};
@@ -64,6 +65,7 @@ impl Executor for Counting {
 
 pub fn answer(
     alloc: Global,
+    keys: RandomState,
     rt: &(impl Threads + Wait + Sync),
     case: &str,
 ) -> Result<String, Memory> {
@@ -71,7 +73,7 @@ pub fn answer(
     let mut told = String::from_str(alloc, name)?;
     let executor = Counting::new();
     let mut memo = Memo::new(alloc, &executor);
-    let done = tell_builds(alloc, rt, &mut told, bundles, &mut memo);
+    let done = tell_builds(alloc, keys, rt, &mut told, bundles, &mut memo);
     drop(memo);
     match done {
         Ok(()) => Ok(told),
@@ -82,6 +84,7 @@ pub fn answer(
 /// Tells of each bundle, on a line of its own.
 fn tell_builds(
     alloc: Global,
+    keys: RandomState,
     rt: &(impl Threads + Wait + Sync),
     told: &mut String,
     bundles: &str,
@@ -89,7 +92,7 @@ fn tell_builds(
 ) -> Result<(), Memory> {
     for bundle in bundles.split(" ⏎ ") {
         told.push('\n')?;
-        match built(alloc, rt, bundle, memo) {
+        match built(alloc, keys, rt, bundle, memo) {
             Ok(line) => told.push_str(line.as_str())?,
             Err(Memory) => told.push_str("out of memory")?,
         }
@@ -100,6 +103,7 @@ fn tell_builds(
 /// How many commands were run by now, and the answer to a bundle.
 fn built(
     alloc: Global,
+    keys: RandomState,
     rt: &(impl Threads + Wait + Sync),
     bundle: &str,
     memo: &mut Memo<Counting>,
@@ -113,6 +117,7 @@ fn built(
     let mut output = Counted::new(Vec::<u8>::new(alloc));
     let ended = run_build(
         alloc,
+        keys,
         rt,
         &mut input,
         &mut output,

@@ -27,6 +27,7 @@ use samples::listing;
 use sites::{Case, Desk, Known, Results, Seat, Site};
 use solver::{OpenGate, finish, run};
 use std::alloc::Global;
+use std::hash::RandomState;
 use std::marker::Brand;
 use std::sync::Wait;
 use std::thread;
@@ -47,6 +48,7 @@ enum How {
 
 pub fn answer(
     alloc: Global,
+    keys: RandomState,
     rt: &(impl Threads + Wait + Sync),
     case: &str,
 ) -> Result<String, Memory> {
@@ -58,7 +60,7 @@ pub fn answer(
         "apart" => How::Apart,
         _ => How::Tallies,
     };
-    let plan = plan_of_bundle(alloc, rt, bundle)?;
+    let plan = plan_of_bundle(alloc, keys, rt, bundle)?;
     let text = of_plan(alloc, rt, &plan, &Fixture, how);
     drop(plan);
     let text = text?;

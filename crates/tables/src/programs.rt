@@ -12,6 +12,7 @@ use crate::devices::{Devices, Ended, run};
 use plain::Memory;
 use sha2::{Digest, Sha256};
 use std::alloc::Global;
+use std::hash::RandomState;
 use std::rt::Files;
 use std::sync::Wait;
 use std::thread::Threads;
@@ -21,6 +22,7 @@ pub const LONGEST: usize = 1_000;
 
 pub fn answer<F: Files + AllocGlobal + Clone + Drop>(
     alloc: Global,
+    keys: RandomState,
     rt: &(impl Threads + Wait + Sync),
     files: &F,
     case: &str,
@@ -28,7 +30,7 @@ pub fn answer<F: Files + AllocGlobal + Clone + Drop>(
     let (name, rest) = case.split_once(" | ").unwrap_or((case, ""));
     let (line, bundle) = rest.split_once(" | ").unwrap_or((rest, ""));
     let devices = Devices::whole(usize::MAX);
-    let ended = run(alloc, rt, files, line, bundle.as_bytes(), devices);
+    let ended = run(alloc, keys, rt, files, line, bundle.as_bytes(), devices);
     let text = shown(alloc, &ended, usize::MAX);
     drop(ended);
     let text = text?;

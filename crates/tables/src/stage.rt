@@ -1,14 +1,16 @@
 use crate::spelling::lines_of;
 use expand::{ExpandFault, Reason, ReasonFault};
-use instructions::{Assignment, InstructionKind, parse};
+use instructions::{InstructionKind, parse};
 use lines::{Line, LineFault};
 use plain::{Fault, Memory, Text, Variable};
 use scopes::{Args, Scope};
 use std::alloc::Global;
+use std::hash::RandomState;
 
 /// A build as far as the lines of a case go.
 #[derive(Drop)]
 pub struct Stage {
+    keys: RandomState,
     args: Args,
     outer: Scope,
     scope: Scope,
@@ -16,11 +18,12 @@ pub struct Stage {
 
 impl Stage {
     /// Before the first line.
-    pub fn new(alloc: Global) -> Stage {
+    pub fn new(alloc: Global, keys: RandomState) -> Stage {
         Stage {
-            args: Args::new(alloc),
-            outer: Scope::new(alloc),
-            scope: Scope::new(alloc),
+            keys,
+            args: Args::new(alloc, keys),
+            outer: Scope::new(alloc, keys),
+            scope: Scope::new(alloc, keys),
         }
     }
 
@@ -99,22 +102,16 @@ impl Stage {
                 evaluated(told)
             }
             InstructionKind::Env { assignments } => {
-                evaluated(self.set_env(alloc, assignments.as_slice()))
+                evaluated(self.scope.set_env(alloc, assignments.as_slice()))
             }
             _ => Ok(()),
         }
     }
 
-    fn set_env(&mut self, alloc: Global, assignments: &[Assignment]) -> Result<(), ExpandFault> {
-        let variables = self.scope.variables(alloc, assignments)?;
-        self.scope.set_variables(alloc, variables.as_slice())?;
-        Ok(())
-    }
-
     /// Begins the stage behind the lines before the first FROM.
     fn begin(&mut self, alloc: Global) -> Result<(), Memory> {
         self.outer = self.scope.copy(alloc)?;
-        self.scope = Scope::new(alloc);
+        self.scope = Scope::new(alloc, self.keys);
         Ok(())
     }
 
@@ -132,8 +129,12 @@ impl Stage {
 }
 
 /// RUN's environment after lines; why one of them is refused.
-pub fn environment_after(alloc: Global, text: &str) -> Result<String, ReasonFault> {
-    let mut stage = Stage::new(alloc);
+pub fn environment_after(
+    alloc: Global,
+    keys: RandomState,
+    text: &str,
+) -> Result<String, ReasonFault> {
+    let mut stage = Stage::new(alloc, keys);
     let done = stage.take_all(alloc, text);
     let environment = stage.environment(alloc);
     drop(stage);

@@ -18,6 +18,7 @@ use plans::Plan;
 use samples::listing;
 use solver::{Answer, Gate, OpenGate, Solution};
 use std::alloc::Global;
+use std::hash::RandomState;
 use std::sync::Wait;
 use std::sync::atomic::{AtomicU64, Ordering};
 use std::thread::Threads;
@@ -63,6 +64,7 @@ impl Executor for Wanting {
 
 pub fn answer(
     alloc: Global,
+    keys: RandomState,
     rt: &(impl Threads + Wait + Sync),
     case: &str,
 ) -> Result<String, Memory> {
@@ -71,7 +73,7 @@ pub fn answer(
     let (workers, from) = numbers.split_once(" from ").unwrap_or((numbers, ""));
     let workers = workers_of(workers);
     let from = from.parse::<u64>().unwrap_or(u64::MAX);
-    let text = match ask(alloc, rt, bundle.as_bytes()) {
+    let text = match ask(alloc, keys, rt, bundle.as_bytes()) {
         Ok(asked) => asked_text(alloc, rt, asked, workers, from)?,
         Err(_) => return Err(Memory),
     };

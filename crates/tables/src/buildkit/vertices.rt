@@ -8,6 +8,7 @@ use named::NamedRows;
 use paths::{Name, Path};
 use plain::{Bytes, Fault, Items, Memory, Owner, Text};
 use std::alloc::Global;
+use std::hash::RandomState;
 use trees::{Content, CopyOptions};
 
 /// The place of an operation's tree.
@@ -34,10 +35,10 @@ fn path(alloc: Global, path: &str) -> Result<Path, Memory> {
 }
 
 /// An image that is named by one part.
-pub(crate) fn image(alloc: Global) -> Result<Op, Memory> {
+pub(crate) fn image(alloc: Global, keys: RandomState) -> Result<Op, Memory> {
     let platform = platform(alloc)?;
     let name = text(alloc, "busybox")?;
-    image_op(alloc, &platform, &NamedRows::new(alloc), &name)
+    image_op(alloc, &platform, &NamedRows::new(alloc, keys), &name)
 }
 
 /// A folder in another one.

@@ -8,10 +8,11 @@ use plain::{Bytes, Fault, Items, Memory, Text};
 use plans::Plan;
 use samples::{Row, plan_of_rows};
 use std::alloc::Global;
+use std::hash::RandomState;
 
 /// A plan with two copies of which BuildKit is told alike, and a command on each: one copy and one command there, which are called as the first
 /// ones are. The merge stands for no line, so it has no name.
-pub(crate) fn plan(alloc: Global) -> Result<Bytes, Memory> {
+pub(crate) fn plan(alloc: Global, keys: RandomState) -> Result<Bytes, Memory> {
     let rows: [Row; 8] = [
         ("scratch", &[], 1),
         ("context", &[], 3),
@@ -31,13 +32,13 @@ pub(crate) fn plan(alloc: Global) -> Result<Bytes, Memory> {
         "[b 2/3] COPY a.txt .",
         "[b 3/3] RUN put /b x",
     ];
-    exported(alloc, &rows, 7, &names)
+    exported(alloc, keys, &rows, 7, &names)
 }
 
 /// A plan whose result is the empty tree.
-pub(crate) fn empty_plan(alloc: Global) -> Result<Bytes, Memory> {
+pub(crate) fn empty_plan(alloc: Global, keys: RandomState) -> Result<Bytes, Memory> {
     let rows: [Row; 2] = [("scratch", &[], 0), ("dirs /", &[0], 0)];
-    exported(alloc, &rows, 1, &[])
+    exported(alloc, keys, &rows, 1, &[])
 }
 
 /// The files of a build of which a graph names a folder by a pattern, a file by another one that has no sign, whose name isn't all ASCII below a folder
@@ -56,10 +57,16 @@ pub(crate) fn followed_context(alloc: Global) -> Result<Op, Memory> {
 }
 
 /// The definition of the plan of these rows, whose lines have these names.
-fn exported(alloc: Global, rows: &[Row], target: u32, names: &[&str]) -> Result<Bytes, Memory> {
+fn exported(
+    alloc: Global,
+    keys: RandomState,
+    rows: &[Row],
+    target: u32,
+    names: &[&str],
+) -> Result<Bytes, Memory> {
     let names = names_of(alloc, names)?;
     let plan = plan_of_rows(alloc, rows, target, &[])?;
-    let bytes = bytes_of(alloc, &plan, names.as_slice());
+    let bytes = bytes_of(alloc, keys, &plan, names.as_slice());
     drop(plan);
     bytes
 }
@@ -78,15 +85,20 @@ fn names_of(alloc: Global, texts: &[&str]) -> Result<Items<Option<Text>>, Memory
 }
 
 /// The definition of a plan; where there is none, nothing is shown.
-fn bytes_of(alloc: Global, plan: &Plan<u8>, names: &[Option<Text>]) -> Result<Bytes, Memory> {
-    let options = options(alloc)?;
+fn bytes_of(
+    alloc: Global,
+    keys: RandomState,
+    plan: &Plan<u8>,
+    names: &[Option<Text>],
+) -> Result<Bytes, Memory> {
+    let options = options(alloc, keys)?;
     match export(alloc, plan, &options, names) {
         Ok(bytes) => Ok(bytes),
         Err(Fault::Because(_)) | Err(Fault::Memory) => Err(Memory),
     }
 }
 
-fn options(alloc: Global) -> Result<Options, Memory> {
+fn options(alloc: Global, keys: RandomState) -> Result<Options, Memory> {
     let unique = text(alloc, "u1")?;
     match with_patterns(alloc) {
         Ok((platform, excludes)) => Ok(Options {
@@ -94,7 +106,7 @@ fn options(alloc: Global) -> Result<Options, Memory> {
             network: Network::None,
             unique,
             merging: Merging::Native,
-            digests: NamedRows::new(alloc),
+            digests: NamedRows::new(alloc, keys),
             excludes: Some(excludes),
             follows: None,
         }),
