@@ -580,7 +580,7 @@ pub fn end_without_keys<S: CountedWrite>(errors: &mut S) -> u8
     ensures says { SaysEnd (Err Device) (stream (S.contents errors.old) (S.failures errors.old)) (stream (S.contents errors.new) (S.failures errors.new)) }
     ensures is { result ≡ 3 }
 {
-    finish(errors, Err(BuildFault::Device))
+    finish(errors, Err(TellFault::Device))
 }
 
 /// The same for the bundle of a file: a failed device is said with what is known of the file, which follows its name.
