@@ -116,19 +116,20 @@ fn asking_command<'a>(alloc: Global) -> Result<Command<'a>, AllocError>
 fn bundle_command<'a>(alloc: Global) -> Result<Command<'a>, AllocError>
     ensures { IfOk result (λ command. app_of command ≡ bundle_command) }
 {
-    let command = with_command(Ok(bare_command(alloc)), build_command(alloc));
+    let command = with_command(bare_command(alloc), build_command(alloc));
     with_command(command, graph_command(alloc))
 }
 
 /// `dfsolve COMMAND` with no command yet.
-fn bare_command<'a>(alloc: Global) -> Command<'a>
-    ensures { app_of result ≡ bare_command }
+fn bare_command<'a>(alloc: Global) -> Result<Command<'a>, AllocError>
+    ensures { IfOk result (λ command. app_of command ≡ bare_command) }
 {
     Command::new(alloc, "dfsolve")
         .version(VERSION)
         .about("Compiles a Dockerfile and solves it")
         .subcommand_required(true)
         .no_binary_name(true)
+        .bin_name("dfsolve")
 }
 
 /// The command with a subcommand, where both were made.
